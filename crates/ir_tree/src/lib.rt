@@ -17,6 +17,7 @@ mod init_node;
 mod instr;
 mod layout;
 mod module;
+mod name;
 mod operand;
 mod order;
 mod rows;
@@ -34,6 +35,9 @@ pub use init_node::{InitHead, InitPart};
 pub use instr::{BinaryOp, CastOp, Flags, Incoming, Instr, Line, Phi, Predicate};
 pub use layout::{align_of, offset_of, size_of};
 pub use module::{GlobalValue, Module};
+pub use name::{
+    Escape, escape_into, is_bare, quote_into, quoted, quoted_again, unescaped, unquoted,
+};
 pub use operand::{Argument, Operand, Reg, Symbol};
 pub use rows::Rows;
 pub use shape::{Shape, ShapeNode};

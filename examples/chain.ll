@@ -1,0 +1,7 @@
+; A chain of sums; names, written numbers and a wrap past 2^32.
+define i32 @main() {
+  %first = add i32 2147483647, 1
+  %"second sum" = add i32 %first, %first
+  %7 = add i32 -5, %"second sum"
+  ret i32 %7
+}

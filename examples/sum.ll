@@ -1,0 +1,5 @@
+; Links to the same function with its result numbered.
+define i32 @main() {
+  %x = add i32 2, 3
+  ret i32 %x
+}
