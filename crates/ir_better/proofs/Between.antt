@@ -1,0 +1,5 @@
+pub mod Points
+pub mod Middle
+pub mod Composed
+pub mod LargerBounds
+pub mod InARow

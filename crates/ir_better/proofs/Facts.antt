@@ -1,0 +1,5 @@
+pub mod Standing
+pub mod Phis
+pub mod Known
+pub mod Forwarding
+pub mod Joins

@@ -1,0 +1,12 @@
+pub mod Runs
+pub mod Between
+pub mod Alike
+pub mod Unneeded
+pub mod Inlining
+pub mod Facts
+pub mod Rules
+pub mod Slots
+pub mod Blocks
+pub mod Names
+pub mod Worked
+pub mod Numbers

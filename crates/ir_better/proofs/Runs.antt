@@ -1,0 +1,4 @@
+pub mod Steps
+pub mod Stacks
+pub mod WholeRuns
+pub mod Transitive

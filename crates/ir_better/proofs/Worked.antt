@@ -1,0 +1,4 @@
+pub mod Passes
+pub mod Naming
+pub mod Inlining
+pub mod Promotion

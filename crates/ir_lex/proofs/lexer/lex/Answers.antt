@@ -1,0 +1,32 @@
+use Rattle.std.proofs.Common.{◌≡◌, ◌≤◌, ◌<◌, ◌+◌, List, ℕ, refl, sym, ap, subst, ◌∙◌, arith}
+use Rattle.std.proofs.lemmas.List.{map_push}
+use Rattle.ir_lex.specs.Tok.{Tok, tok, toks}
+use Rattle.ir_lex.specs.Lexing.{place, Lead, Stands}
+use Rattle.ir_lex.proofs.Leads.{goes_on}
+use Rattle.ir_lex.proofs.lexer.lex.Goals as goal
+
+pub each-init : goal.each-init
+each-init c = record {
+  so_far = record {
+    after = place 1 c.args.bytes.now;
+    lead = subst (λ (ts : List Tok). Lead (place 1 c.args.bytes.now) ts (place 1 c.args.bytes.now)) (sym (ap toks c.in_ok-tokens.ensures.items)) refl;
+    rest = c.skip-spot.ensures.exact ∙ ap (λ (x : List ℕ). place c.skip-spot.result.line x) (sym c.split_at.ensures.back);
+  };
+  lines = omega (arith, c.skip-spot.ensures.lines, c.skip-spot.ensures.within, c.split_at.ensures.back_len);
+}
+
+pub each-smaller : goal.each-smaller
+each-smaller c = shorter _ _ _ _ _ c.in-Some.ensures.within.0 c.in-Some.ensures.within.1 c.split_at-in-len1-up.ensures.back_len c.split_at-in-len1-up-2.ensures.back_len
+  where
+    shorter : (len at before behind after : ℕ) → 0 < len → len ≤ before → behind + len ≡ before → after + at ≡ behind → after < before
+    shorter len at before behind after p w e f = omega arith
+
+pub each-preserved : goal.each-preserved
+each-preserved c =
+    let e = ap toks c.in_ok-push.ensures.items ∙ map_push tok c.each.tokens.items _ in
+    let s = goes_on _ c.each.rest.now c.split_at-in-len1-up.result.0.now c.split_at-in-len1-up.result.1.now c.split_at-in-len1-up-2.result.1.now _ _ _ _ c.in-Some.fit _ c.each.invariant.so_far c.in-Some.ensures.found c.in-Some.ensures.bad c.in-Some.ensures.within.1
+    c.split_at-in-len1-up.ensures.front c.split_at-in-len1-up.ensures.back c.line_behind-end.ensures.exact (c.skip-spot-in-len1-up.ensures.exact ∙ ap (λ (x : List ℕ). place c.skip-spot-in-len1-up.result.line x) (sym c.split_at-in-len1-up-2.ensures.back)) c.ends_before-ends_line.ensures in
+    record {
+      so_far = subst (λ (ts : List Tok). Stands c.args.bytes.now ts c.skip-spot-in-len1-up.result.line c.split_at-in-len1-up-2.result.1.now) (sym e) s;
+      lines = omega (arith, c.each.invariant.lines, c.skip-spot-in-len1-up.ensures.lines, c.skip-spot-in-len1-up.ensures.within, c.line_behind-end.ensures.within, c.split_at-in-len1-up.ensures.front_len, c.split_at-in-len1-up.ensures.back_len, c.split_at-in-len1-up-2.ensures.back_len, c.in-Some.ensures.within.1);
+    }

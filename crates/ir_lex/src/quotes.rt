@@ -1,0 +1,200 @@
+//! What the text of names and strings stands for.
+
+ghost use Rattle.std.specs.Prelude.{◌≡◌, ◌≤◌, ◌+◌, ◌*◌, ◌&&◌, if◌then◌else◌, length, IfOk, IsOkAnd, option_copied};
+ghost use Rattle.std.specs.Char.{digit_value, is_digit};
+ghost use Rattle.std.specs.Cow.{cow_slice_items, IsBorrowedSlice};
+ghost use Rattle.ir_lex.specs.Quotes.{spells, escaped, spelled_at, unescaped, inside, stripped, content, is_name, is_plain, is_zero_name, has_zero, has_backslash};
+
+use crate::token::{Kind, Token};
+use std::alloc::{AllocError, Global};
+use std::borrow::CowSlice;
+
+/// A byte, and how many bytes behind the first one spell it.
+#[derive(Clone, Copy, Debug, PartialEq, Eq)]
+pub struct Escape {
+    pub byte: u8,
+    pub behind: usize,
+}
+
+/// What a backslash before these two bytes stands for.
+fn hex_pair(high: u8, low: u8) -> Escape
+    ensures exact { result ≡ (if is_digit high 16 && is_digit low 16 then spells (digit_value high * 16 + digit_value low) 2 else spells 92 0) }
+    ensures within { result.behind ≤ 2 }
+{
+    match ((high as char).to_digit(16), (low as char).to_digit(16)) {
+        (Some(h), Some(l)) => Escape {
+            byte: (h * 16 + l) as u8,
+            behind: 2,
+        },
+        _ => Escape {
+            byte: b'\\',
+            behind: 0,
+        },
+    }
+}
+
+/// What a backslash before these bytes stands for.
+fn escaped(bytes: &[u8]) -> Escape
+    ensures exact { result ≡ escaped bytes.now }
+    ensures within { result.behind ≤ length bytes.now }
+{
+    match bytes {
+        [b'\\', ..] => Escape {
+            byte: b'\\',
+            behind: 1,
+        },
+        [high, low, ..] => hex_pair(*high, *low),
+        _ => Escape {
+            byte: b'\\',
+            behind: 0,
+        },
+    }
+}
+
+/// What the first byte stands for before the others.
+fn spelled_at(first: u8, rest: &[u8]) -> Escape
+    ensures exact { result ≡ spelled_at first rest.now }
+    ensures within { result.behind ≤ length rest.now }
+{
+    if first == b'\\' {
+        escaped(rest)
+    } else {
+        Escape {
+            byte: first,
+            behind: 0,
+        }
+    }
+}
+
+/// The bytes that these stand for.
+fn unescaped(alloc: Global, bytes: &[u8]) -> Result<Vec<u8>, AllocError>
+    ensures { IfOk result (λ v. v.items ≡ unescaped bytes.now) }
+{
+    let mut out = Vec::with_capacity(alloc, bytes.len())?;
+    let mut rest = bytes;
+    'each: while let [first, others @ ..] = rest {
+        let escape = spelled_at(*first, others);
+        out.push(escape.byte)?;
+        let (_spelled, after) = others.split_at(escape.behind);
+        rest = after;
+    }
+    Ok(out)
+}
+
+/// Whether the bytes that these stand for have a zero among them.
+fn hides_zero(bytes: &[u8]) -> bool
+    ensures { result ≡ has_zero (unescaped bytes.now) }
+{
+    let mut rest = bytes;
+    'each: while let [first, others @ ..] = rest {
+        let escape = spelled_at(*first, others);
+        if escape.byte == 0 {
+            return true;
+        }
+        let (_spelled, after) = others.split_at(escape.behind);
+        rest = after;
+    }
+    false
+}
+
+fn has_backslash(bytes: &[u8]) -> bool
+    ensures { result ≡ has_backslash bytes.now }
+{
+    let mut at = 0;
+    'each: while at < bytes.len() {
+        if bytes[at] == b'\\' {
+            return true;
+        }
+        at += 1;
+    }
+    false
+}
+
+/// What stands between quotes.
+fn inside<'a>(text: &'a [u8]) -> Option<&'a [u8]>
+    ensures { option_copied result ≡ inside text.now }
+{
+    match text {
+        [first, middle @ .., _last] => { if *first == b'"' { Some(middle) } else { None } }
+        _ => None,
+    }
+}
+
+/// A token's text without its sigil, its `c` or its colon.
+fn stripped<'a>(kind: Kind, text: &'a [u8]) -> &'a [u8]
+    ensures { result.now ≡ stripped kind text.now }
+{
+    match kind {
+        Kind::Label => match text {
+            [all @ .., _colon] => all,
+            _ => text,
+        },
+        Kind::Local | Kind::Global | Kind::Comdat | Kind::CStr => match text {
+            [_sigil, all @ ..] => all,
+            _ => text,
+        },
+        Kind::Number
+        | Kind::Word
+        | Kind::Meta
+        | Kind::Group
+        | Kind::Str
+        | Kind::Dots
+        | Kind::Other => text,
+    }
+}
+
+fn is_name(kind: Kind) -> bool
+    ensures { result ≡ is_name kind }
+{
+    match kind {
+        Kind::Label | Kind::Local | Kind::Global | Kind::Comdat => true,
+        Kind::Number
+        | Kind::Word
+        | Kind::Meta
+        | Kind::Group
+        | Kind::Str
+        | Kind::CStr
+        | Kind::Dots
+        | Kind::Other => false,
+    }
+}
+
+/// Whether this is a name that holds a zero byte.
+#[tactic(auto, unfolding(crate::specs::Quotes::is_zero_name))]
+pub fn is_zero_name(kind: Kind, text: &[u8]) -> bool
+    ensures { result ≡ is_zero_name kind text.now }
+{
+    if !is_name(kind) {
+        return false;
+    }
+    match inside(stripped(kind, text)) {
+        None => false,
+        Some(quoted) => hides_zero(quoted),
+    }
+}
+
+impl<'a> Token<'a> {
+    /// What the token stands for: the name of a `Label`, `Local`, `Global` or `Comdat`, without
+    /// its sigil or colon, and the bytes of a `Str` or `CStr`. Of any other token it is the text.
+    ///
+    /// In quotes `\\` is a backslash, a backslash and two hexadecimal digits are that byte, and
+    /// any other backslash is itself. Text that has no backslash is borrowed.
+    #[tactic(auto, unfolding(crate::specs::Quotes::content, crate::specs::Quotes::is_plain))]
+    pub fn content(&self, alloc: Global) -> Result<CowSlice<'a, u8, Global>, AllocError>
+        ensures value { IfOk result (λ c. cow_slice_items c ≡ content self.now.kind self.now.text.now) }
+        // Without a backslash in quotes no memory is needed.
+        ensures borrows { is_plain self.now.kind self.now.text.now → IsOkAnd result IsBorrowedSlice }
+    {
+        let bare = stripped(self.kind, self.text);
+        match inside(bare) {
+            None => Ok(CowSlice::Borrowed(bare)),
+            Some(quoted) => {
+                if has_backslash(quoted) {
+                    Ok(CowSlice::Owned(unescaped(alloc, quoted)?))
+                } else {
+                    Ok(CowSlice::Borrowed(quoted))
+                }
+            }
+        }
+    }
+}

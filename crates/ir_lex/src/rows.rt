@@ -1,0 +1,224 @@
+//! The rows of the table of tokens: the longest that fits at a place.
+
+ghost use Rattle.std.specs.Prelude.{◌≡◌, ◌+◌, ◌≤◌, ◌∷◌, ◌<◌, ◌^◌, nat_lt, if◌then◌else◌, length};
+ghost use Rattle.ir_lex.specs.Rows.{string_len, name_len, before_colon, label_len, fit, better, rest_fit, best_fit, dots_len, behind, Plain};
+ghost use Rattle.ir_lex.specs.declared.token.Kind.TheVariants as kinds;
+
+use crate::bytes::{Set, run, starts_name, starts_word};
+use crate::token::Kind;
+
+/// A row of the table of tokens, and how many bytes it takes.
+#[derive(Clone, Copy, Debug, PartialEq, Eq)]
+pub struct Fit {
+    pub kind: Kind,
+    pub len: usize,
+}
+
+/// How many bytes a string takes, with its quotes; 0 where none stands or it isn't closed.
+#[tactic(auto, unfolding(crate::specs::Rows::string_len))]
+pub fn string_len(bytes: &[u8]) -> usize
+    ensures exact { result ≡ string_len bytes.now }
+    ensures within { result ≤ length bytes.now }
+{
+    match bytes {
+        [] => 0,
+        [first, rest @ ..] => {
+            if *first != b'"' {
+                return 0;
+            }
+            let n = run(Set::Inside, rest);
+            if n < rest.len() && rest[n] == b'"' {
+                n + 2
+            } else {
+                0
+            }
+        }
+    }
+}
+
+/// What may follow the sigil of a name: a bare name, digits or a string.
+#[tactic(auto, unfolding(crate::specs::Rows::name_len))]
+fn name_len(bytes: &[u8]) -> usize
+    ensures exact { result ≡ name_len bytes.now }
+    ensures within { result ≤ length bytes.now }
+{
+    let quoted = string_len(bytes);
+    match bytes {
+        [] => quoted,
+        [first, rest @ ..] => {
+            let bare = if starts_name(*first) {
+                run(Set::LabelBytes, rest) + 1
+            } else {
+                0
+            };
+            bare.max(run(Set::Digits, bytes).max(quoted))
+        }
+    }
+}
+
+/// So many bytes and a colon, where one follows them.
+fn before_colon(n: usize, bytes: &[u8]) -> usize
+    requires { n ≤ length bytes.now }
+    ensures exact { result ≡ before_colon n bytes.now }
+    ensures within { result ≤ length bytes.now }
+{
+    if 0 < n && n < bytes.len() && bytes[n] == b':' {
+        n + 1
+    } else {
+        0
+    }
+}
+
+/// A label and its colon.
+#[tactic(auto, unfolding(crate::specs::Rows::label_len))]
+fn label_len(bytes: &[u8]) -> usize
+    ensures exact { result ≡ label_len bytes.now }
+    ensures within { result ≤ length bytes.now }
+{
+    let bare = before_colon(run(Set::LabelBytes, bytes), bytes);
+    let quoted = before_colon(string_len(bytes), bytes);
+    bare.max(quoted)
+}
+
+/// One byte, and behind it what takes so many bytes; the byte alone where that is nothing.
+fn behind(kind: Kind, len: usize) -> Fit
+    requires { len < 2 ^ 63 }
+    ensures { result ≡ better (fit kind (if nat_lt 0 len then len + 1 else 0)) (fit kinds.Other 1) }
+{
+    if len > 0 {
+        Fit { kind, len: len + 1 }
+    } else {
+        Fit {
+            kind: Kind::Other,
+            len: 1,
+        }
+    }
+}
+
+/// The longer of two, and of equals the first.
+fn better(a: Fit, b: Fit) -> Fit
+    ensures { result ≡ better a b }
+{
+    if a.len < b.len { b } else { a }
+}
+
+/// Three dots.
+#[tactic(auto, unfolding(crate::specs::Rows::dots_len))]
+fn dots_len(bytes: &[u8]) -> usize
+    ensures exact { result ≡ dots_len bytes.now }
+    ensures within { result ≤ length bytes.now }
+{
+    match bytes {
+        [b'.', b'.', b'.', ..] => 3,
+        _ => 0,
+    }
+}
+
+/// A byte and a string directly behind it.
+fn behind_len(wanted: u8, bytes: &[u8]) -> usize
+    ensures exact { result ≡ behind wanted string_len bytes.now }
+    ensures within { result ≤ length bytes.now }
+{
+    match bytes {
+        [] => 0,
+        [first, rest @ ..] => {
+            let n = string_len(rest);
+            if *first == wanted && 0 < n { n + 1 } else { 0 }
+        }
+    }
+}
+
+fn one_if(test: bool) -> usize
+    ensures { result ≡ (if test then 1 else 0) }
+{
+    if test { 1 } else { 0 }
+}
+
+/// The longest row but a label's, where the first byte is no sigil, sign, quote or dot.
+fn plain(first: u8, rest: &[u8], bytes: &[u8]) -> Fit
+    requires whole { bytes.now ≡ first ∷ rest.now }
+    requires plain { Plain first }
+    ensures { result ≡ rest_fit bytes.now }
+{
+    if first.is_ascii_digit() {
+        Fit {
+            kind: Kind::Number,
+            len: run(Set::Digits, rest) + 1,
+        }
+    } else if starts_word(first) {
+        better(
+            Fit {
+                kind: Kind::Word,
+                len: run(Set::WordBytes, rest) + 1,
+            },
+            Fit {
+                kind: Kind::CStr,
+                len: behind_len(b'c', bytes),
+            },
+        )
+    } else {
+        let len = one_if(first.is_ascii_graphic());
+        better(
+            Fit {
+                kind: Kind::Number,
+                len: 0,
+            },
+            Fit {
+                kind: Kind::Other,
+                len,
+            },
+        )
+    }
+}
+
+/// The longest row but a label's, by the first byte.
+fn unlabelled(first: u8, rest: &[u8], bytes: &[u8]) -> Fit
+    requires { bytes.now ≡ first ∷ rest.now }
+    ensures { result ≡ rest_fit bytes.now }
+{
+    match first {
+        b'%' => behind(Kind::Local, name_len(rest)),
+        b'@' => behind(Kind::Global, name_len(rest)),
+        b'$' => behind(Kind::Comdat, name_len(rest)),
+        b'#' => behind(Kind::Group, run(Set::Digits, rest)),
+        b'-' => behind(Kind::Number, run(Set::Digits, rest)),
+        b'!' => Fit {
+            kind: Kind::Meta,
+            len: run(Set::MetaBytes, rest) + 1,
+        },
+        b'"' => better(
+            Fit {
+                kind: Kind::Number,
+                len: 0,
+            },
+            Fit {
+                kind: Kind::Str,
+                len: string_len(bytes),
+            },
+        ),
+        b'.' => better(
+            Fit {
+                kind: Kind::Dots,
+                len: dots_len(bytes),
+            },
+            Fit {
+                kind: Kind::Other,
+                len: 1,
+            },
+        ),
+        _ => plain(first, rest, bytes),
+    }
+}
+
+/// The longest token at the front; its length is 0 where there is none.
+#[tactic(auto, unfolding(crate::specs::Rows::best_fit))]
+pub fn best_fit(first: u8, rest: &[u8], bytes: &[u8]) -> Fit
+    requires { bytes.now ≡ first ∷ rest.now }
+    ensures { result ≡ best_fit bytes.now }
+{
+    let label = Fit {
+        kind: Kind::Label,
+        len: label_len(bytes),
+    };
+    better(label, unlabelled(first, rest, bytes))
+}

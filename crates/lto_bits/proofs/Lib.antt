@@ -1,0 +1,4 @@
+pub mod Below
+pub mod Divisions
+pub mod Choices
+pub mod Words

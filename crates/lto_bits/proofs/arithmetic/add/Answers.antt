@@ -1,0 +1,12 @@
+use Rattle.std.proofs.Common.{◌∙◌}
+use Rattle.lto_bits.specs.Operation.{arithmetic}
+use Rattle.lto_bits.proofs.Choices.{same_answers}
+use Rattle.lto_bits.proofs.Words.{wrapped_twice}
+use Rattle.lto_bits.proofs.arithmetic.add.Goals as goal
+
+pub returns : goal.returns
+unfolding arithmetic
+returns c =
+    c.value_if.ensures
+    ∙ same_answers _ _ _ _ _ _ c.sum_fits_unsigned-unsigned.ensures c.sum_fits_signed-signed.ensures
+    (c.low_bits.ensures ∙ wrapped_twice _ c.args.w c.requires.within)

@@ -1,0 +1,25 @@
+use Rattle.std.proofs.Common.{◌∙◌, ap, sym, ◌⊎◌, inl, inr, ◌≡◌, ◌-◌, ◌^◌}
+use Rattle.std.proofs.lemmas.Bool.{cond-false}
+use Rattle.lto_bits.specs.declared.answer.Answer.TheVariants.{Value}
+use Rattle.lto_bits.specs.Word.{signed, wrapped}
+use Rattle.lto_bits.specs.Operation.{arithmetic}
+use Rattle.lto_bits.proofs.Words.{signed_fits}
+use Rattle.lto_bits.proofs.Divisions.{breaks_not, remainder_in_64}
+use Rattle.lto_bits.proofs.division.srem.Goals as goal
+use Rattle.lto_bits.proofs.division.srem.Goals.{else-b-greatest-via-then-b-greatest+else-a-sign_bit, else-b-greatest-via-else-b-greatest}
+
+pub returns : goal.returns
+unfolding arithmetic
+returns c =
+    let a = c.args.a in
+    let b = c.args.b in
+    let w = c.args.w in
+    let left = signed_fits w a c.requires.some c.requires.within c.requires.left in
+    let right = signed_fits w b c.requires.some c.requires.within c.requires.right in
+    let defined : (b ≡ 2 ^ w - 1 → ⊥) ⊎ (a ≡ 2 ^ (w - 1) → ⊥) =
+    elim c.else-b-greatest.branch [
+      | else-b-greatest-via-then-b-greatest+else-a-sign_bit v ↦ inr (λ e. v.if-a-sign_bit.false (e ∙ sym v.sign_bit.ensures))
+      | else-b-greatest-via-else-b-greatest v ↦ inl (λ e. v.if-b-greatest.false (e ∙ sym c.greatest.ensures))
+    ] in
+    ap Value (c.wrap.ensures ∙ ap (λ z. wrapped w z) (remainder_in_64 _ _ (signed w a) (signed w b) left right c.signed.ensures c.signed-2.ensures))
+    ∙ sym (cond-false _ _ _ (breaks_not w a b c.if-b-eq0.false defined))

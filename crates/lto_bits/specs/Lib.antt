@@ -1,0 +1,5 @@
+pub mod Word
+pub mod Operation
+pub mod Comparison
+pub mod Cast
+pub mod Laws

@@ -1,0 +1,9 @@
+pub mod Closings
+pub mod Composed
+pub mod Grouped
+pub mod Limits
+pub mod Listed
+pub mod Loops
+pub mod Places
+pub mod Rules
+pub mod Whole

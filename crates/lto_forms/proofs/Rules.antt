@@ -1,0 +1,226 @@
+-- The laws of readers that choose by sets of classes, put together.
+use Rattle.std.proofs.Common.{◌≡◌, ℕ, nat_eq, Bool, true, false, cond, Option, Some, None, ◌||◌, ◌&&◌, not, List, [], ◌∷◌, ◌++◌, length, Result, Ok, Err, refl, sym, ap, subst, ◌∙◌, ◌⊎◌, inl, inr, arith}
+use Rattle.std.proofs.lemmas.List.{length-append}
+use Rattle.lto_forms.specs.declared.fault.Fault.{Fault}
+use Rattle.lto_forms.specs.declared.fault.FaultKind.{FaultKind}
+use Rattle.lto_forms.specs.declared.fault.FaultKind.TheVariants.{Syntax, Profile, Number, Limit}
+use Rattle.lto_forms.specs.Alphabet.{Alphabet, AllReal, among, contains, is_number}
+use Rattle.lto_forms.specs.Forms as form
+use Rattle.lto_forms.specs.Forms.{Form, Many, upto, optional}
+use Rattle.lto_forms.specs.Lawful.{IsRanged, SameRefusal}
+use Rattle.lto_forms.specs.Readers.{Reader, fault_at, done, ◌>>=◌, token_at, pick, many_at, star_at, upto_at, optional_at}
+use Rattle.lto_forms.specs.Rules.{Opens, Rule, disjoint, subset, is_class}
+use Rattle.lto_forms.proofs.Composed.{cons_is, gives_lawful, token_lawful, both_lawful, pick_lawful, many_lawful, star_lawful, barred_lawful, widened}
+
+and_parts : (a b : Bool) → a && b ≡ true → (a ≡ true) × (b ≡ true)
+and_parts true b h = (refl, h)
+and_parts false b h = absurd cc
+
+or_parts : (a b : Bool) → a || b ≡ true → (a ≡ true) ⊎ (b ≡ true)
+or_parts true b h = inl refl
+or_parts false b h = inr h
+
+or_intro : (a b : Bool) → (a ≡ true) ⊎ (b ≡ true) → a || b ≡ true
+or_intro true b h = refl
+or_intro false b (inl h) = absurd cc
+or_intro false b (inr h) = h
+
+not_true : (b : Bool) → not b ≡ true → b ≡ true → ⊥
+not_true true h e = cc
+not_true false h e = cc
+
+same : (n m : ℕ) → nat_eq n m ≡ true → n ≡ m
+same n m h = grind arith
+
+pub apart_from : (xs ys : List ℕ) → disjoint xs ys ≡ true → (n : ℕ) → contains xs n ≡ true → contains ys n ≡ true → ⊥
+apart_from [] ys h n p q = cc
+apart_from (x ∷ xs) ys h n p q =
+    let d = and_parts (not (contains ys x)) (disjoint xs ys) h in
+    elim (or_parts (nat_eq n x) (contains xs n) p) [
+      | inl e ↦ not_true (contains ys x) d.0 (ap (contains ys) (sym (same n x e)) ∙ q)
+      | inr r ↦ apart_from xs ys d.1 n r q
+    ]
+
+pub within_of : (xs ys : List ℕ) → subset xs ys ≡ true → (n : ℕ) → contains xs n ≡ true → contains ys n ≡ true
+within_of [] ys h n p = absurd cc
+within_of (x ∷ xs) ys h n p =
+    let d = and_parts (contains ys x) (subset xs ys) h in
+    elim (or_parts (nat_eq n x) (contains xs n) p) [
+      | inl e ↦ ap (contains ys) (same n x e) ∙ d.0
+      | inr r ↦ within_of xs ys d.1 n r
+    ]
+
+pub contains-append : (xs ys : List ℕ) (n : ℕ) → (contains xs n ≡ true) ⊎ (contains ys n ≡ true) → contains (xs ++ ys) n ≡ true
+contains-append [] ys n (inl h) = absurd cc
+contains-append [] ys n (inr h) = h
+contains-append (x ∷ xs) ys n (inl h) = elim (or_parts (nat_eq n x) (contains xs n) h) [
+  | inl e ↦ or_intro (nat_eq n x) (contains (xs ++ ys) n) (inl e)
+  | inr r ↦ or_intro (nat_eq n x) (contains (xs ++ ys) n) (inr (contains-append xs ys n (inl r)))
+]
+contains-append (x ∷ xs) ys n (inr h) = or_intro (nat_eq n x) (contains (xs ++ ys) n) (inr (contains-append xs ys n (inr h)))
+
+-- the second set counts where the first reading may be empty
+contains-if : (b : Bool) (ys : List ℕ) (n : ℕ) → b && contains ys n ≡ true → contains (cond b ys []) n ≡ true
+contains-if true ys n h = h
+contains-if false ys n h = h
+
+joined : (xs ys : List ℕ) (b : Bool) (n : ℕ) → contains xs n || (b && contains ys n) ≡ true → contains (xs ++ cond b ys []) n ≡ true
+joined xs ys b n h = elim (or_parts (contains xs n) (b && contains ys n) h) [
+  | inl p ↦ contains-append xs (cond b ys []) n (inl p)
+  | inr q ↦ contains-append xs (cond b ys []) n (inr (contains-if b ys n q))
+]
+
+-- ---- single tokens
+
+test_ok : {A : Type 0} (b : Bool) (a c : A) (k : FaultKind) → cond b (Ok a) (Err k) ≡ Ok c → b ≡ true
+test_ok true a c k h = refl
+test_ok false a c k h = absurd cc
+
+or_with_false : (b : Bool) → b ≡ true → b || false ≡ true
+or_with_false true h = refl
+or_with_false false h = h
+
+same_refl : {A : Type 0} (m : Result A FaultKind) → SameRefusal m m
+same_refl (Ok a) = tt
+same_refl (Err Number) = tt
+same_refl (Err Syntax) = (Syntax, refl)
+same_refl (Err Profile) = (Profile, refl)
+same_refl (Err Limit) = (Limit, refl)
+
+abbrev refuse : {A : Type 0} → FaultKind → Result A FaultKind
+refuse k = Err k
+
+err_is : {A : Type 0} (k l : FaultKind) → refuse {A = A} k ≡ refuse {A = A} l → k ≡ l
+err_is k l e = cc
+
+-- a test refuses as it is told to
+test_refuses : {A : Type 0} (b : Bool) (a : A) (k l : FaultKind) → (k ≡ l → ⊥) → cond b (Ok a) (Err k) ≡ refuse {A = A} l → ⊥
+test_refuses true a k l never e = cc
+test_refuses {A} false a k l never e = never (err_is {A = A} k l e)
+
+module _ {T : Type 0} (alphabet : Alphabet T) where
+  alike_of : (bs : List ℕ) (t u : T) → is_number alphabet t ≡ true → is_number alphabet u ≡ true → among alphabet bs t ≡ among alphabet bs u
+  alike_of bs t u n m = ap (contains bs) (same (alphabet.class t) alphabet.numeral n ∙ sym (same (alphabet.class u) alphabet.numeral m))
+
+  pub nothing : {A : Type 0} (a : A) → Rule alphabet (form.gives a) (form.gives a) (done a) [] [] true
+  nothing a = record { law = gives_lawful alphabet a }
+
+  pub seq : {A B : Type 0} {g wide : Form T A} {f : Reader T A} {k wide' : A → Form T B} {h : A → Reader T B} {xs ms ys ns : List ℕ} {e e' : Bool} → Rule alphabet g wide f xs ms e → ((a : A) → Rule alphabet (k a) (wide' a) (h a) ys ns e') → disjoint ms ys ≡ true
+      → Rule alphabet (form.◌>>=◌ g k) (form.◌>>=◌ wide wide') (f >>= h) (xs ++ cond e ys []) (ns ++ cond e' ms []) (e && e')
+  seq {g = g} {wide = wide} {f = f} {k = k} {wide' = wide'} {h = h} {xs = xs} {ms = ms} {ys = ys} {ns = ns} {e = e} {e' = e'} law laws d =
+      record {
+        law = widened alphabet (among alphabet (xs ++ cond e ys [])) (among alphabet (ns ++ cond e' ms []))
+            (both_lawful alphabet g wide f k wide' h (among alphabet xs) (among alphabet ms) (among alphabet ys) (among alphabet ns) e e' law.law (λ a. (laws a).law) (λ t p q. apart_from ms ys d (alphabet.class t) p q))
+            (λ t p. joined xs ys e (alphabet.class t) p)
+            (λ t p. joined ns ms e' (alphabet.class t) p);
+      }
+
+  pub alt : {A : Type 0} {g g' wide wide' : Form T A} {f f' : Reader T A} {xs ms ys ns : List ℕ} {e : Bool} (bs : List ℕ) → Rule alphabet g wide f xs ms false → Rule alphabet g' wide' f' ys ns e → subset xs bs ≡ true → disjoint ys bs ≡ true
+      → Rule alphabet (form.either g g') (form.either wide wide') (pick (among alphabet bs) f f') (xs ++ ys) ((ms ++ ns) ++ cond e bs []) e
+  alt {g = g} {g' = g'} {wide = wide} {wide' = wide'} {f = f} {f' = f'} {xs = xs} {ms = ms} {ys = ys} {ns = ns} {e = e} bs law law' s d =
+      record {
+        law = widened alphabet (among alphabet (xs ++ ys)) (among alphabet ((ms ++ ns) ++ cond e bs []))
+            (pick_lawful alphabet g g' wide wide' f f' (among alphabet bs) (among alphabet xs) (among alphabet ms) (among alphabet ys) (among alphabet ns) e law.law law'.law (alike_of bs) (λ t p. within_of xs bs s (alphabet.class t) p) (λ t p. is_false (contains bs (alphabet.class t)) (λ q. apart_from ys bs d (alphabet.class t) p q)))
+            (λ t p. contains-append xs ys (alphabet.class t) (or_parts _ _ p))
+            (λ t p. after_either (alphabet.class t) p);
+      }
+    where
+      is_false : (b : Bool) → (b ≡ true → ⊥) → b ≡ false
+      is_false true never = absurd (never refl)
+      is_false false never = refl
+
+      after_either : (n : ℕ) → (contains ms n || contains ns n) || (e && contains bs n) ≡ true → contains ((ms ++ ns) ++ cond e bs []) n ≡ true
+      after_either n p = elim (or_parts (contains ms n || contains ns n) (e && contains bs n) p) [
+        | inl q ↦ contains-append (ms ++ ns) (cond e bs []) n (inl (contains-append ms ns n (or_parts _ _ q)))
+        | inr q ↦ contains-append (ms ++ ns) (cond e bs []) n (inr (contains-if e bs n q))
+      ]
+
+  pub many : {A : Type 0} {g wide : Form T A} {f : Reader T A} {xs ms : List ℕ} (bs : List ℕ) (room : ℕ) → Rule alphabet g wide f xs ms false → Opens alphabet bs wide → subset xs bs ≡ true → disjoint ms bs ≡ true → Rule alphabet (Many g room) (form.Star wide) (many_at (among alphabet bs) f room) xs (ms ++ bs) true
+  many {g = g} {wide = wide} {f = f} {xs = xs} {ms = ms} bs room law o s d =
+      record {
+        law = widened alphabet (among alphabet xs) (among alphabet (ms ++ bs))
+            (many_lawful alphabet g wide f (among alphabet bs) (among alphabet xs) (among alphabet ms) law.law (alike_of bs) (λ t p. within_of xs bs s (alphabet.class t) p) (λ t p q. apart_from ms bs d (alphabet.class t) p q) o room)
+            (λ t p. p)
+            (λ t p. contains-append ms bs (alphabet.class t) (or_parts _ _ p));
+      }
+
+  pub wider : {A : Type 0} {g wide : Form T A} {f : Reader T A} {xs ms : List ℕ} {e : Bool} (xs' ms' : List ℕ) → Rule alphabet g wide f xs ms e → subset xs xs' ≡ true → subset ms ms' ≡ true → Rule alphabet g wide f xs' ms' true
+  wider {xs = xs} {ms = ms} xs' ms' law s d =
+      let w = widened alphabet (among alphabet xs') (among alphabet ms') law.law (λ t p. within_of xs xs' s (alphabet.class t) p) (λ t p. within_of ms ms' d (alphabet.class t) p) in
+      record { law = record { sound = w.sound; complete = w.complete; starts = w.starts; nothing = λ a s. refl; some = w.some; viable = w.viable; local = w.local; number = w.number; swap = w.swap; contains = w.contains; limit = w.limit } }
+
+  pub star : {A : Type 0} {g wide : Form T A} {f : Reader T A} {xs ms : List ℕ} (bs : List ℕ) → Rule alphabet g wide f xs ms false → Opens alphabet bs wide → subset xs bs ≡ true → disjoint ms bs ≡ true → Rule alphabet (form.Star g) (form.Star wide) (star_at (among alphabet bs) f) xs (ms ++ bs) true
+  star {g = g} {wide = wide} {f = f} {xs = xs} {ms = ms} bs law o s d =
+      record {
+        law = widened alphabet (among alphabet xs) (among alphabet (ms ++ bs))
+            (star_lawful alphabet g wide f (among alphabet bs) (among alphabet xs) (among alphabet ms) law.law (alike_of bs) (λ t p. within_of xs bs s (alphabet.class t) p) (λ t p q. apart_from ms bs d (alphabet.class t) p q) o)
+            (λ t p. p)
+            (λ t p. contains-append ms bs (alphabet.class t) (or_parts _ _ p));
+      }
+
+  pub no_room : {A : Type 0} {g wide : Form T A} {f : Reader T A} {xs ms : List ℕ} {e : Bool} (bs : List ℕ) → Rule alphabet g wide f xs ms e → Opens alphabet bs wide → disjoint xs bs ≡ true → Rule alphabet g wide (pick (among alphabet bs) (fault_at Limit) f) xs (ms ++ bs) e
+  no_room {g = g} {wide = wide} {f = f} {xs = xs} {ms = ms} {e = e} bs law o d = record {
+    law = widened alphabet (among alphabet xs) (among alphabet (ms ++ bs))
+        (barred_lawful alphabet g wide f (among alphabet bs) (among alphabet xs) (among alphabet ms) e law.law (alike_of bs) (λ t p. is_false (contains bs (alphabet.class t)) (λ q. apart_from xs bs d (alphabet.class t) p q)) o)
+        (λ t p. p)
+        (λ t p. contains-append ms bs (alphabet.class t) (or_parts _ _ p));
+  }
+    where
+      is_false : (b : Bool) → (b ≡ true → ⊥) → b ≡ false
+      is_false true never = absurd (never refl)
+      is_false false never = refl
+
+  -- a reader that doesn't refuse such a token
+  pub opens_of : {A : Type 0} {g wide : Form T A} {f : Reader T A} {xs ms : List ℕ} (bs : List ℕ) → Rule alphabet g wide f xs ms false → ((t : T) → among alphabet bs t ≡ true → (e : Fault) → f (t ∷ []) ≡ Err e → e.left ≡ 0) → Opens alphabet bs wide
+  opens_of {A} {g} {wide} {f} {xs} {ms} bs law opens t h = by_result (f (t ∷ [])) refl
+    where
+      never : false ≡ true → ⊥
+      never e = cc
+
+      by_front : (front rest : List T) (a : A) → t ∷ [] ≡ front ++ rest → g front a → (more : List T) × (b : A) × wide (t ∷ more) b × AllReal alphabet more
+      by_front [] rest a e s = absurd (never (law.law.nothing a s))
+      by_front (u ∷ []) rest a e s = ([], a, subst (λ (x : T). wide (x ∷ []) a) (sym (cons_is t u [] rest e).0) (law.law.contains (u ∷ []) a s), tt)
+      by_front (u ∷ v ∷ front) rest a e s = absurd (omega (arith, ap length e, length-append front rest))
+
+      by_viable : (front rest more : List T) (a : A) → t ∷ [] ≡ front ++ rest → length rest ≡ 0 → g (front ++ more) a → AllReal alphabet more → (more : List T) × (b : A) × wide (t ∷ more) b × AllReal alphabet more
+      by_viable [] rest more a e l s rl = absurd (omega (arith, ap length e, l))
+      by_viable (u ∷ []) rest more a e l s rl = (more, a, subst (λ (x : T). wide (x ∷ more) a) (sym (cons_is t u [] rest e).0) (law.law.contains (u ∷ more) a s), rl)
+      by_viable (u ∷ v ∷ front) rest more a e l s rl = absurd (omega (arith, ap length e, length-append front rest))
+
+      by_result : (r : Result (A × List T) Fault) → f (t ∷ []) ≡ r → (more : List T) × (b : A) × wide (t ∷ more) b × AllReal alphabet more
+      by_result (Ok x) e = let s = law.law.sound (t ∷ []) x.1 x.0 e in by_front s.0 x.1 x.0 s.1 s.2
+      by_result (Err d) e = let v = law.law.viable (t ∷ []) d e in by_viable v.front v.rest v.more v.value v.whole (v.here ∙ opens t h d e) v.spelled v.real
+
+  -- a meaning that refuses no number for its range, and takes all numbers alike
+  pub plainly_ranged : {A : Type 0} (meaning : T → Result A FaultKind) → ((t : T) → meaning t ≡ Err Number → ⊥) → ((t : T) → meaning t ≡ Err Limit → ⊥) → ((t u : T) → is_number alphabet t ≡ true → is_number alphabet u ≡ true → meaning t ≡ meaning u) → IsRanged alphabet meaning
+  plainly_ranged {A} meaning never unlimited same' = record {
+    range = λ t e. absurd (never t e);
+    alike = λ t u n m. subst (λ (x : Result A FaultKind). SameRefusal (meaning t) x) (same' t u n m) (same_refl (meaning t));
+    never = unlimited;
+  }
+
+  pub class_rule : (refusal : ℕ → FaultKind) → ((n : ℕ) → refusal n ≡ Number → ⊥) → ((n : ℕ) → refusal n ≡ Limit → ⊥) → (wanted : ℕ) (sample : T) → is_class alphabet refusal wanted sample ≡ Ok tt → alphabet.Real sample
+      → Rule alphabet (form.token (is_class alphabet refusal wanted)) (form.token (is_class alphabet refusal wanted)) (token_at (is_class alphabet refusal wanted)) (wanted ∷ []) [] false
+  unfolding is_class
+  class_rule refusal not_number not_limit wanted sample s rl = record {
+    law = token_lawful alphabet (is_class alphabet refusal wanted) (among alphabet (wanted ∷ []))
+        (plainly_ranged (is_class alphabet refusal wanted) (λ t e. test_refuses _ tt _ Number (not_number (alphabet.class t)) e) (λ t e. test_refuses _ tt _ Limit (not_limit (alphabet.class t)) e)
+        (λ t u n m. ap (λ (x : ℕ). cond (nat_eq x wanted) (Ok tt) (Err (refusal x))) (same (alphabet.class t) alphabet.numeral n ∙ sym (same (alphabet.class u) alphabet.numeral m))))
+        begins sample tt s rl;
+  }
+    where
+      begins : (t : T) (a : Unit {0}) → is_class alphabet refusal wanted t ≡ Ok a → among alphabet (wanted ∷ []) t ≡ true
+      begins t a h = or_with_false _ (test_ok (nat_eq (alphabet.class t) wanted) tt a (refusal (alphabet.class t)) h)
+
+  pub limited : {A : Type 0} {g wide : Form T A} {f : Reader T A} {xs ms : List ℕ} (bs : List ℕ) (room : Option ℕ) → Rule alphabet g wide f xs ms false → Opens alphabet bs wide → subset xs bs ≡ true → disjoint ms bs ≡ true
+      → Rule alphabet (upto room g) (form.Star wide) (upto_at (among alphabet bs) room f) xs (ms ++ bs) true
+  limited bs None law o s d = star bs law o s d
+  limited bs (Some room) law o s d = many bs room law o s d
+
+  pub maybe : {A : Type 0} {g wide : Form T A} {f : Reader T A} {xs ms : List ℕ} (bs : List ℕ) → Rule alphabet g wide f xs ms false → subset (xs ++ []) bs ≡ true
+      → Rule alphabet (optional g) (optional wide) (optional_at (among alphabet bs) f) ((xs ++ []) ++ []) ((ms ++ []) ++ bs) true
+  maybe {A} {xs = xs} {ms = ms} bs law s = alt bs (seq law (λ a. nothing (Some a)) (none_shared ms)) (nothing None) s refl
+    where
+      none_shared : (ys : List ℕ) → disjoint ys [] ≡ true
+      none_shared [] = refl
+      none_shared (y ∷ ys) = none_shared ys

@@ -1,0 +1,86 @@
+-- What ties a reader to the form that it reads.
+use Rattle.std.specs.Prelude.{◌≡◌, ◌⊎◌, ℕ, Bool, true, false, List, [], ◌∷◌, ◌++◌, length, Result, Ok, Err}
+use Rattle.lto_forms.specs.declared.fault.Fault.{Fault}
+use Rattle.lto_forms.specs.declared.fault.FaultKind.{FaultKind}
+use Rattle.lto_forms.specs.declared.fault.FaultKind.TheVariants.{Syntax, Profile, Number, Limit}
+use Rattle.lto_forms.specs.Alphabet.{Alphabet, AllReal, is_number}
+use Rattle.lto_forms.specs.Faults.{NumberGoesOn, LimitGoesOn}
+use Rattle.lto_forms.specs.Forms.{Form}
+use Rattle.lto_forms.specs.Readers.{Reader, fault_at}
+
+-- how a reading ended, and the tokens that were left
+abbrev pub ends : {T A : Type 0} → Result A FaultKind → List T → Result (A × List T) Fault
+ends (Ok a) rest = Ok (a, rest)
+ends (Err kind) rest = fault_at kind rest
+
+-- the next token, if there is one, is none of these
+abbrev pub Stops : {T : Type 0} → (T → Bool) → List T → Type 0
+Stops more [] = Unit {0}
+Stops more (t ∷ ts) = more t ≡ false
+
+-- what reading gives where another Number stands in the place of the next token
+abbrev pub Swapped : {T A : Type 0} → Result A FaultKind → Result (A × List T) Fault → T → List T → Type 0
+Swapped (Ok a) r u rest = r ≡ Ok (a, u ∷ rest)
+Swapped (Err Number) r u rest = Unit {0}
+Swapped (Err Syntax) r u rest = (k : FaultKind) × (r ≡ fault_at k (u ∷ rest))
+Swapped (Err Profile) r u rest = (k : FaultKind) × (r ≡ fault_at k (u ∷ rest))
+Swapped (Err Limit) r u rest = (k : FaultKind) × (r ≡ fault_at k (u ∷ rest))
+
+-- a refusal of a Number, but for its range, is a refusal of each
+abbrev pub SameRefusal : {A : Type 0} → Result A FaultKind → Result A FaultKind → Type 0
+SameRefusal {A} (Ok a) m = Unit {0}
+SameRefusal {A} (Err Number) m = Unit {0}
+SameRefusal {A} (Err Syntax) m = (k : FaultKind) × (m ≡ Err k)
+SameRefusal {A} (Err Profile) m = (k : FaultKind) × (m ≡ Err k)
+SameRefusal {A} (Err Limit) m = (k : FaultKind) × (m ≡ Err k)
+
+-- the first is past a limit, or they are one
+abbrev pub Agreed : {T A : Type 0} → Result (A × List T) Fault → Result (A × List T) Fault → Type 0
+Agreed r free = (r ≡ free) ⊎ ((left : ℕ) × (r ≡ Err (record { left = left; kind = Limit })))
+
+-- a reader with limits, and one without, which reads the same up to them
+abbrev pub Agrees : {T A : Type 0} → Reader T A → Reader T A → Type 0
+Agrees {T} f free = (ts : List T) → Agreed (f ts) (free ts)
+
+module _ {T : Type 0} (alphabet : Alphabet T) where
+  -- what stands before the last tokens, so many, goes on somehow to what the form has
+  pub record GoesOn {A : Type 0} (g : Form T A) (ts : List T) (left : ℕ) : Type 0 where
+    pub front : List T
+    pub rest : List T
+    pub whole : ts ≡ front ++ rest
+    pub here : length rest ≡ left
+    pub more : List T
+    pub value : A
+    pub spelled : g (front ++ more) value
+    pub real : AllReal alphabet more
+
+  -- what a meaning says of Numbers
+  pub record IsRanged {A : Type 0} (meaning : T → Result A FaultKind) : Type 0 where
+    -- out of range is said of Numbers alone, and another one is in range
+    pub range : (t : T) → meaning t ≡ Err Number → (is_number alphabet t ≡ true) × (u : T) × (b : A) × (is_number alphabet u ≡ true) × (meaning u ≡ Ok b) × alphabet.Real u
+    pub alike : (t u : T) → is_number alphabet t ≡ true → is_number alphabet u ≡ true → SameRefusal (meaning t) (meaning u)
+    -- no single token is past a limit
+    pub never : (t : T) → meaning t ≡ Err Limit → ⊥
+
+  -- f reads the form g. A reading begins with a token of first, or is empty; it goes on exactly at a token of more.
+  pub record Lawful {A : Type 0} (g wide : Form T A) (f : Reader T A) (first more : T → Bool) (empty : Bool) : Type 0 where
+    -- what is read is spelled so
+    pub sound : (ts rest : List T) (a : A) → f ts ≡ Ok (a, rest) → (front : List T) × (ts ≡ front ++ rest) × g front a
+    -- what is spelled so is read
+    pub complete : (front rest : List T) (a : A) → g front a → Stops more rest → f (front ++ rest) ≡ Ok (a, rest)
+    pub starts : (t : T) (ts : List T) (a : A) → g (t ∷ ts) a → first t ≡ true
+    pub nothing : (a : A) → g [] a → empty ≡ true
+    -- something is spelled so
+    pub some : (ts : List T) × (a : A) × g ts a × AllReal alphabet ts
+    -- what stands before a fault goes on somehow
+    pub viable : (ts : List T) (e : Fault) → f ts ≡ Err e → GoesOn g ts e.left
+    -- what is read, and where it stops, depends on the tokens up to the next one alone
+    pub local : (front : List T) (t : T) (rest rest' : List T) (o : Result A FaultKind) → f (front ++ t ∷ rest) ≡ ends o (t ∷ rest) → f (front ++ t ∷ rest') ≡ ends o (t ∷ rest')
+    -- a Number that is out of range stands where another one goes on
+    pub number : (ts : List T) (left : ℕ) → f ts ≡ Err (record { left = left; kind = Number }) → NumberGoesOn alphabet g ts left
+    -- another fault at a Number comes for each Number there
+    pub swap : (front : List T) (t u : T) (rest rest' : List T) (o : Result A FaultKind) → is_number alphabet t ≡ true → is_number alphabet u ≡ true → f (front ++ t ∷ rest) ≡ ends o (t ∷ rest) → Swapped o (f (front ++ u ∷ rest')) u rest'
+    -- what is spelled so is spelled so without the limits
+    pub contains : (ts : List T) (a : A) → g ts a → wide ts a
+    -- a fault of a limit stands where a reading without the limits goes on
+    pub limit : (ts : List T) (left : ℕ) → f ts ≡ Err (record { left = left; kind = Limit }) → LimitGoesOn alphabet wide ts left

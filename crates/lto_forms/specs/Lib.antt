@@ -1,0 +1,9 @@
+pub mod Alphabet
+pub mod Balanced
+pub mod Faults
+pub mod Forms
+pub mod Groups
+pub mod Lawful
+pub mod Listing
+pub mod Readers
+pub mod Rules

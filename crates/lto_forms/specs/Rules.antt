@@ -1,0 +1,28 @@
+-- The laws of readers that choose by sets of classes, so that what is asked of the sets computes.
+use Rattle.std.specs.Prelude.{◌≡◌, ℕ, nat_eq, Bool, true, ◌&&◌, not, if◌then◌else◌, List, [], ◌∷◌, Result, Ok, Err}
+use Rattle.lto_forms.specs.declared.fault.FaultKind.{FaultKind}
+use Rattle.lto_forms.specs.Alphabet.{Alphabet, AllReal, among, contains}
+use Rattle.lto_forms.specs.Forms.{Form}
+use Rattle.lto_forms.specs.Lawful.{Lawful}
+use Rattle.lto_forms.specs.Readers.{Reader}
+
+abbrev pub disjoint : List ℕ → List ℕ → Bool
+disjoint [] ys = true
+disjoint (x ∷ xs) ys = not (contains ys x) && disjoint xs ys
+
+abbrev pub subset : List ℕ → List ℕ → Bool
+subset [] ys = true
+subset (x ∷ xs) ys = contains ys x && subset xs ys
+
+module _ {T : Type 0} (alphabet : Alphabet T) where
+  -- a token of this class; the class of another says why it can't stand here
+  unfoldable pub is_class : (ℕ → FaultKind) → ℕ → T → Result (Unit {0}) FaultKind
+  is_class refusal wanted t = if nat_eq (alphabet.class t) wanted then Ok tt else Err (refusal (alphabet.class t))
+
+  -- each token of these classes begins something of the form
+  abbrev pub Opens : {A : Type 0} → List ℕ → Form T A → Type 0
+  Opens {A} bs wide = (t : T) → among alphabet bs t ≡ true → (more : List T) × (a : A) × wide (t ∷ more) a × AllReal alphabet more
+
+  -- f reads g, and wide without limits; a reading begins with one of the classes first, and goes on exactly at one of more
+  pub record Rule {A : Type 0} (g wide : Form T A) (f : Reader T A) (first more : List ℕ) (empty : Bool) : Type 0 where
+    pub law : Lawful alphabet g wide f (among alphabet first) (among alphabet more) empty

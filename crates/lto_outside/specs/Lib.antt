@@ -1,0 +1,10 @@
+pub mod Cause
+pub mod Store
+pub mod DiskStore
+pub mod Bytes
+pub mod Calls
+pub mod Seen
+pub mod Replay
+pub mod ReplayLaws
+pub mod Honest
+pub mod Laws

@@ -1,0 +1,11 @@
+mod Digits
+mod Comparing
+mod Bodies
+mod Scoped
+mod Placing
+mod Mapped
+mod Readings
+mod Refining
+mod Pushing
+mod Composing
+mod Told

@@ -1,0 +1,15 @@
+pub mod Words
+pub mod Exit
+pub mod Honest
+pub mod Grammar
+pub mod Resolved
+pub mod Scopes
+pub mod Reading
+pub mod Renumbered
+pub mod Numberings
+pub mod Printed
+pub mod Merged
+pub mod Linking
+pub mod Notes
+pub mod Answers
+pub mod Telling

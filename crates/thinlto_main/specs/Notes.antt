@@ -1,0 +1,44 @@
+-- What is sent to the notes.
+use Rattle.std.specs.Prelude.{◌≡◌, ℕ, Bool, true, false, List, [], ◌∷◌, ◌++◌, Option, Result, Ok, Err, codes, decimal}
+use Rattle.std.specs.Io.KnownBytes.{Appends}
+use Rattle.lto_outside.specs.Cause.{Rose}
+use Rattle.lto_outside.specs.Seen.{StreamSeen}
+use Rattle.thinlto_main.specs.declared.refusal.Kind.{Kind}
+use Rattle.thinlto_main.specs.declared.refusal.Kind.TheVariants.{Syntax, Limit}
+use Rattle.thinlto_main.specs.declared.refusal.Refusal.{Refusal}
+use Rattle.thinlto_main.specs.declared.refusal.Refusal.TheVariants.{Usage, ReadFault, Refused, WriteFault, NoMemory}
+
+-- all of the text was sent; or a front of it, and the count of faults rose
+abbrev pub Pushes : Option (List ℕ) → Option (List ℕ) → ℕ → ℕ → List ℕ → Bool → Type 0
+Pushes before after faults now text true = Appends before after text
+Pushes before after faults now text false =
+    (front rest : List ℕ) × (text ≡ front ++ rest) × Appends before after front × Rose faults now
+
+abbrev pub kind_text : Kind → List ℕ
+kind_text Syntax = codes "syntax"
+kind_text Limit = codes "limit passed"
+
+-- the parts of a refusal's line
+abbrev pub note_parts : Refusal → List (List ℕ)
+note_parts Usage = codes "thinlto: " ∷ codes "usage" ∷ codes "\n" ∷ []
+note_parts (ReadFault name) = codes "thinlto: " ∷ codes "cannot read " ∷ name ∷ codes "\n" ∷ []
+note_parts (Refused file line kind) =
+    codes "thinlto: " ∷ file ∷ codes ":" ∷ decimal line ∷ codes ": " ∷ kind_text kind ∷ codes "\n" ∷ []
+note_parts (WriteFault name) = codes "thinlto: " ∷ codes "cannot write " ∷ name ∷ codes "\n" ∷ []
+note_parts NoMemory = codes "thinlto: " ∷ codes "out of memory" ∷ codes "\n" ∷ []
+
+abbrev pub joined : List (List ℕ) → List ℕ
+joined [] = []
+joined (part ∷ parts) = part ++ joined parts
+
+-- the line of a refusal, and nothing where there is none
+abbrev pub note_of : {A : Type 0} → Result A Refusal → List ℕ
+note_of (Ok _) = []
+note_of (Err refusal) = joined (note_parts refusal)
+
+-- the text was sent, or a front of it and the count of faults rose
+abbrev pub Says : Option (List ℕ) → Option (List ℕ) → ℕ → ℕ → List ℕ → Type 0
+Says before after faults now text = (whole : Bool) × Pushes before after faults now text whole
+
+abbrev pub Hears : StreamSeen → List ℕ → Type 0
+Hears stream text = Says stream.told stream.told_now stream.faults stream.faults_now text

@@ -1,0 +1,69 @@
+//! The program `thinlto`: one link of one module.
+//!
+//! `top` is the program's one call: it takes the words of the command line and the outside as five
+//! objects, and its contract says when each answer comes and what was done to each object. `main`
+//! makes the real objects, calls `top`, and ends with the status's number.
+//!
+//! Below stand the trees (`ir_tree`), the tokens (`ir_lex`) and the outside (`lto_outside`, and its
+//! real objects in `outside_real`). The promise kept here is the headline of the linker for the form
+//! that is read so far, a `main` of sums: the bytes put are the text of the linked module, and each
+//! run of the linked program is a run of the module as it was read. Time is linear in the text but
+//! for the look-ups of names, which take the logarithm of their count.
+#![tactic(auto)]
+
+mod cache;
+mod entry;
+mod link;
+mod name;
+mod notes;
+mod numbering;
+mod parse;
+mod print;
+mod read;
+mod refusal;
+mod renumber;
+mod resolve;
+mod source;
+mod status;
+#[cfg(test)]
+mod tests;
+mod words;
+
+pub use cache::LinkMakes;
+pub use entry::{Ended, top};
+use outside_real::{RealDisk, RealFiles, RealGate, RealIn, RealOut};
+pub use refusal::{Kind, Refusal, Status};
+pub use status::status_of;
+use std::alloc::Global;
+use std::process::ExitCode;
+use std::rt::Env;
+use std::{env, io};
+
+/// The words behind the program's own name, unless they can't be had.
+fn all_words<R: Env + AllocGlobal>(rt: &R, alloc: Global) -> Option<Vec<String>> {
+    let mut words = Vec::new(alloc);
+    for word in env::args(rt).ok()?.skip(1) {
+        words.push(word).ok()?;
+    }
+    Some(words)
+}
+
+fn main(rt: HostRuntime) -> ExitCode {
+    let alloc = rt.alloc();
+    // Words that can't be had are no command, as one empty word is none.
+    let no_command = [String::new(alloc)];
+    let words = all_words(&rt, alloc);
+    let given = match &words {
+        Some(words) => words.as_slice(),
+        None => no_command.as_slice(),
+    };
+    let mut files = RealFiles::new(&rt);
+    let disk: RealDisk<'_, _, LinkMakes> = RealDisk::new(&rt);
+    let mut input = RealIn::new(rt.reader());
+    let mut out = RealOut::new(io::writer(&rt));
+    let mut notes = RealOut::new(rt.stderr());
+    let ended = top(
+        &rt, alloc, given, &mut files, disk, &RealGate, &mut input, &mut out, &mut notes,
+    );
+    ExitCode::from(status_of(&ended.status))
+}
