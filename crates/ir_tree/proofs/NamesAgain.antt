@@ -1,6 +1,6 @@
 -- A name that is written is read as itself.
-use Rattle.std.proofs.Common.{◌≡◌, ℕ, zero, suc, ◌+◌, ◌-◌, ◌*◌, ◌/◌, ◌%◌, ◌<◌, Bool, true, false, not, cond, nat_eq, Option, Some, None, List, [], ◌∷◌, ◌++◌, length, take, drop, refl, sym, ap, ◌∙◌, arith}
-use Rattle.ir_tree.specs.Names.{is_empty, is_bare, hex_digit, is_plain, escaped, quoted, is_hex, hex_value, unescaped, opened, given, closes, is_string, unquoted, AllBytes}
+use Rattle.std.proofs.Common.{◌≡◌, ℕ, suc, ◌+◌, ◌-◌, ◌*◌, ◌/◌, ◌%◌, ◌<◌, Bool, true, false, cond, nat_eq, Some, None, List, [], ◌∷◌, ◌++◌, length, take, refl, ap, ◌∙◌, arith}
+use Rattle.ir_tree.specs.Names.{is_bare, hex_digit, is_plain, escaped, quoted, is_hex, hex_value, unescaped, closes, unquoted, AllBytes}
 use Rattle.ir_tree.specs.declared.name.Escape.TheVariants.{Closed}
 
 pub record IsDigit (d : ℕ) : Type 0 where

@@ -20,12 +20,15 @@ mod module;
 mod name;
 mod operand;
 mod order;
+mod parsed;
 mod rows;
+mod rule;
 mod same;
 mod shape;
 #[cfg(test)]
 mod tests;
 mod text;
+mod verified;
 
 pub use block::{Block, Case, Terminator};
 pub use duplicate::Duplicate;
@@ -39,6 +42,9 @@ pub use name::{
     Escape, escape_into, is_bare, quote_into, quoted, quoted_again, unescaped, unquoted,
 };
 pub use operand::{Argument, Operand, Reg, Symbol};
+pub use parsed::Parsed;
 pub use rows::Rows;
+pub use rule::Rule;
 pub use shape::{Shape, ShapeNode};
 pub use text::Text;
+pub use verified::Verified;
