@@ -1,0 +1,14 @@
+pub mod Extended
+pub mod ChainLaws
+pub mod GraphOf
+pub mod Queues
+pub mod Narrowed
+pub mod Turned
+pub mod Solved
+pub mod Searched
+pub mod Trees
+pub mod Reaching
+pub mod TreeSteps
+pub mod DomTree
+pub mod DominanceOf
+pub mod Availability

@@ -1,0 +1,11 @@
+pub mod Graph
+pub mod Extents
+pub mod Chained
+pub mod OfFunction
+pub mod Waiting
+pub mod Narrowing
+pub mod Solving
+pub mod Searching
+pub mod Dominance
+pub mod Dominating
+pub mod Laws

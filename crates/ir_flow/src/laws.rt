@@ -1,0 +1,24 @@
+//! Laws of data flow that passes use.
+ghost use Rattle.ir_flow.specs.Laws.{OneGreatest, AvailableIsPassed, AllAreAvailable, AvailableByDominance};
+
+/// Law: two greatest solutions of the same equations agree in each mark.
+pub fn one_greatest()
+    ensures { OneGreatest }
+{}
+
+/// Law: a local that is available at a block's start is a parameter, or was defined on every path from the
+/// entry.
+pub fn available_is_passed()
+    ensures { AvailableIsPassed }
+{}
+
+/// Law: in a block that isn't reached all locals are available.
+pub fn all_are_available()
+    ensures { AllAreAvailable }
+{}
+
+/// Law: a local that one block alone defines is available at the start of a reached block exactly where its
+/// block dominates that one and is another, whatever holds the dominators.
+pub fn available_by_dominance()
+    ensures { AvailableByDominance }
+{}

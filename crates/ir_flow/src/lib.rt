@@ -1,0 +1,39 @@
+//! Data flow over the functions of LLVM IR: predecessor edges, the blocks that are reached, dominators, and
+//! greatest solutions of equations.
+//!
+//! A function's blocks go by their place, from 0, which is the entry. `ir_tree` stands below, with functions and
+//! with what edges, paths, dominance, greatest families and availability are, and `lto_sets`, with sets as rows
+//! of bits.
+//!
+//! Its promises: the edges and the blocks that are reached are those of the definitions; `Dominators` answers
+//! dominance by paths; `greatest` gives the greatest solution of any lawful equations; and a local that one block
+//! defines is available exactly where that block dominates, so that what is available need not be kept as sets.
+//!
+//! Edges and reached blocks take time and memory linear in blocks, edges and the greatest number of a block.
+//! Dominators take two rounds over the edges where control flow is reducible, each meeting of two blocks a
+//! logarithm of the tree's depth, and three numbers a block; elsewhere a round more for each round in which a
+//! link moves. `greatest` takes a bit for each pair of block and member.
+#![tactic(auto)]
+
+mod chains;
+mod dominators;
+mod graph;
+mod laws;
+mod narrow;
+mod predecessors;
+mod reach;
+mod search;
+mod solution;
+mod system;
+#[cfg(test)]
+mod tests;
+mod tree;
+mod work_list;
+
+pub use dominators::Dominators;
+pub use graph::Edges;
+pub use laws::{all_are_available, available_by_dominance, available_is_passed, one_greatest};
+pub use predecessors::preds;
+pub use reach::reachable;
+pub use solution::greatest;
+pub use system::Equations;
