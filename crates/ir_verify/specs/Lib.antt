@@ -1,0 +1,12 @@
+pub mod Parts
+pub mod Tables
+pub mod Definitions
+pub mod Homes
+pub mod Kept
+pub mod Edged
+pub mod Faults
+pub mod Known
+pub mod Orders
+pub mod Standing
+pub mod Modules
+pub mod Wants

@@ -1,0 +1,144 @@
+//! The items of a function, one after another.
+ghost use Rattle.std.specs.Prelude.{◌≡◌, ◌+◌, ◌<◌, length, IfOk, Some, slice_get};
+ghost use Rattle.ir_tree.specs.Formed.{Formed};
+ghost use Rattle.ir_tree.specs.Items.{items};
+ghost use Rattle.ir_verify.specs.Known.{IsKnown};
+ghost use Rattle.ir_verify.specs.Orders.{IsPast, Went};
+ghost use Rattle.ir_verify.specs.Standing.{Stands};
+
+use crate::fault::{VerifyFault, noted};
+use crate::items::{end_broken, line_broken, phi_broken};
+use crate::known::{Known, learned};
+use ir_tree::{Block, Function};
+use std::alloc::{AllocError, Global};
+
+/// The line of an item, whose number is given in three parts.
+fn line_of(lines: &[u32], first: usize, second: usize, third: usize) -> u32
+    requires { first + second + third < length lines.now }
+    ensures { slice_get lines.now (first + second + third) ≡ Some result }
+{
+    lines[first + second + third]
+}
+
+/// The number of the item behind those of a block.
+fn behind(lines: &[u32], first: usize, second: usize, third: usize) -> usize
+    requires { first + second + third < length lines.now }
+    ensures { result ≡ first + second + third + 1 }
+{
+    first + second + third + 1
+}
+
+/// The first fault over the phis of a block, whose items stand from `at` on, and what was found before.
+fn phis_fault(
+    alloc: Global,
+    function: &Function,
+    known: &Known,
+    lines: &[u32],
+    number: u32,
+    place: usize,
+    at: usize,
+    block: &Block,
+    found: Option<VerifyFault>,
+) -> Result<Option<VerifyFault>, AllocError>
+    requires known { IsKnown function.now known.now }
+    requires formed { Formed function.now }
+    requires lined { length lines.now ≡ length (items function.now) }
+    requires stands { Stands function.now place block.now at }
+    ensures { IfOk result (λ new. Went function.now lines.now number at found (at + length block.now.phis) new) }
+{
+    let mut best = found;
+    let phis = block.phis.as_slice();
+    for phi in 0..phis.len() {
+        let broken = phi_broken(alloc, function, known, place, &phis[phi])?;
+        let on = line_of(lines, at, phi, 0);
+        best = noted(best, Some(number), on, broken);
+    }
+    Ok(best)
+}
+
+/// The first fault over the lines of a block, whose items stand from `at` on, and what was found before.
+fn lines_fault(
+    alloc: Global,
+    function: &Function,
+    known: &Known,
+    lines: &[u32],
+    number: u32,
+    place: usize,
+    at: usize,
+    block: &Block,
+    found: Option<VerifyFault>,
+) -> Result<Option<VerifyFault>, AllocError>
+    requires known { IsKnown function.now known.now }
+    requires formed { Formed function.now }
+    requires lined { length lines.now ≡ length (items function.now) }
+    requires stands { Stands function.now place block.now at }
+    ensures { IfOk result (λ new. Went function.now lines.now number (at + length block.now.phis) found (at + length block.now.phis + length block.now.lines) new) }
+{
+    let mut best = found;
+    let items = block.lines.as_slice();
+    for line in 0..items.len() {
+        let broken = line_broken(alloc, function, known, place, line, &items[line])?;
+        let on = line_of(lines, at, block.phis.len(), line);
+        best = noted(best, Some(number), on, broken);
+    }
+    Ok(best)
+}
+
+/// The first fault over the items of a block, which stand from `at` on, and what was found before.
+fn block_fault(
+    alloc: Global,
+    function: &Function,
+    known: &Known,
+    lines: &[u32],
+    number: u32,
+    place: usize,
+    at: usize,
+    block: &Block,
+    found: Option<VerifyFault>,
+) -> Result<Option<VerifyFault>, AllocError>
+    requires known { IsKnown function.now known.now }
+    requires formed { Formed function.now }
+    requires lined { length lines.now ≡ length (items function.now) }
+    requires stands { Stands function.now place block.now at }
+    ensures { IfOk result (λ new. Went function.now lines.now number at found (at + length block.now.phis + length block.now.lines + 1) new) }
+{
+    let phis = phis_fault(
+        alloc, function, known, lines, number, place, at, block, found,
+    )?;
+    let best = lines_fault(
+        alloc, function, known, lines, number, place, at, block, phis,
+    )?;
+    let broken = end_broken(alloc, function, known, place, &block.end)?;
+    let on = line_of(lines, at, block.phis.len(), block.lines.len());
+    Ok(noted(best, Some(number), on, broken))
+}
+
+/// The first fault of a function, which goes by this number and whose items stand on these lines, and of what was found before: on
+/// the least line, and there of the least rule.
+///
+/// Beside want of memory, a function of `2^32` blocks or more is refused as too large for it. Time is near linear in the function
+/// where control flow is reducible, memory linear.
+pub fn function_fault(
+    alloc: Global,
+    function: &Function,
+    lines: &[u32],
+    number: u32,
+    found: Option<VerifyFault>,
+) -> Result<Option<VerifyFault>, AllocError>
+    requires formed { Formed function.now }
+    requires lined { length lines.now ≡ length (items function.now) }
+    ensures { IfOk result (λ new. IsPast function.now lines.now number found new) }
+{
+    let known = learned(alloc, function)?;
+    let mut best = found;
+    let mut at = 0;
+    let blocks = function.blocks.as_slice();
+    for place in 0..blocks.len() {
+        let block = &blocks[place];
+        best = block_fault(
+            alloc, function, &known, lines, number, place, at, block, best,
+        )?;
+        at = behind(lines, at, block.phis.len(), block.lines.len());
+    }
+    Ok(best)
+}

@@ -1,0 +1,91 @@
+//! The globals of a module, one after another.
+ghost use Rattle.std.specs.Prelude.{◌≡◌, ℕ, ◌<◌, ◌↔◌, length, IfOk, IsTrue, All};
+ghost use Rattle.std.specs.List.{AllZip};
+ghost use Rattle.ir_tree.specs.Wholes.{GlobalFormed, HasLines};
+ghost use Rattle.ir_tree.specs.Fits.{FitsShape};
+ghost use Rattle.ir_tree.specs.declared.module.GlobalValue.TheVariants as global;
+ghost use Rattle.ir_verify.specs.Modules.{GlobalPast, IsFirst};
+
+use crate::blocks::function_fault;
+use crate::fault::{VerifyFault, noted};
+use crate::initial::init_fits;
+use ir_tree::{GlobalValue, Parsed, Rows, Rule, Variable};
+use std::alloc::{AllocError, Global};
+
+/// Whether the initialiser of a variable, where it has one, fits its shape.
+fn variable_fits(alloc: Global, variable: &Variable) -> Result<bool, AllocError>
+    ensures { IfOk result (λ fits. IsTrue fits ↔ FitsShape variable.now) }
+{
+    match &variable.init {
+        None => Ok(true),
+        Some(init) => init_fits(alloc, &variable.shape, init),
+    }
+}
+
+/// The first fault of a variable and of what was found before.
+#[tactic(auto, using(crate::proofs::Modules::past_fitting, crate::proofs::Modules::past_other))]
+fn variable_fault(
+    alloc: Global,
+    variable: &Variable,
+    lines: &[u32],
+    found: Option<VerifyFault>,
+) -> Result<Option<VerifyFault>, AllocError>
+    requires { length lines.now ≡ 1 }
+    ensures { IfOk result (λ new. (k : ℕ) → GlobalPast (global.Variable variable.now) lines.now k found new) }
+{
+    if variable_fits(alloc, variable)? {
+        return Ok(found);
+    }
+    Ok(noted(found, None, lines[0], Some(Rule::TypeMismatch)))
+}
+
+/// The first fault of a global and of what was found before.
+#[tactic(auto, using(crate::proofs::Modules::past_function))]
+fn global_fault(
+    alloc: Global,
+    global: &GlobalValue,
+    lines: &[u32],
+    number: u32,
+    found: Option<VerifyFault>,
+) -> Result<Option<VerifyFault>, AllocError>
+    requires formed { GlobalFormed global.now }
+    requires lined { HasLines global.now lines.now }
+    ensures { IfOk result (λ new. GlobalPast global.now lines.now number found new) }
+{
+    match global {
+        GlobalValue::Variable(variable) => variable_fault(alloc, variable, lines, found),
+        GlobalValue::Function(function) => function_fault(alloc, function, lines, number, found),
+    }
+}
+
+/// The first fault of these globals.
+fn globals_fault(
+    alloc: Global,
+    globals: &[GlobalValue],
+    lines: &[Rows<u32>],
+) -> Result<Option<VerifyFault>, AllocError>
+    requires formed { All GlobalFormed globals.now }
+    requires lined { AllZip HasLines globals.now lines.now }
+    ensures { IfOk result (λ new. IsFirst globals.now lines.now (length globals.now) new) }
+{
+    if globals.len() > u32::MAX as usize {
+        return Err(AllocError);
+    }
+    let mut best = None;
+    for number in 0..globals.len() {
+        let on = lines[number].as_slice();
+        best = global_fault(alloc, &globals[number], on, number as u32, best)?;
+    }
+    Ok(best)
+}
+
+/// The first fault of a module: on the least line, and there of the least rule; none exactly where every function is sound and every
+/// initialiser fits its shape.
+///
+/// Beside want of memory, a module of `2^32` globals or more, or with a function of `2^32` blocks or more, is refused as too large for
+/// it. Time is near linear in the module where control flow is reducible, memory linear in its largest function.
+pub fn functions_fault(alloc: Global, parsed: &Parsed) -> Result<Option<VerifyFault>, AllocError>
+    ensures { IfOk result (λ new. IsFirst parsed.now.0.globals parsed.now.1 (length parsed.now.0.globals) new) }
+{
+    globals_fault(alloc, parsed.module().globals.as_slice(), parsed.lines())
+}

@@ -1,0 +1,35 @@
+//! What is known of a function before its items are checked.
+ghost use Rattle.std.specs.Prelude.{IfOk};
+ghost use Rattle.ir_verify.specs.Known.{IsKnown};
+
+use crate::definitions::{Definition, definitions, places};
+use crate::table::Table;
+use ir_flow::{Dominators, Edges, preds};
+use ir_tree::Function;
+use std::alloc::{AllocError, Global};
+
+/// The definitions of a function's locals, the places of its blocks, the edges into them, and their dominators.
+#[derive(Drop)]
+pub struct Known {
+    pub locals: Table<Definition>,
+    pub places: Table<usize>,
+    pub preds: Edges,
+    pub dominators: Dominators,
+}
+
+/// What is known of a function. Memory is linear in the function and its greatest number, and so is time, but for the dominators,
+/// which take near linear time where control flow is reducible.
+pub fn learned(alloc: Global, function: &Function) -> Result<Known, AllocError>
+    ensures { IfOk result (λ known. IsKnown function.now known) }
+{
+    let locals = definitions(alloc, function)?;
+    let places = places(alloc, function.blocks.as_slice())?;
+    let preds = preds(alloc, function)?;
+    let dominators = Dominators::of(alloc, function)?;
+    Ok(Known {
+        locals,
+        places,
+        preds,
+        dominators,
+    })
+}

@@ -1,0 +1,40 @@
+//! The rules of soundness, item by item and over whole functions: what a verifier of modules is made of.
+//!
+//! [`learned`] gathers what is known of a function: where each local and each block is defined, and the edges into each block.
+//! [`phi_broken`], [`line_broken`] and [`end_broken`] answer with the first rule that a phi, a line or a terminator of a formed
+//! function breaks, and with none exactly where it keeps all eight (`ir_tree`'s `specs/Rules.antt`). What is available is
+//! answered point by point, from the place of a local's definition and the dominators of its function. [`noted`] keeps the fault of
+//! the least line, and on one line of the least rule, and [`function_fault`] goes over all items of a function with it. [`init_fits`] says whether an initialiser fits a shape, and
+//! [`functions_fault`] finds the least fault of a module's functions and variables.
+//!
+//! Below stand `ir_tree`, and the edges and dominators of `ir_flow`. The promise: each answer is what the definitions of
+//! soundness say. Tables go by the numbers of locals and blocks; a phi is checked in the time of sorting its entries, a switch in
+//! that of its cases, any other item in that of its operands.
+#![tactic(auto)]
+
+mod available;
+mod blocks;
+mod cases;
+mod definitions;
+mod entry;
+mod fault;
+mod globals;
+mod initial;
+mod instructions;
+mod items;
+mod known;
+mod phis;
+mod reads;
+mod table;
+#[cfg(test)]
+mod tests;
+mod types;
+
+pub use blocks::function_fault;
+pub use definitions::{Definition, Home};
+pub use fault::{VerifyFault, noted, rule_number};
+pub use globals::functions_fault;
+pub use initial::init_fits;
+pub use items::{end_broken, line_broken, phi_broken};
+pub use known::{Known, learned};
+pub use table::Table;
