@@ -1,5 +1,5 @@
 -- Phis that take one local on every edge.
-use Rattle.std.specs.Prelude.{◌≡◌, ℕ, List, [], ◌∷◌}
+use Rattle.std.specs.Prelude.{◌≡◌, ◌≢◌, ℕ, List, [], ◌∷◌}
 use Rattle.ir_tree.specs.declared.instr.Incoming.{Incoming}
 use Rattle.ir_tree.specs.declared.operand.Operand.TheVariants.{Local}
 
@@ -7,3 +7,7 @@ use Rattle.ir_tree.specs.declared.operand.Operand.TheVariants.{Local}
 abbrev pub AllTake : ℕ → List Incoming → Type 0
 AllTake v [] = Unit {0}
 AllTake v (e ∷ es) = (e.value ≡ Local v) × AllTake v es
+
+-- there are edges, and the phi takes the local on each
+abbrev pub IsSource : ℕ → List Incoming → Type 0
+IsSource v es = (es ≢ []) × AllTake v es

@@ -1,5 +1,5 @@
 -- A function with a stack slot, and what it becomes as the slot is promoted.
-use Rattle.std.specs.Prelude.{ℕ, not, ◌==◌, [], ◌∷◌}
+use Rattle.std.specs.Prelude.{ℕ, not, ◌||◌, ◌==◌, if◌then◌else◌, [], ◌∷◌, Option, Some, None}
 use Rattle.ir_tree.specs.declared.function.Function.{Function}
 use Rattle.ir_tree.specs.declared.instr.Instr.{Instr}
 use Rattle.ir_tree.specs.declared.instr.Instr.TheVariants.{Alloca, Load, Store}
@@ -8,6 +8,7 @@ use Rattle.ir_tree.specs.declared.operand.Operand.TheVariants.{Local}
 use Rattle.ir_tree.specs.declared.operand.Reg.TheVariants.{Int, Ptr}
 use Rattle.ir_tree.specs.declared.operand.Symbol.{Symbol}
 use Rattle.ir_meaning.specs.ExampleRuns.{const, does, i32, poison, returns, sets, straight}
+use Rattle.ir_better.specs.Facts.{is_local}
 use Rattle.ir_better.specs.Promote.{Current, Fetches, Makes, Other, Plan, Use, Writes, changed, chosen_value}
 use Rattle.ir_tree.specs.Forms.{int}
 
@@ -22,6 +23,11 @@ abbrev pub promoted_slot : Symbol → ℕ → Operand → Operand → Function
 promoted_slot caller stored value address = straight caller
     (does (Store Ptr value address 8) ∷ sets 2 (chosen_value i32 (const stored)) ∷ [])
     (returns (Local 2))
+
+-- none where the slot's address escapes
+abbrev pub slot_or_none : Symbol → ℕ → Operand → Operand → Option Function
+slot_or_none caller stored value address =
+    if is_local 1 value || is_local 1 address then None else Some (promoted_slot caller stored value address)
 
 abbrev pub uses_by : Instr → Use
 uses_by (Alloca shape align) = Makes 1

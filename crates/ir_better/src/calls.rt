@@ -94,7 +94,8 @@ pub fn difference_inlined(
     left: u64,
     right: u64,
 ) -> Result<Function, AllocError>
-    ensures { IfOk result (λ new. IsBetterCaller new caller left right) }
+    ensures made { IfOk result (λ new. new ≡ inlined_caller caller left right) }
+    ensures better { IfOk result (λ new. IsBetterCaller new caller left right) }
 {
     let new = with_difference(alloc, caller, left, right)?;
     Ok(new)

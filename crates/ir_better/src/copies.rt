@@ -1,8 +1,7 @@
 //! Copy propagation in one block: uses of a copy's result become uses of its source.
-ghost use Rattle.std.specs.Prelude.{IfOk, IfSome, ◌≡◌, ◌∷◌};
-ghost use Rattle.ir_better.specs.Copies.{facts_of, gives, IsCopy, IsForwarded, IsLive, LeavesTo};
+ghost use Rattle.std.specs.Prelude.{IfOk, IfSome, MatchOption, false, ◌≡◌, ◌∷◌};
+ghost use Rattle.ir_better.specs.Copies.{binary_replaced, block_forwarded, copy_in, facts_of, gives, is_plain, IsForwarded, IsLive, leaves, LeavesTo};
 ghost use Rattle.ir_better.specs.Facts.{replaced};
-ghost use Rattle.ir_better.specs.Inline.{with_operands};
 ghost use Rattle.ir_better.specs.Straight.{BetterBlock};
 
 use ir_tree::{Argument, Duplicate, Instr, Line, Operand, Rows, Terminator};
@@ -17,7 +16,7 @@ pub struct Copied {
 
 /// The copy that a line makes, if it makes one.
 fn copy_of(line: &Line) -> Option<Copied>
-    ensures { IfSome result (λ copy. IsCopy copy.to copy.from line.now) }
+    ensures { result ≡ copy_in line.now }
 {
     let to = line.local?;
     if let Instr::Select {
@@ -56,7 +55,7 @@ fn forwarded_line(
     line: &Line,
     live: Option<Copied>,
 ) -> Result<Option<Line>, AllocError>
-    ensures { IfOk result (λ made. IfSome made (λ new. new ≡ record { local = line.now.local; instr = with_operands (replaced (facts_of live)) line.now.instr })) }
+    ensures { IfOk result (λ made. made ≡ binary_replaced (facts_of live) line.now) }
 {
     if let Instr::Binary {
         op,
@@ -108,7 +107,7 @@ fn next_line(
     live: Option<Copied>,
 ) -> Result<Option<Step>, AllocError>
     requires state { IsLive copy live }
-    ensures { IfOk result (λ made. IfSome made (λ new. IsForwarded copy live line.now new)) }
+    ensures { IfOk result (λ made. MatchOption made (is_plain copy.to line.now ≡ false) (λ new. IsForwarded copy live line.now new)) }
 {
     let Some(new) = forwarded_line(alloc, line, live)? else {
         return Ok(None);
@@ -130,7 +129,7 @@ fn forwarded_end(
     end: &Terminator,
     live: Option<Copied>,
 ) -> Result<Option<Terminator>, AllocError>
-    ensures { IfOk result (λ made. IfSome made (λ new. LeavesTo new (facts_of live) end.now)) }
+    ensures { IfOk result (λ made. MatchOption made (leaves end.now ≡ false) (λ new. LeavesTo new (facts_of live) end.now)) }
 {
     match end {
         Terminator::Return(None) => Ok(Some(Terminator::Return(None))),
@@ -155,15 +154,16 @@ pub struct Rewritten {
 
 /// The block with the uses of a copy's result replaced by its source, for as long as the source keeps its value.
 ///
-/// None where the first line is no copy, another is no binary operation, the result is given a second
-/// value, or the block branches.
+/// None exactly where the first line is no copy, another is no binary operation, the result is given a
+/// second value, or the block branches.
 pub fn copy_forwarded(
     alloc: Global,
     first: &Line,
     rest: &[Line],
     end: &Terminator,
 ) -> Result<Option<Rewritten>, AllocError>
-    ensures { IfOk result (λ made. IfSome made (λ new. BetterBlock 1 new.lines new.end (first.now ∷ rest.now) end.now)) }
+    ensures made { IfOk result (λ made. made ≡ block_forwarded first.now rest.now end.now) }
+    ensures better { IfOk result (λ made. IfSome made (λ new. BetterBlock 1 new.lines new.end (first.now ∷ rest.now) end.now)) }
 {
     let Some(copy) = copy_of(first) else {
         return Ok(None);

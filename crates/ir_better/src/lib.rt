@@ -19,6 +19,8 @@ mod naming;
 mod passes;
 mod programs;
 mod stack;
+#[cfg(test)]
+mod tests;
 mod unread;
 
 pub use calls::difference_inlined;

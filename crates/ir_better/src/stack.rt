@@ -3,7 +3,7 @@ ghost use Rattle.std.specs.Prelude.{IfOk, IfSome, ◌≡◌, ◌+◌, ℕ};
 ghost use Rattle.ir_tree.specs.declared.operand.Operand.TheVariants as variant;
 ghost use Rattle.ir_tree.specs.declared.operand.Reg.TheVariants as reg;
 ghost use Rattle.ir_better.specs.Facts.{is_local};
-ghost use Rattle.ir_better.specs.Stack.{promoted_slot, slot_of};
+ghost use Rattle.ir_better.specs.Stack.{promoted_slot, slot_of, slot_or_none};
 ghost use Rattle.ir_better.specs.Formed.{IsFormed};
 ghost use Rattle.ir_meaning.specs.Near.{BetterThan};
 ghost use Rattle.ir_meaning.specs.Program.{Program};
@@ -86,7 +86,7 @@ fn without_slot(
 
 /// The function whose slot holds `stored` over a store of `value` to `address`, without the slot.
 ///
-/// None where the slot's address escapes: it is stored, or stored to as a pointer.
+/// None exactly where the slot's address escapes: it is stored, or stored to as a pointer.
 pub fn slot_promoted(
     alloc: Global,
     caller: Symbol,
@@ -94,7 +94,8 @@ pub fn slot_promoted(
     value: &Operand,
     address: &Operand,
 ) -> Result<Option<Function>, AllocError>
-    ensures { IfOk result (λ made. IfSome made (λ new. (p : Program) → IsFormed p → BetterThan p 5 new (slot_of caller stored value.now address.now))) }
+    ensures made { IfOk result (λ made. made ≡ slot_or_none caller stored value.now address.now) }
+    ensures better { IfOk result (λ made. IfSome made (λ new. (p : Program) → IsFormed p → BetterThan p 5 new (slot_of caller stored value.now address.now))) }
 {
     if is_slot(value) || is_slot(address) {
         return Ok(None);

@@ -27,7 +27,8 @@ pub fn without_local(
     local: u32,
 ) -> Result<Rows<Line>, AllocError>
     requires unread { IsUnread local lines.now end.now }
-    ensures { IfOk result (λ kept. BetterBlock (length lines.now + 1) kept end.now lines.now end.now) }
+    ensures kept { IfOk result (λ kept. kept ≡ needed_lines (all_but local) lines.now) }
+    ensures better { IfOk result (λ kept. BetterBlock (length lines.now + 1) kept end.now lines.now end.now) }
 {
     let mut kept = Rows::new(alloc);
     for line in lines {

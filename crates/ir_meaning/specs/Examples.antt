@@ -1,6 +1,6 @@
 -- Worked examples of operations: those that the LLVM Language Reference gives with each instruction, and the edges of
 -- this profile. Runs of whole programs stand in `ExampleRuns`.
-use Rattle.std.specs.Prelude.{◌≡◌, ℕ, ◌%◌, Bool, true, false, ℤ, pos, negsuc, List, [], ◌∷◌, Some}
+use Rattle.std.specs.Prelude.{◌≡◌, ℕ, ◌%◌, Bool, true, false, ℤ, pos, negsuc, List, [], ◌∷◌, drop, take, Some}
 use Rattle.ir_tree.specs.Forms.{Form}
 use Rattle.ir_tree.specs.declared.instr.BinaryOp.{BinaryOp}
 use Rattle.ir_tree.specs.declared.instr.BinaryOp.TheVariants.{Add, And, Ashr, Lshr, Mul, Or, Sdiv, Shl, Srem, Sub, Udiv, Urem, Xor}
@@ -8,7 +8,7 @@ use Rattle.ir_tree.specs.declared.instr.CastOp.{CastOp}
 use Rattle.ir_tree.specs.declared.instr.CastOp.TheVariants.{Sext, Trunc, Zext}
 use Rattle.ir_tree.specs.declared.instr.Flags.{Flags}
 use Rattle.ir_tree.specs.declared.instr.Predicate.{Predicate}
-use Rattle.ir_tree.specs.declared.instr.Predicate.TheVariants.{Eq, Ne, Sge, Sgt, Sle, Ule, Ult}
+use Rattle.ir_tree.specs.declared.instr.Predicate.TheVariants.{Eq, Ne, Sge, Sgt, Sle, Slt, Uge, Ugt, Ule, Ult}
 use Rattle.ir_tree.specs.declared.operand.Reg.{Reg}
 use Rattle.ir_tree.specs.declared.operand.Reg.TheVariants.{Int, Ptr}
 use Rattle.ir_meaning.specs.Address.{address_of}
@@ -33,6 +33,9 @@ no_unsigned_wrap = record { nuw = true; nsw = false; exact = false }
 
 abbrev pub no_signed_wrap : Flags
 no_signed_wrap = record { nuw = false; nsw = true; exact = false }
+
+abbrev pub no_wrap : Flags
+no_wrap = record { nuw = true; nsw = true; exact = false }
 
 abbrev pub exactly : Flags
 exactly = record { nuw = false; nsw = false; exact = true }
@@ -86,6 +89,20 @@ pub record Arithmetic : Type 0 where
   pub by_poison : IsUndefined Udiv 8 (Number 1) Poison PoisonDivisor
   pub poison_dividend : binary Udiv loose 8 Poison (Number 2) ≡ Is Poison
   pub past_the_width : binary Add loose 8 (Number 256) (Number 0) ≡ Is Poison
+  pub add_both_flags : GivesPoison Add no_wrap 8 100 100
+  pub add_nsw_greatest : GivesPoison Add no_signed_wrap 64 9223372036854775807 1
+  pub sub_negates : Makes Sub loose 32 0 5 4294967291
+  pub sub_nsw : GivesPoison Sub no_signed_wrap 8 128 1
+  pub mul_nuw : GivesPoison Mul no_unsigned_wrap 8 16 16
+  pub mul_wraps_at_64 : Makes Mul loose 64 18446744073709551615 18446744073709551615 1
+  pub shl_nuw : GivesPoison Shl no_unsigned_wrap 8 128 1
+  pub shl_nsw_of_negative : Makes Shl no_signed_wrap 8 192 1 128
+  pub lshr_by_width : GivesPoison Lshr loose 8 4 8
+  pub ashr_by_width : GivesPoison Ashr loose 8 4 8
+  pub ashr_exact : GivesPoison Ashr exactly 8 5 1
+  pub sdiv_exact : GivesPoison Sdiv exactly 8 249 2
+  pub sdiv_of_one_bit : IsUndefined Sdiv 1 (Number 1) (Number 1) DivisionOverflow
+  pub udiv_by_greatest : Makes Udiv loose 8 128 255 0
 
 abbrev pub Says : Predicate → ℕ → ℕ → ℕ → Bool → Type 0
 Says p w a b answer = compared p w (Number a) (Number b) ≡ bit answer
@@ -102,6 +119,14 @@ pub record Comparisons : Type 0 where
   pub select_one_arm : selected (Number 0) Poison (Number 42) ≡ Number 42
   pub freeze_number : frozen (Int 8) 3 (Number 7) ≡ Number 7
   pub freeze_poison : frozen (Int 8) 259 Poison ≡ Number 3
+  pub ne : Says Ne 32 4 5 true
+  pub ugt_negative : Says Ugt 16 65532 5 true
+  pub uge : Says Uge 16 5 5 true
+  pub slt_least : Says Slt 8 128 127 true
+  pub sgt_one_bit : Says Sgt 1 0 1 true
+  pub of_poison : compared Eq 8 Poison (Number 1) ≡ Poison
+  pub of_another_width : compared Ult 8 (Number 256) (Number 1) ≡ Poison
+  pub select_false : selected (Number 0) (Number 17) (Number 42) ≡ Number 42
 
 abbrev pub Casts : CastOp → ℕ → ℕ → ℕ → ℕ → Type 0
 Casts op from to a n = cast op (Int from) (Int to) (Number a) ≡ Number n
@@ -115,6 +140,9 @@ pub record Conversions : Type 0 where
   pub sext_byte : Casts Sext 8 16 255 65535
   pub sext_true : Casts Sext 1 32 1 4294967295
   pub of_a_pointer : cast Zext (Int 32) (Int 64) (Pointer Nowhere 0) ≡ Poison
+  pub sext_positive : Casts Sext 8 16 127 127
+  pub trunc_high_bits : Casts Trunc 64 32 4294967298 2
+  pub of_poison : cast Sext (Int 8) (Int 16) Poison ≡ Poison
 
 -- the Reference's structure, with an `i64` for its `double`: { i32, i64, { i8, [10 x [20 x i32]], i8 } }
 abbrev pub inner : Form
@@ -139,6 +167,10 @@ pub record Addresses : Type 0 where
   pub one_past_the_end : address_of (block_of_size 8 ∷ []) true (int 8) (Pointer (Cell 0) 0) (Some (pos 8 ∷ [])) ≡ Pointer (Cell 0) 8
   pub zero_stays : address_of [] true (int 8) (Pointer Nowhere 5) (Some (pos 0 ∷ [])) ≡ Pointer Nowhere 5
   pub of_poison : address_of [] false (int 8) Poison (Some (pos 1 ∷ [])) ≡ Poison
+  pub backwards : address_of (block_of_size 8 ∷ []) true (int 16) (Pointer (Cell 0) 6) (Some (negsuc 1 ∷ [])) ≡ Pointer (Cell 0) 2
+  pub field_behind_padding : IsAt true outer (pos 0 ∷ pos 1 ∷ []) 8
+  pub packed_field : IsAt true (structure true (part (int 8) (part (int 32) no_parts))) (pos 0 ∷ pos 1 ∷ []) 1
+  pub before_the_object : address_of (block_of_size 8 ∷ []) true (int 8) (Pointer (Cell 0) 0) (Some (negsuc 0 ∷ [])) ≡ Poison
 
 abbrev pub live_pair : Memory
 live_pair = block_of_size 4 ∷ block_of_size 4 ∷ []
@@ -176,6 +208,9 @@ pub record Loads : Type 0 where
   pub pointer_again : Reads Ptr (stored_bytes Ptr (Pointer (Cell 3) 9)) (Is (Pointer (Cell 3) 9))
   pub pointer_as_number : Reads (Int 64) (stored_bytes Ptr (Pointer (Cell 3) 9)) (Is Poison)
   pub number_as_pointer : Reads Ptr (stored_bytes (Int 64) (Number 1)) (Is Poison)
+  pub fragments_apart : Reads Ptr (Plain 0 ∷ drop 1 (stored_bytes Ptr (Pointer (Cell 3) 9))) (Is Poison)
+  pub byte_of_a_pointer : Reads (Int 8) (take 1 (stored_bytes Ptr (Pointer (Cell 3) 9))) (Is Poison)
+  pub poison_again : Reads (Int 32) (stored_bytes (Int 32) Poison) (Is Poison)
 
 pub record ExampleOperations : Type 0 where
   pub arithmetic : Arithmetic

@@ -18,3 +18,11 @@ pub mod Relate
 pub mod Near
 pub mod Examples
 pub mod ExampleRuns
+pub mod Native
+pub mod NativeBranches
+pub mod NativeCalls
+pub mod NativeIntegers
+pub mod NativeMemory
+pub mod NativeRuns
+pub mod Words
+pub mod WordsAgree

@@ -1,7 +1,7 @@
 -- A copy forwarded along a block: what has been made, and what the rest of the block will be.
-use Rattle.std.proofs.Common.{◌≡◌, ℕ, Bool, false, if◌then◌else◌, List, [], ◌∷◌, ◌++◌, length, drop, ◌≤◌, Option, Some, None, inr, refl, sym, ap, ◌∙◌, subst, append_assoc, append-nil, get_or, arith, suc, ◌+◌, ◌<◌}
+use Rattle.std.proofs.Common.{◌≡◌, ℕ, Bool, true, false, not, ◌&&◌, ◌==◌, if◌then◌else◌, List, [], ◌∷◌, ◌++◌, length, drop, ◌≤◌, Option, Some, None, inr, refl, sym, ap, ◌∙◌, subst, append_assoc, append-nil, get_or, arith, suc, ◌+◌, ◌<◌}
 use Rattle.std.proofs.Math.Seq.{drop-cons}
-use Rattle.std.proofs.lemmas.Bool.{eq-eqb}
+use Rattle.std.proofs.lemmas.Bool.{eq-eqb, eqb-true}
 use Rattle.ir_tree.specs.declared.instr.Instr.{Instr}
 use Rattle.ir_tree.specs.declared.instr.Instr.TheVariants.{Select}
 use Rattle.ir_tree.specs.declared.instr.Line.{Line}
@@ -14,8 +14,9 @@ use Rattle.ir_meaning.specs.Near.{BetterThan}
 use Rattle.ir_better.specs.Facts.{Facts, with_fact, behind_local, behind_lines, replaced, lines_replaced, end_replaced, RuleAlways, LineRule, LinesRight, IsTarget, FactsRight, RuleFor, IsOther}
 use Rattle.ir_better.specs.Inline.{argument_with, with_operands}
 use Rattle.ir_better.specs.Straight.{with_lines, BetterBlock}
-use Rattle.ir_better.specs.Copies.{IsCopy, facts_of, candidate_of, gives, IsLive, IsForwarded, Leaves, LeavesTo}
+use Rattle.ir_better.specs.Copies.{IsCopy, are_plain, block_forwarded, copy_by, copy_in, copy_into, copy_replaced, with_copy, facts_of, candidate_of, gives, is_binary, is_plain, IsLive, IsForwarded, leaves, LeavesTo, line_replaced}
 use Rattle.ir_better.specs.declared.copies.Copied.{Copied}
+use Rattle.ir_better.specs.declared.copies.Rewritten.{Rewritten}
 use Rattle.ir_better.specs.declared.copies.Step.{Step}
 use Rattle.std.proofs.lemmas.List.{drop_all}
 use Rattle.ir_tree.specs.declared.function.Function.{Function}
@@ -36,6 +37,7 @@ pub record Forwarding (copy : Copied) (first : Line) (rest made : List Line) (li
   pub lines : made ++ lines_replaced (other_of copy) (facts_of live) left ≡ first ∷ lines_replaced (other_of copy) (facts_of (Some copy)) rest
   pub facts : behind_lines (other_of copy) left (facts_of live) ≡ behind_lines (other_of copy) rest (facts_of (Some copy))
   pub others : AreOther copy.to left → AreOther copy.to rest
+  pub plain : are_plain copy.to rest ≡ are_plain copy.to left
   pub state : IsLive copy live
 
 pub begins : (copy : Copied) (first : Line) (rest made : List Line) → made ≡ first ∷ [] → Forwarding copy first rest made (Some copy) rest
@@ -43,6 +45,7 @@ begins copy first rest made is = record {
   lines = ap (λ (l : List Line). l ++ lines_replaced (other_of copy) (facts_of (Some copy)) rest) is;
   facts = refl;
   others = λ h. h;
+  plain = refl;
   state = inr refl;
 }
 
@@ -56,6 +59,7 @@ goes_on copy first rest made made' live line left new h s is = subst (λ (l : Li
       ∙ h.lines;
   facts = ap (behind_lines (other_of copy) left) s.facts ∙ h.facts;
   others = λ o. h.others (s.other, o);
+  plain = h.plain ∙ ap (λ (b : Bool). b && not (gives line.local copy.to) && are_plain copy.to left) s.binary ∙ ap (λ (b : Bool). not b && are_plain copy.to left) s.other;
   state = s.state;
 })
 
@@ -120,14 +124,14 @@ copy_none x v first c = ap (λ (i : Instr). with_operands (replaced []) i) c.ins
 facts_begin : (x v : ℕ) (first : Line) → IsCopy x v first → behind_local (candidate_of x v) first.local [] ≡ (x, Local v) ∷ []
 facts_begin x v first c = ap (λ (o : Option ℕ). behind_local (candidate_of x v) o []) c.local ∙ ap (λ (k : Option Operand). with_fact x k []) (own_candidate x v)
 
-no_target : (end : Terminator) → Leaves end → (n : ℕ) → IsTarget end n → ⊥
+no_target : (end : Terminator) → leaves end ≡ true → (n : ℕ) → IsTarget end n → ⊥
 no_target (Return a) h n t = t
 no_target Unreachable h n t = t
-no_target (Jump m) h n t = h
-no_target (Branch c a b) h n t = h
-no_target (Switch w o d cs) h n t = h
+no_target (Jump m) h n t = cc h
+no_target (Branch c a b) h n t = cc h
+no_target (Switch w o d cs) h n t = cc h
 
-right_of : (copy : Copied) (f : Function) (first : Line) (rest : List Line) (end : Terminator) → IsCopy copy.to copy.from first → AreOther copy.to rest → Leaves end →
+right_of : (copy : Copied) (f : Function) (first : Line) (rest : List Line) (end : Terminator) → IsCopy copy.to copy.from first → AreOther copy.to rest → leaves end ≡ true →
     FactsRight (with_lines f (first ∷ rest) end) (other_of copy) never (λ n. []) (λ n. behind_lines (other_of copy) (first ∷ rest) [])
 right_of copy f first rest end c others leaves = record {
   blocks = (
@@ -159,3 +163,55 @@ forwarded_better copy first rest made live k end new c le h leaves p formed f =
     let better = known_better p formed (with_lines f (first ∷ rest) end) (other_of copy) never (λ n. []) (λ n. behind_lines (other_of copy) (first ∷ rest) []) (right_of copy f first rest end c (done.others tt) leaves.1) in
     let better' = subst (λ (l : List Line). BetterThan p 1 (with_lines f l (end_replaced (behind_lines (other_of copy) (first ∷ rest) []) end)) (with_lines f (first ∷ rest) end)) (sym lines) better in
     subst (λ (t : Terminator). BetterThan p 1 (with_lines f made t) (with_lines f (first ∷ rest) end)) (sym end_is) better'
+
+-- ---- when the block is forwarded
+
+copy_into_is : (x : ℕ) (a b : Operand) (c : Copied) → copy_into x a b ≡ Some c →
+    (c.to ≡ x) × (a ≡ Local c.from) × (b ≡ Local c.from) × ((c.from == c.to) ≡ false)
+copy_into_is x (Local v) (Local u) c e = by (v == u) refl (v == x) refl e
+  where
+    Is : Copied → Type 0
+    Is d = (d.to ≡ x) × (Local v ≡ Local d.from) × (Local u ≡ Local d.from) × ((d.from == d.to) ≡ false)
+
+    by : (s : Bool) → (v == u) ≡ s → (t : Bool) → (v == x) ≡ t → (if s && not t then Some (record { to = x; from = v }) else None) ≡ Some c → Is c
+    by true p false q is =
+        let this : record { to = x; from = v } ≡ c = cc is in
+        subst Is this (refl, refl, ap Local (sym (eqb-true v u p)), q)
+    by true p true q is = absurd (cc is)
+    by false p t q is = absurd (cc is)
+copy_into_is x a b c e = absurd (cc e)
+
+copy_by_is : (line : Line) (o : Option ℕ) (i : Instr) (c : Copied) → line.local ≡ o → line.instr ≡ i → copy_by o i ≡ Some c → IsCopy c.to c.from line
+copy_by_is line (Some x) (Select k a b) c p q e =
+    let is = copy_into_is x a.operand b.operand c e in
+    record {
+      local = p ∙ ap Some (sym is.0);
+      condition = k;
+      first = a;
+      second = b;
+      instr = q;
+      first_is = is.1;
+      second_is = is.2;
+      other = is.3;
+    }
+copy_by_is line o i c p q e = absurd (cc e)
+
+pub copy_is : (line : Line) (c : Copied) → copy_in line ≡ Some c → IsCopy c.to c.from line
+copy_is line c e = copy_by_is line line.local line.instr c refl refl e
+
+module _ (copy : Copied) (first : Line) (rest : List Line) (end : Terminator) (is : copy_in first ≡ Some copy) where
+  pub forwarded_is : (made : List Line) (live : Option Copied) (k : ℕ) (new : Terminator) → length rest ≤ k →
+      Forwarding copy first rest made live (drop k rest) → LeavesTo new (facts_of live) end →
+      Some (record { lines = made; end = new }) ≡ block_forwarded first rest end
+  forwarded_is made live k new le h to =
+      let done = subst (λ (l : List Line). Forwarding copy first rest made live l) (drop_all k rest le) h in
+      let lines : made ≡ first ∷ lines_replaced (other_of copy) (facts_of (Some copy)) rest = sym (append-nil made) ∙ done.lines in
+      let end_is : new ≡ end_replaced (behind_lines (other_of copy) rest (facts_of (Some copy))) end =
+      to.0 ∙ ap (λ (fs : Facts). end_replaced fs end) done.facts in
+      let given : record { lines = made; end = new } ≡ with_copy copy first rest end =
+      ap (λ (l : List Line). record { lines = l; end = new }) lines
+      ∙ ap (λ (t : Terminator). record { lines = first ∷ lines_replaced (other_of copy) (facts_of (Some copy)) rest; end = t }) end_is in
+      let whole : (are_plain copy.to rest && leaves end) ≡ true = ap (λ (b : Bool). b && leaves end) done.plain ∙ to.1 in
+      ap Some given ∙ sym
+      (ap (λ (o : Option Copied). copy_replaced o first rest end) is
+      ∙ ap (λ (b : Bool). if b then Some (with_copy copy first rest end) else None) whole)

@@ -8,7 +8,8 @@ use Rattle.ir_better.specs.Straight.{with_lines, all_but, BetterBlock, IsUnread}
 use Rattle.ir_better.proofs.Unneeded.Dropped.{needed_is_better}
 use Rattle.std.proofs.lemmas.List.{drop_all}
 
-kept_all : (keeps : ℕ → Bool) (kept lines : List Line) (k : ℕ) → length lines ≤ k →
+-- at the end of the lines, what was kept is what is needed
+pub kept_all : (keeps : ℕ → Bool) (kept lines : List Line) (k : ℕ) → length lines ≤ k →
     kept ++ needed_lines keeps (drop k lines) ≡ needed_lines keeps lines → kept ≡ needed_lines keeps lines
 kept_all keeps kept lines k le e =
     sym (append-nil kept) ∙ ap (λ (l : List Line). kept ++ needed_lines keeps l) (sym (drop_all k lines le)) ∙ e

@@ -45,6 +45,20 @@ of_arithmetic = record {
   by_poison = refl;
   poison_dividend = refl;
   past_the_width = refl;
+  add_both_flags = refl;
+  add_nsw_greatest = refl;
+  sub_negates = refl;
+  sub_nsw = refl;
+  mul_nuw = refl;
+  mul_wraps_at_64 = refl;
+  shl_nuw = refl;
+  shl_nsw_of_negative = refl;
+  lshr_by_width = refl;
+  ashr_by_width = refl;
+  ashr_exact = refl;
+  sdiv_exact = refl;
+  sdiv_of_one_bit = refl;
+  udiv_by_greatest = refl;
 }
 
 of_comparisons : Comparisons
@@ -61,6 +75,14 @@ of_comparisons = record {
   select_one_arm = refl;
   freeze_number = refl;
   freeze_poison = refl;
+  ne = refl;
+  ugt_negative = refl;
+  uge = refl;
+  slt_least = refl;
+  sgt_one_bit = refl;
+  of_poison = refl;
+  of_another_width = refl;
+  select_false = refl;
 }
 
 of_conversions : Conversions
@@ -74,6 +96,9 @@ of_conversions = record {
   sext_byte = refl;
   sext_true = refl;
   of_a_pointer = refl;
+  sext_positive = refl;
+  trunc_high_bits = refl;
+  of_poison = refl;
 }
 
 of_addresses : Addresses
@@ -87,6 +112,10 @@ of_addresses = record {
   one_past_the_end = refl;
   zero_stays = refl;
   of_poison = refl;
+  backwards = refl;
+  field_behind_padding = refl;
+  packed_field = refl;
+  before_the_object = refl;
 }
 
 of_pointer_comparisons : PointerComparisons
@@ -113,6 +142,9 @@ of_loads = record {
   pointer_again = refl;
   pointer_as_number = refl;
   number_as_pointer = refl;
+  fragments_apart = refl;
+  byte_of_a_pointer = refl;
+  poison_again = refl;
 }
 
 pub returns : goal.returns

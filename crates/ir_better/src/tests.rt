@@ -1,0 +1,160 @@
+//! That the calls succeed with ample memory, on small blocks written out by hand.
+ghost use Rattle.std.specs.Prelude.{◌≡◌, ◌∷◌, []};
+ghost use Rattle.ir_better.specs.Straight.{IsUnread};
+ghost use Rattle.ir_tree.specs.declared.instr.BinaryOp.TheVariants as op;
+ghost use Rattle.ir_tree.specs.declared.instr.Instr.TheVariants as instr;
+
+use crate::{common_source, copy_forwarded, difference_inlined, slot_promoted, without_local};
+use ir_tree::{
+    Argument, BinaryOp, Flags, Incoming, Instr, Line, Operand, Phi, Reg, Rows, Symbol, Terminator,
+    Text,
+};
+use std::alloc::{AllocError, Global};
+
+/// A number of 32 bits.
+fn number(bits: u64) -> Operand {
+    Operand::Number { width: 32, bits }
+}
+
+/// `%to = add i32 left, right`.
+fn sum(to: u32, left: Operand, right: Operand) -> Line {
+    Line {
+        local: Some(to),
+        instr: Instr::Binary {
+            op: BinaryOp::Add,
+            flags: Flags {
+                nuw: false,
+                nsw: false,
+                exact: false,
+            },
+            width: 32,
+            left,
+            right,
+        },
+    }
+}
+
+/// A local of 32 bits with its type.
+fn typed(local: u32) -> Argument {
+    Argument {
+        reg: Reg::Int(32),
+        operand: Operand::Local(local),
+    }
+}
+
+/// `%to = select i1 true, i32 %from, i32 %from`.
+fn copy(to: u32, from: u32) -> Line {
+    Line {
+        local: Some(to),
+        instr: Instr::Select {
+            condition: Operand::Number { width: 1, bits: 1 },
+            if_true: typed(from),
+            if_false: typed(from),
+        },
+    }
+}
+
+#[test]
+fn a_copy_is_forwarded_until_its_source_changes(rt: HostRuntime) {
+    let rest = [
+        sum(3, Operand::Local(2), number(5)),
+        sum(1, Operand::Local(3), Operand::Local(2)),
+        sum(4, Operand::Local(2), Operand::Local(1)),
+    ];
+    let end = Terminator::Return(Some(typed(2)));
+    let made = copy_forwarded(rt.alloc(), &copy(2, 1), &rest, &end).expect(&rt, "memory");
+    match made {
+        Some(new) => {
+            let lines = new.lines.as_slice();
+            assert!(rt; lines.len() == 4);
+            assert!(rt; lines[0] == copy(2, 1));
+            assert!(rt; lines[1] == sum(3, Operand::Local(1), number(5)));
+            assert!(rt; lines[2] == sum(1, Operand::Local(3), Operand::Local(1)));
+            assert!(rt; lines[3] == sum(4, Operand::Local(2), Operand::Local(1)));
+            assert!(rt; new.end == Terminator::Return(Some(typed(2))));
+        }
+        None => assert!(rt; false, "forwarded"),
+    }
+}
+
+#[test]
+fn a_block_without_a_copy_is_left(rt: HostRuntime) {
+    let first = sum(2, Operand::Local(1), number(0));
+    let made = copy_forwarded(rt.alloc(), &first, &[], &Terminator::Unreachable);
+    let is_left = match made {
+        Ok(None) => true,
+        _ => false,
+    };
+    assert!(rt; is_left);
+}
+
+/// A phi of two edges.
+fn phi(alloc: Global, left: Operand, right: Operand) -> Result<Phi, AllocError> {
+    let mut incoming = Rows::new(alloc);
+    incoming.push(Incoming {
+        from: 0,
+        value: left,
+    })?;
+    incoming.push(Incoming {
+        from: 7,
+        value: right,
+    })?;
+    Ok(Phi {
+        local: 9,
+        reg: Reg::Int(32),
+        incoming,
+    })
+}
+
+#[test]
+fn a_phi_of_one_local_has_a_source(rt: HostRuntime) {
+    let one = phi(rt.alloc(), Operand::Local(4), Operand::Local(4)).expect(&rt, "memory");
+    let two = phi(rt.alloc(), Operand::Local(4), Operand::Local(5)).expect(&rt, "memory");
+    let constant = phi(rt.alloc(), number(4), number(4)).expect(&rt, "memory");
+    assert!(rt; common_source(&one) == Some(4));
+    assert!(rt; common_source(&two) == None);
+    assert!(rt; common_source(&constant) == None);
+}
+
+/// `@caller`.
+fn caller(alloc: Global) -> Result<Symbol, AllocError> {
+    let name = Text::copied(alloc, b"caller")?;
+    Ok(Symbol { home: None, name })
+}
+
+#[test]
+fn a_slot_is_promoted_unless_it_escapes(rt: HostRuntime) {
+    let symbol = caller(rt.alloc()).expect(&rt, "memory");
+    let made = slot_promoted(rt.alloc(), symbol, 7, &Operand::Null, &Operand::Local(8)).expect(
+        &rt, "memory",
+    );
+    let lines = match &made {
+        Some(function) => match function.blocks.as_slice() {
+            [block] => block.lines.len(),
+            _ => 0,
+        },
+        None => 0,
+    };
+    assert!(rt; lines == 2);
+    let symbol = caller(rt.alloc()).expect(&rt, "memory");
+    let made = slot_promoted(
+        rt.alloc(),
+        symbol,
+        7,
+        &Operand::Local(1),
+        &Operand::Local(8),
+    )
+    .expect(&rt, "memory");
+    assert!(rt; made.is_none());
+}
+
+#[test]
+fn a_call_is_inlined(rt: HostRuntime) {
+    let symbol = caller(rt.alloc()).expect(&rt, "memory");
+    let made = difference_inlined(rt.alloc(), symbol, 9, 4).expect(&rt, "memory");
+    let lines = match made.blocks.as_slice() {
+        [_, body, _] => body.lines.len(),
+        _ => 0,
+    };
+    assert!(rt; lines == 1);
+}
