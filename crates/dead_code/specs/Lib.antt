@@ -1,0 +1,5 @@
+pub mod Closure
+pub mod Laws
+pub mod Least
+pub mod Readers
+pub mod Uses

@@ -1,0 +1,25 @@
+//! Dead code elimination: a function without the phis and instructions whose values nobody needs.
+//!
+//! What is kept is the least set: all terminators, stores and calls, and what gives a value to a local that
+//! kept ones read (Cytron et al. 1991, section 7.1). Contracts say that the result is the function of that
+//! set (`specs/Least.antt`), that it is better in every program, and sound where the function is. Laws: there is one such result, and
+//! functions under other numbers, as `ir_edit` makes them, are better too.
+//!
+//! Below this crate stand `ir_tree`, `ir_edit`, and `ir_meaning` and `ir_better` for what is proved. A use is
+//! looked at once, as its reader is taken from the work list, in a table by readers; so time and memory are
+//! linear in the function.
+#![tactic(auto)]
+
+mod elimination;
+mod laws;
+mod readers;
+mod sweep;
+#[cfg(test)]
+mod tests;
+mod uses;
+mod worklist;
+
+pub use elimination::needed;
+pub use laws::{
+    needed_is_better, needed_is_one, needed_is_sound, shifted_is_better, text_order_is_better,
+};

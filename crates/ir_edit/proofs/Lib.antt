@@ -1,0 +1,11 @@
+pub mod Apart
+mod Comparing
+mod Counting
+mod Later
+mod Placing
+mod RenamedParts
+mod RenamedPaths
+mod RenamedSound
+mod Replacing
+mod Squares
+pub mod Tally

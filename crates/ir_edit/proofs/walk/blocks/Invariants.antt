@@ -1,0 +1,6 @@
+use Rattle.std.proofs.Common.{◌≡◌, ◌++◌, drop, map}
+use Rattle.ir_edit.specs.Edited.{block_edited}
+use Rattle.ir_edit.proofs.walk.blocks.Given as goal
+
+abbrev pub invariant-loop-old : goal.invariant-loop-old
+invariant-loop-old g l = l.rows ++ map (block_edited (g.E.Edit.number_of l.edit) (g.E.Edit.operand_of l.edit)) (drop l.old-index l.blocks) ≡ map (block_edited (g.E.Edit.number_of l.edit) (g.E.Edit.operand_of l.edit)) l.blocks
