@@ -1,0 +1,7 @@
+use Rattle.std.proofs.Common.{◌≡◌, ◌++◌, List, ℕ, drop}
+use Rattle.ir_lex.specs.Pieces.{bytes_of}
+use Rattle.ir_print.specs.Blocks as blocks
+use Rattle.ir_print.proofs.block.put_phis.Given as goal
+
+abbrev pub invariant-each : goal.invariant-each
+invariant-each l = l.out.items ++ bytes_of (blocks.phis (drop l.p-index l.list)) ≡ l.fn.out.items ++ bytes_of (blocks.phis l.fn.list)

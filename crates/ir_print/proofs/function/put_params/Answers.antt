@@ -1,0 +1,8 @@
+use Rattle.std.proofs.Common.{refl}
+use Rattle.ir_print.specs.Tokens.{tight}
+use Rattle.ir_print.specs.Functions as functions
+use Rattle.ir_print.proofs.Written.{first_on}
+use Rattle.ir_print.proofs.function.put_params.Goals as goal
+
+pub returns-in_ok-param-in-len1-up : goal.returns-in_ok-param-in-len1-up
+returns-in_ok-param-in-len1-up c = first_on _ (functions.param tight) functions.further_params functions.params (λ y ys. refl) c.args.list.now _ _ c.in-len1-up.len_at_least refl _ _ _ c.in_ok-param-in-len1-up.ensures c.further_params.ensures

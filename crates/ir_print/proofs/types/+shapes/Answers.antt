@@ -1,0 +1,28 @@
+use Rattle.std.proofs.Common.{◌≡◌, ◌≤◌, ◌++◌, ◌-◌, length, take, drop, arith, refl}
+use Rattle.ir_lex.specs.Pieces.{bytes_of}
+use Rattle.ir_tree.specs.Forms.{Form, forms_of}
+use Rattle.ir_tree.specs.Sizes.{all_nodes}
+use Rattle.ir_print.specs.Tokens.{comma, mark, space}
+use Rattle.ir_print.specs.Types as types
+use Rattle.ir_print.proofs.Written.{finish, first_on, each_on, dropped}
+use Rattle.ir_print.proofs.types.+shapes.Goals as goal
+
+pub array-returns : goal.array-returns
+array-returns t c = finish _ _ _ _ _ _ c.in_ok-mark.ensures (finish _ _ _ _ _ _ c.in_ok-natural.ensures (finish _ _ _ _ _ _ c.in_ok-word.ensures (finish _ _ _ _ _ _ c.in_ok-shape.ensures c.mark-2.ensures)))
+
+pub packed_structure-returns : goal.packed_structure-returns
+packed_structure-returns t c = finish _ _ _ _ _ _ c.in_ok-mark.ensures (finish _ _ _ _ _ _ c.in_ok-mark-2.ensures (finish _ _ _ _ _ _ c.in_ok-members.ensures c.mark-3.ensures))
+
+pub members-returns-in_ok-further_members-in-len1-up : goal.members-returns-in_ok-further_members-in-len1-up
+members-returns-in_ok-further_members-in-len1-up t c =
+    let rest = take (length c.args.parts.now - 1) (drop 1 c.args.parts.now) in
+    first_on _ (types.shape space) (λ fs. types.further_members (forms_of fs) ++ mark space 125) (λ fs. types.members (forms_of fs)) (λ y ys. refl) c.args.parts.now c.first-item.result _ c.in-len1-up.len_at_least c.first-item.is _ _ _ c.in_ok-shape-in-len1-up.ensures
+    (finish _ (types.further_members (forms_of rest)) (mark space 125) _ _ _ c.in_ok-further_members-in-len1-up.ensures c.mark-in-len1-up.ensures)
+
+pub further_members-each-preserved : goal.further_members-each-preserved
+further_members-each-preserved t c =
+    let left = dropped c.args.parts.now c.each.part-index c.part-item.result _ c.each-test.true c.part-item.is (λ fs. all_nodes (forms_of fs) ≤ all_nodes (forms_of c.args.parts.now)) c.each.invariant.left in
+    record {
+      written = each_on (λ (f : Form). comma ++ types.shape space f) (λ fs. types.further_members (forms_of fs)) (λ y ys. refl) c.args.parts.now c.each.part-index c.part-item.result _ c.each-test.true c.part-item.is _ _ _ c.each.invariant.written c.in_ok-further_member.ensures;
+      left = omega (arith, left);
+    }

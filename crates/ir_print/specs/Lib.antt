@@ -1,0 +1,10 @@
+pub mod Tokens
+pub mod Types
+pub mod Operands
+pub mod Instructions
+pub mod Blocks
+pub mod Functions
+pub mod Variables
+pub mod Initials
+pub mod Modules
+pub mod Wrote
