@@ -1,0 +1,10 @@
+mod Names
+mod Decoding
+mod Standing
+mod Texts
+mod Loading
+mod Saving
+mod FilesKept
+mod DiskKept
+mod Shelving
+mod Turning

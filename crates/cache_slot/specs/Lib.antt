@@ -1,0 +1,6 @@
+pub mod Directory
+pub mod Files
+pub mod Records
+pub mod Found
+pub mod Decoded
+pub mod Shelved

@@ -1,0 +1,112 @@
+//! Looking a key up: among the entries of the history, and then in the directory.
+ghost use Rattle.std.specs.Prelude.{◌≡◌, ◌≢◌, ◌≤◌, ◌<◌, ◌^◌, ℕ, List, length, IfOk, MatchOption};
+ghost use Rattle.std.specs.Option.{option_copied};
+ghost use Rattle.lto_outside.specs.DiskStore.{DiskStays};
+ghost use Rattle.cache_slot.specs.Files.{file_of, bytes_of};
+ghost use Rattle.cache_slot.specs.Found.{LoadedAs, FoundOn, record_of};
+ghost use Rattle.cache_slot.specs.Records.{text_of};
+
+use crate::record::{Record, Why};
+use cache_entry::{decode, file_name};
+use ir_tree::Text;
+use lto_outside::{CacheDisk, LoadFault};
+use std::alloc::{AllocError, Global};
+use std::str;
+
+/// The text of the first entry of the key.
+pub fn entry_text<'a>(records: &'a [Record], key: &[u8]) -> Option<&'a Text>
+    ensures { option_copied result ≡ text_of key.now records.now }
+{
+    for record in records {
+        if let Record::Entry {
+            key: own,
+            text,
+            failed: _,
+        } = record
+        {
+            if own.equals(key) {
+                return Some(text);
+            }
+        }
+    }
+    None
+}
+
+/// The name as a text.
+pub fn name_str<'a>(name: &'a Text, key: &[u8]) -> &'a str
+    requires { name.now ≡ file_of key.now }
+    ensures { result.now ≡ name.now }
+{
+    match str::from_utf8(name.as_slice()) {
+        Ok(text) => text,
+        Err(_) => unreachable!(),
+    }
+}
+
+/// The text that the bytes are the entry of, where it has this key.
+fn text_in(alloc: Global, bytes: &[u8], key: &[u8]) -> Result<Option<Text>, AllocError>
+    ensures { IfOk result (λ found. MatchOption found
+        ((text : List ℕ) → bytes.now ≢ bytes_of key.now text)
+        (λ text. (bytes.now ≡ bytes_of key.now text) × (length text < 2 ^ 64))) }
+{
+    match decode(bytes) {
+        Some((own, text)) if own == key => Ok(Some(Text::copied(alloc, text)?)),
+        _ => Ok(None),
+    }
+}
+
+/// Reads the file of the key. No file changes.
+fn load<D: CacheDisk>(
+    alloc: Global,
+    disk: &mut D,
+    dir: &str,
+    key: &[u8],
+) -> Result<Result<Text, Why>, AllocError>
+    ensures found { IfOk result (λ found. LoadedAs (D.held disk.old) (D.faults disk.old) (D.faults disk.new) dir.now key.now found) }
+    ensures small { IfOk result (λ found. IfOk found (λ text. length text < 2 ^ 64)) }
+    ensures stay { DiskStays (D.held disk.old) (D.held disk.new) }
+    ensures later { D.faults disk.old ≤ D.faults disk.new }
+{
+    let name = file_name(alloc, key)?;
+    match disk.load(alloc, dir, name_str(&name, key)) {
+        Ok(Some(bytes)) => match text_in(alloc, bytes.as_slice(), key)? {
+            Some(text) => Ok(Ok(text)),
+            None => Ok(Err(Why::Lacking)),
+        },
+        Ok(None) => Ok(Err(Why::Lacking)),
+        Err(LoadFault::Fault) => Ok(Err(Why::Fault)),
+        Err(LoadFault::NoMemory) => Err(AllocError),
+    }
+}
+
+/// The text of the key, or why there is none. No file changes.
+pub fn find<D: CacheDisk>(
+    alloc: Global,
+    records: &[Record],
+    disk: &mut D,
+    dir: Option<&str>,
+    key: &[u8],
+) -> Result<Result<Text, Why>, AllocError>
+    ensures found { IfOk result (FoundOn (D.held disk.old) (D.faults disk.old) (D.faults disk.new) (option_copied dir.entry) records.now key.now) }
+    ensures small { IfOk result (λ found. IfOk found (λ text. length text < 2 ^ 64)) }
+    ensures stay { DiskStays (D.held disk.old) (D.held disk.new) }
+    ensures later { D.faults disk.old ≤ D.faults disk.new }
+{
+    if let Some(text) = entry_text(records, key) {
+        return Ok(Ok(Text::copied(alloc, text.as_slice())?));
+    }
+    match dir {
+        Some(dir) => load(alloc, disk, dir, key),
+        None => Ok(Err(Why::NoDirectory)),
+    }
+}
+
+/// The record of a look-up.
+pub fn record_of(found: &Result<Text, Why>, key: Text) -> Record
+    ensures { result ≡ record_of key found.now }
+{
+    match found {
+        Ok(_) => Record::Hit(key),
+        Err(why) => Record::Miss(key, *why),
+    }
+}

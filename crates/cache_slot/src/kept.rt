@@ -1,0 +1,19 @@
+//! What a store answers.
+
+/// What a store did with the pair.
+#[derive(Clone, Copy, Debug, PartialEq, Eq)]
+pub enum Kept {
+    /// It is an entry now, and saved where there is a directory.
+    New,
+    /// An entry has the key.
+    Already,
+    /// It is an entry now, and wasn't saved.
+    Skipped(Cause),
+}
+
+/// Why an entry wasn't saved.
+#[derive(Clone, Copy, Debug, PartialEq, Eq)]
+pub enum Cause {
+    /// The disk failed.
+    Disk,
+}
