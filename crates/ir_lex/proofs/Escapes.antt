@@ -1,6 +1,8 @@
 -- Unescaping goes on behind what an escape takes.
-use Rattle.std.proofs.Common.{◌≡◌, ℕ, zero, suc, ◌-◌, ◌≤◌, ◌<◌, Bool, true, false, ◌||◌, nat_eq, Option, Some, None, List, [], ◌∷◌, get_or, take, drop, length, refl, sym, ap, ◌∙◌, arith}
+use Rattle.std.proofs.Common.{◌≡◌, ℕ, zero, suc, ◌-◌, ◌≤◌, ◌<◌, Bool, true, false, ◌||◌, ◌&&◌, nat_eq, Option, Some, None, List, [], ◌∷◌, get_or, take, drop, length, refl, sym, ap, ◌∙◌, arith}
 use Rattle.std.proofs.Math.Seq.{take-length}
+use Rattle.std.specs.Str.{bytes_eq}
+use Rattle.ir_lex.specs.Heads.{begins_with}
 use Rattle.ir_lex.specs.declared.quotes.Escape.{Escape}
 use Rattle.ir_lex.specs.declared.token.Kind.{Kind}
 use Rattle.ir_lex.specs.Quotes.{content, inside, stripped, has_backslash, has_zero, spells, spelled_at, unescaped, unescaped_behind}
@@ -55,3 +57,51 @@ unescaped_plain (b ∷ bs) h =
 pub content_plain : (kind : Kind) (text bare quoted : List ℕ) → bare ≡ stripped kind text → Some quoted ≡ inside bare → has_backslash quoted ≡ false → quoted ≡ content kind text
 unfolding content
 content_plain kind text bare quoted e f h = sym (ap (λ (o : Option (List ℕ)). elim o as (λ p. List ℕ) [ None ↦ stripped kind text | Some q ↦ unescaped q ]) (sym (f ∙ ap inside e)) ∙ unescaped_plain quoted h)
+
+-- ---- names compared byte for byte with what quoted bytes stand for
+
+same : (b c : ℕ) → b ≡ c → nat_eq b c ≡ true
+same b c h = grind arith
+
+apart : (b c : ℕ) → (b ≡ c → ⊥) → nat_eq b c ≡ false
+apart b c h = grind arith
+
+pub begins_on : (left bs after : List ℕ) (b : ℕ) → 1 ≤ length left → bs ≡ b ∷ after → b ≡ get_or left 0 0 → begins_with left bs ≡ begins_with (take (length left - 1) (drop 1 left)) after
+begins_on [] bs after b l e h = absurd (omega (arith, l))
+begins_on (c ∷ cs) bs after b l e h = ap (begins_with (c ∷ cs)) e ∙ ap (λ (x : Bool). x && begins_with cs after) (same b c h) ∙ sym (ap (λ (x : List ℕ). begins_with x after) (others_of c cs))
+
+pub begins_not : (left bs after : List ℕ) (b : ℕ) → 1 ≤ length left → bs ≡ b ∷ after → (b ≡ get_or left 0 0 → ⊥) → begins_with left bs ≡ false
+begins_not [] bs after b l e h = absurd (omega (arith, l))
+begins_not (c ∷ cs) bs after b l e h = ap (begins_with (c ∷ cs)) e ∙ ap (λ (x : Bool). x && begins_with cs after) (apart b c h)
+
+pub begins_none : (left bs : List ℕ) → 1 ≤ length left → length bs < 1 → begins_with left (unescaped bs) ≡ false
+unfolding unescaped
+begins_none [] bs l e = absurd (omega (arith, l))
+begins_none (c ∷ cs) [] l e = refl
+begins_none (c ∷ cs) (b ∷ bs) l e = absurd (omega (arith, e))
+
+pub equal_on : (left bs after : List ℕ) (b : ℕ) → 1 ≤ length left → bs ≡ b ∷ after → b ≡ get_or left 0 0 → bytes_eq bs left ≡ bytes_eq after (take (length left - 1) (drop 1 left))
+equal_on [] bs after b l e h = absurd (omega (arith, l))
+equal_on (c ∷ cs) bs after b l e h = ap (λ (x : List ℕ). bytes_eq x (c ∷ cs)) e ∙ ap (λ (x : Bool). x && bytes_eq after cs) (same b c h) ∙ sym (ap (bytes_eq after) (others_of c cs))
+
+pub equal_not : (left bs after : List ℕ) (b : ℕ) → 1 ≤ length left → bs ≡ b ∷ after → (b ≡ get_or left 0 0 → ⊥) → bytes_eq bs left ≡ false
+equal_not [] bs after b l e h = absurd (omega (arith, l))
+equal_not (c ∷ cs) bs after b l e h = ap (λ (x : List ℕ). bytes_eq x (c ∷ cs)) e ∙ ap (λ (x : Bool). x && bytes_eq after cs) (apart b c h)
+
+pub equal_none : (left bs : List ℕ) → 1 ≤ length left → length bs < 1 → bytes_eq (unescaped bs) left ≡ false
+unfolding unescaped
+equal_none [] bs l e = absurd (omega (arith, l))
+equal_none (c ∷ cs) [] l e = refl
+equal_none (c ∷ cs) (b ∷ bs) l e = absurd (omega (arith, e))
+
+pub equal_ended : (left bs : List ℕ) → length left < 1 → length bs < 1 → bytes_eq (unescaped bs) left ≡ true
+unfolding unescaped
+equal_ended [] [] l e = refl
+equal_ended (c ∷ cs) bs l e = absurd (omega (arith, l))
+equal_ended [] (b ∷ bs) l e = absurd (omega (arith, e))
+
+pub equal_longer : (left bs : List ℕ) → length left < 1 → 1 ≤ length bs → bytes_eq (unescaped bs) left ≡ false
+unfolding unescaped
+equal_longer [] [] l e = absurd (omega (arith, e))
+equal_longer (c ∷ cs) bs l e = absurd (omega (arith, l))
+equal_longer [] (b ∷ bs) l e = refl

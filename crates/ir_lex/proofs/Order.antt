@@ -1,7 +1,8 @@
 -- Each token is a slice of its text, in order, on the line that the line feeds before it give.
 use Rattle.std.proofs.Common.{◌≡◌, ℕ, suc, ◌+◌, Bool, true, false, cond, nat_eq, Option, Some, None, List, [], ◌∷◌, ◌++◌, ◌≤◌, length, refl, sym, ap, subst, ◌∙◌, append_assoc, arith}
 use Rattle.std.proofs.lemmas.List.{length-append}
-use Rattle.ir_lex.specs.Lexing.{Place, place, Lead, Next, Stands, pass, skip, line_after, line_behind}
+use Rattle.ir_lex.specs.Blanks.{Place, place, pass, skip, line_after, line_behind}
+use Rattle.ir_lex.specs.Lexing.{Lead, Next, Stands}
 use Rattle.ir_lex.specs.Order.{feeds, InOrder}
 use Rattle.ir_lex.specs.Tok.{Tok}
 

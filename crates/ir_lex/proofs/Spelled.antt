@@ -6,7 +6,8 @@ use Rattle.ir_lex.specs.Pieces.{Piece, AllBlank, AreSpelled, bytes_of, ends_at, 
 use Rattle.ir_lex.specs.declared.bytes.Set.{Set}
 use Rattle.ir_lex.specs.declared.bytes.Set.TheVariants.{Digits}
 use Rattle.ir_lex.specs.declared.token.Kind.TheVariants as kinds
-use Rattle.ir_lex.specs.Lexing.{Place, place, Lead, AreTokens, skip, pass, is_blank, ends_before, line_after, line_behind}
+use Rattle.ir_lex.specs.Blanks.{Place, place, skip, pass, is_blank, ends_before, line_after, line_behind}
+use Rattle.ir_lex.specs.Lexing.{Lead, AreTokens}
 use Rattle.ir_lex.specs.Rows.{best_fit, fit, string_len, label_len, bare_len, name_len}
 use Rattle.ir_lex.proofs.Fits.{local_fit}
 
@@ -78,6 +79,7 @@ spelled line (p ∷ ps) s =
         starts = skip_blank line p.blank p.first (p.others ++ bytes_of ps) s.0 s.1;
         good = s.3;
         fits = s.2;
+        head = refl;
         line = refl;
         ends = sym (skip_pieces end ps s.4);
       },

@@ -1,7 +1,9 @@
 -- Text that is written as tokens with blanks between, and what it is read as.
 use Rattle.std.specs.Prelude.{◌≡◌, ℕ, suc, Bool, true, false, nat_lt, None, List, [], ◌∷◌, ◌++◌, length}
 use Rattle.ir_lex.specs.declared.token.Kind.{Kind}
-use Rattle.ir_lex.specs.Lexing.{is_bad, is_blank, line_behind, pass}
+use Rattle.ir_lex.specs.Heads.{head_of}
+use Rattle.ir_lex.specs.Blanks.{is_blank, line_behind, pass}
+use Rattle.ir_lex.specs.Lexing.{is_bad}
 use Rattle.ir_lex.specs.Rows.{best_fit, fit}
 use Rattle.ir_lex.specs.Tok.{Tok}
 
@@ -40,6 +42,7 @@ tokens_of line (p ∷ ps) =
       kind = p.kind;
       text = p.first ∷ p.others;
       line = line_behind line p.blank;
+      head = head_of p.kind (p.first ∷ p.others) (bytes_of ps);
       ends_line = ends_at (line_behind (line_behind line p.blank) (p.first ∷ p.others)) ps;
     }
     ∷ tokens_of (line_behind (line_behind line p.blank) (p.first ∷ p.others)) ps

@@ -1,7 +1,7 @@
 //! Passes over blanks and comments, and counts lines.
 
 ghost use Rattle.std.specs.Prelude.{◌≡◌, ◌≤◌, ◌<◌, ◌^◌, ◌+◌, drop, length, false, true};
-ghost use Rattle.ir_lex.specs.Lexing.{place, ends_before, is_blank, pass, skip, line_after, line_behind};
+ghost use Rattle.ir_lex.specs.Blanks.{place, ends_before, is_blank, pass, skip, line_after, line_behind};
 
 /// How many bytes stand before a place, and its line.
 #[derive(Clone, Copy, Debug, PartialEq, Eq)]

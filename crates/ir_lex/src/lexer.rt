@@ -7,6 +7,7 @@ ghost use Rattle.ir_lex.specs.Lexing.{AreTokens, AreTokensBefore, IsLexed, IsTok
 ghost use Rattle.ir_lex.specs.declared.lexer.LexError.TheVariants.{NoMemory};
 
 use crate::blanks::{ends_before, line_behind, skip};
+use crate::head::head_of;
 use crate::quotes::is_zero_name;
 use crate::rows::{Fit, best_fit, string_len};
 use crate::token::Token;
@@ -116,10 +117,12 @@ pub fn lex<'a>(alloc: Global, bytes: &'a [u8]) -> Result<Lexed<'a>, AllocError>
         let spot = skip(end, behind);
         let (_blank, next) = behind.split_at(spot.at);
         let ends_line = ends_before(end, spot.line, next);
+        let head = head_of(fit.kind, text, behind);
         tokens.push(Token {
             text,
             line,
             kind: fit.kind,
+            head,
             ends_line,
         })?;
         rest = next;

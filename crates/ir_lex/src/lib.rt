@@ -11,14 +11,17 @@
 
 mod blanks;
 mod bytes;
+mod head;
 mod laws;
 mod lexer;
+mod names;
 mod quotes;
 mod rows;
 #[cfg(test)]
 mod tests;
 mod token;
 
+pub use head::Head;
 pub use laws::{every_text, one_list, slices, written};
 pub use lexer::{LexError, Lexed, lex, tokens};
 pub use token::{Kind, Token};

@@ -52,7 +52,7 @@ fn escaped(bytes: &[u8]) -> Escape
 }
 
 /// What the first byte stands for before the others.
-fn spelled_at(first: u8, rest: &[u8]) -> Escape
+pub fn spelled_at(first: u8, rest: &[u8]) -> Escape
     ensures exact { result ≡ spelled_at first rest.now }
     ensures within { result.behind ≤ length rest.now }
 {
@@ -111,7 +111,7 @@ fn has_backslash(bytes: &[u8]) -> bool
 }
 
 /// What stands between quotes.
-fn inside<'a>(text: &'a [u8]) -> Option<&'a [u8]>
+pub fn inside<'a>(text: &'a [u8]) -> Option<&'a [u8]>
     ensures { option_copied result ≡ inside text.now }
 {
     match text {
@@ -121,7 +121,7 @@ fn inside<'a>(text: &'a [u8]) -> Option<&'a [u8]>
 }
 
 /// A token's text without its sigil, its `c` or its colon.
-fn stripped<'a>(kind: Kind, text: &'a [u8]) -> &'a [u8]
+pub fn stripped<'a>(kind: Kind, text: &'a [u8]) -> &'a [u8]
     ensures { result.now ≡ stripped kind text.now }
 {
     match kind {
@@ -174,6 +174,14 @@ pub fn is_zero_name(kind: Kind, text: &[u8]) -> bool
 }
 
 impl<'a> Token<'a> {
+    /// The text without its sigil, its `c` or its colon; quotes and escapes stand in it as they are
+    /// written.
+    pub fn bare(&self) -> &'a [u8]
+        ensures { result.now ≡ stripped self.now.kind self.now.text.now }
+    {
+        stripped(self.kind, self.text)
+    }
+
     /// What the token stands for: the name of a `Label`, `Local`, `Global` or `Comdat`, without
     /// its sigil or colon, and the bytes of a `Str` or `CStr`. Of any other token it is the text.
     ///

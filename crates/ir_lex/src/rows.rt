@@ -71,7 +71,7 @@ fn before_colon(n: usize, bytes: &[u8]) -> usize
 
 /// A label and its colon.
 #[tactic(auto, unfolding(crate::specs::Rows::label_len))]
-fn label_len(bytes: &[u8]) -> usize
+pub fn label_len(bytes: &[u8]) -> usize
     ensures exact { result ≡ label_len bytes.now }
     ensures within { result ≤ length bytes.now }
 {

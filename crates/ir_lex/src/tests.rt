@@ -163,3 +163,55 @@ fn lists_tokens(rt: HostRuntime) -> Result<(), AllocError> {
     assert_eq!(rt; size_of::<Token>(), 24);
     Ok(())
 }
+
+/// The classes of a text's tokens, in one line.
+fn classes(alloc: Global, text: &str) -> Result<String, AllocError> {
+    let lexed = lex(alloc, text.as_bytes())?;
+    let mut out = String::new(alloc);
+    for token in &lexed.tokens {
+        let _written = write!(out, "{:?} ", token.head);
+    }
+    Ok(out)
+}
+
+#[test]
+fn classes_of_tokens(rt: HostRuntime) -> Result<(), AllocError> {
+    for (text, want) in [
+        (
+            "i0 i1 i7 i8 i32 i64 i65 i128 i032 i00 i i8x",
+            "RefusedInteger RegisterInteger RegisterInteger MemoryInteger MemoryInteger MemoryInteger RefusedInteger RefusedInteger Word Word Word Word ",
+        ),
+        (
+            "@f @5 @\"5\" @llvm @llvmx @llvm.x",
+            "Global NumberedGlobal Global ReservedGlobal Global ReservedGlobal ",
+        ),
+        (
+            "@llvm.lifetime.start.p0 @\"llvm.lifetime.end.p0\" @\"\\6clvm\" @\"llvm\\2Ey\" @\"llv\"",
+            "LifetimeMarker LifetimeMarker ReservedGlobal ReservedGlobal Global ",
+        ),
+        (
+            "@5 = internal @5=;c\nprivate @5 = global @5 = internal: @6",
+            "NumberedDefinition Equals Internal NumberedDefinition Equals Private NumberedGlobal Equals GlobalVariable NumberedGlobal Equals Label NumberedGlobal ",
+        ),
+        (
+            "#0 #dbg_value # x ... ^",
+            "Group RefusedMark Word Mark Times RefusedMark RefusedMark ",
+        ),
+        (
+            "! !0 !dbg $f comdat e:",
+            "Bang Meta Meta ComdatName Comdat Label ",
+        ),
+        (
+            "x label %x 7 \"s\" c\"s\" ( ) [ ] { } < > , =",
+            "Times LabelType Local Number Str CStr OpenParen CloseParen OpenBracket CloseBracket OpenBrace CloseBrace OpenAngle CloseAngle Comma Equals ",
+        ),
+        (
+            "undef null_pointer_is_valid token alwaysinline dereferenceable_or_null",
+            "RefusedWord RefusedAttribute RefusedType Word ParameterGroup ",
+        ),
+    ] {
+        let got = classes(rt.alloc(), text)?;
+        assert_eq!(rt; got.as_str(), want);
+    }
+    Ok(())
+}

@@ -1,5 +1,7 @@
 //! Tokens and their kinds.
 
+use crate::head::Head;
+
 /// What a token is. LLVM's own lexer has the same classes; each keyword is a `Word` here.
 #[derive(Clone, Copy, Debug, PartialEq, Eq)]
 pub enum Kind {
@@ -36,6 +38,8 @@ pub struct Token<'a> {
     /// The line of its first byte, counted from 1.
     pub line: u32,
     pub kind: Kind,
+    /// Its class, by which a reader chooses.
+    pub head: Head,
     /// Whether its line, or the text, ends between it and the next token.
     pub ends_line: bool,
 }

@@ -92,7 +92,7 @@ module _ {T B : Type 0} (alphabet : Alphabet T) (brackets : Brackets T B) (have 
           too_long (Err k) h = omega (arith, ap (λ (x : Fault). x.left) (wrong_is (record { left = length (v ∷ (front ++ t ∷ rest)); kind = Syntax }) (record { left = length (t ∷ rest); kind = k }) h), length-append front (t ∷ rest))
       by_move (Some stack) again h = again stack h
 
-  swap_closing : (bs : List B) (front : List T) (t u : T) (rest rest' : List T) (o : Result (Unit {0}) FaultKind) → is_number alphabet t ≡ true → is_number alphabet u ≡ true → closing_at brackets bs (front ++ t ∷ rest) ≡ ends o (t ∷ rest) → Swapped o (closing_at brackets bs (front ++ u ∷ rest')) u rest'
+  swap_closing : (bs : List B) (front : List T) (t u : T) (rest rest' : List T) (o : Result (Unit {0}) FaultKind) → is_number alphabet t ≡ true → alphabet.class u ≡ alphabet.class t → closing_at brackets bs (front ++ t ∷ rest) ≡ ends o (t ∷ rest) → Swapped o (closing_at brackets bs (front ++ u ∷ rest')) u rest'
   swap_closing [] front t u rest rest' (Ok x) n m h =
       let c = cut_is front (t ∷ rest) [] (t ∷ rest) (reads_is tt x (front ++ t ∷ rest) (t ∷ rest) h).1 refl in
       ap (λ (y : List T). reads tt (y ++ u ∷ rest')) c.0

@@ -26,7 +26,7 @@ cut_is (t ∷ a) b (u ∷ c) d e l =
     let i = cut_is a b c d h.1 l in
     (ap (λ (x : List _). t ∷ x) i.0 ∙ ap (λ x. x ∷ c) h.0, i.1)
 
-append_is_nil : {T : Type 0} (a b : List T) → a ++ b ≡ [] → (a ≡ []) × (b ≡ [])
+pub append_is_nil : {T : Type 0} (a b : List T) → a ++ b ≡ [] → (a ≡ []) × (b ≡ [])
 append_is_nil [] b e = (refl, e)
 append_is_nil (t ∷ a) b e = absurd cc
 
@@ -65,11 +65,11 @@ reads_is {T} {A} a b x y h =
 reads_not_wrong : {T A : Type 0} (a : A) (x : List T) (e : Fault) → reads a x ≡ wrong e → ⊥
 reads_not_wrong a x e h = cc
 
-cons_not_nil : {T : Type 0} (t : T) (ts : List T) → t ∷ ts ≡ [] → ⊥
+pub cons_not_nil : {T : Type 0} (t : T) (ts : List T) → t ∷ ts ≡ [] → ⊥
 cons_not_nil t ts e = cc
 
 module _ {T : Type 0} (alphabet : Alphabet T) where
-  all_real : (xs ys : List T) → AllReal alphabet xs → AllReal alphabet ys → AllReal alphabet (xs ++ ys)
+  pub all_real : (xs ys : List T) → AllReal alphabet xs → AllReal alphabet ys → AllReal alphabet (xs ++ ys)
   all_real [] ys p q = q
   all_real (x ∷ xs) ys p q = (p.0, all_real xs ys p.1 q)
 
@@ -86,7 +86,7 @@ module _ {T : Type 0} (alphabet : Alphabet T) where
         rw (q.0, p.0) refl
     local_gives front t rest rest' (Err k) h = absurd cc
 
-    swap_gives : (front : List T) (t u : T) (rest rest' : List T) (o : Result A FaultKind) → is_number alphabet t ≡ true → is_number alphabet u ≡ true → reads a (front ++ t ∷ rest) ≡ ends o (t ∷ rest) → Swapped o (reads a (front ++ u ∷ rest')) u rest'
+    swap_gives : (front : List T) (t u : T) (rest rest' : List T) (o : Result A FaultKind) → is_number alphabet t ≡ true → alphabet.class u ≡ alphabet.class t → reads a (front ++ t ∷ rest) ≡ ends o (t ∷ rest) → Swapped o (reads a (front ++ u ∷ rest')) u rest'
     swap_gives front t u rest rest' (Ok b) n n' h =
         let p = reads_is a b (front ++ t ∷ rest) (t ∷ rest) h in
         let q = cut_is front (t ∷ rest) [] (t ∷ rest) p.1 refl in
@@ -212,7 +212,7 @@ module _ {T : Type 0} (alphabet : Alphabet T) where
         let e = ap (λ (x : Fault). x.left) (wrong_is (record { left = length (v ∷ (front ++ t ∷ rest)); kind = l }) (record { left = length (t ∷ rest); kind = k }) h) in
         absurd (omega (arith, e, length-append front (t ∷ rest)))
 
-    swap_token : IsRanged alphabet meaning → (front : List T) (t u : T) (rest rest' : List T) (o : Result A FaultKind) → is_number alphabet t ≡ true → is_number alphabet u ≡ true → token_at meaning (front ++ t ∷ rest) ≡ ends o (t ∷ rest) → Swapped o (token_at meaning (front ++ u ∷ rest')) u rest'
+    swap_token : IsRanged alphabet meaning → (front : List T) (t u : T) (rest rest' : List T) (o : Result A FaultKind) → is_number alphabet t ≡ true → alphabet.class u ≡ alphabet.class t → token_at meaning (front ++ t ∷ rest) ≡ ends o (t ∷ rest) → Swapped o (token_at meaning (front ++ u ∷ rest')) u rest'
     swap_token ranged [] t u rest rest' o n n' h = swap_here t u rest rest' o (meaning t) (meaning u) (ranged.alike t u n n') h
     swap_token ranged (v ∷ front) t u rest rest' o n n' h = swap_means t u v front rest rest' o (meaning v) h
 
@@ -234,11 +234,11 @@ module _ {T : Type 0} (alphabet : Alphabet T) where
   -- ---- one behind another
 
   -- a list that two cuts share: the second cut lies behind the first
-  behind : {A : Type 0} {g wide : Form T A} {f : Reader T A} {first more : T → Bool} {empty : Bool} → Lawful alphabet g wide f first more empty → (ts us : List T) (o : Result A FaultKind) → f ts ≡ ends o us → (front : List T) × (rest : List T) × (ts ≡ front ++ rest) × (length rest ≡ length us)
+  pub behind : {A : Type 0} {g wide : Form T A} {f : Reader T A} {first more : T → Bool} {empty : Bool} → Lawful alphabet g wide f first more empty → (ts us : List T) (o : Result A FaultKind) → f ts ≡ ends o us → (front : List T) × (rest : List T) × (ts ≡ front ++ rest) × (length rest ≡ length us)
   behind law ts us (Ok a) h = let s = law.sound ts us a h in (s.0, us, s.1, refl)
   behind law ts us (Err k) h = let v = law.viable ts _ h in (v.front, v.rest, v.whole, v.here)
 
-  local_mid : {A : Type 0} {g wide : Form T A} {f : Reader T A} {first more : T → Bool} {empty : Bool} → Lawful alphabet g wide f first more empty → (front mid : List T) (t : T) (rest rest' : List T) (a : A) → f (front ++ (mid ++ t ∷ rest)) ≡ reads a (mid ++ t ∷ rest) → f (front ++ (mid ++ t ∷ rest')) ≡ reads a (mid ++ t ∷ rest')
+  pub local_mid : {A : Type 0} {g wide : Form T A} {f : Reader T A} {first more : T → Bool} {empty : Bool} → Lawful alphabet g wide f first more empty → (front mid : List T) (t : T) (rest rest' : List T) (a : A) → f (front ++ (mid ++ t ∷ rest)) ≡ reads a (mid ++ t ∷ rest) → f (front ++ (mid ++ t ∷ rest')) ≡ reads a (mid ++ t ∷ rest')
   local_mid law front [] t rest rest' a h = law.local front t rest rest' (Ok a) h
   local_mid law front (u ∷ mid) t rest rest' a h = law.local front u (mid ++ t ∷ rest) (mid ++ t ∷ rest') (Ok a) h
 
@@ -423,11 +423,11 @@ module _ {T : Type 0} (alphabet : Alphabet T) where
     swap_err Profile front t u rest rest' s = (s.0, ap (λ (y : Result (A × List T) Fault). follow y h) s.1)
     swap_err Limit front t u rest rest' s = (s.0, ap (λ (y : Result (A × List T) Fault). follow y h) s.1)
 
-    swap_mid : (front mid : List T) (t u : T) (rest rest' : List T) (a : A) → is_number alphabet t ≡ true → is_number alphabet u ≡ true → f (front ++ (mid ++ t ∷ rest)) ≡ reads a (mid ++ t ∷ rest) → f (front ++ (mid ++ u ∷ rest')) ≡ reads a (mid ++ u ∷ rest')
+    swap_mid : (front mid : List T) (t u : T) (rest rest' : List T) (a : A) → is_number alphabet t ≡ true → alphabet.class u ≡ alphabet.class t → f (front ++ (mid ++ t ∷ rest)) ≡ reads a (mid ++ t ∷ rest) → f (front ++ (mid ++ u ∷ rest')) ≡ reads a (mid ++ u ∷ rest')
     swap_mid front [] t u rest rest' a n n' i = law.swap front t u rest rest' (Ok a) n n' i
     swap_mid front (v ∷ mid) t u rest rest' a n n' i = law.local front v (mid ++ t ∷ rest) (mid ++ u ∷ rest') (Ok a) i
 
-    swap_both : (front : List T) (t u : T) (rest rest' : List T) (o : Result B FaultKind) (r : Result (A × List T) Fault) → is_number alphabet t ≡ true → is_number alphabet u ≡ true → f (front ++ t ∷ rest) ≡ r → follow r h ≡ ends o (t ∷ rest) → Swapped o ((f >>= h) (front ++ u ∷ rest')) u rest'
+    swap_both : (front : List T) (t u : T) (rest rest' : List T) (o : Result B FaultKind) (r : Result (A × List T) Fault) → is_number alphabet t ≡ true → alphabet.class u ≡ alphabet.class t → f (front ++ t ∷ rest) ≡ r → follow r h ≡ ends o (t ∷ rest) → Swapped o ((f >>= h) (front ++ u ∷ rest')) u rest'
     swap_both front t u rest rest' o (Err e) n n' i d =
         let w = err_ends e o (t ∷ rest) d in
         subst (λ (x : Result B FaultKind). Swapped x ((f >>= h) (front ++ u ∷ rest')) u rest') (sym w.1) (swap_err w.0 front t u rest rest' (law.swap front t u rest rest' (Err w.0) n n' (i ∙ ap wrong w.2)))
@@ -504,7 +504,7 @@ module _ {T : Type 0} (alphabet : Alphabet T) where
 
   -- ---- one of two, by the next token
 
-  module _ {A : Type 0} (g g' wide wide' : Form T A) (f f' : Reader T A) (begins first more first' more' : T → Bool) (empty' : Bool) (law : Lawful alphabet g wide f first more false) (law' : Lawful alphabet g' wide' f' first' more' empty') (alike : (t u : T) → is_number alphabet t ≡ true → is_number alphabet u ≡ true → begins t ≡ begins u) (within : (t : T) → first t ≡ true → begins t ≡ true) (without : (t : T) → first' t ≡ true → begins t ≡ false) where
+  module _ {A : Type 0} (g g' wide wide' : Form T A) (f f' : Reader T A) (begins first more first' more' : T → Bool) (empty' : Bool) (law : Lawful alphabet g wide f first more false) (law' : Lawful alphabet g' wide' f' first' more' empty') (alike : (t u : T) → is_number alphabet t ≡ true → alphabet.class u ≡ alphabet.class t → begins t ≡ begins u) (within : (t : T) → first t ≡ true → begins t ≡ true) (without : (t : T) → first' t ≡ true → begins t ≡ false) where
     pick_yes : (t : T) (ts : List T) → begins t ≡ true → pick begins f f' (t ∷ ts) ≡ f (t ∷ ts)
     pick_yes t ts e = rw e refl
 
@@ -609,7 +609,7 @@ module _ {T : Type 0} (alphabet : Alphabet T) where
         by_test true d = limit_one (t ∷ ts) left (law.limit (t ∷ ts) left d)
         by_test false d = limit_other (t ∷ ts) left (law'.limit (t ∷ ts) left d)
 
-    swap_pick : (front : List T) (t u : T) (rest rest' : List T) (o : Result A FaultKind) → is_number alphabet t ≡ true → is_number alphabet u ≡ true → pick begins f f' (front ++ t ∷ rest) ≡ ends o (t ∷ rest) → Swapped o (pick begins f f' (front ++ u ∷ rest')) u rest'
+    swap_pick : (front : List T) (t u : T) (rest rest' : List T) (o : Result A FaultKind) → is_number alphabet t ≡ true → alphabet.class u ≡ alphabet.class t → pick begins f f' (front ++ t ∷ rest) ≡ ends o (t ∷ rest) → Swapped o (pick begins f f' (front ++ u ∷ rest')) u rest'
     swap_pick [] t u rest rest' o n n' d = by_test (begins t) (begins u) (alike t u n n') d
       where
         by_test : (b b' : Bool) → b ≡ b' → cond b (f (t ∷ rest)) (f' (t ∷ rest)) ≡ ends o (t ∷ rest) → Swapped o (cond b' (f (u ∷ rest')) (f' (u ∷ rest'))) u rest'
@@ -644,7 +644,7 @@ module _ {T : Type 0} (alphabet : Alphabet T) where
 
   -- ---- as many as there are, up to a limit
 
-  module _ {A : Type 0} (g wide : Form T A) (f : Reader T A) (begins first more : T → Bool) (law : Lawful alphabet g wide f first more false) (alike : (t u : T) → is_number alphabet t ≡ true → is_number alphabet u ≡ true → begins t ≡ begins u) (within : (t : T) → first t ≡ true → begins t ≡ true) (apart : (t : T) → more t ≡ true → begins t ≡ true → ⊥) (opens : (t : T) → begins t ≡ true → (more' : List T) × (a : A) × wide (t ∷ more') a × AllReal alphabet more') where
+  module _ {A : Type 0} (g wide : Form T A) (f : Reader T A) (begins first more : T → Bool) (law : Lawful alphabet g wide f first more false) (alike : (t u : T) → is_number alphabet t ≡ true → alphabet.class u ≡ alphabet.class t → begins t ≡ begins u) (within : (t : T) → first t ≡ true → begins t ≡ true) (apart : (t : T) → more t ≡ true → begins t ≡ true → ⊥) (opens : (t : T) → begins t ≡ true → (more' : List T) × (a : A) × wide (t ∷ more') a × AllReal alphabet more') where
     abbrev after_many : T → Bool
     after_many t = more t || begins t
 
@@ -699,7 +699,7 @@ module _ {T : Type 0} (alphabet : Alphabet T) where
         by_test true d = limit (ap (λ (x : Fault). x.kind) (wrong_is (record { left = length (t ∷ ts); kind = Limit }) (record { left = left; kind = Number }) d))
         by_test false d = cc
 
-    swap_zero : (front : List T) (t u : T) (rest rest' : List T) (o : Result (List A) FaultKind) → is_number alphabet t ≡ true → is_number alphabet u ≡ true → many_at begins f zero (front ++ t ∷ rest) ≡ ends o (t ∷ rest) → Swapped o (many_at begins f zero (front ++ u ∷ rest')) u rest'
+    swap_zero : (front : List T) (t u : T) (rest rest' : List T) (o : Result (List A) FaultKind) → is_number alphabet t ≡ true → alphabet.class u ≡ alphabet.class t → many_at begins f zero (front ++ t ∷ rest) ≡ ends o (t ∷ rest) → Swapped o (many_at begins f zero (front ++ u ∷ rest')) u rest'
     swap_zero [] t u rest rest' o n n' d = by_test (begins t) (begins u) (alike t u n n') o d
       where
         refuses : (k : FaultKind) → Swapped {A = List A} (Err k) (fault_at Limit (u ∷ rest')) u rest'
@@ -808,7 +808,7 @@ module _ {T : Type 0} (alphabet : Alphabet T) where
 
   -- ---- as many as there are
 
-  module _ {A : Type 0} (g wide : Form T A) (f : Reader T A) (begins first more : T → Bool) (law : Lawful alphabet g wide f first more false) (alike : (t u : T) → is_number alphabet t ≡ true → is_number alphabet u ≡ true → begins t ≡ begins u) (within : (t : T) → first t ≡ true → begins t ≡ true) (apart : (t : T) → more t ≡ true → begins t ≡ true → ⊥) (opens : (t : T) → begins t ≡ true → (more' : List T) × (a : A) × wide (t ∷ more') a × AllReal alphabet more') where
+  module _ {A : Type 0} (g wide : Form T A) (f : Reader T A) (begins first more : T → Bool) (law : Lawful alphabet g wide f first more false) (alike : (t u : T) → is_number alphabet t ≡ true → alphabet.class u ≡ alphabet.class t → begins t ≡ begins u) (within : (t : T) → first t ≡ true → begins t ≡ true) (apart : (t : T) → more t ≡ true → begins t ≡ true → ⊥) (opens : (t : T) → begins t ≡ true → (more' : List T) × (a : A) × wide (t ∷ more') a × AllReal alphabet more') where
     takes_some : (front rest ts : List T) (t : T) (a : A) → g front a → t ∷ ts ≡ front ++ rest → length rest ≤ length ts
     takes_some [] rest ts t a s e = absurd (never (law.nothing a s))
       where
@@ -885,7 +885,7 @@ module _ {T : Type 0} (alphabet : Alphabet T) where
             let two = (laws_at n).local front t rest rest' o one in
             roomy (length (front ++ t ∷ rest')) n (front ++ t ∷ rest') (omega arith) (omega arith) ∙ two
 
-        swap_star : (front : List T) (t u : T) (rest rest' : List T) (o : Result (List A) FaultKind) → is_number alphabet t ≡ true → is_number alphabet u ≡ true → star_at begins f (front ++ t ∷ rest) ≡ ends o (t ∷ rest) → Swapped o (star_at begins f (front ++ u ∷ rest')) u rest'
+        swap_star : (front : List T) (t u : T) (rest rest' : List T) (o : Result (List A) FaultKind) → is_number alphabet t ≡ true → alphabet.class u ≡ alphabet.class t → star_at begins f (front ++ t ∷ rest) ≡ ends o (t ∷ rest) → Swapped o (star_at begins f (front ++ u ∷ rest')) u rest'
         swap_star front t u rest rest' o n n' d =
             let m : ℕ = length (front ++ t ∷ rest) + length (front ++ u ∷ rest') in
             let one : many_at begins f m (front ++ t ∷ rest) ≡ ends o (t ∷ rest) = roomy m (length (front ++ t ∷ rest)) (front ++ t ∷ rest) (omega arith) (omega arith) ∙ d in
@@ -894,7 +894,7 @@ module _ {T : Type 0} (alphabet : Alphabet T) where
 
   -- ---- a reading that is barred here by a limit
 
-  module _ {A : Type 0} (g wide : Form T A) (f : Reader T A) (begins first more : T → Bool) (empty : Bool) (law : Lawful alphabet g wide f first more empty) (alike : (t u : T) → is_number alphabet t ≡ true → is_number alphabet u ≡ true → begins t ≡ begins u) (without : (t : T) → first t ≡ true → begins t ≡ false) (opens : (t : T) → begins t ≡ true → (more' : List T) × (a : A) × wide (t ∷ more') a × AllReal alphabet more') where
+  module _ {A : Type 0} (g wide : Form T A) (f : Reader T A) (begins first more : T → Bool) (empty : Bool) (law : Lawful alphabet g wide f first more empty) (alike : (t u : T) → is_number alphabet t ≡ true → alphabet.class u ≡ alphabet.class t → begins t ≡ begins u) (without : (t : T) → first t ≡ true → begins t ≡ false) (opens : (t : T) → begins t ≡ true → (more' : List T) × (a : A) × wide (t ∷ more') a × AllReal alphabet more') where
     abbrev barred : Reader T A
     barred = pick begins (fault_at Limit) f
 
@@ -964,7 +964,7 @@ module _ {T : Type 0} (alphabet : Alphabet T) where
             record { front = []; bad = t; rest = ts; whole = refl; here = ap (λ (x : Fault). x.left) (wrong_is (record { left = length (t ∷ ts); kind = Limit }) (record { left = left; kind = Limit }) d); more = o.0; value = o.1; spelled = o.2; real = o.3 }
         by_test false e d = law.limit (t ∷ ts) left d
 
-    swap_barred : (front : List T) (t u : T) (rest rest' : List T) (o : Result A FaultKind) → is_number alphabet t ≡ true → is_number alphabet u ≡ true → barred (front ++ t ∷ rest) ≡ ends o (t ∷ rest) → Swapped o (barred (front ++ u ∷ rest')) u rest'
+    swap_barred : (front : List T) (t u : T) (rest rest' : List T) (o : Result A FaultKind) → is_number alphabet t ≡ true → alphabet.class u ≡ alphabet.class t → barred (front ++ t ∷ rest) ≡ ends o (t ∷ rest) → Swapped o (barred (front ++ u ∷ rest')) u rest'
     swap_barred [] t u rest rest' o n n' d = by_test (begins t) (begins u) (alike t u n n') o d
       where
         refuses : (k : FaultKind) → Swapped {A = A} (Err k) (fault_at Limit (u ∷ rest')) u rest'

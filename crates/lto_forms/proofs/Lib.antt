@@ -1,3 +1,4 @@
+pub mod Chains
 pub mod Closings
 pub mod Composed
 pub mod Grouped
@@ -6,4 +7,7 @@ pub mod Listed
 pub mod Loops
 pub mod Places
 pub mod Rules
+pub mod Runs
+pub mod Stars
 pub mod Whole
+pub mod ChainLoops

@@ -7,7 +7,7 @@ use Rattle.lto_forms.specs.Faults.{StopsAt, FitsKind, FitsLimit}
 use Rattle.lto_forms.specs.Forms as form
 use Rattle.lto_forms.specs.Forms.{Form}
 use Rattle.lto_forms.specs.Lawful.{Agrees, SameRefusal}
-use Rattle.lto_forms.specs.Listing.{Sign, opening, closing, comma, numeral, signs, not_here, sign, within, further, numbers, listing, all_numbers, any_listing, further_at, numbers_at, listing_at, list_of}
+use Rattle.lto_forms.specs.Listing.{Sign, class_of, opening, closing, comma, numeral, signs, not_here, sign, within, further, numbers, listing, all_numbers, any_listing, further_at, numbers_at, listing_at, list_of}
 use Rattle.lto_forms.specs.Readers.{Reader, ◌>>=◌, done, pick, star_at, token_at}
 use Rattle.lto_forms.specs.Rules.{Rule, Opens, is_class}
 use Rattle.lto_forms.proofs.Composed.{token_lawful}
@@ -45,7 +45,7 @@ module _ (most : ℕ) where
       less : (n : ℕ) → nat_lt 0 (suc n) ≡ true
       less n = grind arith
 
-  range : (t : Sign) → within most t ≡ Err Number → (is_number signs t ≡ true) × (u : Sign) × (b : ℕ) × (is_number signs u ≡ true) × (within most u ≡ Ok b) × signs.Real u
+  range : (t : Sign) → within most t ≡ Err Number → (is_number signs t ≡ true) × (u : Sign) × (b : ℕ) × (class_of u ≡ class_of t) × (within most u ≡ Ok b) × signs.Real u
   unfolding within
   range opening e = absurd cc
   range closing e = absurd cc
@@ -63,7 +63,7 @@ module _ (most : ℕ) where
       by_test true h = cc
       by_test false h = cc
 
-  alike : (t u : Sign) → is_number signs t ≡ true → is_number signs u ≡ true → SameRefusal (within most t) (within most u)
+  alike : (t u : Sign) → is_number signs t ≡ true → class_of u ≡ class_of t → SameRefusal (within most t) (within most u)
   unfolding within
   alike opening u e d = absurd cc
   alike closing u e d = absurd cc

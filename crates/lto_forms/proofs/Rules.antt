@@ -9,8 +9,8 @@ use Rattle.lto_forms.specs.Forms as form
 use Rattle.lto_forms.specs.Forms.{Form, Many, upto, optional}
 use Rattle.lto_forms.specs.Lawful.{IsRanged, SameRefusal}
 use Rattle.lto_forms.specs.Readers.{Reader, fault_at, done, ◌>>=◌, token_at, pick, many_at, star_at, upto_at, optional_at}
-use Rattle.lto_forms.specs.Rules.{Opens, Rule, disjoint, subset, is_class}
-use Rattle.lto_forms.proofs.Composed.{cons_is, gives_lawful, token_lawful, both_lawful, pick_lawful, many_lawful, star_lawful, barred_lawful, widened}
+use Rattle.lto_forms.specs.Rules.{Opens, Rule, IsWithin, disjoint, subset, in_range, is_class, is_among, is_exact, is_valued}
+use Rattle.lto_forms.proofs.Composed.{all_real, cons_is, gives_lawful, token_lawful, both_lawful, pick_lawful, many_lawful, star_lawful, barred_lawful, widened}
 
 and_parts : (a b : Bool) → a && b ≡ true → (a ≡ true) × (b ≡ true)
 and_parts true b h = (refl, h)
@@ -99,8 +99,8 @@ test_refuses true a k l never e = cc
 test_refuses {A} false a k l never e = never (err_is {A = A} k l e)
 
 module _ {T : Type 0} (alphabet : Alphabet T) where
-  alike_of : (bs : List ℕ) (t u : T) → is_number alphabet t ≡ true → is_number alphabet u ≡ true → among alphabet bs t ≡ among alphabet bs u
-  alike_of bs t u n m = ap (contains bs) (same (alphabet.class t) alphabet.numeral n ∙ sym (same (alphabet.class u) alphabet.numeral m))
+  alike_of : (bs : List ℕ) (t u : T) → is_number alphabet t ≡ true → alphabet.class u ≡ alphabet.class t → among alphabet bs t ≡ among alphabet bs u
+  alike_of bs t u n m = ap (contains bs) (sym m)
 
   pub nothing : {A : Type 0} (a : A) → Rule alphabet (form.gives a) (form.gives a) (done a) [] [] true
   nothing a = record { law = gives_lawful alphabet a }
@@ -192,7 +192,7 @@ module _ {T : Type 0} (alphabet : Alphabet T) where
       by_result (Err d) e = let v = law.law.viable (t ∷ []) d e in by_viable v.front v.rest v.more v.value v.whole (v.here ∙ opens t h d e) v.spelled v.real
 
   -- a meaning that refuses no number for its range, and takes all numbers alike
-  pub plainly_ranged : {A : Type 0} (meaning : T → Result A FaultKind) → ((t : T) → meaning t ≡ Err Number → ⊥) → ((t : T) → meaning t ≡ Err Limit → ⊥) → ((t u : T) → is_number alphabet t ≡ true → is_number alphabet u ≡ true → meaning t ≡ meaning u) → IsRanged alphabet meaning
+  pub plainly_ranged : {A : Type 0} (meaning : T → Result A FaultKind) → ((t : T) → meaning t ≡ Err Number → ⊥) → ((t : T) → meaning t ≡ Err Limit → ⊥) → ((t u : T) → is_number alphabet t ≡ true → alphabet.class u ≡ alphabet.class t → meaning t ≡ meaning u) → IsRanged alphabet meaning
   plainly_ranged {A} meaning never unlimited same' = record {
     range = λ t e. absurd (never t e);
     alike = λ t u n m. subst (λ (x : Result A FaultKind). SameRefusal (meaning t) x) (same' t u n m) (same_refl (meaning t));
@@ -205,7 +205,7 @@ module _ {T : Type 0} (alphabet : Alphabet T) where
   class_rule refusal not_number not_limit wanted sample s rl = record {
     law = token_lawful alphabet (is_class alphabet refusal wanted) (among alphabet (wanted ∷ []))
         (plainly_ranged (is_class alphabet refusal wanted) (λ t e. test_refuses _ tt _ Number (not_number (alphabet.class t)) e) (λ t e. test_refuses _ tt _ Limit (not_limit (alphabet.class t)) e)
-        (λ t u n m. ap (λ (x : ℕ). cond (nat_eq x wanted) (Ok tt) (Err (refusal x))) (same (alphabet.class t) alphabet.numeral n ∙ sym (same (alphabet.class u) alphabet.numeral m))))
+        (λ t u n m. ap (λ (x : ℕ). cond (nat_eq x wanted) (Ok tt) (Err (refusal x))) (sym m)))
         begins sample tt s rl;
   }
     where
@@ -224,3 +224,151 @@ module _ {T : Type 0} (alphabet : Alphabet T) where
       none_shared : (ys : List ℕ) → disjoint ys [] ≡ true
       none_shared [] = refl
       none_shared (y ∷ ys) = none_shared ys
+
+  -- ---- a token of several classes
+
+  pub among_rule : {A : Type 0} (refusal : ℕ → FaultKind) → ((n : ℕ) → refusal n ≡ Number → ⊥) → ((n : ℕ) → refusal n ≡ Limit → ⊥) → (wanted : List ℕ) (value : T → A) (sample : T) → among alphabet wanted sample ≡ true → alphabet.Real sample
+      → Rule alphabet (form.token (is_among alphabet refusal wanted value)) (form.token (is_among alphabet refusal wanted value)) (token_at (is_among alphabet refusal wanted value)) wanted [] false
+  unfolding is_among
+  among_rule {A} refusal not_number not_limit wanted value sample s rl = record {
+    law = token_lawful alphabet (is_among alphabet refusal wanted value) (among alphabet wanted)
+        (record {
+          range = λ t e. absurd (test_refuses (among alphabet wanted t) (value t) (refusal (alphabet.class t)) Number (not_number (alphabet.class t)) e);
+          alike = λ t u n m. by_test (among alphabet wanted t) (among alphabet wanted u) (alike_of wanted t u n m) t u (sym m);
+          never = λ t e. test_refuses (among alphabet wanted t) (value t) (refusal (alphabet.class t)) Limit (not_limit (alphabet.class t)) e;
+        })
+        begins sample (value sample) (ap (λ (b : Bool). cond b (Ok (value sample)) (Err (refusal (alphabet.class sample)))) s) rl;
+  }
+    where
+      begins : (t : T) (a : A) → is_among alphabet refusal wanted value t ≡ Ok a → among alphabet wanted t ≡ true
+      begins t a h = test_ok (among alphabet wanted t) (value t) a (refusal (alphabet.class t)) h
+
+      refused_alike : (k l : FaultKind) → k ≡ l → SameRefusal {A = A} (Err k) (Err l)
+      refused_alike k l e = subst (λ (x : FaultKind). SameRefusal {A = A} (Err k) (Err x)) e (same_refl (Err k))
+
+      by_test : (b c : Bool) → b ≡ c → (t u : T) → alphabet.class t ≡ alphabet.class u → SameRefusal {A = A} (cond b (Ok (value t)) (Err (refusal (alphabet.class t)))) (cond c (Ok (value u)) (Err (refusal (alphabet.class u))))
+      by_test true c e t u d = tt
+      by_test false true e t u d = absurd cc
+      by_test false false e t u d = refused_alike (refusal (alphabet.class t)) (refusal (alphabet.class u)) (ap refusal d)
+
+  -- a token that passes a test, of classes that write no number
+  pub exact_rule : {A : Type 0} (refusal : ℕ → FaultKind) → ((n : ℕ) → refusal n ≡ Number → ⊥) → ((n : ℕ) → refusal n ≡ Limit → ⊥) → (wanted : List ℕ) → disjoint alphabet.numerals wanted ≡ true → (test : T → Bool) (value : T → A) (sample : T) → among alphabet wanted sample ≡ true → test sample ≡ true → alphabet.Real sample
+      → Rule alphabet (form.token (is_exact alphabet refusal wanted test value)) (form.token (is_exact alphabet refusal wanted test value)) (token_at (is_exact alphabet refusal wanted test value)) wanted [] false
+  unfolding is_exact
+  exact_rule {A} refusal not_number not_limit wanted none test value sample s q rl = record {
+    law = token_lawful alphabet (is_exact alphabet refusal wanted test value) (among alphabet wanted)
+        (record {
+          range = λ t e. absurd (test_refuses (among alphabet wanted t && test t) (value t) (refusal (alphabet.class t)) Number (not_number (alphabet.class t)) e);
+          alike = λ t u n m. refused (among alphabet wanted t) (test t) (value t) (refusal (alphabet.class t)) (among alphabet wanted u) (test u) (value u) (refusal (alphabet.class u)) (is_false _ (apart_from alphabet.numerals wanted none (alphabet.class t) n)) (is_false _ (λ p. apart_from alphabet.numerals wanted none (alphabet.class t) n (ap (contains wanted) (sym m) ∙ p))) (ap refusal (sym m));
+          never = λ t e. test_refuses (among alphabet wanted t && test t) (value t) (refusal (alphabet.class t)) Limit (not_limit (alphabet.class t)) e;
+        })
+        (λ t a h. (and_parts (among alphabet wanted t) (test t) (test_ok (among alphabet wanted t && test t) (value t) a (refusal (alphabet.class t)) h)).0)
+        sample (value sample) (both_true (among alphabet wanted sample) (test sample) (value sample) (refusal (alphabet.class sample)) s q) rl;
+  }
+    where
+      is_false : (b : Bool) → (b ≡ true → ⊥) → b ≡ false
+      is_false true never = absurd (never refl)
+      is_false false never = refl
+
+      both_true : (b c : Bool) (a : A) (k : FaultKind) → b ≡ true → c ≡ true → cond (b && c) (Ok a) (Err k) ≡ Ok a
+      both_true true true a k p q = refl
+      both_true true false a k p q = absurd cc
+      both_true false c a k p q = absurd cc
+
+      refused : (b c : Bool) (a : A) (k : FaultKind) (b' c' : Bool) (a' : A) (k' : FaultKind) → b ≡ false → b' ≡ false → k ≡ k' → SameRefusal {A = A} (cond (b && c) (Ok a) (Err k)) (cond (b' && c') (Ok a') (Err k'))
+      refused true c a k b' c' a' k' p q e = absurd cc
+      refused false c a k true c' a' k' p q e = absurd cc
+      refused false c a k false c' a' k' p q e = subst (λ (x : FaultKind). SameRefusal {A = A} (Err k) (Err x)) e (same_refl (Err k))
+
+  -- the same in wider sets
+  pub broader : {A : Type 0} {g wide : Form T A} {f : Reader T A} {xs ms : List ℕ} {e : Bool} (xs' ms' : List ℕ) → Rule alphabet g wide f xs ms e → subset xs xs' ≡ true → subset ms ms' ≡ true → Rule alphabet g wide f xs' ms' e
+  broader {xs = xs} {ms = ms} xs' ms' law s d =
+      record { law = widened alphabet (among alphabet xs') (among alphabet ms') law.law (λ t p. within_of xs xs' s (alphabet.class t) p) (λ t p. within_of ms ms' d (alphabet.class t) p) }
+
+  -- ---- a token of several classes that may write a number
+
+  pub valued_rule : {A : Type 0} (refusal : ℕ → FaultKind) → ((n : ℕ) → refusal n ≡ Number → ⊥) → ((n : ℕ) → refusal n ≡ Limit → ⊥) → (wanted : List ℕ) (value : T → Option A)
+      → ((t : T) → among alphabet wanted t ≡ true → value t ≡ None → IsWithin alphabet wanted value t) → (sample : T) (b : A) → among alphabet wanted sample ≡ true → value sample ≡ Some b → alphabet.Real sample
+      → Rule alphabet (form.token (is_valued alphabet refusal wanted value)) (form.token (is_valued alphabet refusal wanted value)) (token_at (is_valued alphabet refusal wanted value)) wanted [] false
+  unfolding is_valued
+  valued_rule {A} refusal not_number not_limit wanted value within sample b s v rl = record {
+    law = token_lawful alphabet (is_valued alphabet refusal wanted value) (among alphabet wanted)
+        (record {
+          range = λ t e. by_range t (among alphabet wanted t) (value t) refl refl e;
+          alike = λ t u n m. by_test (among alphabet wanted t) (among alphabet wanted u) (alike_of wanted t u n m) (value t) (value u) (refusal (alphabet.class t)) (refusal (alphabet.class u)) (ap refusal (sym m));
+          never = λ t e. never (among alphabet wanted t) (value t) (refusal (alphabet.class t)) (not_limit (alphabet.class t)) e;
+        })
+        (λ t a h. begins (among alphabet wanted t) (value t) a (refusal (alphabet.class t)) h)
+        sample b (is_ok sample b s v) rl;
+  }
+    where
+      is_ok : (t : T) (a : A) → among alphabet wanted t ≡ true → value t ≡ Some a → is_valued alphabet refusal wanted value t ≡ Ok a
+      is_ok t a p q = ap (λ (c : Bool). cond c (in_range (value t)) (Err (refusal (alphabet.class t)))) p ∙ ap in_range q
+
+      begins : (c : Bool) (o : Option A) (a : A) (k : FaultKind) → cond c (in_range o) (Err k) ≡ Ok a → c ≡ true
+      begins true o a k h = refl
+      begins false o a k h = absurd cc
+
+      never : (c : Bool) (o : Option A) (k : FaultKind) → (k ≡ Limit → ⊥) → cond c (in_range o) (Err k) ≡ refuse {A = A} Limit → ⊥
+      never true None k p e = cc
+      never true (Some a) k p e = cc
+      never false o k p e = p (err_is {A = A} k Limit e)
+
+      by_range : (t : T) (c : Bool) (o : Option A) → among alphabet wanted t ≡ c → value t ≡ o → cond c (in_range o) (Err (refusal (alphabet.class t))) ≡ refuse {A = A} Number → (is_number alphabet t ≡ true) × (u : T) × (a : A) × (alphabet.class u ≡ alphabet.class t) × (is_valued alphabet refusal wanted value u ≡ Ok a) × alphabet.Real u
+      by_range t true None p q e =
+          let w = within t p q in
+          (w.writes, w.other, w.means, w.alike, is_ok w.other w.means (ap (contains wanted) w.alike ∙ p) w.has, w.real)
+      by_range t true (Some a) p q e = absurd cc
+      by_range t false o p q e = absurd (not_number (alphabet.class t) (err_is {A = A} (refusal (alphabet.class t)) Number e))
+
+      refused_alike : (k l : FaultKind) → k ≡ l → SameRefusal {A = A} (Err k) (Err l)
+      refused_alike k l e = subst (λ (x : FaultKind). SameRefusal {A = A} (Err k) (Err x)) e (same_refl (Err k))
+
+      by_test : (c d : Bool) → c ≡ d → (o p : Option A) (k l : FaultKind) → k ≡ l → SameRefusal {A = A} (cond c (in_range o) (Err k)) (cond d (in_range p) (Err l))
+      by_test true d e None p k l h = tt
+      by_test true d e (Some a) p k l h = tt
+      by_test false true e o p k l h = absurd cc
+      by_test false false e o p k l h = refused_alike k l h
+
+  -- ---- tokens that begin something of a form
+
+  abbrev fine : Unit {0} → Result (Unit {0}) FaultKind
+  fine u = Ok u
+
+  class_is_fine : (k : FaultKind) (b : Bool) → b || false ≡ true → cond b (fine tt) (Err k) ≡ fine tt
+  class_is_fine k true h = refl
+  class_is_fine k false h = absurd cc
+
+  contains-parts : (xs ys : List ℕ) (n : ℕ) → contains (xs ++ ys) n ≡ true → (contains xs n ≡ true) ⊎ (contains ys n ≡ true)
+  contains-parts [] ys n h = inr h
+  contains-parts (x ∷ xs) ys n h = elim (or_parts (nat_eq n x) (contains (xs ++ ys) n) h) [
+    | inl e ↦ inl (or_intro (nat_eq n x) (contains xs n) (inl e))
+    | inr r ↦ elim (contains-parts xs ys n r) [ inl p ↦ inl (or_intro (nat_eq n x) (contains xs n) (inr p)) | inr q ↦ inr q ]
+  ]
+
+  pub opens_class : (refusal : ℕ → FaultKind) (wanted : ℕ) → Opens alphabet (wanted ∷ []) (form.token (is_class alphabet refusal wanted))
+  unfolding is_class
+  opens_class refusal wanted t h = ([], tt, class_is_fine (refusal (alphabet.class t)) (nat_eq (alphabet.class t) wanted) h, tt)
+
+  pub opens_among : {A : Type 0} (refusal : ℕ → FaultKind) (wanted : List ℕ) (value : T → A) → Opens alphabet wanted (form.token (is_among alphabet refusal wanted value))
+  unfolding is_among
+  opens_among refusal wanted value t h = ([], value t, ap (λ (b : Bool). cond b (Ok (value t)) (Err (refusal (alphabet.class t)))) h, tt)
+
+  pub opens_seq : {A B : Type 0} (bs : List ℕ) (wide : Form T A) {k wide' : A → Form T B} {f : A → Reader T B} {ys ns : List ℕ} {e : Bool} → Opens alphabet bs wide → ((a : A) → Rule alphabet (k a) (wide' a) (f a) ys ns e) → Opens alphabet bs (form.◌>>=◌ wide wide')
+  unfolding form.◌>>=◌
+  opens_seq bs wide opens laws t h =
+      let o = opens t h in
+      let s = (laws o.1).law.some in
+      (o.0 ++ s.0, s.1, (t ∷ o.0, s.0, o.1, refl, o.2, (laws o.1).law.contains s.0 s.1 s.2), all_real alphabet o.0 s.0 o.3 s.3)
+
+  pub opens_either : {A : Type 0} (xs ys : List ℕ) (wide wide' : Form T A) → Opens alphabet xs wide → Opens alphabet ys wide' → Opens alphabet (xs ++ ys) (form.either wide wide')
+  unfolding form.either
+  opens_either {A} xs ys wide wide' one other t h = by_side (contains-parts xs ys (alphabet.class t) h)
+    where
+      by_side : (contains xs (alphabet.class t) ≡ true) ⊎ (contains ys (alphabet.class t) ≡ true) → (more : List T) × (a : A) × ((wide (t ∷ more) a) ⊎ (wide' (t ∷ more) a)) × AllReal alphabet more
+      by_side (inl p) = let o = one t p in (o.0, o.1, inl o.2, o.3)
+      by_side (inr q) = let o = other t q in (o.0, o.1, inr o.2, o.3)
+
+  -- fewer tokens, and the same classes in another order
+  pub opens_fewer : {A : Type 0} (bs xs : List ℕ) (wide : Form T A) → subset bs xs ≡ true → Opens alphabet xs wide → Opens alphabet bs wide
+  opens_fewer bs xs wide s opens t h = opens t (within_of bs xs s (alphabet.class t) h)

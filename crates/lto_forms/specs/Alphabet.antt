@@ -1,10 +1,11 @@
 -- What a grammar knows of its tokens.
 use Rattle.std.specs.Prelude.{ℕ, Bool, false, ◌||◌, nat_eq, List, [], ◌∷◌}
 
--- a class for each token, by which a reader chooses; the class of written numbers; and which tokens some text has
+-- a class for each token, by which a reader chooses; the classes of tokens that write a number; and which tokens some
+-- text has
 pub record Alphabet (T : Type 0) : Type 1 where
   pub class : T → ℕ
-  pub numeral : ℕ
+  pub numerals : List ℕ
   pub Real : T → Type 0
 
 abbrev pub contains : List ℕ → ℕ → Bool
@@ -15,8 +16,9 @@ contains (m ∷ ms) n = nat_eq n m || contains ms n
 abbrev pub among : {T : Type 0} → Alphabet T → List ℕ → T → Bool
 among alphabet classes t = contains classes (alphabet.class t)
 
+-- the token writes a number
 abbrev pub is_number : {T : Type 0} → Alphabet T → T → Bool
-is_number alphabet t = nat_eq (alphabet.class t) alphabet.numeral
+is_number alphabet t = contains alphabet.numerals (alphabet.class t)
 
 -- some text has each of these tokens
 abbrev pub AllReal : {T : Type 0} → Alphabet T → List T → Type 0

@@ -31,7 +31,7 @@ module _ {T : Type 0} (alphabet : Alphabet T) where
     pub before : Viable g front
     pub dead : Dead g front rest
 
-  -- before the last tokens, so many, of which the first is a Number, another Number goes on
+  -- before the last tokens, so many, of which the first writes a number, another token of its class goes on
   pub record NumberGoesOn {A : Type 0} (g : Form T A) (ts : List T) (left : ℕ) : Type 0 where
     pub front : List T
     pub bad : T
@@ -40,17 +40,17 @@ module _ {T : Type 0} (alphabet : Alphabet T) where
     pub here : length (bad ∷ rest) ≡ left
     pub bad_is : is_number alphabet bad ≡ true
     pub good : T
-    pub good_is : is_number alphabet good ≡ true
+    pub good_is : alphabet.class good ≡ alphabet.class bad
     pub more : List T
     pub value : A
     pub spelled : g (front ++ good ∷ more) value
     pub real : AllReal alphabet (good ∷ more)
 
-  -- no Number goes on in the place of the first of the last tokens, so many, where that is one
+  -- where the first of the last tokens, so many, writes a number, no token of its class goes on in its place
   abbrev pub NoNumberGoesOn : {A : Type 0} → Form T A → List T → ℕ → Type 0
-  NoNumberGoesOn g ts left = (front : List T) (t : T) (rest : List T) → ts ≡ front ++ t ∷ rest → length (t ∷ rest) ≡ left → is_number alphabet t ≡ true → (u : T) → is_number alphabet u ≡ true → Extends g (front ++ u ∷ []) → ⊥
+  NoNumberGoesOn g ts left = (front : List T) (t : T) (rest : List T) → ts ≡ front ++ t ∷ rest → length (t ∷ rest) ≡ left → is_number alphabet t ≡ true → (u : T) → alphabet.class u ≡ alphabet.class t → Extends g (front ++ u ∷ []) → ⊥
 
-  -- a fault is a Number out of range exactly where another Number goes on there
+  -- a fault is a number out of range exactly where a token that writes another, of the same class, goes on there
   abbrev pub FitsKind : {A : Type 0} → Form T A → List T → ℕ → FaultKind → Type 0
   FitsKind g ts left Number = NumberGoesOn g ts left
   FitsKind g ts left Syntax = NoNumberGoesOn g ts left

@@ -1,5 +1,5 @@
 -- Brackets of numbered kinds, as plain data.
-use Rattle.std.specs.Prelude.{ℕ, nat_eq}
+use Rattle.std.specs.Prelude.{ℕ, nat_eq, [], ◌∷◌}
 use Rattle.lto_forms.specs.Alphabet.{Alphabet}
 use Rattle.lto_forms.specs.Balanced as balanced
 use Rattle.lto_forms.specs.Balanced.{Brackets, Move}
@@ -15,7 +15,7 @@ class_of (closes n) = 1
 class_of plain = 2
 
 abbrev pub marks : Alphabet Mark
-marks = record { class = class_of; numeral = 2; Real = λ t. Unit {0} }
+marks = record { class = class_of; numerals = 2 ∷ []; Real = λ t. Unit {0} }
 
 abbrev pub move_of : Mark → Move ℕ
 move_of (opens n) = balanced.opens n

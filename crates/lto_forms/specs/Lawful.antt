@@ -18,7 +18,7 @@ abbrev pub Stops : {T : Type 0} → (T → Bool) → List T → Type 0
 Stops more [] = Unit {0}
 Stops more (t ∷ ts) = more t ≡ false
 
--- what reading gives where another Number stands in the place of the next token
+-- what reading gives where a token that writes another number stands in the place of the next one, which writes one
 abbrev pub Swapped : {T A : Type 0} → Result A FaultKind → Result (A × List T) Fault → T → List T → Type 0
 Swapped (Ok a) r u rest = r ≡ Ok (a, u ∷ rest)
 Swapped (Err Number) r u rest = Unit {0}
@@ -26,7 +26,7 @@ Swapped (Err Syntax) r u rest = (k : FaultKind) × (r ≡ fault_at k (u ∷ rest
 Swapped (Err Profile) r u rest = (k : FaultKind) × (r ≡ fault_at k (u ∷ rest))
 Swapped (Err Limit) r u rest = (k : FaultKind) × (r ≡ fault_at k (u ∷ rest))
 
--- a refusal of a Number, but for its range, is a refusal of each
+-- a refusal of a token that writes a number, but for its range, is a refusal of each of its class
 abbrev pub SameRefusal : {A : Type 0} → Result A FaultKind → Result A FaultKind → Type 0
 SameRefusal {A} (Ok a) m = Unit {0}
 SameRefusal {A} (Err Number) m = Unit {0}
@@ -54,11 +54,11 @@ module _ {T : Type 0} (alphabet : Alphabet T) where
     pub spelled : g (front ++ more) value
     pub real : AllReal alphabet more
 
-  -- what a meaning says of Numbers
+  -- what a meaning says of tokens that write numbers
   pub record IsRanged {A : Type 0} (meaning : T → Result A FaultKind) : Type 0 where
-    -- out of range is said of Numbers alone, and another one is in range
-    pub range : (t : T) → meaning t ≡ Err Number → (is_number alphabet t ≡ true) × (u : T) × (b : A) × (is_number alphabet u ≡ true) × (meaning u ≡ Ok b) × alphabet.Real u
-    pub alike : (t u : T) → is_number alphabet t ≡ true → is_number alphabet u ≡ true → SameRefusal (meaning t) (meaning u)
+    -- out of range is said of these alone, and another one of the same class is in range
+    pub range : (t : T) → meaning t ≡ Err Number → (is_number alphabet t ≡ true) × (u : T) × (b : A) × (alphabet.class u ≡ alphabet.class t) × (meaning u ≡ Ok b) × alphabet.Real u
+    pub alike : (t u : T) → is_number alphabet t ≡ true → alphabet.class u ≡ alphabet.class t → SameRefusal (meaning t) (meaning u)
     -- no single token is past a limit
     pub never : (t : T) → meaning t ≡ Err Limit → ⊥
 
@@ -76,10 +76,10 @@ module _ {T : Type 0} (alphabet : Alphabet T) where
     pub viable : (ts : List T) (e : Fault) → f ts ≡ Err e → GoesOn g ts e.left
     -- what is read, and where it stops, depends on the tokens up to the next one alone
     pub local : (front : List T) (t : T) (rest rest' : List T) (o : Result A FaultKind) → f (front ++ t ∷ rest) ≡ ends o (t ∷ rest) → f (front ++ t ∷ rest') ≡ ends o (t ∷ rest')
-    -- a Number that is out of range stands where another one goes on
+    -- where a number is out of range, another one goes on
     pub number : (ts : List T) (left : ℕ) → f ts ≡ Err (record { left = left; kind = Number }) → NumberGoesOn alphabet g ts left
-    -- another fault at a Number comes for each Number there
-    pub swap : (front : List T) (t u : T) (rest rest' : List T) (o : Result A FaultKind) → is_number alphabet t ≡ true → is_number alphabet u ≡ true → f (front ++ t ∷ rest) ≡ ends o (t ∷ rest) → Swapped o (f (front ++ u ∷ rest')) u rest'
+    -- another fault at a token that writes a number comes for each of its class there
+    pub swap : (front : List T) (t u : T) (rest rest' : List T) (o : Result A FaultKind) → is_number alphabet t ≡ true → alphabet.class u ≡ alphabet.class t → f (front ++ t ∷ rest) ≡ ends o (t ∷ rest) → Swapped o (f (front ++ u ∷ rest')) u rest'
     -- what is spelled so is spelled so without the limits
     pub contains : (ts : List T) (a : A) → g ts a → wide ts a
     -- a fault of a limit stands where a reading without the limits goes on

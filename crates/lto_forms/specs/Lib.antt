@@ -1,5 +1,6 @@
 pub mod Alphabet
 pub mod Balanced
+pub mod Chained
 pub mod Faults
 pub mod Forms
 pub mod Groups
@@ -7,3 +8,4 @@ pub mod Lawful
 pub mod Listing
 pub mod Readers
 pub mod Rules
+pub mod Runs

@@ -1,4 +1,5 @@
 -- Readers on lists of tokens: the value and the tokens behind it, or the first fault.
+use Rattle.std.specs.List.{fold}
 use Rattle.std.specs.Prelude.{◌≡◌, ℕ, zero, suc, Bool, false, if◌then◌else◌, Option, Some, None, Result, Ok, Err, List, [], ◌∷◌, length}
 use Rattle.lto_forms.specs.declared.fault.Fault.{Fault}
 use Rattle.lto_forms.specs.declared.fault.FaultKind.{FaultKind}
@@ -81,3 +82,13 @@ upto_at begins (Some room) one = many_at begins one room
 -- one, where the next token begins it
 abbrev pub optional_at : {T A : Type 0} → (T → Bool) → Reader T A → Reader T (Option A)
 optional_at begins one = pick begins (one >>= λ a. done (Some a)) (done None)
+
+-- ---- values that are folded as they are read
+
+abbrev pub folded : {T A B : Type 0} → (B → A → B) → B → Result (List A × List T) Fault → Result (B × List T) Fault
+folded step acc (Ok x) = Ok (fold step acc x.0, x.1)
+folded step acc (Err e) = Err e
+
+-- nothing is kept of what is read
+abbrev pub dropped : {A : Type 0} → Unit {0} → A → Unit {0}
+dropped u a = tt

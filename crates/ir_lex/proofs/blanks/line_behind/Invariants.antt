@@ -1,5 +1,5 @@
 use Rattle.std.proofs.Common.{◌≡◌, ◌+◌, ◌≤◌, drop}
-use Rattle.ir_lex.specs.Lexing.{line_behind}
+use Rattle.ir_lex.specs.Blanks.{line_behind}
 use Rattle.ir_lex.proofs.blanks.line_behind.Given as goal
 
 abbrev pub invariant-each : goal.invariant-each

@@ -1,5 +1,5 @@
 use Rattle.std.proofs.Common.{◌≡◌, ◌+◌, ◌-◌, ◌≤◌, drop, length, false}
-use Rattle.ir_lex.specs.Lexing.{skip}
+use Rattle.ir_lex.specs.Blanks.{skip}
 use Rattle.ir_lex.proofs.blanks.skip.Given as goal
 
 abbrev pub invariant-each : goal.invariant-each

@@ -1,0 +1,11 @@
+mod Digits
+mod SameKeys
+mod Definitions
+mod SameTypes
+mod Sizes
+mod Each
+mod Expanding
+mod Powers
+mod Trimming
+mod Bodies
+mod Names

@@ -1,0 +1,14 @@
+pub mod Addresses
+pub mod Blocks
+pub mod Bodies
+pub mod BodyLaws
+pub mod Globals
+pub mod Keys
+pub mod KeyViews
+pub mod Locals
+pub mod LocalsViews
+pub mod Numbering
+pub mod Settled
+pub mod Symbols
+pub mod Types
+pub mod TypesViews

@@ -1,0 +1,207 @@
+//! Type names and what they stand for (LangRef, "Structure Type" and "Opaque Structure Types").
+ghost use Rattle.std.specs.Prelude.{◌≡◌, ◌≤◌, ◌^◌, [], Some, None, option_copied, option_map, is_some, false, ◌++◌, ◌∷◌, Ok, length, IfOk, nat_le};
+ghost use Rattle.ir_tree.specs.Layout.{IsLaidOut, AreLaidOut, size};
+ghost use Rattle.ir_tree.specs.Forms.{structure, forms_of};
+ghost use Rattle.ir_parse.specs.Keys.{key_of};
+ghost use Rattle.ir_parse.specs.KeyViews.{key};
+ghost use Rattle.ir_parse.specs.Locals.{unknown};
+ghost use Rattle.ir_parse.specs.declared.fault.ResolveError.TheVariants as errors;
+ghost use Rattle.ir_parse.specs.Settled.{Settles};
+ghost use Rattle.ir_parse.specs.Types.{entry_of, entry_in, shape_at, shape_in, head_from, head_of, chased, with_type, shape_if, with_item, with_items};
+ghost use Rattle.ir_parse.specs.Types as typing;
+
+use crate::fault::{Fault, FaultKind, ResolveError};
+use crate::key::{Key, key_of};
+use indexmap::IndexMap;
+use ir_read::{Item, Name, Shape, ShapeNode, Typed};
+use std::alloc::Global;
+use std::marker::Model;
+
+/// The type names of a module with their shapes, in the order of the text.
+#[derive(Drop)]
+pub struct Types<'t, 'a> {
+    map: IndexMap<Key<'a>, Option<&'t Shape<'a>>>,
+}
+
+impl<'t, 'a> Model for Types<'t, 'a> {
+    ghost use Rattle.std.specs.Prelude.{List, Option};
+    ghost use Rattle.ir_read.specs.Shapes.{Written};
+    ghost use Rattle.ir_read.specs.ShapeCode.{code_from};
+    ghost use Rattle.std.specs.Coded.{codes};
+    ghost use Rattle.ir_parse.specs.Keys.{Key};
+    ghost use Rattle.ir_parse.specs.TypesViews.{types};
+
+    ghost Value = { List (Key × Option Written) };
+
+    ghost coded = { Prim.hlevel (codes, code_from (Prim.hlevel (codes))) };
+
+    ghost view = { λ t. types t.map.entries };
+}
+
+impl<'t, 'a> Types<'t, 'a> {
+    /// No name.
+    pub fn new(alloc: Global) -> Types<'t, 'a>
+        ensures { result ≡ [] }
+    {
+        Types {
+            map: IndexMap::new(alloc),
+        }
+    }
+
+    /// One more type name, with its shape where it isn't opaque.
+    pub fn define(
+        &mut self,
+        alloc: Global,
+        name: &Name<'a>,
+        shape: Option<&'t Shape<'a>>,
+    ) -> Result<(), ResolveError>
+        ensures { Settles (λ _. self.new) result (with_type self.old name.now (option_copied shape.entry)) }
+    {
+        let wanted = key_of(alloc, name)?;
+        if self.place_of(&wanted).is_some() {
+            return Err(ResolveError::Fault(Fault {
+                line: name.line(),
+                kind: FaultKind::Twice,
+            }));
+        }
+        self.push(wanted, shape)
+    }
+
+    /// One more definition, under a key that isn't there.
+    fn push(&mut self, wanted: Key<'a>, shape: Option<&'t Shape<'a>>) -> Result<(), ResolveError>
+        requires { is_some (entry_of self.old (key wanted)) ≡ false }
+        ensures { Settles (λ _. self.new) result (Ok (self.old ++ (key wanted.entry, option_copied shape.entry) ∷ [])) }
+    {
+        self.map.insert(wanted, shape)?;
+        Ok(())
+    }
+
+    /// How many names there are.
+    fn len(&self) -> usize
+        ensures { result ≡ length self.now }
+    {
+        self.map.len()
+    }
+
+    /// The place of a type name among the definitions.
+    fn place_in(&self, alloc: Global, name: &Name<'a>) -> Result<usize, ResolveError>
+        ensures { Settles (λ p. shape_at self.now p) result (entry_in self.now name.now) }
+    {
+        let wanted = key_of(alloc, name)?;
+        match self.place_of(&wanted) {
+            Some(place) => Ok(place),
+            None => Err(unknown(name.line())),
+        }
+    }
+
+    /// The place of a key among the definitions.
+    fn place_of(&self, wanted: &Key<'a>) -> Option<usize>
+        ensures { option_map (λ p. shape_at self.now p) result ≡ entry_of self.now (key wanted.now) }
+    {
+        self.map.get_index_of(wanted)
+    }
+
+    /// What the definition at a place says.
+    fn shape_at(&self, place: usize) -> Option<&'t Shape<'a>>
+        ensures { option_copied result ≡ shape_at self.now place }
+    {
+        match self.map.get_index(place) {
+            None => None,
+            Some((_, shape)) => *shape,
+        }
+    }
+
+    /// The shape that a chain of names leads to, which comes to the definition at a place by a name
+    /// on a line, and goes on by at most so many names.
+    fn chase(
+        &self,
+        alloc: Global,
+        first: usize,
+        first_line: u32,
+        most: usize,
+    ) -> Result<&'t Shape<'a>, ResolveError>
+        ensures { Settles (λ s. s.now) result (chased most self.now first_line (shape_at self.now first)) }
+    {
+        let mut place = first;
+        let mut line = first_line;
+        let mut left = most;
+        'each: loop {
+            match self.shape_at(place) {
+                None => return Err(unknown(line)),
+                Some(shape) => match shape.node() {
+                    ShapeNode::Named(name) => {
+                        if left == 0 {
+                            return Err(unknown(name.line()));
+                        }
+                        place = self.place_in(alloc, name)?;
+                        line = name.line();
+                        left -= 1;
+                    }
+                    _ => return Ok(shape),
+                },
+            }
+        }
+    }
+
+    /// The shape that a shape is, or that the chain of names from it on leads to.
+    #[tactic(auto, unfolding(crate::specs::Types::head_of))]
+    pub fn head_of(
+        &self,
+        alloc: Global,
+        shape: &'t Shape<'a>,
+    ) -> Result<&'t Shape<'a>, ResolveError>
+        ensures { Settles (λ s. s.now) result (head_of self.now shape.now) }
+    {
+        match shape.node() {
+            ShapeNode::Named(name) => {
+                let first = self.place_in(alloc, name)?;
+                self.chase(alloc, first, name.line(), self.len())
+            }
+            _ => Ok(shape),
+        }
+    }
+}
+
+fn shape_if<'t, 'a>(typed: &'t Option<Typed<'a>>) -> Option<&'t Shape<'a>>
+    ensures { option_copied result ≡ shape_if typed.now }
+{
+    match typed {
+        None => None,
+        Some(typed) => Some(&typed.shape),
+    }
+}
+
+fn with_item<'t, 'a>(
+    alloc: Global,
+    types: &mut Types<'t, 'a>,
+    item: &'t Item<'a>,
+) -> Result<(), ResolveError>
+    ensures { Settles (λ _. types.new) result (with_item types.old item.now) }
+{
+    match item {
+        Item::Type(name, typed) => types.define(alloc, name, shape_if(typed)),
+        _ => Ok(()),
+    }
+}
+
+/// The type names of a module. A name that is defined twice is a fault at its second definition.
+#[tactic(auto, unfolding(crate::specs::Types::types_of))]
+pub fn types_of<'t, 'a>(alloc: Global, items: &'t [Item<'a>]) -> Result<Types<'t, 'a>, ResolveError>
+    ensures { Settles (λ t. t) result (typing.types_of items.now) }
+{
+    let mut types = Types::new(alloc);
+    'each: for item in items {
+        with_item(alloc, &mut types, item)?;
+    }
+    Ok(types)
+}
+
+/// The fault of an unknown name on a line.
+pub fn unknown(line: u32) -> ResolveError
+    ensures { result ≡ errors.Fault (unknown line) }
+{
+    ResolveError::Fault(Fault {
+        line,
+        kind: FaultKind::Unknown,
+    })
+}

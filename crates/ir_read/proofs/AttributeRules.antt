@@ -1,0 +1,274 @@
+-- The readers of attributes read them.
+use Rattle.std.proofs.Common.{◌≡◌, ℕ, Bool, true, false, ◌&&◌, ◌||◌, not, arith, nat_eq, cond, List, [], ◌∷◌, ◌++◌, Result, Ok, Err, refl, sym, ap, subst}
+use Rattle.std.specs.Prelude.{codes}
+use Rattle.std.specs.List.{fold}
+use Rattle.ir_lex.specs.Bytes.{has}
+use Rattle.ir_lex.specs.declared.head.Head.TheVariants as heads
+use Rattle.ir_lex.specs.declared.token.Kind.TheVariants as kinds
+use Rattle.ir_lex.specs.Heads.{number, head_of, word_head, listed_head, words_1}
+use Rattle.ir_lex.specs.Lexing.{is_bad}
+use Rattle.ir_lex.specs.Quotes.{is_zero_name}
+use Rattle.ir_lex.specs.Rows.{begins, best_fit, rest_fit, label_len, number_len, word_len, name_len, meta_len, dots_len, other_len, string_len}
+use Rattle.ir_lex.specs.Tok.{Tok}
+use Rattle.lto_forms.specs.Alphabet.{contains, among, is_number}
+use Rattle.lto_forms.specs.declared.fault.FaultKind.{FaultKind}
+use Rattle.lto_forms.specs.declared.fault.FaultKind.TheVariants.{Syntax, Profile, Number, Limit}
+use Rattle.lto_forms.specs.Forms as form
+use Rattle.lto_forms.specs.Lawful.{SameRefusal}
+use Rattle.lto_forms.specs.Readers as reader
+use Rattle.lto_forms.specs.Readers.{token_at}
+use Rattle.lto_forms.specs.Rules.{Rule, Opens}
+use Rattle.lto_forms.proofs.Composed.{token_lawful}
+use Rattle.lto_forms.proofs.Rules as rules
+use Rattle.ir_read.specs.Attributes.{WORDS, CALL_WORDS, GROUP_WORDS, GROUP, word_kept, aligned, parameter_attribute, parameter_attributes, word_tail, word_attribute, string_value, string_attribute, function_attribute, group_attribute, call_attribute, call_attributes, head_alignment, head_attribute, attached_attribute, definition_attribute, definition_attributes, grouped, attribute_group, with_attribute, none_kept, group_item}
+use Rattle.ir_read.specs.AttributesAt.{NUMBER, EQUALS, STRING, ALIGN, PARAMETER_WORD, PARAMETER_GROUP, PARAMETER, CALL, HEAD, DEFINITION, aligned_at, parameter_attribute_at, parameter_attributes_at, word_tail_at, word_attribute_at, string_value_at, string_attribute_at, function_attribute_at, group_attribute_at, call_attribute_at, call_attributes_at, head_alignment_at, head_attribute_at, attached_attribute_at, definition_attribute_at, definition_attributes_at, GROUPED, grouped_at, attribute_group_at}
+use Rattle.ir_read.specs.Classes.{tokens, IsReal, refusal, the, one_of, one_of_at, itself}
+use Rattle.ir_read.specs.Decimals.{ALIGNMENTS, decimal, alignment_of, is_alignment}
+use Rattle.ir_read.specs.Metadata.{META, attached}
+use Rattle.ir_read.specs.MetadataAt.{PAREN}
+use Rattle.ir_read.specs.declared.attributes.Attribute.TheVariants.{Dropped, Group}
+use Rattle.ir_read.specs.declared.brackets.Bracket.TheVariants.{Paren}
+use Rattle.ir_read.proofs.Groups.{group_rule}
+use Rattle.ir_read.proofs.Nodes.{attached_rule, attached_opens}
+use Rattle.ir_read.proofs.Singles.{sample, word, not_number, not_limit, the_opens, one_rule, one_opens, number_real, number_rule, equals_rule, open_brace_rule, close_brace_rule, attributes_rule, string_rule, align_rule, parameter_word_rule, parameter_group_rule, group_name_real}
+
+-- ---- alignments
+
+abbrev fault : FaultKind → Result ℕ FaultKind
+fault k = Err k
+
+abbrev aligned_by : Bool → Bool → List ℕ → Result ℕ FaultKind
+aligned_by is_number fits text = cond is_number (cond fits (Ok (decimal text)) (Err Number)) (Err Syntax)
+
+one : Tok
+one = sample kinds.Number heads.Number (codes "1")
+
+range : (t : Tok) → is_alignment t ≡ fault Number → (is_number tokens t ≡ true) × (u : Tok) × (b : ℕ) × (tokens.class u ≡ tokens.class t) × (is_alignment u ≡ Ok b) × IsReal u
+unfolding is_alignment alignment_of one
+range t e = by_class (nat_eq (number t.head) (number heads.Number)) refl e
+  where
+    same : (n m : ℕ) → nat_eq n m ≡ true → m ≡ n
+    same n m h = grind arith
+
+    never : (k l : FaultKind) → fault k ≡ fault l → k ≡ l
+    never k l e = cc
+
+    is_one : (n : ℕ) → nat_eq n (number heads.Number) ≡ true → contains tokens.numerals n ≡ true
+    is_one n h = subst (λ (m : ℕ). contains tokens.numerals m ≡ true) (same n (number heads.Number) h) refl
+
+    by_class : (b : Bool) → nat_eq (number t.head) (number heads.Number) ≡ b → cond b (alignment_of t.text) (fault (refusal (number t.head))) ≡ fault Number → (is_number tokens t ≡ true) × (u : Tok) × (b : ℕ) × (tokens.class u ≡ tokens.class t) × (is_alignment u ≡ Ok b) × IsReal u
+    by_class true h e = (is_one (number t.head) h, one, 1, same (number t.head) (number heads.Number) h, refl, number_real)
+    by_class false h e = absurd (not_number (number t.head) (never (refusal (number t.head)) Number e))
+
+not_past : (t : Tok) → is_alignment t ≡ fault Limit → ⊥
+unfolding is_alignment alignment_of
+not_past t e = by_class (nat_eq (number t.head) (number heads.Number)) e
+  where
+    never : (k l : FaultKind) → fault k ≡ fault l → k ≡ l
+    never k l e = cc
+
+    no_limit : Number ≡ Limit → ⊥
+    no_limit e = cc
+
+    by_fit : (b : Bool) → cond b (Ok (decimal t.text)) (fault Number) ≡ fault Limit → ⊥
+    by_fit true e = cc
+    by_fit false e = no_limit (never Number Limit e)
+
+    by_class : (b : Bool) → cond b (alignment_of t.text) (fault (refusal (number t.head))) ≡ fault Limit → ⊥
+    by_class true e = by_fit (contains ALIGNMENTS (decimal t.text) && not (begins 45 t.text)) e
+    by_class false e = not_limit (number t.head) (never (refusal (number t.head)) Limit e)
+
+alike : (t u : Tok) → is_number tokens t ≡ true → tokens.class u ≡ tokens.class t → SameRefusal (is_alignment t) (is_alignment u)
+unfolding is_alignment alignment_of
+alike t u n e = by_class (nat_eq (number t.head) (number heads.Number)) (nat_eq (number u.head) (number heads.Number)) (ap (λ (m : ℕ). nat_eq m (number heads.Number)) (sym e))
+  where
+    refused_alike : (k l : FaultKind) → k ≡ l → SameRefusal {A = ℕ} (Err k) (Err l)
+    refused_alike Number l e = tt
+    refused_alike Syntax l e = (l, refl)
+    refused_alike Profile l e = (l, refl)
+    refused_alike Limit l e = (l, refl)
+
+    by_fit : (b : Bool) (m : Result ℕ FaultKind) → SameRefusal {A = ℕ} (cond b (Ok (decimal t.text)) (Err Number)) m
+    by_fit true m = tt
+    by_fit false m = tt
+
+    by_class : (b c : Bool) → b ≡ c → SameRefusal {A = ℕ} (cond b (alignment_of t.text) (Err (refusal (number t.head)))) (cond c (alignment_of u.text) (Err (refusal (number u.head))))
+    by_class true c d = by_fit (contains ALIGNMENTS (decimal t.text) && not (begins 45 t.text)) _
+    by_class false true d = absurd cc
+    by_class false false d = refused_alike (refusal (number t.head)) (refusal (number u.head)) (ap refusal (sym e))
+
+begins_alignment : (t : Tok) (n : ℕ) → is_alignment t ≡ Ok n → among tokens NUMBER t ≡ true
+unfolding is_alignment
+begins_alignment t n e = by_class (nat_eq (number t.head) (number heads.Number)) e
+  where
+    by_class : (b : Bool) → cond b (alignment_of t.text) (fault (refusal (number t.head))) ≡ Ok n → b || false ≡ true
+    by_class true e = refl
+    by_class false e = absurd cc
+
+pub alignment_rule : Rule tokens (form.token is_alignment) (form.token is_alignment) (token_at is_alignment) NUMBER [] false
+unfolding is_alignment alignment_of one
+alignment_rule = record { law = token_lawful tokens is_alignment (among tokens NUMBER) (record { range = range; alike = alike; never = not_past }) begins_alignment one 1 refl number_real }
+
+-- ---- of parameters
+
+pub aligned_rule : Rule tokens aligned aligned aligned_at (number heads.Number ∷ number heads.OpenParen ∷ []) [] false
+unfolding aligned aligned_at
+aligned_rule = rules.alt tokens NUMBER (rules.seq tokens alignment_rule (λ _. rules.nothing tokens tt) refl) (group_rule Paren) refl refl
+
+pub parameter_attribute_rule : Rule tokens parameter_attribute parameter_attribute parameter_attribute_at PARAMETER [] false
+unfolding parameter_attribute parameter_attribute_at
+parameter_attribute_rule =
+    rules.alt tokens PARAMETER_WORD parameter_word_rule
+    (rules.alt tokens PARAMETER_GROUP (rules.seq tokens parameter_group_rule (λ _. group_rule Paren) refl) (rules.seq tokens align_rule (λ _. aligned_rule) refl) refl refl) refl refl
+
+pub parameter_attribute_opens : Opens tokens PARAMETER parameter_attribute
+unfolding parameter_attribute
+parameter_attribute_opens =
+    rules.opens_either tokens PARAMETER_WORD (number heads.ParameterGroup ∷ number heads.Align ∷ []) _ _ (the_opens heads.ParameterWord)
+    (rules.opens_either tokens PARAMETER_GROUP ALIGN _ _ (rules.opens_seq tokens PARAMETER_GROUP (the heads.ParameterGroup) (the_opens heads.ParameterGroup) (λ _. group_rule Paren)) (rules.opens_seq tokens ALIGN (the heads.Align) (the_opens heads.Align) (λ _. aligned_rule)))
+
+pub parameter_attributes_rule : Rule tokens parameter_attributes parameter_attributes parameter_attributes_at PARAMETER PARAMETER true
+unfolding parameter_attributes parameter_attributes_at
+parameter_attributes_rule = rules.seq tokens (rules.star tokens PARAMETER parameter_attribute_rule parameter_attribute_opens refl refl) (λ _. rules.nothing tokens tt) refl
+
+-- ---- of functions and calls
+
+-- what may stand behind a word
+abbrev pub BEHIND_WORD : List ℕ
+BEHIND_WORD = number heads.OpenParen ∷ number heads.Equals ∷ []
+
+pub word_tail_rule : Rule tokens word_tail word_tail word_tail_at BEHIND_WORD BEHIND_WORD true
+unfolding word_tail word_tail_at
+word_tail_rule = rules.wider tokens _ _ (rules.alt tokens PAREN (group_rule Paren) (rules.alt tokens EQUALS (rules.seq tokens equals_rule (λ _. number_rule) refl) (rules.nothing tokens tt) refl refl) refl refl) refl refl
+
+plain : Tok
+plain = word heads.Word (codes "a")
+
+plain_real : IsReal plain
+unfolding plain best_fit rest_fit label_len number_len word_len name_len meta_len dots_len other_len string_len has is_bad is_zero_name head_of word_head listed_head words_1
+plain_real = record { some = refl; fits = refl; good = refl; class = refl }
+
+pub word_attribute_rule : (words : List ℕ) → contains words (number heads.Word) ≡ true → Rule tokens (word_attribute words) (word_attribute words) (word_attribute_at words) (words ++ []) BEHIND_WORD false
+unfolding word_attribute word_attribute_at plain
+word_attribute_rule words h = rules.seq tokens (one_rule words word_kept plain h plain_real) (λ kept. rules.seq tokens word_tail_rule (λ _. rules.nothing tokens kept) refl) refl
+
+word_attribute_opens : (words : List ℕ) → Opens tokens words (word_attribute words)
+unfolding word_attribute
+word_attribute_opens words = rules.opens_seq tokens words (one_of words word_kept) (one_opens words word_kept) (λ kept. rules.seq tokens word_tail_rule (λ _. rules.nothing tokens kept) refl)
+
+string_value_rule : Rule tokens string_value string_value string_value_at EQUALS [] false
+unfolding string_value string_value_at
+string_value_rule = rules.seq tokens equals_rule (λ _. string_rule) refl
+
+string_tail_rule : Rule tokens (form.◌>>=◌ (form.optional string_value) (λ _. form.gives Dropped)) (form.◌>>=◌ (form.optional string_value) (λ _. form.gives Dropped)) (reader.◌>>=◌ (reader.optional_at (among tokens EQUALS) string_value_at) (λ _. reader.done Dropped)) EQUALS EQUALS true
+string_tail_rule = rules.seq tokens (rules.maybe tokens EQUALS string_value_rule refl) (λ _. rules.nothing tokens Dropped) refl
+
+string_attribute_rule : Rule tokens string_attribute string_attribute string_attribute_at STRING EQUALS false
+unfolding string_attribute string_attribute_at
+string_attribute_rule = rules.seq tokens string_rule (λ _. string_tail_rule) refl
+
+string_attribute_opens : Opens tokens STRING string_attribute
+unfolding string_attribute
+string_attribute_opens = rules.opens_seq tokens STRING (the heads.Str) (the_opens heads.Str) (λ _. string_tail_rule)
+
+call_word_rule : Rule tokens (function_attribute CALL_WORDS) (function_attribute CALL_WORDS) (function_attribute_at CALL_WORDS) (number heads.Str ∷ CALL_WORDS) (number heads.Equals ∷ BEHIND_WORD) false
+unfolding function_attribute function_attribute_at
+call_word_rule = rules.alt tokens STRING string_attribute_rule (word_attribute_rule CALL_WORDS refl) refl refl
+
+head_word_rule : Rule tokens (function_attribute WORDS) (function_attribute WORDS) (function_attribute_at WORDS) (number heads.Str ∷ WORDS) (number heads.Equals ∷ BEHIND_WORD) false
+unfolding function_attribute function_attribute_at
+head_word_rule = rules.alt tokens STRING string_attribute_rule (word_attribute_rule WORDS refl) refl refl
+
+pub grouped_attribute_rule : Rule tokens (function_attribute GROUP_WORDS) (function_attribute GROUP_WORDS) (function_attribute_at GROUP_WORDS) (number heads.Str ∷ GROUP_WORDS) (number heads.Equals ∷ BEHIND_WORD) false
+unfolding function_attribute function_attribute_at
+grouped_attribute_rule = rules.alt tokens STRING string_attribute_rule (word_attribute_rule GROUP_WORDS refl) refl refl
+
+function_attribute_opens : (words : List ℕ) → Opens tokens (number heads.Str ∷ words) (function_attribute words)
+unfolding function_attribute
+function_attribute_opens words = rules.opens_either tokens STRING words string_attribute (word_attribute words) string_attribute_opens (word_attribute_opens words)
+
+group_attribute_rule : Rule tokens group_attribute group_attribute group_attribute_at GROUP [] false
+unfolding group_attribute group_attribute_at
+group_attribute_rule = one_rule GROUP (λ t. Group t) (sample kinds.Group heads.Group (codes "#0")) refl group_name_real
+
+group_attribute_opens : Opens tokens GROUP group_attribute
+unfolding group_attribute
+group_attribute_opens = one_opens GROUP (λ t. Group t)
+
+-- ---- behind the arguments of a call
+
+pub call_attribute_rule : Rule tokens call_attribute call_attribute call_attribute_at CALL (number heads.Equals ∷ BEHIND_WORD) false
+unfolding call_attribute call_attribute_at
+call_attribute_rule = rules.alt tokens GROUP group_attribute_rule call_word_rule refl refl
+
+call_attribute_opens : Opens tokens CALL call_attribute
+unfolding call_attribute
+call_attribute_opens = rules.opens_either tokens GROUP (number heads.Str ∷ CALL_WORDS) group_attribute (function_attribute CALL_WORDS) group_attribute_opens (function_attribute_opens CALL_WORDS)
+
+pub call_attributes_rule : Rule tokens call_attributes call_attributes call_attributes_at CALL ((number heads.Equals ∷ BEHIND_WORD) ++ CALL) true
+unfolding call_attributes call_attributes_at
+call_attributes_rule = rules.seq tokens (rules.star tokens CALL call_attribute_rule call_attribute_opens refl refl) (λ _. rules.nothing tokens tt) refl
+
+-- ---- behind the head of a function
+
+abbrev BEHIND_ALIGN : List ℕ
+BEHIND_ALIGN = number heads.Number ∷ BEHIND_WORD
+
+alignment_tail_rule : Rule tokens (form.either (form.◌>>=◌ (form.token is_alignment) (λ _. form.gives tt)) word_tail) (form.either (form.◌>>=◌ (form.token is_alignment) (λ _. form.gives tt)) word_tail) (reader.pick (among tokens NUMBER) (reader.◌>>=◌ (token_at is_alignment) (λ _. reader.done tt)) word_tail_at) BEHIND_ALIGN BEHIND_ALIGN true
+alignment_tail_rule = rules.wider tokens _ _ (rules.alt tokens NUMBER (rules.seq tokens alignment_rule (λ _. rules.nothing tokens tt) refl) word_tail_rule refl refl) refl refl
+
+head_alignment_rule : Rule tokens head_alignment head_alignment head_alignment_at ALIGN BEHIND_ALIGN false
+unfolding head_alignment head_alignment_at
+head_alignment_rule = rules.seq tokens align_rule (λ _. rules.seq tokens alignment_tail_rule (λ _. rules.nothing tokens Dropped) refl) refl
+
+head_alignment_opens : Opens tokens ALIGN head_alignment
+unfolding head_alignment
+head_alignment_opens = rules.opens_seq tokens ALIGN (the heads.Align) (the_opens heads.Align) (λ _. rules.seq tokens alignment_tail_rule (λ _. rules.nothing tokens Dropped) refl)
+
+-- what may stand behind an attribute
+abbrev pub BEHIND_ATTRIBUTE : List ℕ
+BEHIND_ATTRIBUTE = BEHIND_ALIGN ++ number heads.Equals ∷ BEHIND_WORD
+
+pub head_attribute_rule : Rule tokens head_attribute head_attribute head_attribute_at HEAD BEHIND_ATTRIBUTE false
+unfolding head_attribute head_attribute_at
+head_attribute_rule = rules.alt tokens GROUP group_attribute_rule (rules.alt tokens ALIGN head_alignment_rule head_word_rule refl refl) refl refl
+
+pub head_attribute_opens : Opens tokens HEAD head_attribute
+unfolding head_attribute
+head_attribute_opens =
+    rules.opens_either tokens GROUP (number heads.Align ∷ number heads.Str ∷ WORDS) group_attribute _ group_attribute_opens
+    (rules.opens_either tokens ALIGN (number heads.Str ∷ WORDS) head_alignment (function_attribute WORDS) head_alignment_opens (function_attribute_opens WORDS))
+
+attached_attribute_rule : Rule tokens attached_attribute attached_attribute attached_attribute_at META PAREN false
+unfolding attached_attribute attached_attribute_at
+attached_attribute_rule = rules.seq tokens attached_rule (λ _. rules.nothing tokens Dropped) refl
+
+attached_attribute_opens : Opens tokens META attached_attribute
+unfolding attached_attribute
+attached_attribute_opens = rules.opens_seq tokens META attached attached_opens (λ _. rules.nothing tokens Dropped)
+
+pub definition_attribute_rule : Rule tokens definition_attribute definition_attribute definition_attribute_at DEFINITION (PAREN ++ BEHIND_ATTRIBUTE) false
+unfolding definition_attribute definition_attribute_at
+definition_attribute_rule = rules.alt tokens META attached_attribute_rule head_attribute_rule refl refl
+
+definition_attribute_opens : Opens tokens DEFINITION definition_attribute
+unfolding definition_attribute
+definition_attribute_opens = rules.opens_either tokens META HEAD attached_attribute head_attribute attached_attribute_opens head_attribute_opens
+
+pub definition_attributes_rule : Rule tokens definition_attributes definition_attributes definition_attributes_at DEFINITION ((PAREN ++ BEHIND_ATTRIBUTE) ++ DEFINITION) true
+unfolding definition_attributes definition_attributes_at
+definition_attributes_rule = rules.seq tokens (rules.star tokens DEFINITION definition_attribute_rule definition_attribute_opens refl refl) (λ all. rules.nothing tokens (fold with_attribute none_kept all)) refl
+
+-- ---- groups
+
+grouped_rule : Rule tokens grouped grouped grouped_at GROUPED ((number heads.Equals ∷ BEHIND_WORD) ++ GROUPED) true
+unfolding grouped grouped_at
+grouped_rule = rules.seq tokens (rules.star tokens GROUPED grouped_attribute_rule (function_attribute_opens GROUP_WORDS) refl refl) (λ all. rules.nothing tokens (fold with_attribute none_kept all)) refl
+
+name_rule : Rule tokens (one_of GROUP itself) (one_of GROUP itself) (one_of_at GROUP itself) GROUP [] false
+name_rule = one_rule GROUP itself (sample kinds.Group heads.Group (codes "#0")) refl group_name_real
+
+pub attribute_group_rule : Rule tokens attribute_group attribute_group attribute_group_at (number heads.Attributes ∷ []) [] false
+unfolding attribute_group attribute_group_at
+attribute_group_rule =
+    rules.seq tokens attributes_rule (λ _. rules.seq tokens name_rule (λ name. rules.seq tokens equals_rule (λ _. rules.seq tokens open_brace_rule (λ _. rules.seq tokens grouped_rule (λ kept. rules.seq tokens close_brace_rule (λ _. rules.nothing tokens (group_item name kept)) refl) refl) refl) refl) refl) refl

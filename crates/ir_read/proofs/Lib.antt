@@ -1,0 +1,16 @@
+pub mod AttributeRules
+pub mod Digits
+pub mod Groups
+pub mod Heads
+pub mod InstructionRules
+pub mod Layouts
+pub mod Lines
+pub mod MemoryRules
+pub mod Nodes
+pub mod OperandRules
+pub mod PhiRules
+pub mod Singles
+pub mod TargetRules
+pub mod TerminatorRules
+pub mod Widths
+pub mod Words

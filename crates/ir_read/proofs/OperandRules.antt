@@ -1,0 +1,137 @@
+-- The readers of types, names and operands read them.
+use Rattle.std.proofs.Common.{◌≡◌, ℕ, ◌<◌, ◌^◌, Bool, true, false, cond, ◌||◌, nat_eq, nat_lt, Option, Some, None, option_map, List, [], ◌∷◌, refl, sym, ap, ◌∙◌, arith}
+use Rattle.std.specs.Prelude.{codes}
+use Rattle.std.proofs.lemmas.Nat.{pow_pos}
+use Rattle.ir_lex.specs.declared.head.Head.{Head}
+use Rattle.ir_lex.specs.declared.head.Head.TheVariants as heads
+use Rattle.ir_lex.specs.declared.token.Kind.TheVariants as kinds
+use Rattle.ir_lex.specs.Heads.{number}
+use Rattle.ir_lex.specs.Tok.{Tok}
+use Rattle.ir_tree.specs.declared.operand.Reg.{Reg}
+use Rattle.ir_tree.specs.declared.operand.Reg.TheVariants.{Int, Ptr}
+use Rattle.lto_forms.specs.Alphabet.{among, contains}
+use Rattle.lto_forms.specs.declared.fault.FaultKind.{FaultKind}
+use Rattle.lto_forms.specs.declared.fault.FaultKind.TheVariants.{Profile, Number, Limit}
+use Rattle.lto_forms.specs.Rules.{Rule, IsWithin, is_class}
+use Rattle.lto_forms.proofs.Rules as rules
+use Rattle.ir_read.specs.Classes.{tokens, refusal, NUMERALS}
+use Rattle.ir_read.specs.declared.raw.Operand.{Operand}
+use Rattle.ir_read.specs.declared.raw.Operand.TheVariants as operands
+use Rattle.ir_read.specs.Literals.{literal, unsigned}
+use Rattle.ir_read.specs.Operands.{INTEGER, REG, SCALAR, RESULT, REFUSED_TYPES, LOCAL, OPERAND, POINTER_OPERAND, classes_of, type_refusal, memory_refusal, width, reg_of, is_bit, result_of, reg, integer, bit, scalar, result, named, local, operand_by, operand_of, operand, argument, maybe}
+use Rattle.ir_read.specs.OperandsAt.{reg_at, integer_at, bit_at, scalar_at, result_at, local_at, operand_at, argument_at, maybe_at}
+use Rattle.ir_read.proofs.Singles.{sample, word, not_number, not_limit}
+use Rattle.ir_read.proofs.Words.{int_32_real, int_1_real, void_real, null_real, local_real, zero_real, exact_rule, disjoint_rule, samesign_rule, nneg_rule}
+
+-- ---- why a token can't stand where a type may
+
+abbrev by_test : Bool → FaultKind → FaultKind
+by_test b k = cond b Profile k
+
+neither : (b : Bool) (k l : FaultKind) → (Profile ≡ l → ⊥) → (k ≡ l → ⊥) → by_test b k ≡ l → ⊥
+neither true k l p q e = p e
+neither false k l p q e = q e
+
+pub type_not_number : (n : ℕ) → type_refusal n ≡ Number → ⊥
+type_not_number n e = neither (contains REFUSED_TYPES n) (refusal n) Number (λ x. cc) (not_number n) e
+
+pub type_not_limit : (n : ℕ) → type_refusal n ≡ Limit → ⊥
+type_not_limit n e = neither (contains REFUSED_TYPES n) (refusal n) Limit (λ x. cc) (not_limit n) e
+
+memory_not_number : (n : ℕ) → memory_refusal n ≡ Number → ⊥
+memory_not_number n e = neither (nat_eq n (number heads.RegisterInteger)) (type_refusal n) Number (λ x. cc) (type_not_number n) e
+
+memory_not_limit : (n : ℕ) → memory_refusal n ≡ Limit → ⊥
+memory_not_limit n e = neither (nat_eq n (number heads.RegisterInteger)) (type_refusal n) Limit (λ x. cc) (type_not_limit n) e
+
+-- ---- types
+
+pub reg_rule : Rule tokens reg reg reg_at REG [] false
+reg_rule = rules.among_rule tokens type_refusal type_not_number type_not_limit REG reg_of (word heads.MemoryInteger (codes "i32")) refl int_32_real
+
+pub integer_rule : Rule tokens integer integer integer_at INTEGER [] false
+integer_rule = rules.among_rule tokens type_refusal type_not_number type_not_limit INTEGER width (word heads.MemoryInteger (codes "i32")) refl int_32_real
+
+pub bit_rule : Rule tokens bit bit bit_at INTEGER [] false
+bit_rule = rules.exact_rule tokens type_refusal type_not_number type_not_limit INTEGER refl is_bit width (word heads.RegisterInteger (codes "i1")) refl refl int_1_real
+
+pub scalar_rule : Rule tokens scalar scalar scalar_at SCALAR [] false
+scalar_rule = rules.among_rule tokens memory_refusal memory_not_number memory_not_limit SCALAR reg_of (word heads.MemoryInteger (codes "i32")) refl int_32_real
+
+pub result_rule : Rule tokens result result result_at RESULT [] false
+result_rule = rules.among_rule tokens type_refusal type_not_number type_not_limit RESULT result_of (word heads.Void (codes "void")) refl void_real
+
+-- ---- names
+
+abbrev zero_local : Tok
+zero_local = sample kinds.Local heads.Local (codes "%0")
+
+zero_named : named zero_local ≡ Some zero_local
+unfolding named
+zero_named = refl
+
+only : (n m : ℕ) → nat_eq n m || false ≡ true → n ≡ m
+only n m h = by_value (nat_eq n m) refl h
+  where
+    equal : (n m : ℕ) → nat_eq n m ≡ true → n ≡ m
+    equal n m e = grind arith
+
+    by_value : (b : Bool) → nat_eq n m ≡ b → b || false ≡ true → n ≡ m
+    by_value true e p = equal n m e
+    by_value false e p = absurd cc
+
+pub local_rule : Rule tokens local local local_at LOCAL [] false
+local_rule = rules.valued_rule tokens refusal not_number not_limit LOCAL named within zero_local zero_local refl zero_named local_real
+  where
+    within : (t : Tok) → among tokens LOCAL t ≡ true → named t ≡ None → IsWithin tokens LOCAL named t
+    within t p q =
+        let e : number t.head ≡ number heads.Local = only (number t.head) (number heads.Local) p in
+        record { writes = ap (contains NUMERALS) e; other = zero_local; means = zero_local; alike = sym e; has = zero_named; real = local_real }
+
+-- ---- operands
+
+abbrev zero_number : Tok
+zero_number = sample kinds.Number heads.Number (codes "0")
+
+pub zero_below : (w : ℕ) → nat_lt 0 (2 ^ w) ≡ true
+zero_below w = let h : 0 < 2 ^ w = pow_pos w in grind (arith, h)
+
+zero_fits : (w : ℕ) → operand_of (Int w) zero_number ≡ Some (operands.Number w 0)
+unfolding literal
+zero_fits w = ap (λ (b : Bool). option_map (operands.Number w) (cond b (Some 0) None)) (zero_below w)
+
+local_fits : (r : Reg) → operand_of r zero_local ≡ Some (operands.Local zero_local)
+local_fits r = ap (option_map operands.Local) zero_named
+
+is_some : (o : Operand) → Some o ≡ None → ⊥
+is_some o e = cc
+
+-- only names that are numbers, and literals, can be out of range
+operand_within : (r : Reg) (h : Head) (t : Tok) → t.head ≡ h → contains (classes_of r) (number h) ≡ true → operand_by h r t ≡ None → IsWithin tokens (classes_of r) (operand_of r) t
+operand_within (Int w) heads.Number t e p q = record { writes = ap (λ (x : Head). contains NUMERALS (number x)) e; other = zero_number; means = operands.Number w 0; alike = sym (ap number e); has = zero_fits w; real = zero_real }
+operand_within (Int w) heads.Local t e p q = record { writes = ap (λ (x : Head). contains NUMERALS (number x)) e; other = zero_local; means = operands.Local zero_local; alike = sym (ap number e); has = local_fits (Int w); real = local_real }
+operand_within Ptr heads.Local t e p q = record { writes = ap (λ (x : Head). contains NUMERALS (number x)) e; other = zero_local; means = operands.Local zero_local; alike = sym (ap number e); has = local_fits Ptr; real = local_real }
+operand_within r h t e p q = absurd cc
+
+pub operand_rule : (r : Reg) → Rule tokens (operand r) (operand r) (operand_at r) OPERAND [] false
+unfolding operand operand_at
+operand_rule (Int w) = rules.valued_rule tokens refusal not_number not_limit OPERAND (operand_of (Int w)) (λ t p q. operand_within (Int w) t.head t refl p q) (word heads.Null (codes "null")) operands.Null refl refl null_real
+operand_rule Ptr = rules.broader tokens OPERAND [] (rules.valued_rule tokens refusal not_number not_limit POINTER_OPERAND (operand_of Ptr) (λ t p q. operand_within Ptr t.head t refl p q) (word heads.Null (codes "null")) operands.Null refl refl null_real) refl refl
+
+pub argument_rule : Rule tokens argument argument argument_at REG [] false
+unfolding argument argument_at
+argument_rule = rules.seq tokens reg_rule (λ r. rules.seq tokens (operand_rule r) (λ _. rules.nothing tokens _) refl) refl
+
+-- ---- words that may stand or not
+
+pub maybe_exact_rule : Rule tokens (maybe heads.Exact) (maybe heads.Exact) (maybe_at heads.Exact) (number heads.Exact ∷ []) (number heads.Exact ∷ []) true
+maybe_exact_rule = rules.alt tokens (number heads.Exact ∷ []) (rules.seq tokens exact_rule (λ _. rules.nothing tokens true) refl) (rules.nothing tokens false) refl refl
+
+pub maybe_disjoint_rule : Rule tokens (maybe heads.Disjoint) (maybe heads.Disjoint) (maybe_at heads.Disjoint) (number heads.Disjoint ∷ []) (number heads.Disjoint ∷ []) true
+maybe_disjoint_rule = rules.alt tokens (number heads.Disjoint ∷ []) (rules.seq tokens disjoint_rule (λ _. rules.nothing tokens true) refl) (rules.nothing tokens false) refl refl
+
+pub maybe_samesign_rule : Rule tokens (maybe heads.Samesign) (maybe heads.Samesign) (maybe_at heads.Samesign) (number heads.Samesign ∷ []) (number heads.Samesign ∷ []) true
+maybe_samesign_rule = rules.alt tokens (number heads.Samesign ∷ []) (rules.seq tokens samesign_rule (λ _. rules.nothing tokens true) refl) (rules.nothing tokens false) refl refl
+
+pub maybe_nneg_rule : Rule tokens (maybe heads.Nneg) (maybe heads.Nneg) (maybe_at heads.Nneg) (number heads.Nneg ∷ []) (number heads.Nneg ∷ []) true
+maybe_nneg_rule = rules.alt tokens (number heads.Nneg ∷ []) (rules.seq tokens nneg_rule (λ _. rules.nothing tokens true) refl) (rules.nothing tokens false) refl refl

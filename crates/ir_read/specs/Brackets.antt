@@ -1,0 +1,44 @@
+-- Groups in brackets: each closes by its own kind; `<` and `>` are no brackets.
+use Rattle.std.specs.Prelude.{Bool, true, false, [], ◌∷◌}
+use Rattle.ir_lex.specs.declared.head.Head.TheVariants as heads
+use Rattle.ir_lex.specs.declared.head.Head.{Head}
+use Rattle.ir_lex.specs.Tok.{Tok}
+use Rattle.lto_forms.specs.Balanced as balanced
+use Rattle.lto_forms.specs.Balanced.{Brackets, Closing, closing_at, Move}
+use Rattle.lto_forms.specs.Forms as form
+use Rattle.lto_forms.specs.Forms.{Form}
+use Rattle.lto_forms.specs.Readers as reader
+use Rattle.lto_forms.specs.Readers.{Reader}
+use Rattle.ir_read.specs.Classes.{the, the_at}
+use Rattle.ir_read.specs.declared.brackets.Bracket.{Bracket}
+use Rattle.ir_read.specs.declared.brackets.Bracket.TheVariants.{Paren, Square, Curly}
+
+abbrev pub opening : Bracket → Head
+opening Paren = heads.OpenParen
+opening Square = heads.OpenBracket
+opening Curly = heads.OpenBrace
+
+abbrev pub move_of : Head → Move Bracket
+move_of heads.OpenParen = balanced.opens Paren
+move_of heads.OpenBracket = balanced.opens Square
+move_of heads.OpenBrace = balanced.opens Curly
+move_of heads.CloseParen = balanced.closes Paren
+move_of heads.CloseBracket = balanced.closes Square
+move_of heads.CloseBrace = balanced.closes Curly
+move_of h = balanced.stays
+
+abbrev pub same : Bracket → Bracket → Bool
+same Paren Paren = true
+same Square Square = true
+same Curly Curly = true
+same a b = false
+
+abbrev pub brackets : Brackets Tok Bracket
+brackets = record { move = λ t. move_of t.head; same = same }
+
+-- a bracket, what stands in it, and what closes it
+unfoldable pub group : Bracket → Form Tok (Unit {0})
+group b = form.◌>>=◌ (the (opening b)) (λ _. Closing brackets (b ∷ []))
+
+unfoldable pub group_at : Bracket → Reader Tok (Unit {0})
+group_at b = reader.◌>>=◌ (the_at (opening b)) (λ _. closing_at brackets (b ∷ []))

@@ -1,0 +1,58 @@
+-- Tokens as the grammar of modules sees them: the class of each, and why one can't stand where it isn't wanted.
+use Rattle.std.specs.Prelude.{◌≡◌, ℕ, true, false, nat_lt, if◌then◌else◌, List, [], ◌∷◌, length}
+use Rattle.ir_lex.specs.declared.head.Head.TheVariants as heads
+use Rattle.ir_lex.specs.declared.head.Head.{Head}
+use Rattle.ir_lex.specs.Heads.{number, head_of}
+use Rattle.ir_lex.specs.Lexing.{is_bad}
+use Rattle.ir_lex.specs.Rows.{best_fit, fit}
+use Rattle.ir_lex.specs.Tok.{Tok}
+use Rattle.lto_forms.specs.Alphabet.{Alphabet, contains}
+use Rattle.lto_forms.specs.declared.fault.FaultKind.{FaultKind}
+use Rattle.lto_forms.specs.declared.fault.FaultKind.TheVariants.{Syntax, Profile}
+use Rattle.lto_forms.specs.Forms.{Form, token}
+use Rattle.lto_forms.specs.Readers.{Reader, token_at}
+use Rattle.lto_forms.specs.Rules.{is_class, is_among}
+
+-- bytes spell this token: alone they are one token of its kind and class
+pub record IsReal (t : Tok) : Type 0 where
+  pub some : nat_lt 0 (length t.text) ≡ true
+  pub fits : best_fit t.text ≡ fit t.kind (length t.text)
+  pub good : is_bad t.text ≡ false
+  pub class : t.head ≡ head_of t.kind t.text []
+
+-- these are written by numbers, or may be
+abbrev pub NUMERALS : List ℕ
+NUMERALS = number heads.Number ∷ number heads.Local ∷ number heads.Label ∷ number heads.Group ∷ []
+
+abbrev pub tokens : Alphabet Tok
+tokens = record { class = λ t. number t.head; numerals = NUMERALS; Real = IsReal }
+
+-- these stand for parts of the language that aren't read
+abbrev pub REFUSED : List ℕ
+REFUSED = number heads.ReservedGlobal ∷ number heads.LifetimeMarker ∷ number heads.RefusedMark ∷ number heads.RefusedInteger ∷ number heads.RefusedAttribute ∷ number heads.RefusedWord ∷ []
+
+abbrev pub refusal : ℕ → FaultKind
+refusal class = if contains REFUSED class then Profile else Syntax
+
+-- a token of this class
+abbrev pub the : Head → Form Tok (Unit {0})
+the wanted = token (is_class tokens refusal (number wanted))
+
+abbrev pub the_at : Head → Reader Tok (Unit {0})
+the_at wanted = token_at (is_class tokens refusal (number wanted))
+
+-- a token of one of these classes, and what it means
+abbrev pub one_of : {A : Type 0} → List ℕ → (Tok → A) → Form Tok A
+one_of classes value = token (is_among tokens refusal classes value)
+
+abbrev pub one_of_at : {A : Type 0} → List ℕ → (Tok → A) → Reader Tok A
+one_of_at classes value = token_at (is_among tokens refusal classes value)
+
+-- the token itself
+abbrev pub itself : Tok → Tok
+itself t = t
+
+-- the next of these tokens is of this class
+abbrev pub NextHead : List Tok → Head → Type 0
+NextHead [] h = ⊥
+NextHead (t ∷ ts) h = t.head ≡ h

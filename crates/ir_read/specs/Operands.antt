@@ -1,0 +1,169 @@
+-- Types of registers, names and operands (LangRef, "First Class Types", "Identifiers", "Constants").
+use Rattle.std.specs.Prelude.{◌≡◌, ℕ, Bool, true, false, ◌&&◌, not, nat_eq, nat_lt, max, min, if◌then◌else◌, Option, Some, None, option_map, Result, Err, List, [], ◌∷◌, length, drop}
+use Rattle.std.specs.Char.{is_ascii_digit}
+use Rattle.std.specs.List.{list_all}
+use Rattle.std.specs.Str.{bytes_eq}
+use Rattle.std.specs.Prelude.{codes}
+use Rattle.ir_lex.specs.declared.head.Head.{Head}
+use Rattle.ir_lex.specs.declared.head.Head.TheVariants as heads
+use Rattle.ir_lex.specs.Heads.{number, width_of}
+use Rattle.ir_lex.specs.Quotes.{stripped}
+use Rattle.ir_lex.specs.Tok.{Tok}
+use Rattle.ir_tree.specs.declared.operand.Reg.{Reg}
+use Rattle.ir_tree.specs.declared.operand.Reg.TheVariants.{Int, Ptr}
+use Rattle.lto_forms.specs.Alphabet.{contains}
+use Rattle.lto_forms.specs.declared.fault.FaultKind.{FaultKind}
+use Rattle.lto_forms.specs.declared.fault.FaultKind.TheVariants.{Syntax, Profile}
+use Rattle.lto_forms.specs.Forms.{Form, ◌>>=◌, either, gives, token}
+use Rattle.lto_forms.specs.Rules.{in_range, is_among, is_exact, is_valued}
+use Rattle.ir_read.specs.Classes.{tokens, refusal, the}
+use Rattle.ir_read.specs.Decimals.{decimal}
+use Rattle.ir_read.specs.declared.raw.Argument.{Argument}
+use Rattle.ir_read.specs.declared.raw.Operand.{Operand}
+use Rattle.ir_read.specs.declared.raw.Operand.TheVariants as operands
+use Rattle.ir_read.specs.Literals.{IsWidth, literal}
+
+-- ---- types of registers
+
+abbrev pub INTEGER : List ℕ
+INTEGER = number heads.MemoryInteger ∷ number heads.RegisterInteger ∷ []
+
+abbrev pub REG : List ℕ
+REG = number heads.MemoryInteger ∷ number heads.RegisterInteger ∷ number heads.Ptr ∷ []
+
+abbrev pub SCALAR : List ℕ
+SCALAR = number heads.MemoryInteger ∷ number heads.Ptr ∷ []
+
+-- types that are left out
+abbrev pub REFUSED_TYPES : List ℕ
+REFUSED_TYPES = number heads.Target ∷ number heads.RefusedType ∷ []
+
+-- where a type may stand
+abbrev pub type_refusal : ℕ → FaultKind
+type_refusal class = if contains REFUSED_TYPES class then Profile else refusal class
+
+-- where a type of memory must stand
+abbrev pub memory_refusal : ℕ → FaultKind
+memory_refusal class = if nat_eq class (number heads.RegisterInteger) then Profile else type_refusal class
+
+-- the width of iN, where the class has it that N is 1 to 64
+abbrev pub width : Tok → ℕ
+width t = min 64 (max 1 (width_of (drop 1 t.text)))
+
+abbrev pub reg_of : Tok → Reg
+reg_of t = if nat_eq (number t.head) (number heads.Ptr) then Ptr else Int (width t)
+
+abbrev pub IsReg : Reg → Type 0
+IsReg (Int w) = IsWidth w
+IsReg Ptr = Unit {0}
+
+-- iN / ptr
+abbrev pub reg : Form Tok Reg
+reg = token (is_among tokens type_refusal REG reg_of)
+
+-- iN
+abbrev pub integer : Form Tok ℕ
+integer = token (is_among tokens type_refusal INTEGER width)
+
+-- i1
+abbrev pub is_bit : Tok → Bool
+is_bit t = nat_eq (width t) 1
+
+abbrev pub bit : Form Tok ℕ
+bit = token (is_exact tokens type_refusal INTEGER is_bit width)
+
+-- i8 / i16 / i32 / i64 / ptr
+abbrev pub scalar : Form Tok Reg
+scalar = token (is_among tokens memory_refusal SCALAR reg_of)
+
+-- void / reg
+abbrev pub RESULT : List ℕ
+RESULT = number heads.Void ∷ REG
+
+abbrev pub result_of : Tok → Option Reg
+result_of t = if nat_eq (number t.head) (number heads.Void) then None else Some (reg_of t)
+
+abbrev pub result : Form Tok (Option Reg)
+result = token (is_among tokens type_refusal RESULT result_of)
+
+-- ---- names
+
+abbrev pub is_numeral : List ℕ → Bool
+is_numeral [] = false
+is_numeral (d ∷ ds) = list_all is_ascii_digit (d ∷ ds)
+
+-- a name that is written by a number has one below 2^32
+abbrev pub named_by : Tok → List ℕ → Option Tok
+named_by t bare = if is_numeral bare && not (nat_lt (decimal bare) 4294967296) then None else Some t
+
+unfoldable pub named : Tok → Option Tok
+named t = named_by t (stripped t.kind t.text)
+
+abbrev pub LOCAL : List ℕ
+LOCAL = number heads.Local ∷ []
+
+abbrev pub local : Form Tok Tok
+local = token (is_valued tokens refusal LOCAL named)
+
+-- ---- operands
+
+abbrev pub POINTER_OPERAND : List ℕ
+POINTER_OPERAND = number heads.Local ∷ number heads.True ∷ number heads.False ∷ number heads.Null ∷ number heads.Poison ∷ number heads.Global ∷ number heads.NumberedGlobal ∷ number heads.NumberedDefinition ∷ []
+
+abbrev pub OPERAND : List ℕ
+OPERAND = number heads.Number ∷ POINTER_OPERAND
+
+-- no number is of type ptr
+abbrev pub classes_of : Reg → List ℕ
+classes_of (Int w) = OPERAND
+classes_of Ptr = POINTER_OPERAND
+
+abbrev pub bits_of : Reg → Tok → Option Operand
+bits_of (Int w) t = option_map (operands.Number w) (literal w t.text)
+bits_of Ptr t = None
+
+-- what a token of such a class means, by its class
+abbrev pub operand_by : Head → Reg → Tok → Option Operand
+operand_by heads.Number r t = bits_of r t
+operand_by heads.Local r t = option_map operands.Local (named t)
+operand_by heads.True r t = Some (operands.Number 1 1)
+operand_by heads.False r t = Some (operands.Number 1 0)
+operand_by heads.Null r t = Some operands.Null
+operand_by heads.Poison r t = Some (operands.Poison r)
+operand_by heads.Global r t = Some (operands.Global t)
+operand_by heads.NumberedGlobal r t = Some (operands.Global t)
+operand_by heads.NumberedDefinition r t = Some (operands.Global t)
+operand_by h r t = None
+
+abbrev pub operand_of : Reg → Tok → Option Operand
+operand_of r t = operand_by t.head r t
+
+abbrev pub number_means : Reg → Tok → Result Operand FaultKind
+number_means (Int w) t = in_range (bits_of (Int w) t)
+number_means Ptr t = Err Syntax
+
+abbrev pub local_value : Tok → Result Operand FaultKind
+local_value t = in_range (option_map operands.Local (named t))
+
+-- Local / Number / true / false / null / poison / Global
+abbrev pub simple : Reg → Form Tok Operand
+simple r = token (is_valued tokens refusal (classes_of r) (operand_of r))
+
+unfoldable pub operand : Reg → Form Tok Operand
+operand r = simple r
+
+-- reg operand
+unfoldable pub argument : Form Tok Argument
+argument = do
+  r ← reg
+  v ← operand r
+  gives (record { reg = r; operand = v })
+
+-- ---- words that may stand or not
+
+abbrev pub maybe : Head → Form Tok Bool
+maybe word = either
+    (do
+      _ ← the word
+      gives true)
+    (gives false)

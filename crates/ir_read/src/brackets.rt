@@ -1,0 +1,117 @@
+//! Groups in brackets, however deep they nest.
+
+ghost use Rattle.std.specs.Prelude.{◌≡◌, [], ◌∷◌};
+ghost use Rattle.lto_forms.specs.Balanced.{closing_at};
+ghost use Rattle.lto_forms.specs.Readers.{Gives};
+ghost use Rattle.ir_read.specs.Brackets.{brackets, group_at, opening, move_of, same};
+ghost use Rattle.ir_read.specs.BracketViews.{move};
+
+use crate::terminals::expect;
+use crate::tokens::Tokens;
+use ir_lex::Head;
+use lto_forms::{Fault, FaultKind, ReadError};
+use std::alloc::Global;
+
+/// A kind of bracket.
+#[derive(Clone, Copy, Debug)]
+pub enum Bracket {
+    /// `(` and `)`
+    Paren,
+    /// `[` and `]`
+    Square,
+    /// `{` and `}`
+    Curly,
+}
+
+/// What a token does to the brackets that are open.
+#[derive(Clone, Copy, Debug)]
+pub enum BracketMove {
+    Opens(Bracket),
+    Closes(Bracket),
+    Stays,
+}
+
+impl Bracket {
+    /// What opens it.
+    fn opening(self) -> Head
+        ensures { result ≡ opening self }
+    {
+        match self {
+            Bracket::Paren => Head::OpenParen,
+            Bracket::Square => Head::OpenBracket,
+            Bracket::Curly => Head::OpenBrace,
+        }
+    }
+
+    /// Whether both are of one kind.
+    pub fn same(self, other: Bracket) -> bool
+        ensures { result ≡ same self other }
+    {
+        match self {
+            Bracket::Paren => matches!(other, Bracket::Paren),
+            Bracket::Square => matches!(other, Bracket::Square),
+            Bracket::Curly => matches!(other, Bracket::Curly),
+        }
+    }
+}
+
+/// What a token of this class does to the brackets that are open.
+pub fn move_of(head: Head) -> BracketMove
+    ensures { move result ≡ move_of head }
+{
+    match head {
+        Head::OpenParen => BracketMove::Opens(Bracket::Paren),
+        Head::OpenBracket => BracketMove::Opens(Bracket::Square),
+        Head::OpenBrace => BracketMove::Opens(Bracket::Curly),
+        Head::CloseParen => BracketMove::Closes(Bracket::Paren),
+        Head::CloseBracket => BracketMove::Closes(Bracket::Square),
+        Head::CloseBrace => BracketMove::Closes(Bracket::Curly),
+        _ => BracketMove::Stays,
+    }
+}
+
+/// Reads what stands behind a bracket that is open, up to what closes it. The brackets around the
+/// innermost are kept, the outermost first.
+fn closing_at(alloc: Global, bracket: Bracket, tokens: &mut Tokens) -> Result<(), ReadError>
+    ensures { Gives (λ x. (tt, tokens.new)) result (closing_at brackets (bracket ∷ []) tokens.old) }
+{
+    let mut inner = bracket;
+    let mut outer = Vec::new(alloc);
+    'each: loop {
+        let left = tokens.left();
+        let Some(t) = tokens.take() else {
+            return Err(ReadError::Fault(Fault {
+                left,
+                kind: FaultKind::Syntax,
+            }));
+        };
+        match move_of(t.head) {
+            BracketMove::Opens(b) => {
+                outer.push(inner)?;
+                inner = b;
+            }
+            BracketMove::Closes(b) => {
+                if !inner.same(b) {
+                    return Err(ReadError::Fault(Fault {
+                        left,
+                        kind: FaultKind::Syntax,
+                    }));
+                }
+                let Some(b) = outer.pop() else {
+                    return Ok(());
+                };
+                inner = b;
+            }
+            BracketMove::Stays => {}
+        }
+    }
+}
+
+/// Reads a group in brackets of this kind.
+#[tactic(auto, unfolding(crate::specs::Brackets::group_at))]
+pub fn group_at(alloc: Global, bracket: Bracket, tokens: &mut Tokens) -> Result<(), ReadError>
+    ensures { Gives (λ x. (tt, tokens.new)) result (group_at bracket tokens.old) }
+{
+    expect(bracket.opening(), tokens)?;
+    closing_at(alloc, bracket, tokens)
+}

@@ -1,0 +1,347 @@
+//! Reads instructions (LangRef, "Instruction Reference").
+
+ghost use Rattle.std.specs.Prelude.{◌≡◌};
+ghost use Rattle.lto_forms.specs.Alphabet.{among};
+ghost use Rattle.lto_forms.specs.Readers.{Gives, next_is};
+ghost use Rattle.ir_lex.specs.Tok.{tok};
+ghost use Rattle.lto_forms.specs.Rules.{is_among};
+ghost use Rattle.ir_read.specs.Classes.{tokens, refusal, one_of_at};
+ghost use Rattle.ir_read.specs.Instructions.{WRAPS, is_nuw, with_wrap, no_flags, PREDICATES, predicate_of};
+ghost use Rattle.ir_read.specs.InstructionsAt.{wraps_at, on_two_at, wrapping_at, dividing_at, joining_at, comparing_at, casting_at, extending_at, narrowing_at, selecting_at, freezing_at, pointer_at, aligned_at, align_at, loading_at, storing_at};
+
+use crate::metadata::{attached_at, attachments_at};
+use crate::numerals::alignment_at;
+use crate::operands::{
+    argument_at, bit_at, integer_at, maybe_at, operand_at, reg_at, scalar_at, type_refusal,
+};
+use crate::raw::Instr;
+use crate::terminals::{expect, refusal};
+use crate::tokens::Tokens;
+use ir_lex::{Head, Token};
+use ir_tree::{BinaryOp, CastOp, Flags, Predicate, Reg};
+use lto_forms::{Fault, FaultKind, ReadError};
+use std::alloc::Global;
+
+/// Takes `nuw` or `nsw`; the answer is whether it is `nuw`.
+#[tactic(auto, unfolding(lto_forms::specs::Rules::is_among))]
+fn wrap_at(tokens: &mut Tokens) -> Result<bool, ReadError>
+    ensures { Gives (λ x. (x, tokens.new)) result (one_of_at WRAPS is_nuw tokens.old) }
+{
+    let left = tokens.left();
+    match tokens.take() {
+        None => Err(ReadError::Fault(Fault {
+            left,
+            kind: FaultKind::Syntax,
+        })),
+        Some(t) => match t.head {
+            Head::Nuw => Ok(true),
+            Head::Nsw => Ok(false),
+            head => Err(ReadError::Fault(Fault {
+                left,
+                kind: refusal(head),
+            })),
+        },
+    }
+}
+
+fn with_wrap(flags: Flags, nuw: bool) -> Flags
+    ensures { result ≡ with_wrap flags nuw }
+{
+    if nuw {
+        Flags {
+            nuw: true,
+            nsw: flags.nsw,
+            exact: flags.exact,
+        }
+    } else {
+        Flags {
+            nuw: flags.nuw,
+            nsw: true,
+            exact: flags.exact,
+        }
+    }
+}
+
+/// Reads the flags `nuw` and `nsw`, any number of them.
+#[tactic(auto, unfolding(crate::specs::InstructionsAt::wraps_at))]
+fn wraps_at(tokens: &mut Tokens) -> Result<Flags, ReadError>
+    ensures { Gives (λ x. (x, tokens.new)) result (wraps_at tokens.old) }
+{
+    let mut flags = Flags {
+        nuw: false,
+        nsw: false,
+        exact: false,
+    };
+    'each: while tokens.comes_wrap() {
+        let nuw = wrap_at(tokens)?;
+        flags = with_wrap(flags, nuw);
+    }
+    Ok(flags)
+}
+
+/// Reads `iN operand , operand`.
+#[tactic(auto, unfolding(crate::specs::InstructionsAt::on_two_at))]
+pub fn on_two_at<'a>(
+    op: BinaryOp,
+    flags: Flags,
+    tokens: &mut Tokens<'_, 'a>,
+) -> Result<Instr<'a>, ReadError>
+    ensures { Gives (λ x. (x, tokens.new)) result (on_two_at op flags tokens.old) }
+{
+    let width = integer_at(tokens)?;
+    let left = operand_at(Reg::Int(width), tokens)?;
+    expect(Head::Comma, tokens)?;
+    let right = operand_at(Reg::Int(width), tokens)?;
+    Ok(Instr::Binary {
+        op,
+        flags,
+        width,
+        left,
+        right,
+    })
+}
+
+/// Reads what follows `add`, `sub`, `mul` or `shl`.
+#[tactic(auto, unfolding(crate::specs::InstructionsAt::wrapping_at))]
+pub fn wrapping_at<'a>(op: BinaryOp, tokens: &mut Tokens<'_, 'a>) -> Result<Instr<'a>, ReadError>
+    ensures { Gives (λ x. (x, tokens.new)) result (wrapping_at op tokens.old) }
+{
+    let flags = wraps_at(tokens)?;
+    on_two_at(op, flags, tokens)
+}
+
+/// Reads what follows `udiv`, `sdiv`, `lshr` or `ashr`.
+#[tactic(auto, unfolding(crate::specs::InstructionsAt::dividing_at))]
+pub fn dividing_at<'a>(op: BinaryOp, tokens: &mut Tokens<'_, 'a>) -> Result<Instr<'a>, ReadError>
+    ensures { Gives (λ x. (x, tokens.new)) result (dividing_at op tokens.old) }
+{
+    let exact = maybe_at(Head::Exact, tokens)?;
+    let flags = Flags {
+        nuw: false,
+        nsw: false,
+        exact,
+    };
+    on_two_at(op, flags, tokens)
+}
+
+/// Reads what follows `or`.
+#[tactic(auto, unfolding(crate::specs::InstructionsAt::joining_at))]
+pub fn joining_at<'a>(tokens: &mut Tokens<'_, 'a>) -> Result<Instr<'a>, ReadError>
+    ensures { Gives (λ x. (x, tokens.new)) result (joining_at tokens.old) }
+{
+    maybe_at(Head::Disjoint, tokens)?;
+    let flags = Flags {
+        nuw: false,
+        nsw: false,
+        exact: false,
+    };
+    on_two_at(BinaryOp::Or, flags, tokens)
+}
+
+#[tactic(auto, unfolding(lto_forms::specs::Rules::is_among))]
+fn predicate_means(t: &Token) -> Result<Predicate, FaultKind>
+    ensures { result ≡ is_among tokens refusal PREDICATES predicate_of (tok t.now) }
+{
+    match t.head {
+        Head::Eq => Ok(Predicate::Eq),
+        Head::Ne => Ok(Predicate::Ne),
+        Head::Ugt => Ok(Predicate::Ugt),
+        Head::Uge => Ok(Predicate::Uge),
+        Head::Ult => Ok(Predicate::Ult),
+        Head::Ule => Ok(Predicate::Ule),
+        Head::Sgt => Ok(Predicate::Sgt),
+        Head::Sge => Ok(Predicate::Sge),
+        Head::Slt => Ok(Predicate::Slt),
+        Head::Sle => Ok(Predicate::Sle),
+        head => Err(refusal(head)),
+    }
+}
+
+/// Takes the condition of an `icmp`.
+fn predicate_at(tokens: &mut Tokens) -> Result<Predicate, ReadError>
+    ensures { Gives (λ x. (x, tokens.new)) result (one_of_at PREDICATES predicate_of tokens.old) }
+{
+    let left = tokens.left();
+    match tokens.take() {
+        None => Err(ReadError::Fault(Fault {
+            left,
+            kind: FaultKind::Syntax,
+        })),
+        Some(t) => match predicate_means(&t) {
+            Ok(x) => Ok(x),
+            Err(kind) => Err(ReadError::Fault(Fault { left, kind })),
+        },
+    }
+}
+
+/// Reads what follows `icmp`.
+#[tactic(auto, unfolding(crate::specs::InstructionsAt::comparing_at))]
+pub fn comparing_at<'a>(tokens: &mut Tokens<'_, 'a>) -> Result<Instr<'a>, ReadError>
+    ensures { Gives (λ x. (x, tokens.new)) result (comparing_at tokens.old) }
+{
+    maybe_at(Head::Samesign, tokens)?;
+    let predicate = predicate_at(tokens)?;
+    let reg = reg_at(tokens)?;
+    let left = operand_at(reg, tokens)?;
+    expect(Head::Comma, tokens)?;
+    let right = operand_at(reg, tokens)?;
+    Ok(Instr::Icmp {
+        predicate,
+        reg,
+        left,
+        right,
+    })
+}
+
+/// Reads `reg operand to reg`.
+#[tactic(auto, unfolding(crate::specs::InstructionsAt::casting_at))]
+pub fn casting_at<'a>(op: CastOp, tokens: &mut Tokens<'_, 'a>) -> Result<Instr<'a>, ReadError>
+    ensures { Gives (λ x. (x, tokens.new)) result (casting_at op tokens.old) }
+{
+    let from = reg_at(tokens)?;
+    let value = operand_at(from, tokens)?;
+    expect(Head::To, tokens)?;
+    let to = reg_at(tokens)?;
+    Ok(Instr::Cast {
+        op,
+        from,
+        value,
+        to,
+    })
+}
+
+/// Reads what follows `zext`.
+#[tactic(auto, unfolding(crate::specs::InstructionsAt::extending_at))]
+pub fn extending_at<'a>(op: CastOp, tokens: &mut Tokens<'_, 'a>) -> Result<Instr<'a>, ReadError>
+    ensures { Gives (λ x. (x, tokens.new)) result (extending_at op tokens.old) }
+{
+    maybe_at(Head::Nneg, tokens)?;
+    casting_at(op, tokens)
+}
+
+/// Reads what follows `trunc`.
+#[tactic(auto, unfolding(crate::specs::InstructionsAt::narrowing_at))]
+pub fn narrowing_at<'a>(op: CastOp, tokens: &mut Tokens<'_, 'a>) -> Result<Instr<'a>, ReadError>
+    ensures { Gives (λ x. (x, tokens.new)) result (narrowing_at op tokens.old) }
+{
+    wraps_at(tokens)?;
+    casting_at(op, tokens)
+}
+
+/// Reads what follows `select`.
+#[tactic(auto, unfolding(crate::specs::InstructionsAt::selecting_at))]
+pub fn selecting_at<'a>(tokens: &mut Tokens<'_, 'a>) -> Result<Instr<'a>, ReadError>
+    ensures { Gives (λ x. (x, tokens.new)) result (selecting_at tokens.old) }
+{
+    let width = bit_at(tokens)?;
+    let condition = operand_at(Reg::Int(width), tokens)?;
+    expect(Head::Comma, tokens)?;
+    let if_true = argument_at(tokens)?;
+    expect(Head::Comma, tokens)?;
+    let if_false = argument_at(tokens)?;
+    Ok(Instr::Select {
+        condition,
+        if_true,
+        if_false,
+    })
+}
+
+/// Reads what follows `freeze`.
+#[tactic(auto, unfolding(crate::specs::InstructionsAt::freezing_at))]
+pub fn freezing_at<'a>(tokens: &mut Tokens<'_, 'a>) -> Result<Instr<'a>, ReadError>
+    ensures { Gives (λ x. (x, tokens.new)) result (freezing_at tokens.old) }
+{
+    let reg = reg_at(tokens)?;
+    let value = operand_at(reg, tokens)?;
+    Ok(Instr::Freeze { reg, value })
+}
+
+/// Takes `ptr`.
+#[tactic(auto, unfolding(lto_forms::specs::Rules::is_class))]
+fn pointer_at(tokens: &mut Tokens) -> Result<(), ReadError>
+    ensures { Gives (λ x. (tt, tokens.new)) result (pointer_at tokens.old) }
+{
+    let left = tokens.left();
+    match tokens.take() {
+        None => Err(ReadError::Fault(Fault {
+            left,
+            kind: FaultKind::Syntax,
+        })),
+        Some(t) => {
+            if t.head.is(Head::Ptr) {
+                Ok(())
+            } else {
+                Err(ReadError::Fault(Fault {
+                    left,
+                    kind: type_refusal(t.head),
+                }))
+            }
+        }
+    }
+}
+
+/// Reads what follows the comma behind an address: an alignment, or an attachment.
+#[tactic(auto, unfolding(crate::specs::InstructionsAt::aligned_at))]
+fn aligned_at(alloc: Global, tokens: &mut Tokens) -> Result<Option<u64>, ReadError>
+    ensures { Gives (λ x. (x, tokens.new)) result (aligned_at tokens.old) }
+{
+    if tokens.comes(Head::Align) {
+        expect(Head::Align, tokens)?;
+        let n = alignment_at(tokens)?;
+        attachments_at(alloc, tokens)?;
+        Ok(Some(n))
+    } else {
+        attached_at(alloc, tokens)?;
+        attachments_at(alloc, tokens)?;
+        Ok(None)
+    }
+}
+
+/// Reads the alignment behind an address, if one stands there, and the attachments.
+#[tactic(auto, unfolding(crate::specs::InstructionsAt::align_at))]
+fn align_at(alloc: Global, tokens: &mut Tokens) -> Result<Option<u64>, ReadError>
+    ensures { Gives (λ x. (x, tokens.new)) result (align_at tokens.old) }
+{
+    if tokens.comes(Head::Comma) {
+        expect(Head::Comma, tokens)?;
+        aligned_at(alloc, tokens)
+    } else {
+        Ok(None)
+    }
+}
+
+/// Reads what follows `load`.
+#[tactic(auto, unfolding(crate::specs::InstructionsAt::loading_at))]
+pub fn loading_at<'a>(alloc: Global, tokens: &mut Tokens<'_, 'a>) -> Result<Instr<'a>, ReadError>
+    ensures { Gives (λ x. (x, tokens.new)) result (loading_at tokens.old) }
+{
+    let reg = scalar_at(tokens)?;
+    expect(Head::Comma, tokens)?;
+    pointer_at(tokens)?;
+    let address = operand_at(Reg::Ptr, tokens)?;
+    let align = align_at(alloc, tokens)?;
+    Ok(Instr::Load {
+        reg,
+        address,
+        align,
+    })
+}
+
+/// Reads what follows `store`.
+#[tactic(auto, unfolding(crate::specs::InstructionsAt::storing_at))]
+pub fn storing_at<'a>(alloc: Global, tokens: &mut Tokens<'_, 'a>) -> Result<Instr<'a>, ReadError>
+    ensures { Gives (λ x. (x, tokens.new)) result (storing_at tokens.old) }
+{
+    let reg = scalar_at(tokens)?;
+    let value = operand_at(reg, tokens)?;
+    expect(Head::Comma, tokens)?;
+    pointer_at(tokens)?;
+    let address = operand_at(Reg::Ptr, tokens)?;
+    let align = align_at(alloc, tokens)?;
+    Ok(Instr::Store {
+        reg,
+        value,
+        address,
+        align,
+    })
+}

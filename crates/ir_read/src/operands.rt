@@ -1,0 +1,360 @@
+//! Reads types of registers, names and operands.
+
+ghost use Rattle.std.specs.Prelude.{◌≡◌, IfOk, IfSome};
+ghost use Rattle.std.specs.Char.{is_ascii_digit};
+ghost use Rattle.std.specs.List.{list_all};
+ghost use Rattle.ir_lex.specs.Heads.{number};
+ghost use Rattle.ir_lex.specs.Tok.{tok};
+ghost use Rattle.lto_forms.specs.Readers.{Gives};
+ghost use Rattle.lto_forms.specs.Rules.{is_among, is_exact, is_valued};
+ghost use Rattle.ir_read.specs.Classes.{tokens, refusal};
+ghost use Rattle.ir_read.specs.Literals.{IsWidth};
+ghost use Rattle.ir_read.specs.Operands.{INTEGER, REG, SCALAR, RESULT, LOCAL, IsReg, type_refusal, memory_refusal, width, reg_of, is_bit, result_of, is_numeral, named, number_means, local_value, classes_of, operand_of};
+ghost use Rattle.ir_read.specs.OperandsAt.{reg_at, integer_at, bit_at, scalar_at, result_at, local_at, operand_at, argument_at, maybe_at};
+
+use crate::literals::literal;
+use crate::name::Name;
+use crate::numerals::decimal;
+use crate::raw::{Argument, Operand};
+use crate::terminals::{expect, refusal};
+use crate::tokens::Tokens;
+use ir_lex::{Head, Token};
+use ir_tree::Reg;
+use lto_forms::{Fault, FaultKind, ReadError};
+
+/// Why a token can't stand where a type may.
+pub fn type_refusal(head: Head) -> FaultKind
+    ensures { result ≡ type_refusal (number head) }
+{
+    match head {
+        Head::Target | Head::RefusedType => FaultKind::Profile,
+        _ => refusal(head),
+    }
+}
+
+/// Why a token can't stand where a type of memory must.
+fn memory_refusal(head: Head) -> FaultKind
+    ensures { result ≡ memory_refusal (number head) }
+{
+    match head {
+        Head::RegisterInteger => FaultKind::Profile,
+        _ => type_refusal(head),
+    }
+}
+
+/// The width of an integer type, in bits.
+fn width(t: &Token) -> u8
+    ensures exact { result ≡ width (tok t.now) }
+    ensures ranged { IsWidth result }
+{
+    t.width().max(1).min(64) as u8
+}
+
+fn reg_of(t: &Token) -> Reg
+    ensures exact { result ≡ reg_of (tok t.now) }
+    ensures ranged { IsReg result }
+{
+    if t.head.is(Head::Ptr) {
+        Reg::Ptr
+    } else {
+        Reg::Int(width(t))
+    }
+}
+
+#[tactic(auto, unfolding(lto_forms::specs::Rules::is_among))]
+fn reg_means(t: &Token) -> Result<Reg, FaultKind>
+    ensures exact { result ≡ is_among tokens type_refusal REG reg_of (tok t.now) }
+    ensures ranged { IfOk result IsReg }
+{
+    match t.head {
+        Head::MemoryInteger | Head::RegisterInteger | Head::Ptr => Ok(reg_of(t)),
+        head => Err(type_refusal(head)),
+    }
+}
+
+/// Takes the type of a register: `iN` or `ptr`.
+pub fn reg_at(tokens: &mut Tokens) -> Result<Reg, ReadError>
+    ensures exact { Gives (λ x. (x, tokens.new)) result (reg_at tokens.old) }
+    ensures ranged { IfOk result IsReg }
+{
+    let left = tokens.left();
+    match tokens.take() {
+        None => Err(ReadError::Fault(Fault {
+            left,
+            kind: FaultKind::Syntax,
+        })),
+        Some(t) => match reg_means(&t) {
+            Ok(x) => Ok(x),
+            Err(kind) => Err(ReadError::Fault(Fault { left, kind })),
+        },
+    }
+}
+
+#[tactic(auto, unfolding(lto_forms::specs::Rules::is_among))]
+fn integer_means(t: &Token) -> Result<u8, FaultKind>
+    ensures exact { result ≡ is_among tokens type_refusal INTEGER width (tok t.now) }
+    ensures ranged { IfOk result IsWidth }
+{
+    match t.head {
+        Head::MemoryInteger | Head::RegisterInteger => Ok(width(t)),
+        head => Err(type_refusal(head)),
+    }
+}
+
+/// Takes an integer type; the answer is its width in bits.
+pub fn integer_at(tokens: &mut Tokens) -> Result<u8, ReadError>
+    ensures exact { Gives (λ x. (x, tokens.new)) result (integer_at tokens.old) }
+    ensures ranged { IfOk result IsWidth }
+{
+    let left = tokens.left();
+    match tokens.take() {
+        None => Err(ReadError::Fault(Fault {
+            left,
+            kind: FaultKind::Syntax,
+        })),
+        Some(t) => match integer_means(&t) {
+            Ok(x) => Ok(x),
+            Err(kind) => Err(ReadError::Fault(Fault { left, kind })),
+        },
+    }
+}
+
+#[tactic(auto, unfolding(lto_forms::specs::Rules::is_exact))]
+fn bit_means(t: &Token) -> Result<u8, FaultKind>
+    ensures exact { result ≡ is_exact tokens type_refusal INTEGER is_bit width (tok t.now) }
+    ensures ranged { IfOk result IsWidth }
+{
+    match t.head {
+        Head::MemoryInteger | Head::RegisterInteger => {
+            let bits = width(t);
+            if bits == 1 {
+                Ok(bits)
+            } else {
+                Err(type_refusal(t.head))
+            }
+        }
+        head => Err(type_refusal(head)),
+    }
+}
+
+/// Takes `i1`; the answer is its width in bits.
+pub fn bit_at(tokens: &mut Tokens) -> Result<u8, ReadError>
+    ensures exact { Gives (λ x. (x, tokens.new)) result (bit_at tokens.old) }
+    ensures ranged { IfOk result IsWidth }
+{
+    let left = tokens.left();
+    match tokens.take() {
+        None => Err(ReadError::Fault(Fault {
+            left,
+            kind: FaultKind::Syntax,
+        })),
+        Some(t) => match bit_means(&t) {
+            Ok(x) => Ok(x),
+            Err(kind) => Err(ReadError::Fault(Fault { left, kind })),
+        },
+    }
+}
+
+#[tactic(auto, unfolding(lto_forms::specs::Rules::is_among))]
+fn scalar_means(t: &Token) -> Result<Reg, FaultKind>
+    ensures exact { result ≡ is_among tokens memory_refusal SCALAR reg_of (tok t.now) }
+    ensures ranged { IfOk result IsReg }
+{
+    match t.head {
+        Head::MemoryInteger | Head::Ptr => Ok(reg_of(t)),
+        head => Err(memory_refusal(head)),
+    }
+}
+
+/// Takes the type of a scalar in memory: `i8`, `i16`, `i32`, `i64` or `ptr`.
+pub fn scalar_at(tokens: &mut Tokens) -> Result<Reg, ReadError>
+    ensures exact { Gives (λ x. (x, tokens.new)) result (scalar_at tokens.old) }
+    ensures ranged { IfOk result IsReg }
+{
+    let left = tokens.left();
+    match tokens.take() {
+        None => Err(ReadError::Fault(Fault {
+            left,
+            kind: FaultKind::Syntax,
+        })),
+        Some(t) => match scalar_means(&t) {
+            Ok(x) => Ok(x),
+            Err(kind) => Err(ReadError::Fault(Fault { left, kind })),
+        },
+    }
+}
+
+#[tactic(auto, unfolding(lto_forms::specs::Rules::is_among))]
+fn result_means(t: &Token) -> Result<Option<Reg>, FaultKind>
+    ensures exact { result ≡ is_among tokens type_refusal RESULT result_of (tok t.now) }
+    ensures ranged { IfOk result (λ x. IfSome x IsReg) }
+{
+    match t.head {
+        Head::Void => Ok(None),
+        Head::MemoryInteger | Head::RegisterInteger | Head::Ptr => Ok(Some(reg_of(t))),
+        head => Err(type_refusal(head)),
+    }
+}
+
+/// Takes the type of a result: `void`, or the type of a register.
+pub fn result_at(tokens: &mut Tokens) -> Result<Option<Reg>, ReadError>
+    ensures exact { Gives (λ x. (x, tokens.new)) result (result_at tokens.old) }
+    ensures ranged { IfOk result (λ x. IfSome x IsReg) }
+{
+    let left = tokens.left();
+    match tokens.take() {
+        None => Err(ReadError::Fault(Fault {
+            left,
+            kind: FaultKind::Syntax,
+        })),
+        Some(t) => match result_means(&t) {
+            Ok(x) => Ok(x),
+            Err(kind) => Err(ReadError::Fault(Fault { left, kind })),
+        },
+    }
+}
+
+fn are_digits(text: &[u8]) -> bool
+    ensures { result ≡ list_all is_ascii_digit text.now }
+{
+    text.iter().all(|d| d.is_ascii_digit())
+}
+
+/// Whether these are digits, at least one.
+fn is_numeral(bare: &[u8]) -> bool
+    ensures { result ≡ is_numeral bare.now }
+{
+    match bare {
+        [] => false,
+        [_, ..] => are_digits(bare),
+    }
+}
+
+/// The name that a token writes, unless that is a number from `2^32` on.
+#[tactic(auto, unfolding(crate::specs::Operands::named))]
+pub fn named<'a>(t: &Token<'a>) -> Option<Name<'a>>
+    ensures { result ≡ named (tok t.now) }
+{
+    let bare = t.bare();
+    if is_numeral(bare) {
+        match decimal(bare) {
+            Some(n) if n < 4294967296 => Some(Name::of(*t)),
+            _ => None,
+        }
+    } else {
+        Some(Name::of(*t))
+    }
+}
+
+#[tactic(auto, unfolding(lto_forms::specs::Rules::is_valued))]
+fn local_means<'a>(t: &Token<'a>) -> Result<Name<'a>, FaultKind>
+    ensures { result ≡ is_valued tokens refusal LOCAL named (tok t.now) }
+{
+    if t.head.is(Head::Local) {
+        match named(t) {
+            None => Err(FaultKind::Number),
+            Some(name) => Ok(name),
+        }
+    } else {
+        Err(refusal(t.head))
+    }
+}
+
+/// Takes the name of a local.
+pub fn local_at<'a>(tokens: &mut Tokens<'_, 'a>) -> Result<Name<'a>, ReadError>
+    ensures { Gives (λ x. (x, tokens.new)) result (local_at tokens.old) }
+{
+    let left = tokens.left();
+    match tokens.take() {
+        None => Err(ReadError::Fault(Fault {
+            left,
+            kind: FaultKind::Syntax,
+        })),
+        Some(t) => match local_means(&t) {
+            Ok(x) => Ok(x),
+            Err(kind) => Err(ReadError::Fault(Fault { left, kind })),
+        },
+    }
+}
+
+fn number_means<'a>(reg: Reg, t: &Token<'a>) -> Result<Operand<'a>, FaultKind>
+    requires { IsReg reg }
+    ensures { result ≡ number_means reg (tok t.now) }
+{
+    match reg {
+        Reg::Ptr => Err(FaultKind::Syntax),
+        Reg::Int(width) => match literal(width, t.text) {
+            None => Err(FaultKind::Number),
+            Some(bits) => Ok(Operand::Number { width, bits }),
+        },
+    }
+}
+
+fn local_value<'a>(t: &Token<'a>) -> Result<Operand<'a>, FaultKind>
+    ensures { result ≡ local_value (tok t.now) }
+{
+    match named(t) {
+        None => Err(FaultKind::Number),
+        Some(name) => Ok(Operand::Local(name)),
+    }
+}
+
+#[tactic(auto, unfolding(lto_forms::specs::Rules::is_valued))]
+fn operand_means<'a>(reg: Reg, t: &Token<'a>) -> Result<Operand<'a>, FaultKind>
+    requires { IsReg reg }
+    ensures { result ≡ is_valued tokens refusal (classes_of reg) (operand_of reg) (tok t.now) }
+{
+    match t.head {
+        Head::Number => number_means(reg, t),
+        Head::Local => local_value(t),
+        Head::True => Ok(Operand::Number { width: 1, bits: 1 }),
+        Head::False => Ok(Operand::Number { width: 1, bits: 0 }),
+        Head::Null => Ok(Operand::Null),
+        Head::Poison => Ok(Operand::Poison(reg)),
+        Head::Global | Head::NumberedGlobal | Head::NumberedDefinition => {
+            Ok(Operand::Global(Name::of(*t)))
+        }
+        head => Err(refusal(head)),
+    }
+}
+
+/// Reads an operand of a type. A number is a literal of it; `true` and `false` are those of `i1`.
+#[tactic(auto, unfolding(crate::specs::OperandsAt::operand_at))]
+pub fn operand_at<'a>(reg: Reg, tokens: &mut Tokens<'_, 'a>) -> Result<Operand<'a>, ReadError>
+    requires { IsReg reg }
+    ensures { Gives (λ x. (x, tokens.new)) result (operand_at reg tokens.old) }
+{
+    let left = tokens.left();
+    match tokens.take() {
+        None => Err(ReadError::Fault(Fault {
+            left,
+            kind: FaultKind::Syntax,
+        })),
+        Some(t) => match operand_means(reg, &t) {
+            Ok(x) => Ok(x),
+            Err(kind) => Err(ReadError::Fault(Fault { left, kind })),
+        },
+    }
+}
+
+/// Reads a type and an operand of it.
+#[tactic(auto, unfolding(crate::specs::OperandsAt::argument_at))]
+pub fn argument_at<'a>(tokens: &mut Tokens<'_, 'a>) -> Result<Argument<'a>, ReadError>
+    ensures { Gives (λ x. (x, tokens.new)) result (argument_at tokens.old) }
+{
+    let reg = reg_at(tokens)?;
+    let operand = operand_at(reg, tokens)?;
+    Ok(Argument { reg, operand })
+}
+
+/// Takes a word where it stands; the answer is whether it does.
+pub fn maybe_at(word: Head, tokens: &mut Tokens) -> Result<bool, ReadError>
+    ensures { Gives (λ x. (x, tokens.new)) result (maybe_at word tokens.old) }
+{
+    if tokens.comes(word) {
+        expect(word, tokens)?;
+        Ok(true)
+    } else {
+        Ok(false)
+    }
+}

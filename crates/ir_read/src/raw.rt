@@ -1,0 +1,224 @@
+//! A module's items with their names as they are written.
+//!
+//! Every list is flat but the parts of shapes, which nest at most 32 deep: the parts of initialisers
+//! and the levels of constant addresses nest as deep as the text does, and lie one behind the other.
+
+use crate::address::Address;
+use crate::name::Name;
+use crate::shape::Typed;
+use ir_tree::{BinaryOp, CastOp, Flags, Linkage, Predicate, Reg, Rows};
+
+/// What an instruction, a terminator or an initialiser reads.
+///
+/// A number has the width of its type; `true` and `false` are numbers of width 1.
+#[derive(Drop)]
+pub enum Operand<'a> {
+    Local(Name<'a>),
+    Global(Name<'a>),
+    Number { width: u8, bits: u64 },
+    Null,
+    Poison(Reg),
+    Address(Address<'a>),
+}
+
+/// An operand with the type that is written before it.
+#[derive(Drop)]
+pub struct Argument<'a> {
+    pub reg: Reg,
+    pub operand: Operand<'a>,
+}
+
+/// An entry of a phi: a value, and the block that it comes from.
+#[derive(Drop)]
+pub struct Incoming<'a> {
+    pub value: Operand<'a>,
+    pub from: Name<'a>,
+}
+
+/// An instruction that is no terminator. Widths are in bits, alignments in bytes; an alignment that
+/// isn't written is `None`, and the count of an `alloca` that isn't is 1.
+#[derive(Drop)]
+pub enum Instr<'a> {
+    Binary {
+        op: BinaryOp,
+        flags: Flags,
+        width: u8,
+        left: Operand<'a>,
+        right: Operand<'a>,
+    },
+    Icmp {
+        predicate: Predicate,
+        reg: Reg,
+        left: Operand<'a>,
+        right: Operand<'a>,
+    },
+    Cast {
+        op: CastOp,
+        from: Reg,
+        value: Operand<'a>,
+        to: Reg,
+    },
+    Select {
+        condition: Operand<'a>,
+        if_true: Argument<'a>,
+        if_false: Argument<'a>,
+    },
+    Freeze {
+        reg: Reg,
+        value: Operand<'a>,
+    },
+    Phi {
+        reg: Reg,
+        incoming: Rows<Incoming<'a>>,
+    },
+    Alloca {
+        typed: Typed<'a>,
+        count: u64,
+        align: Option<u64>,
+    },
+    Load {
+        reg: Reg,
+        address: Operand<'a>,
+        align: Option<u64>,
+    },
+    Store {
+        reg: Reg,
+        value: Operand<'a>,
+        address: Operand<'a>,
+        align: Option<u64>,
+    },
+    Address {
+        inbounds: bool,
+        typed: Typed<'a>,
+        base: Operand<'a>,
+        indices: Rows<Argument<'a>>,
+    },
+    Call {
+        result: Option<Reg>,
+        callee: Operand<'a>,
+        arguments: Rows<Argument<'a>>,
+    },
+}
+
+/// An instruction, the name that its result is given, and the line of its first token.
+#[derive(Drop)]
+pub struct Line<'a> {
+    pub name: Option<Name<'a>>,
+    pub instr: Instr<'a>,
+    pub line: u32,
+}
+
+/// A case of a `switch`: the type that is written, a number of `width` bits, and its target.
+#[derive(Drop)]
+pub struct Case<'a> {
+    pub reg: Reg,
+    pub width: u8,
+    pub bits: u64,
+    pub target: Name<'a>,
+}
+
+/// How a block ends.
+#[derive(Drop)]
+pub enum Terminator<'a> {
+    Return(Option<Argument<'a>>),
+    Jump(Name<'a>),
+    Branch {
+        condition: Operand<'a>,
+        if_true: Name<'a>,
+        if_false: Name<'a>,
+    },
+    Switch {
+        width: u8,
+        value: Operand<'a>,
+        default: Name<'a>,
+        cases: Rows<Case<'a>>,
+    },
+    Unreachable,
+}
+
+/// A basic block: its label, where it has one, its instructions, its terminator, and the line of the
+/// terminator's first token.
+#[derive(Drop)]
+pub struct Block<'a> {
+    pub label: Option<Name<'a>>,
+    pub lines: Rows<Line<'a>>,
+    pub end: Terminator<'a>,
+    pub end_line: u32,
+}
+
+/// A parameter: its type and its name.
+#[derive(Drop)]
+pub struct Param<'a> {
+    pub reg: Reg,
+    pub name: Option<Name<'a>>,
+}
+
+/// What stands before the blocks of a function. The linkage is the one that is written, or
+/// `External`; `result` is `None` for `void`; `groups` are the attribute groups that it names.
+#[derive(Drop)]
+pub struct Head<'a> {
+    pub linkage: Linkage,
+    pub result: Option<Reg>,
+    pub name: Name<'a>,
+    pub params: Rows<Param<'a>>,
+    pub noinline: bool,
+    pub optnone: bool,
+    pub groups: Rows<Name<'a>>,
+}
+
+/// An initialiser without parts, or the beginning of one with parts. `Bytes` has the string.
+#[derive(Drop)]
+pub enum InitHead<'a> {
+    Plain(Operand<'a>),
+    Zeros,
+    Bytes(Name<'a>),
+    Array,
+    Struct { packed: bool },
+}
+
+/// A part of an initialiser with its shape, or the end of the parts of one that began before.
+#[derive(Drop)]
+pub enum InitPart<'a> {
+    Typed {
+        typed: Typed<'a>,
+        head: InitHead<'a>,
+    },
+    End,
+}
+
+/// An initialiser: its beginning, and its parts in the order of the text, each before its own parts,
+/// which an `End` closes.
+#[derive(Drop)]
+pub struct Init<'a> {
+    pub root: InitHead<'a>,
+    pub parts: Rows<InitPart<'a>>,
+}
+
+/// A global variable, and the line of its first token. One without `init` is a declaration.
+#[derive(Drop)]
+pub struct Variable<'a> {
+    pub name: Name<'a>,
+    pub linkage: Linkage,
+    pub constant: bool,
+    pub typed: Typed<'a>,
+    pub init: Option<Init<'a>>,
+    pub align: Option<u64>,
+    pub line: u32,
+}
+
+/// What a module is made of. Metadata, comdats and the name of the source are read and not kept; a
+/// type without a shape is opaque.
+#[derive(Drop)]
+pub enum Item<'a> {
+    Datalayout(Name<'a>),
+    Triple(Name<'a>),
+    Attributes {
+        group: Name<'a>,
+        noinline: bool,
+        optnone: bool,
+    },
+    Type(Name<'a>, Option<Typed<'a>>),
+    Variable(Variable<'a>),
+    Declaration(Head<'a>),
+    Definition(Head<'a>, Rows<Block<'a>>),
+}

@@ -1,0 +1,50 @@
+//! Reads single tokens.
+
+ghost use Rattle.std.specs.Prelude.{◌≡◌};
+ghost use Rattle.ir_lex.specs.Heads.{number};
+ghost use Rattle.ir_lex.specs.Tok.{Tok};
+ghost use Rattle.lto_forms.specs.Readers.{Gives};
+ghost use Rattle.ir_read.specs.Classes.{refusal, the_at};
+
+use crate::tokens::Tokens;
+use ir_lex::Head;
+use lto_forms::{Fault, FaultKind, ReadError};
+
+/// Why a token of this class can't stand where it isn't wanted.
+pub fn refusal(head: Head) -> FaultKind
+    ensures { result ≡ refusal (number head) }
+{
+    match head {
+        Head::ReservedGlobal
+        | Head::LifetimeMarker
+        | Head::RefusedMark
+        | Head::RefusedInteger
+        | Head::RefusedAttribute
+        | Head::RefusedWord => FaultKind::Profile,
+        _ => FaultKind::Syntax,
+    }
+}
+
+/// Takes a token of this class.
+#[tactic(auto, unfolding(lto_forms::specs::Rules::is_class))]
+pub fn expect(wanted: Head, tokens: &mut Tokens) -> Result<(), ReadError>
+    ensures { Gives (λ x. (tt, tokens.new)) result (the_at wanted tokens.old) }
+{
+    let left = tokens.left();
+    match tokens.take() {
+        None => Err(ReadError::Fault(Fault {
+            left,
+            kind: FaultKind::Syntax,
+        })),
+        Some(t) => {
+            if t.head.is(wanted) {
+                Ok(())
+            } else {
+                Err(ReadError::Fault(Fault {
+                    left,
+                    kind: refusal(t.head),
+                }))
+            }
+        }
+    }
+}
