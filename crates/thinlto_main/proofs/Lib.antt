@@ -2,8 +2,6 @@ mod Digits
 mod Comparing
 mod Bodies
 mod Scoped
-mod Placing
-mod Mapped
 mod Readings
 mod Refining
 mod Pushing

@@ -1,9 +1,9 @@
 -- What told files hold follows from the calls that were made.
-use Rattle.std.proofs.Common.{ℕ, ◌≡◌, List, [], ◌∷◌, Option, Some, None, Result, Ok, Err, refl, sym, ◌∙◌, ap, arith, OnErr, IsErrOf, length, subst}
+use Rattle.std.proofs.Common.{ℕ, ◌≡◌, List, [], ◌∷◌, Option, Some, None, Result, Ok, Err, refl, sym, ◌∙◌, ap, arith, OnOk, OnErr, IsErrOf, length, subst, true, false, inl, inr}
 use Rattle.lto_outside.specs.Calls.{Call, Fetched, Put, NoPut, DidNoPut}
 use Rattle.lto_outside.specs.Seen.{FilesSeen}
 use Rattle.lto_outside.specs.Replay.{Replays, Follows}
-use Rattle.lto_outside.specs.Store.{Store, SameFiles, Stays}
+use Rattle.lto_outside.specs.Store.{Store, SameFiles, Stays, HasPut, HasPart, IsPart}
 use Rattle.lto_outside.specs.declared.fault.FetchFault.TheVariants.{Fault, TooLong, NoMemory}
 use Rattle.thinlto_main.specs.declared.refusal.Kind.{Kind}
 use Rattle.thinlto_main.specs.declared.refusal.Kind.TheVariants.{Syntax, Limit}
@@ -13,8 +13,9 @@ use Rattle.thinlto_main.specs.declared.refusal.Refusal.TheVariants.{NoMemory as 
 use Rattle.thinlto_main.specs.declared.words.Command.{Command}
 use Rattle.thinlto_main.specs.declared.words.Command.TheVariants.{DoLink}
 use Rattle.thinlto_main.specs.Reading.{Reads}
-use Rattle.thinlto_main.specs.Answers.{OnUsage, OnReadFault, CannotRead, OnRefused, OnWriteFault, OnUnwritten, CannotWrite}
-use Rattle.thinlto_main.specs.Telling.{BadHeld, HoldsModule, CanDo, HoldsRefused}
+use Rattle.thinlto_main.specs.Answers.{OnUsage, OnReadFault, CannotRead, OnRefused, OnWriteFault, OnUnwritten, CannotWrite, DidLink, IsDone}
+use Rattle.thinlto_main.specs.Telling.{BadHeld, HoldsModule, CanDo, HoldsRefused, HoldsDone, HoldsPart, LinkHeld}
+use Rattle.thinlto_main.specs.declared.words.Link.{Link}
 
 -- calls without a put leave the files as they were
 replays_same : (old new : Store) (calls : List Call) → NoPut calls → Replays old calls new → SameFiles old new
@@ -64,3 +65,46 @@ completes files (Some (DoLink link)) (Err Usage) usage read refused write can = 
 completes files (Some (DoLink link)) (Err (ReadFault name)) usage read refused write can = absurd (can.1 read.rose)
 completes files (Some (DoLink link)) (Err (Refused file line kind)) usage read refused write can = absurd (not_bad link.file files.held kind can.0 refused)
 completes files (Some (DoLink link)) (Err (WriteFault name)) usage read refused write can = absurd (can.1 write.rose)
+
+-- what a link put is held, and a front of it where the put failed
+module _ (link : Link) (files : FilesSeen) where
+  held_done : (d : DidLink link files true) (old new : Option Store) → Follows old (Fetched link.file (Ok d.bytes) ∷ Put link.out d.text true ∷ []) new → LinkHeld HasPut old new link
+  held_done d None new f = tt
+  held_done d (Some old) None f = f
+  held_done d (Some old) (Some new) f = record {
+    bytes = d.bytes;
+    text = d.text;
+    held = f.0;
+    is_link = d.is_link;
+    put_there = record { written = f.1.2 link.out ∙ f.1.1.written; others = λ other differs. f.1.2 other ∙ f.1.1.others other differs };
+  }
+
+  part_behind : (old next new : Store) (text : List ℕ) → IsPart old next link.out text → SameFiles next new → IsPart old new link.out text
+  part_behind old next new text (inl is) same = inl (same link.out ∙ is)
+  part_behind old next new text (inr (count, is)) same = inr (count, same link.out ∙ is)
+
+  held_part : (d : DidLink link files false) (old new : Option Store) → Follows old (Fetched link.file (Ok d.bytes) ∷ Put link.out d.text false ∷ []) new → LinkHeld HasPart old new link
+  held_part d None new f = tt
+  held_part d (Some old) None f = f
+  held_part d (Some old) (Some new) f = record {
+    bytes = d.bytes;
+    text = d.text;
+    held = f.0;
+    is_link = d.is_link;
+    put_there = record { part = part_behind old f.1.0 new d.text f.1.1.part f.1.2; others = λ other differs. f.1.2 other ∙ f.1.1.others other differs };
+  }
+
+module _ (files : FilesSeen) (tells : (calls : List Call) → files.did calls → Follows files.held calls files.holds) where
+  pub done_is_held : {A : Type 0} (c : Option Command) (r : Result A Refusal) → OnOk r (IsDone c files) → OnOk r (HoldsDone c files)
+  done_is_held None (Ok x) d = d
+  done_is_held (Some (DoLink link)) (Ok x) d = held_done link files d files.held files.holds (tells _ d.calls)
+  done_is_held c (Err e) d = tt
+
+  pub part_is_held : {A : Type 0} (c : Option Command) (r : Result A Refusal) → OnWriteFault r (CannotWrite c files) → OnWriteFault r (λ name. HoldsPart c files)
+  part_is_held c (Ok x) w = tt
+  part_is_held None (Err (WriteFault name)) w = w
+  part_is_held (Some (DoLink link)) (Err (WriteFault name)) w = held_part link files w.did_link files.held files.holds (tells _ w.did_link.calls)
+  part_is_held c (Err Usage) w = tt
+  part_is_held c (Err (ReadFault name)) w = tt
+  part_is_held c (Err (Refused file line kind)) w = tt
+  part_is_held c (Err OutOfMemory) w = tt

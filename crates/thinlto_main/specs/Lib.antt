@@ -5,9 +5,7 @@ pub mod Grammar
 pub mod Resolved
 pub mod Scopes
 pub mod Reading
-pub mod Renumbered
-pub mod Numberings
-pub mod Printed
+pub mod Linked
 pub mod Merged
 pub mod Linking
 pub mod Notes

@@ -5,8 +5,8 @@ use Rattle.ir_tree.specs.declared.operand.Symbol.{Symbol}
 use Rattle.ir_meaning.specs.Refine.{Refines}
 use Rattle.ir_meaning.specs.Symbols.{symbol_eq}
 use Rattle.thinlto_main.specs.Reading.{Reads}
-use Rattle.thinlto_main.specs.Printed.{module_text}
-use Rattle.thinlto_main.specs.Renumbered.{linked}
+use Rattle.ir_print.specs.Modules.{module_text}
+use Rattle.thinlto_main.specs.Linked.{linked}
 use Rattle.thinlto_main.specs.Merged.{program_of}
 
 -- the text of the linked module

@@ -6,11 +6,11 @@ ghost use Rattle.thinlto_main.specs.Reading.{IsUnread};
 ghost use Rattle.thinlto_main.specs.Linking.{IsLinkOf};
 ghost use Rattle.thinlto_main.specs.Answers.{OnUsage, OnReadFault, OnRefused, OnWriteFault, OnUnwritten, LinkCannotRead, LinkRefused, LinkCannotWrite, DidLink};
 
-use crate::print::print;
+use crate::back_end::linked;
 use crate::read::read;
 use crate::refusal::{Kind, Refusal};
-use crate::renumber::linked;
 use crate::words::Link;
+use ir_print::print;
 use ir_tree::Text;
 use lto_outside::{FetchFault, Files};
 use std::alloc::{AllocError, Global};

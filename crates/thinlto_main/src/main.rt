@@ -4,24 +4,22 @@
 //! objects, and its contract says when each answer comes and what was done to each object. `main`
 //! makes the real objects, calls `top`, and ends with the status's number.
 //!
-//! Below stand the trees (`ir_tree`), the tokens (`ir_lex`) and the outside (`lto_outside`, and its
-//! real objects in `outside_real`). The promise kept here is the headline of the linker for the form
+//! Below stand the trees (`ir_tree`), the tokens (`ir_lex`), their edits (`ir_edit`) and their printed
+//! form (`ir_print`), and the outside (`lto_outside`, and its real objects in `outside_real`). The promise kept here is the headline of the linker for the form
 //! that is read so far, a `main` of sums: the bytes put are the text of the linked module, and each
 //! run of the linked program is a run of the module as it was read. Time is linear in the text but
 //! for the look-ups of names, which take the logarithm of their count.
 #![tactic(auto)]
 
+mod back_end;
 mod cache;
 mod entry;
 mod link;
 mod name;
 mod notes;
-mod numbering;
 mod parse;
-mod print;
 mod read;
 mod refusal;
-mod renumber;
 mod resolve;
 mod source;
 mod status;

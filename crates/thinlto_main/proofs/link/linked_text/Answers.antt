@@ -1,5 +1,5 @@
 use Rattle.std.proofs.Common.{◌∙◌, ap}
-use Rattle.thinlto_main.specs.Printed.{module_text}
+use Rattle.ir_print.specs.Modules.{module_text}
 use Rattle.thinlto_main.specs.Reading.{Reads}
 use Rattle.thinlto_main.proofs.Refining.{linked_refines}
 use Rattle.thinlto_main.proofs.link.linked_text.Goals as goal

@@ -1,6 +1,0 @@
-use Rattle.std.proofs.Common.{◌≡◌, ◌++◌, drop}
-use Rattle.thinlto_main.specs.Renumbered.{phi_numbers}
-use Rattle.thinlto_main.proofs.numbering.push_phis.Given as goal
-
-abbrev pub invariant-loop-phi : goal.invariant-loop-phi
-invariant-loop-phi l = l.numbers.items ++ phi_numbers (drop l.phi-index l.phis) ≡ l.fn.numbers.items ++ phi_numbers l.phis
