@@ -12,3 +12,4 @@ pub mod TreeSteps
 pub mod DomTree
 pub mod DominanceOf
 pub mod Availability
+pub mod Along

@@ -1,7 +1,7 @@
 -- Laws of data flow that passes use.
-use Rattle.std.specs.Prelude.{◌≡◌, ◌≢◌, ◌↔◌, ℕ, ◌<◌, ◌⊎◌, Bool, true, false, List, [], ◌∷◌, length, slice_get}
+use Rattle.std.specs.Prelude.{◌≡◌, ◌≢◌, ◌↔◌, ℕ, ◌<◌, ◌⊎◌, Bool, true, false, List, [], ◌∷◌, length, slice_get, Option, Some, None}
 use Rattle.ir_tree.specs.declared.function.Function.{Function}
-use Rattle.ir_tree.specs.Flow.{Equations, IsGreatest, Path, Reachable, Dominates, Available, defined_in, holds, parameters, locals, room}
+use Rattle.ir_tree.specs.Flow.{Among, Equations, IsGreatest, IsMarked, KeepsInclusion, edges, Path, Reachable, Dominates, Available, defined_in, holds, parameters, locals, room}
 use Rattle.ir_flow.specs.Dominating.{Dominance, AreDominators}
 
 abbrev pub OneGreatest : Type 0
@@ -31,3 +31,36 @@ abbrev pub AvailableByDominance : Type 0
 AvailableByDominance =
     (f : Function) (t : Dominance) → AreDominators f t → (d b x : ℕ) → d < length f.blocks → b < length f.blocks → IsDefinedIn f d x
     → Available f b x ↔ (Reachable f b → Dominates f d b × (d ≢ b))
+
+-- ---- marks and paths
+
+-- the greatest solution has exactly the marks of all solutions
+abbrev pub GreatestIsMarked : Type 0
+GreatestIsMarked = (e : Equations) (rows : ℕ → ℕ → Bool) → IsGreatest e rows → (b x : ℕ) → (rows b x ≡ true) ↔ IsMarked e b x
+
+-- these blocks lead to a block, the last one first: from one whose row is given, over blocks that are met
+abbrev pub LeadsFrom : Equations → (ℕ → Bool) → List ℕ → ℕ → Type 0
+LeadsFrom e row [] b = e.fixed b ≡ Some row
+LeadsFrom e row (p ∷ ps) b = (p < e.blocks) × (e.fixed b ≡ None) × Among p (e.edges b) × LeadsFrom e row ps p
+
+-- what holds behind these blocks, where the row holds at the start of the first of them: each block's transfer in turn
+abbrev pub carried : Equations → (ℕ → Bool) → List ℕ → ℕ → Bool
+carried e row [] = row
+carried e row (p ∷ ps) = e.out p (carried e row ps)
+
+-- a mark holds behind every path: the greatest solution is below the meet over all paths (Kam and Ullman 1977)
+abbrev pub MarksHoldOnPaths : Type 0
+MarksHoldOnPaths = (e : Equations) → KeepsInclusion e → (b x : ℕ) → IsMarked e b x → (row : ℕ → Bool) (ps : List ℕ) → LeadsFrom e row ps b → carried e row ps x ≡ true
+
+-- equations over the blocks of a function, of which the entry alone has a row that is given
+pub record AreOver (f : Function) (e : Equations) (row : ℕ → Bool) : Type 0 where
+  pub blocks : e.blocks ≡ length f.blocks
+  pub edges : (b : ℕ) → e.edges b ≡ edges f b
+  pub entry : e.fixed 0 ≡ Some row
+  pub met : (b : ℕ) → b ≢ 0 → e.fixed b ≡ None
+
+-- of a function whose entry no edge leads to: a mark holds behind every path from the entry
+abbrev pub MarksHoldFromEntry : Type 0
+MarksHoldFromEntry =
+    (f : Function) (e : Equations) (row : ℕ → Bool) → AreOver f e row → KeepsInclusion e → ((p : ℕ) → Among p (edges f 0) → ⊥)
+    → (b x : ℕ) → IsMarked e b x → (ps : List ℕ) → Path f ps b → carried e row ps x ≡ true

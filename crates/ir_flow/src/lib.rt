@@ -6,8 +6,9 @@
 //! of bits.
 //!
 //! Its promises: the edges and the blocks that are reached are those of the definitions; `Dominators` answers
-//! dominance by paths; `greatest` gives the greatest solution of any lawful equations; and a local that one block
-//! defines is available exactly where that block dominates, so that what is available need not be kept as sets.
+//! dominance by paths; `greatest` gives the greatest solution of any lawful equations, whose marks hold on every path;
+//! and a local that one block defines is available exactly where that block dominates, so that what is available
+//! need not be kept as sets.
 //!
 //! Edges and reached blocks take time and memory linear in blocks, edges and the greatest number of a block.
 //! Dominators take two rounds over the edges where control flow is reducible, each meeting of two blocks a
@@ -32,7 +33,10 @@ mod work_list;
 
 pub use dominators::Dominators;
 pub use graph::Edges;
-pub use laws::{all_are_available, available_by_dominance, available_is_passed, one_greatest};
+pub use laws::{
+    all_are_available, available_by_dominance, available_is_passed, greatest_is_marked,
+    marks_hold_from_entry, marks_hold_on_paths, one_greatest,
+};
 pub use predecessors::preds;
 pub use reach::reachable;
 pub use solution::greatest;
