@@ -2,7 +2,7 @@
 use Rattle.std.proofs.Common.{◌≡◌, ℕ, zero, suc, ◌<◌, ◌≤◌, ◌+◌, List, [], ◌∷◌, length, get_or, take, refl, sym, ap, subst, arith}
 use Rattle.std.specs.Prelude.{Some, slice_get, All, map}
 use Rattle.std.proofs.lemmas.List.Elements.{All-more}
-use Rattle.ir_verify.proofs.Keys.{got_is, got_below}
+use Rattle.ir_verify.proofs.Keys.{got_at, got_is, got_below}
 
 take_whole : {X : Type 0} (xs : List X) (i : ℕ) → length xs ≤ i → take i xs ≡ xs
 take_whole [] zero l = refl
@@ -39,3 +39,6 @@ got_all P xs i x g h = subst P (got_is xs i x x g) (h i x (got_below xs i x g))
 
 pub read_all : {X : Type 0} (P : X → Type 0) (xs : List X) (i : ℕ) (x : X) → i < length xs → x ≡ get_or xs i x → All P xs → P x
 read_all P xs i x l is h = subst P (sym is) (h i x l)
+
+pub all_from_got : {X : Type 0} (P : X → Type 0) (xs : List X) → ((i : ℕ) (x : X) → slice_get xs i ≡ Some x → P x) → All P xs
+all_from_got P xs h i d l = h i (get_or xs i d) (got_at xs i d l)

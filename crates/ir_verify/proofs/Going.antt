@@ -29,7 +29,7 @@ went_on f lines g i j k a b c v w = record {
     | inr p ↦ w.kept e n item rule (omega arith) m at
   ];
   before = λ line rule h. w.before line rule (v.before line rule h);
-  origin = elim w.origin [ inr e ↦ inr e | inl s ↦ elim v.origin [ inl t ↦ inl (s ∙ t) | inr e ↦ inr (e.0, s ∙ e.1, e.2, e.3) ] ];
+  origin = elim w.origin [ inr e ↦ inr (e.0, e.1, e.2, e.3, λ h. e.4 (v.before e.0.line e.0.kind h)) | inl s ↦ elim v.origin [ inl t ↦ inl (s ∙ t) | inr e ↦ inr (e.0, s ∙ e.1, e.2, e.3, e.4) ] ];
 }
 
 later_rule : (o : Option VerifyFault) (line : ℕ) (rule other : Rule) → number rule ≤ number other → AtMost o line rule → AtMost o line other
@@ -64,8 +64,8 @@ went_one f lines g i item line broken old new at on b n = record {
     found None b n rule h = absurd (h (b rule))
     found (Some r) b n rule h = elim (cases_lt (number rule) (number r)) [ inl l ↦ absurd (h (b.1 rule l)) | inr l ↦ later_rule new line r rule (omega arith) (n.here r refl) ]
 
-    origin_of : (broken : Option Rule) → FirstBroken f item broken → IsNoted old (Some g) line broken new → ((new ≡ old) ⊎ ((rule : Rule) × (broken ≡ Some rule) × (new ≡ Some (fault (Some g) line rule)))) → (new ≡ old) ⊎ ((e : VerifyFault) × (new ≡ Some e) × (e.function ≡ Some g) × Breaks f lines e.kind e.line)
+    origin_of : (broken : Option Rule) → FirstBroken f item broken → IsNoted old (Some g) line broken new → ((new ≡ old) ⊎ ((rule : Rule) × (broken ≡ Some rule) × (new ≡ Some (fault (Some g) line rule)) × (AtMost old line rule → ⊥))) → (new ≡ old) ⊎ ((e : VerifyFault) × (new ≡ Some e) × (e.function ≡ Some g) × Breaks f lines e.kind e.line × (AtMost old e.line e.kind → ⊥))
     origin_of broken b n (inl s) = inl s
     origin_of broken b n (inr w) =
         let first = subst (λ (o : Option Rule). FirstBroken f item o) w.1 b in
-        inr (fault (Some g) line w.0, w.2, refl, (i, item, at, on, first.0))
+        inr (fault (Some g) line w.0, w.2, refl, (i, item, at, on, first.0), w.3)

@@ -96,6 +96,19 @@ not_found (p ∷ ps) x e h = step (not_found ps x) (nat_eq p.0 x) refl e
 pub local_found : (f : Function) (x : ℕ) → holds (locals f) x ≡ true → found (definitions f) x ≡ None → ⊥
 local_found f x h e = not_found (definitions f) x e (subst (λ xs. holds xs x ≡ true) (sym (keys_all f)) h)
 
+held_key : (ps : List Pair) (x : ℕ) (d : Definition) → found ps x ≡ Some d → holds (keys ps) x ≡ true
+unfolding keys
+held_key [] x d e = absurd (none_some d e)
+held_key (p ∷ ps) x d e = step (held_key ps x d) (nat_eq p.0 x) refl e
+  where
+    step : (found ps x ≡ Some d → holds (keys ps) x ≡ true) → (t : Bool) → nat_eq p.0 x ≡ t → (if t then Some p.1 else found ps x) ≡ Some d → (nat_eq x p.0 || holds (keys ps) x) ≡ true
+    step again true q s = or_left (nat_eq x p.0) (holds (keys ps) x) (turned p.0 x q)
+    step again false q s = or_right (nat_eq x p.0) (holds (keys ps) x) (again s)
+
+-- what is found is a local of the function
+pub found_local : (f : Function) (x : ℕ) (d : Definition) → found (definitions f) x ≡ Some d → holds (locals f) x ≡ true
+found_local f x d e = subst (λ xs. holds xs x ≡ true) (keys_all f) (held_key (definitions f) x d e)
+
 -- ---- where it is found
 
 from_params : (ps : List Param) (qs : List Pair) (x : ℕ) (d : Definition) → found (param_pairs ps ++ qs) x ≡ Some d → ((holds (map (λ p. p.local) ps) x ≡ true) × (d.home ≡ None)) ⊎ (found qs x ≡ Some d)

@@ -1,6 +1,6 @@
 -- Going over the globals of a module, one after another.
 use Rattle.std.proofs.Common.{◌≡◌, ℕ, zero, suc, ◌+◌, ◌<◌, List, [], ◌∷◌, refl, sym, ap, subst, ◌∙◌, arith, inl, inr, ◌⊎◌}
-use Rattle.std.specs.Prelude.{slice_get, Option, Some, None, Result, Ok, Err, IfOk}
+use Rattle.std.specs.Prelude.{slice_get, length, All, MatchOption, Option, Some, None, Result, Ok, Err, IfOk}
 use Rattle.std.specs.List.{AllZip}
 use Rattle.std.proofs.lemmas.Bool.{cases_lt}
 use Rattle.ir_tree.specs.declared.function.Function.{Function}
@@ -12,9 +12,11 @@ use Rattle.ir_tree.specs.Fits.{FitsShape}
 use Rattle.ir_tree.specs.declared.rule.Rule.{Rule}
 use Rattle.ir_tree.specs.declared.rule.Rule.TheVariants.{TypeMismatch}
 use Rattle.ir_verify.specs.declared.fault.VerifyFault.{VerifyFault}
-use Rattle.ir_verify.specs.Modules.{GlobalPast, IsFirst, place_of}
+use Rattle.ir_verify.specs.Modules.{GlobalPast, IsFirst, IsLeastFault, BreaksAt, place_of}
 use Rattle.ir_verify.specs.Orders.{AtMost, IsPast, IsNoted, fault}
+use Rattle.ir_verify.proofs.Alls.{all_from_got}
 use Rattle.ir_verify.proofs.Going.{none_before}
+use Rattle.ir_verify.proofs.Keys.{got_below}
 
 pub zip_at : {A B : Type 0} (R : A → B → Type 0) (xs : List A) (ys : List B) (i : ℕ) (x : A) (y : B) → AllZip R xs ys → slice_get xs i ≡ Some x → slice_get ys i ≡ Some y → R x y
 zip_at R [] ys i x y z e d = absurd (cc e)
@@ -55,8 +57,16 @@ module _ (gs : List GlobalValue) (lines : List (List ℕ)) (j : ℕ) (old new : 
     found = λ e n. elim w.origin [
       | inl s ↦ o.found e (sym s ∙ n)
       | inr u ↦
-          (let same = some_is u.0 e (sym u.1 ∙ n) in
-          (j, g, ls, subst (λ (z : VerifyFault). z.function ≡ place_of g j) same u.2, at, on, subst (λ (z : VerifyFault). GlobalBreaks g ls z.kind z.line) same u.3))
+          (let same = some_is u.0 e (sym u.1 ∙ n) in (
+            j,
+            g,
+            ls,
+            subst (λ (z : VerifyFault). z.function ≡ place_of g j) same u.2,
+            at,
+            on,
+            subst (λ (z : VerifyFault). GlobalBreaks g ls z.kind z.line) same u.3,
+            λ k h ms l got here broken. subst (λ (z : VerifyFault). AtMost old z.line z.kind → ⊥) same u.4 (o.covers k h ms e.kind e.line l got here broken),
+          ))
     ];
   }
 
@@ -88,7 +98,7 @@ past_other v ls line k old new on never p = record {
   before = p.before;
   origin = elim p.origin [
     | inl s ↦ inl s
-    | inr u ↦ inr (fault None line u.0, u.2, refl, (some_rule u.0 u.1, on, never))
+    | inr u ↦ inr (fault None line u.0, u.2, refl, (some_rule u.0 u.1, on, never), u.3)
   ];
 }
   where
@@ -98,3 +108,17 @@ past_other v ls line k old new on never p = record {
 pub variable_at : {E : Type 0} (r : Result (Option VerifyFault) E) (g : GlobalValue) (v : Variable) (ls : List ℕ) (k : ℕ) (old : Option VerifyFault) → g ≡ global.Variable v → IfOk r (λ new. (i : ℕ) → GlobalPast (global.Variable v) ls i old new) → IfOk r (λ new. GlobalPast g ls k old new)
 variable_at (Ok new) g v ls k old e p = subst (λ (z : GlobalValue). GlobalPast z ls k old new) (sym e) (p k)
 variable_at (Err x) g v ls k old e p = tt
+
+-- ---- what was found over all globals
+
+pub least_of : (gs : List GlobalValue) (lines : List (List ℕ)) (new : Option VerifyFault) → IsFirst gs lines (length gs) new → MatchOption new (All GlobalSound gs) (λ e. IsLeastFault gs lines e)
+least_of gs lines None o = all_from_got GlobalSound gs (λ k g got. o.sound refl k g (got_below gs k g got) got)
+least_of gs lines (Some e) o =
+    let w = o.found e refl in
+    record {
+      place = w.0;
+      broken = record { global = w.1; on = w.2; got = w.4; lined = w.5; broken = w.6 };
+      named = w.3;
+      least = λ k rule line b. o.covers k b.global b.on rule line (got_below gs k b.global b.got) b.got b.lined b.broken;
+      first = λ k b. elim (cases_lt k w.0) [ inl l ↦ absurd (w.7 k b.global b.on l b.got b.lined b.broken) | inr p ↦ omega arith ];
+    }

@@ -23,14 +23,15 @@ fault function line kind = record { function = function; line = line; kind = kin
 pub record IsNoted (old : Option VerifyFault) (function : Option ℕ) (line : ℕ) (broken : Option Rule) (new : Option VerifyFault) : Type 0 where
   pub here : (rule : Rule) → broken ≡ Some rule → AtMost new line rule
   pub before : (l : ℕ) (rule : Rule) → AtMost old l rule → AtMost new l rule
-  pub origin : (new ≡ old) ⊎ ((rule : Rule) × (broken ≡ Some rule) × (new ≡ Some (fault function line rule)))
+  -- of two faults on one line with one rule the earlier stays
+  pub origin : (new ≡ old) ⊎ ((rule : Rule) × (broken ≡ Some rule) × (new ≡ Some (fault function line rule)) × (AtMost old line rule → ⊥))
 
 -- what is found over the items from i up to j of the function g, which stand on these lines
 pub record Went (f : Function) (lines : List ℕ) (g : ℕ) (i : ℕ) (old : Option VerifyFault) (j : ℕ) (new : Option VerifyFault) : Type 0 where
   pub covers : (k : ℕ) (item : Item) (line : ℕ) (rule : Rule) → i ≤ k → k < j → slice_get (items f) k ≡ Some item → slice_get lines k ≡ Some line → (Keeps f rule item → ⊥) → AtMost new line rule
   pub kept : new ≡ None → (k : ℕ) (item : Item) (rule : Rule) → i ≤ k → k < j → slice_get (items f) k ≡ Some item → Keeps f rule item
   pub before : (line : ℕ) (rule : Rule) → AtMost old line rule → AtMost new line rule
-  pub origin : (new ≡ old) ⊎ ((e : VerifyFault) × (new ≡ Some e) × (e.function ≡ Some g) × Breaks f lines e.kind e.line)
+  pub origin : (new ≡ old) ⊎ ((e : VerifyFault) × (new ≡ Some e) × (e.function ≡ Some g) × Breaks f lines e.kind e.line × (AtMost old e.line e.kind → ⊥))
 
 -- what is found after the function g, whose items stand on these lines
 pub record IsPast (f : Function) (lines : List ℕ) (g : ℕ) (old new : Option VerifyFault) : Type 0 where
@@ -38,4 +39,4 @@ pub record IsPast (f : Function) (lines : List ℕ) (g : ℕ) (old new : Option 
   pub sound : new ≡ None → Sound f
   pub covers : (rule : Rule) (line : ℕ) → Breaks f lines rule line → AtMost new line rule
   pub before : (line : ℕ) (rule : Rule) → AtMost old line rule → AtMost new line rule
-  pub origin : (new ≡ old) ⊎ ((e : VerifyFault) × (new ≡ Some e) × (e.function ≡ Some g) × Breaks f lines e.kind e.line)
+  pub origin : (new ≡ old) ⊎ ((e : VerifyFault) × (new ≡ Some e) × (e.function ≡ Some g) × Breaks f lines e.kind e.line × (AtMost old e.line e.kind → ⊥))

@@ -3,19 +3,18 @@
 ghost use Rattle.std.specs.Prelude.{ℕ, ◌<◌, ◌≤◌, ◌^◌, ◌↔◌, length, IsTrue, All};
 ghost use Rattle.ir_flow.specs.Dominating.{AreDominators, dominance};
 ghost use Rattle.ir_tree.specs.Flow.{AvailableAt, locals};
-ghost use Rattle.ir_tree.specs.Formed.{Distinct, Formed, IsLocal, IsBlock, OperandFormed, ArgumentFormed};
+ghost use Rattle.ir_tree.specs.Formed.{Distinct, Formed, IsLocal, OperandFormed, ArgumentFormed};
 ghost use Rattle.ir_tree.specs.Items.{reads, end_reads};
-ghost use Rattle.ir_tree.specs.Rules.{place, IsThere, IsThereAtEnd};
+ghost use Rattle.ir_tree.specs.Rules.{IsThere, IsThereAtEnd};
 ghost use Rattle.ir_tree.specs.declared.function.Function.{Function};
 ghost use Rattle.ir_verify.specs.Homes.{IsHome};
 ghost use Rattle.ir_verify.specs.Known.{IsKnown};
 
 use crate::definitions::Home;
 use crate::known::Known;
-use crate::phis::place_of;
 use crate::reads::{end_read, read_at, read_count};
 use ir_flow::{Dominators, available_by_dominance};
-use ir_tree::{Function, Incoming, Instr, Operand, Terminator};
+use ir_tree::{Function, Instr, Operand, Terminator};
 
 /// Whether a local with this home is available in the block at a place, before its line of this number: in the home itself behind
 /// its definition, elsewhere where the home dominates, and in a block that isn't reached.
@@ -73,7 +72,7 @@ fn operand_there(
 }
 
 /// Whether an operand is there at the end of a block.
-fn operand_at_end(function: &Function, known: &Known, block: usize, operand: &Operand) -> bool
+pub fn operand_at_end(function: &Function, known: &Known, block: usize, operand: &Operand) -> bool
     requires known { IsKnown function.now known.now }
     requires formed { Formed function.now }
     requires within { block < length function.now.blocks }
@@ -121,21 +120,4 @@ pub fn end_there(function: &Function, known: &Known, block: usize, end: &Termina
         Some((_, operand)) => operand_at_end(function, known, block, operand),
         None => true,
     }
-}
-
-/// Whether the entries of a phi are there at the ends of the blocks that they are for.
-pub fn entries_there(function: &Function, known: &Known, entries: &[Incoming]) -> bool
-    requires known { IsKnown function.now known.now }
-    requires formed { Formed function.now }
-    requires sources { All (λ e. IsBlock function.now e.from) entries.now }
-    requires values { All (λ e. OperandFormed function.now e.value) entries.now }
-    ensures { IsTrue result ↔ All (λ e. IsThereAtEnd function.now (place function.now.blocks e.from) e.value) entries.now }
-{
-    for entry in entries {
-        let from = place_of(function.blocks.as_slice(), &known.places, entry.from);
-        if !operand_at_end(function, known, from, &entry.value) {
-            return false;
-        }
-    }
-    true
 }

@@ -1,10 +1,12 @@
 //! Faults, and the first of several.
 ghost use Rattle.std.specs.Prelude.{◌≡◌, ℕ, ◌⊎◌, ◌↔◌, IsTrue, Some};
+ghost use Rattle.ir_verify.specs.declared.fault.VerifyError.TheVariants.{NoMemory};
 ghost use Rattle.ir_tree.specs.declared.rule.Rule.{Rule};
 ghost use Rattle.ir_verify.specs.Faults.{number};
 ghost use Rattle.ir_verify.specs.Orders.{IsBefore, AtMost, IsNoted};
 
 use ir_tree::Rule;
+use std::alloc::AllocError;
 
 /// A rule that is broken on a line, counted from 1: by a function, which goes by its place among the module's global values, or by
 /// the initialiser of a variable, which has none.
@@ -13,6 +15,21 @@ pub struct VerifyFault {
     pub function: Option<u32>,
     pub line: u32,
     pub kind: Rule,
+}
+
+/// Why a module isn't verified: memory ran out, or a rule is broken.
+#[derive(Debug, Drop)]
+pub enum VerifyError {
+    NoMemory,
+    Fault(VerifyFault),
+}
+
+impl From<AllocError> for VerifyError {
+    ghost from_gives = { λ _ e. e ≡ NoMemory };
+
+    fn from(_e: AllocError) -> VerifyError {
+        VerifyError::NoMemory
+    }
 }
 
 /// The number of a rule, from 1.
@@ -43,7 +60,7 @@ fn is_at_most(fault: VerifyFault, other: VerifyFault) -> bool
 fn first(best: Option<VerifyFault>, fault: VerifyFault) -> Option<VerifyFault>
     ensures here { AtMost result fault.line fault.kind }
     ensures before { (line : ℕ) (rule : Rule) → AtMost best line rule → AtMost result line rule }
-    ensures origin { (result ≡ best) ⊎ (result ≡ Some fault) }
+    ensures origin { (result ≡ best) ⊎ ((result ≡ Some fault) × (AtMost best fault.line fault.kind → ⊥)) }
 {
     match best {
         Some(known) => if is_at_most(known, fault) {

@@ -1,10 +1,10 @@
 //! The globals of a module, one after another.
-ghost use Rattle.std.specs.Prelude.{◌≡◌, ℕ, ◌<◌, ◌↔◌, length, IfOk, IsTrue, All};
+ghost use Rattle.std.specs.Prelude.{◌≡◌, ℕ, ◌<◌, ◌↔◌, length, IfOk, IsTrue, All, MatchOption};
 ghost use Rattle.std.specs.List.{AllZip};
-ghost use Rattle.ir_tree.specs.Wholes.{GlobalFormed, HasLines};
+ghost use Rattle.ir_tree.specs.Wholes.{GlobalFormed, GlobalSound, HasLines};
 ghost use Rattle.ir_tree.specs.Fits.{FitsShape};
 ghost use Rattle.ir_tree.specs.declared.module.GlobalValue.TheVariants as global;
-ghost use Rattle.ir_verify.specs.Modules.{GlobalPast, IsFirst};
+ghost use Rattle.ir_verify.specs.Modules.{GlobalPast, IsFirst, IsLeastFault};
 
 use crate::blocks::function_fault;
 use crate::fault::{VerifyFault, noted};
@@ -79,13 +79,14 @@ fn globals_fault(
     Ok(best)
 }
 
-/// The first fault of a module: on the least line, and there of the least rule; none exactly where every function is sound and every
+/// The fault of a module: on the least line, and there of the least rule; none exactly where every function is sound and every
 /// initialiser fits its shape.
 ///
 /// Beside want of memory, a module of `2^32` globals or more, or with a function of `2^32` blocks or more, is refused as too large for
 /// it. Time is near linear in the module where control flow is reducible, memory linear in its largest function.
-pub fn functions_fault(alloc: Global, parsed: &Parsed) -> Result<Option<VerifyFault>, AllocError>
-    ensures { IfOk result (λ new. IsFirst parsed.now.0.globals parsed.now.1 (length parsed.now.0.globals) new) }
+pub fn module_fault(alloc: Global, parsed: &Parsed) -> Result<Option<VerifyFault>, AllocError>
+    ensures { IfOk result (λ fault. MatchOption fault (All GlobalSound parsed.now.0.globals) (IsLeastFault parsed.now.0.globals parsed.now.1)) }
 {
-    globals_fault(alloc, parsed.module().globals.as_slice(), parsed.lines())
+    let fault = globals_fault(alloc, parsed.module().globals.as_slice(), parsed.lines())?;
+    Ok(fault)
 }

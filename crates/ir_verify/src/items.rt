@@ -1,21 +1,38 @@
 //! The rules at each phi, line and terminator of a function.
-ghost use Rattle.std.specs.Prelude.{◌≡◌, ◌<◌, ◌↔◌, length, IfOk, IsTrue, Some};
-ghost use Rattle.ir_tree.specs.Formed.{Formed, ItemFormed};
+ghost use Rattle.std.specs.Prelude.{◌≡◌, ◌<◌, ◌↔◌, length, All, IfOk, IsTrue, Some};
+ghost use Rattle.ir_tree.specs.Formed.{Formed, IsBlock, ItemFormed, OperandFormed};
 ghost use Rattle.ir_tree.specs.Items.{phi_item, line_item, end_item};
 ghost use Rattle.ir_tree.specs.Items as items;
-ghost use Rattle.ir_tree.specs.Rules.{EndDiffers, EntriesThere, OnEdges};
+ghost use Rattle.ir_tree.specs.Rules.{place, EndDiffers, EntriesThere, IsThereAtEnd, OnEdges};
 ghost use Rattle.ir_verify.specs.Faults.{FirstBroken, LatePhi};
 ghost use Rattle.ir_verify.specs.Known.{IsKnown};
 
-use crate::available::{end_there, entries_there, reads_there};
+use crate::available::{end_there, operand_at_end, reads_there};
 use crate::cases::cases_differ;
 use crate::entry::leaves_entry;
 use crate::instructions::{casts_right, is_no_phi, line_follows};
 use crate::known::Known;
-use crate::phis::on_edges;
+use crate::phis::{on_edges, place_of};
 use crate::types::{end_typed, entries_typed, line_typed};
 use ir_tree::{Function, Incoming, Instr, Line, Phi, Rule, Terminator};
 use std::alloc::{AllocError, Global};
+
+/// Whether the entries of a phi are there at the ends of the blocks that they are for.
+fn entries_there(function: &Function, known: &Known, entries: &[Incoming]) -> bool
+    requires known { IsKnown function.now known.now }
+    requires formed { Formed function.now }
+    requires sources { All (λ e. IsBlock function.now e.from) entries.now }
+    requires values { All (λ e. OperandFormed function.now e.value) entries.now }
+    ensures { IsTrue result ↔ All (λ e. IsThereAtEnd function.now (place function.now.blocks e.from) e.value) entries.now }
+{
+    for entry in entries {
+        let from = place_of(function.blocks.as_slice(), &known.places, entry.from);
+        if !operand_at_end(function, known, from, &entry.value) {
+            return false;
+        }
+    }
+    true
+}
 
 /// The first rule that a phi of the block at a place breaks.
 pub fn phi_broken(

@@ -5,7 +5,8 @@
 //! function breaks, and with none exactly where it keeps all eight (`ir_tree`'s `specs/Rules.antt`). What is available is
 //! answered point by point, from the place of a local's definition and the dominators of its function. [`noted`] keeps the fault of
 //! the least line, and on one line of the least rule, and [`function_fault`] goes over all items of a function with it. [`init_fits`] says whether an initialiser fits a shape, and
-//! [`functions_fault`] finds the least fault of a module's functions and variables.
+//! [`module_fault`] finds the least fault of a module: of its functions and of the initialisers of its variables. [`verify`] answers with
+//! the sound module, or with that fault.
 //!
 //! Below stand `ir_tree`, and the edges and dominators of `ir_flow`. The promise: each answer is what the definitions of
 //! soundness say. Tables go by the numbers of locals and blocks; a phi is checked in the time of sorting its entries, a switch in
@@ -29,12 +30,15 @@ mod table;
 #[cfg(test)]
 mod tests;
 mod types;
+mod verifier;
 
 pub use blocks::function_fault;
 pub use definitions::{Definition, Home};
-pub use fault::{VerifyFault, noted, rule_number};
-pub use globals::functions_fault;
+pub use fault::{VerifyError, VerifyFault, noted, rule_number};
+pub use globals::module_fault;
 pub use initial::init_fits;
 pub use items::{end_broken, line_broken, phi_broken};
 pub use known::{Known, learned};
+pub use reads::{end_read, read_at, read_count};
 pub use table::Table;
+pub use verifier::verify;

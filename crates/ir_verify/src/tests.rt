@@ -1,7 +1,8 @@
 use crate::cases::cases_differ;
-use crate::globals::functions_fault;
+use crate::globals::module_fault;
 use crate::instructions::cast_fits;
 use crate::known::learned;
+use crate::verifier::verify;
 use ir_tree::{
     Block, Case, CastOp, Function, Linkage, Module, Param, Parsed, Phi, Reg, Rows, Symbol,
     Terminator, Text,
@@ -89,7 +90,7 @@ fn a_block_with_a_parameter_is_learned(rt: HostRuntime) {
 }
 
 #[test]
-fn a_module_without_functions_has_no_fault(rt: HostRuntime) {
+fn a_module_without_globals_is_verified(rt: HostRuntime) {
     let alloc = rt.alloc();
     let tree = Module {
         datalayout: Text::new(alloc),
@@ -97,6 +98,10 @@ fn a_module_without_functions_has_no_fault(rt: HostRuntime) {
         globals: Rows::new(alloc),
     };
     let parsed = Parsed::of(tree, Rows::new(alloc));
-    let fault = functions_fault(alloc, &parsed).expect(&rt, "memory");
+    let fault = module_fault(alloc, &parsed).expect(&rt, "memory");
     assert!(rt; fault.is_none());
+    match verify(alloc, parsed) {
+        Ok(verified) => assert!(rt; verified.module().globals.len() == 0),
+        Err(_) => assert!(rt; false),
+    }
 }

@@ -5,7 +5,7 @@ use Rattle.ir_tree.specs.Rules.{IsThereAtEnd, place}
 use Rattle.ir_tree.specs.declared.instr.Incoming.{Incoming}
 use Rattle.ir_verify.proofs.Alls.{read_all, all_read, all_whole, all_fails_read}
 use Rattle.ir_verify.proofs.Kept.{placed}
-use Rattle.ir_verify.proofs.available.entries_there.Goals as goal
+use Rattle.ir_verify.proofs.items.entries_there.Goals as goal
 
 pub operand_at_end-requires-clause-within : goal.operand_at_end-requires-clause-within
 operand_at_end-requires-clause-within c =

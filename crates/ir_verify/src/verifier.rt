@@ -1,0 +1,29 @@
+//! The verifier of whole modules.
+ghost use Rattle.std.specs.Prelude.{◌≡◌, IfOk, IsErrOf};
+ghost use Rattle.ir_tree.specs.Wholes.{IsVerified};
+ghost use Rattle.ir_verify.specs.Modules.{IsLeastFault};
+ghost use Rattle.ir_verify.specs.declared.fault.VerifyError.TheVariants.{Fault};
+ghost use Rattle.ir_verify.specs.declared.fault.VerifyFault.{VerifyFault};
+
+use crate::fault::VerifyError;
+use crate::globals::module_fault;
+use ir_tree::{Parsed, Verified};
+use std::alloc::Global;
+
+/// Verifies a module (LangRef, "Well-Formedness"): the module itself, where every function is sound and every initialiser fits its
+/// shape, and else its fault, on the least line and there of the least rule.
+///
+/// Where memory runs out that is the answer; a module of `2^32` globals or more, or with a function of `2^32` blocks or more, is
+/// refused as too large for it. Time is near linear in the module where control flow is reducible, memory linear in its largest
+/// function. The module is moved and not copied.
+pub fn verify(alloc: Global, parsed: Parsed) -> Result<Verified, VerifyError>
+    ensures same { IfOk result (λ verified. verified ≡ parsed.0) }
+    ensures sound { IfOk result (λ verified. IsVerified parsed.0) }
+    ensures fault { (fault : VerifyFault) → IsErrOf result (Fault fault) → IsLeastFault parsed.0.globals parsed.1 fault }
+{
+    if let Some(fault) = module_fault(alloc, &parsed)? {
+        return Err(VerifyError::Fault(fault));
+    }
+    let (module, _lines) = parsed.into_parts();
+    Ok(Verified::of(module))
+}

@@ -1,0 +1,4 @@
+pub mod Taken
+pub mod Small
+pub mod Ending
+pub mod Counting
