@@ -3,8 +3,8 @@
 use crate::{print, print_function, print_variable};
 use ir_tree::{
     Argument, BinaryOp, Block, Case, CastOp, Flags, Function, GlobalValue, Incoming, Init,
-    InitHead, Instr, Line, Linkage, Module, Operand, Param, Phi, Predicate, Reg, Rows, Shape,
-    Symbol, Terminator, Text, Variable,
+    InitHead, InitPart, Instr, Line, Linkage, Module, Operand, Param, Phi, Predicate, Reg, Rows,
+    Shape, Symbol, Terminator, Text, Variable,
 };
 use std::alloc::{AllocError, Global};
 use std::test::Fail;
@@ -67,11 +67,11 @@ fn integers(alloc: Global, lines: &mut Rows<Line>) -> Result<(), Fail> {
         exact: true,
     };
     lines.push(line(
-        2,
+        3,
         binary(BinaryOp::Add, wraps, 8, Operand::Local(0), number(8, 255)),
     ))?;
     lines.push(line(
-        3,
+        4,
         binary(
             BinaryOp::Udiv,
             exact,
@@ -81,7 +81,7 @@ fn integers(alloc: Global, lines: &mut Rows<Line>) -> Result<(), Fail> {
         ),
     ))?;
     lines.push(line(
-        4,
+        5,
         Instr::Icmp {
             predicate: Predicate::Sle,
             reg: Reg::Int(1),
@@ -90,32 +90,32 @@ fn integers(alloc: Global, lines: &mut Rows<Line>) -> Result<(), Fail> {
         },
     ))?;
     lines.push(line(
-        5,
+        6,
         Instr::Cast {
             op: CastOp::Sext,
             from: Reg::Int(8),
-            value: Operand::Local(2),
+            value: Operand::Local(3),
             to: Reg::Int(33),
         },
     ))?;
     lines.push(line(
-        6,
+        7,
         Instr::Freeze {
             reg: Reg::Int(8),
-            value: Operand::Local(2),
+            value: Operand::Local(3),
         },
     ))?;
     lines.push(line(
-        7,
+        8,
         Instr::Select {
-            condition: Operand::Local(4),
+            condition: Operand::Local(5),
             if_true: argument(Reg::Ptr, Operand::Null),
             if_false: argument(Reg::Ptr, address(alloc, b"g", 18446744073709551612)?),
         },
     ))?;
     let mut arguments = Rows::new(alloc);
-    arguments.push(argument(Reg::Int(8), Operand::Local(2)))?;
-    arguments.push(argument(Reg::Ptr, Operand::Local(7)))?;
+    arguments.push(argument(Reg::Int(8), Operand::Local(3)))?;
+    arguments.push(argument(Reg::Ptr, Operand::Local(8)))?;
     lines.push(Line {
         local: None,
         instr: Instr::Call {
@@ -134,14 +134,14 @@ fn memory(alloc: Global, lines: &mut Rows<Line>) -> Result<(), Fail> {
     parts.push(Shape::array(alloc, 3, Shape::ptr())?)?;
     let pair = Shape::structure(true, parts);
     lines.push(line(
-        8,
+        9,
         Instr::Alloca {
             shape: Shape::structure(false, Vec::new(alloc)),
             align: 1,
         },
     ))?;
     lines.push(line(
-        9,
+        10,
         Instr::Load {
             reg: Reg::Ptr,
             address: address(alloc, b"a b", 0)?,
@@ -153,7 +153,7 @@ fn memory(alloc: Global, lines: &mut Rows<Line>) -> Result<(), Fail> {
         instr: Instr::Store {
             reg: Reg::Int(32),
             value: number(32, 4294967295),
-            address: Operand::Local(9),
+            address: Operand::Local(10),
             align: 4,
         },
     })?;
@@ -161,11 +161,11 @@ fn memory(alloc: Global, lines: &mut Rows<Line>) -> Result<(), Fail> {
     indices.push(argument(Reg::Int(64), number(64, 1)))?;
     indices.push(argument(Reg::Int(32), number(32, 1)))?;
     lines.push(line(
-        10,
+        11,
         Instr::Address {
             inbounds: true,
             shape: pair,
-            base: Operand::Local(9),
+            base: Operand::Local(10),
             indices,
         },
     ))?;
@@ -179,8 +179,8 @@ fn incoming(value: Operand, from: u32) -> Incoming {
 /// A block with a phi and a switch.
 fn chooser(alloc: Global) -> Result<Block, Fail> {
     let mut edges = Rows::new(alloc);
-    edges.push(incoming(number(32, 0), 12))?;
-    edges.push(incoming(Operand::Local(13), 11))?;
+    edges.push(incoming(number(32, 0), 2))?;
+    edges.push(incoming(Operand::Local(13), 12))?;
     let mut phis = Rows::new(alloc);
     phis.push(Phi {
         local: 13,
@@ -192,7 +192,7 @@ fn chooser(alloc: Global) -> Result<Block, Fail> {
         reg: Reg::Int(32),
         width: 32,
         bits: 1,
-        target: 11,
+        target: 12,
     })?;
     cases.push(Case {
         reg: Reg::Int(32),
@@ -201,7 +201,7 @@ fn chooser(alloc: Global) -> Result<Block, Fail> {
         target: 14,
     })?;
     Ok(Block {
-        number: 11,
+        number: 12,
         phis,
         lines: Rows::new(alloc),
         end: Terminator::Switch {
@@ -228,12 +228,12 @@ fn whole_function(alloc: Global) -> Result<Function, Fail> {
     memory(alloc, &mut lines)?;
     let mut blocks = Rows::new(alloc);
     blocks.push(Block {
-        number: 12,
+        number: 2,
         phis: Rows::new(alloc),
         lines,
         end: Terminator::Branch {
-            condition: Operand::Local(4),
-            if_true: 11,
+            condition: Operand::Local(5),
+            if_true: 12,
             if_false: 14,
         },
     })?;
@@ -266,21 +266,21 @@ fn whole_function(alloc: Global) -> Result<Function, Fail> {
 }
 
 const FUNCTION: &[u8] = b"define linkonce_odr i1 @\"1st\"(i8 %0, ptr %1) noinline optnone {
-  %2 = add nuw nsw i8 %0, -1
-  %3 = udiv exact i64 -9223372036854775808, poison
-  %4 = icmp sle i1 true, false
-  %5 = sext i8 %2 to i33
-  %6 = freeze i8 %2
-  %7 = select i1 %4, ptr null, ptr getelementptr (i8, ptr @g, i64 -4)
-  call void %1(i8 %2, ptr %7)
-  %8 = alloca {}, align 1
-  %9 = load ptr, ptr @\"a b\", align 8
-  store i32 -1, ptr %9, align 4
-  %10 = getelementptr inbounds <{ i8, [3 x ptr] }>, ptr %9, i64 1, i32 1
-  br i1 %4, label %11, label %14
-11:
-  %13 = phi i32 [ 0, %12 ], [ %13, %11 ]
-  switch i32 %13, label %14 [ i32 1, label %11 i32 -2, label %14 ]
+  %3 = add nuw nsw i8 %0, -1
+  %4 = udiv exact i64 -9223372036854775808, poison
+  %5 = icmp sle i1 true, false
+  %6 = sext i8 %3 to i33
+  %7 = freeze i8 %3
+  %8 = select i1 %5, ptr null, ptr getelementptr (i8, ptr @g, i64 -4)
+  call void %1(i8 %3, ptr %8)
+  %9 = alloca {}, align 1
+  %10 = load ptr, ptr @\"a b\", align 8
+  store i32 -1, ptr %10, align 4
+  %11 = getelementptr inbounds <{ i8, [3 x ptr] }>, ptr %10, i64 1, i32 1
+  br i1 %5, label %12, label %14
+12:
+  %13 = phi i32 [ 0, %2 ], [ %13, %12 ]
+  switch i32 %13, label %14 [ i32 1, label %12 i32 -2, label %14 ]
 14:
   ret i1 true
 15:
@@ -375,5 +375,65 @@ fn a_module_is_its_entries(rt: HostRuntime) -> Result<(), Fail> {
     let module = whole_module(alloc)?;
     let text = print(alloc, &module)?;
     assert!(rt; text.as_slice() == MODULE);
+    Ok(())
+}
+
+/// `{ [2 x i8], <{ ptr }>, [0 x i8] }` with a value of each part.
+fn nested(alloc: Global) -> Result<Variable, Fail> {
+    let mut inner = Vec::new(alloc);
+    inner.push(Shape::ptr())?;
+    let mut members = Vec::new(alloc);
+    members.push(Shape::array(alloc, 2, Shape::int(8))?)?;
+    members.push(Shape::structure(true, inner))?;
+    members.push(Shape::array(alloc, 0, Shape::int(8))?)?;
+    let mut packed = Vec::new(alloc);
+    packed.push(Shape::ptr())?;
+    let mut parts = Rows::new(alloc);
+    parts.push(InitPart::Typed {
+        shape: Shape::array(alloc, 2, Shape::int(8))?,
+        head: InitHead::Array,
+    })?;
+    parts.push(InitPart::Typed {
+        shape: Shape::int(8),
+        head: InitHead::Plain(Operand::Number { width: 8, bits: 1 }),
+    })?;
+    parts.push(InitPart::Typed {
+        shape: Shape::int(8),
+        head: InitHead::Plain(Operand::Number {
+            width: 8,
+            bits: 255,
+        }),
+    })?;
+    parts.push(InitPart::End)?;
+    parts.push(InitPart::Typed {
+        shape: Shape::structure(true, packed),
+        head: InitHead::Struct { packed: true },
+    })?;
+    parts.push(InitPart::Typed {
+        shape: Shape::ptr(),
+        head: InitHead::Plain(Operand::Null),
+    })?;
+    parts.push(InitPart::End)?;
+    parts.push(InitPart::Typed {
+        shape: Shape::array(alloc, 0, Shape::int(8))?,
+        head: InitHead::Array,
+    })?;
+    parts.push(InitPart::End)?;
+    parts.push(InitPart::End)?;
+    let init = Init::of(InitHead::Struct { packed: false }, parts);
+    let shape = Shape::structure(false, members);
+    Ok(variable(alloc, b"n", true, shape, Some(init))?)
+}
+
+const NESTED: &[u8] =
+    b"@n = internal constant { [2 x i8], <{ ptr }>, [0 x i8] } { [2 x i8] [i8 1, i8 -1], <{ ptr }> <{ ptr null }>, [0 x i8] [] }, align 8
+";
+
+#[test]
+fn parts_of_initialisers_stand_between_their_marks(rt: HostRuntime) -> Result<(), Fail> {
+    let alloc = rt.alloc();
+    let v = nested(alloc)?;
+    let text = print_variable(alloc, &v)?;
+    assert!(rt; text.as_slice() == NESTED);
     Ok(())
 }

@@ -83,28 +83,28 @@ fn part_shape(level: Level, is_first: bool, of: &Shape, out: &mut Vec<u8>) -> Re
 }
 
 /// Opens an aggregate, whose next part is its first.
-fn begin(level: Level, open: &mut Vec<Level>, out: &mut Vec<u8>) -> Result<bool, AllocError>
+fn begin(level: Level, levels: &mut Vec<Level>, out: &mut Vec<u8>) -> Result<bool, AllocError>
     ensures wrote { IfOk result (λ _. Wrote (variables.opening level) out.old.items out.new.items) }
-    ensures opened { IfOk result (λ _. open.new.items ≡ open.old.items ++ level ∷ []) }
+    ensures opened { IfOk result (λ _. levels.new.items ≡ levels.old.items ++ level ∷ []) }
     ensures first { IfOk result (λ is_first. is_first ≡ true) }
 {
     put_opening(level, out)?;
-    open.push(level)?;
+    levels.push(level)?;
     Ok(true)
 }
 
 /// The beginning of a value; answers whether the next part is a first one.
-fn put_head(head: &InitHead, open: &mut Vec<Level>, out: &mut Vec<u8>) -> Result<bool, AllocError>
+fn put_head(head: &InitHead, levels: &mut Vec<Level>, out: &mut Vec<u8>) -> Result<bool, AllocError>
     ensures wrote { IfOk result (λ _. Wrote (initials.beginning head.now) out.old.items out.new.items) }
-    ensures opened { IfOk result (λ _. reverse open.new.items ≡ initials.opened_by head.now (reverse open.old.items)) }
+    ensures opened { IfOk result (λ _. reverse levels.new.items ≡ initials.opened_by head.now (reverse levels.old.items)) }
     ensures first { IfOk result (λ is_first. is_first ≡ initials.opens head.now) }
 {
     match head {
         InitHead::Plain(x) => operand(SPACE, x, out)?,
         InitHead::Zeros => word(SPACE, b"zeroinitializer", out)?,
         InitHead::Bytes(text) => byte_string(SPACE, text.as_slice(), out)?,
-        InitHead::Array => return begin(Level::Array, open, out),
-        InitHead::Struct { packed } => return begin(level_of(*packed), open, out),
+        InitHead::Array => return begin(Level::Array, levels, out),
+        InitHead::Struct { packed } => return begin(level_of(*packed), levels, out),
     }
     Ok(false)
 }
@@ -113,21 +113,21 @@ fn put_head(head: &InitHead, open: &mut Vec<Level>, out: &mut Vec<u8>) -> Result
 fn put_part(
     part: &InitPart,
     is_first: bool,
-    open: &mut Vec<Level>,
+    levels: &mut Vec<Level>,
     out: &mut Vec<u8>,
 ) -> Result<bool, AllocError>
-    ensures wrote { IfOk result (λ _. Wrote (initials.part (reverse open.old.items) is_first part.now) out.old.items out.new.items) }
-    ensures opened { IfOk result (λ _. reverse open.new.items ≡ initials.open_behind (reverse open.old.items) part.now) }
-    ensures first { IfOk result (λ now. now ≡ initials.first_behind (reverse open.old.items) is_first part.now) }
+    ensures wrote { IfOk result (λ _. Wrote (initials.part (reverse levels.old.items) is_first part.now) out.old.items out.new.items) }
+    ensures opened { IfOk result (λ _. reverse levels.new.items ≡ initials.open_behind (reverse levels.old.items) part.now) }
+    ensures first { IfOk result (λ now. now ≡ initials.first_behind (reverse levels.old.items) is_first part.now) }
 {
-    let Some(level) = open.pop() else {
+    let Some(level) = levels.pop() else {
         return Ok(is_first);
     };
     match part {
         InitPart::Typed { shape, head } => {
             part_shape(level, is_first, shape, out)?;
-            open.push(level)?;
-            put_head(head, open, out)
+            levels.push(level)?;
+            put_head(head, levels, out)
         }
         InitPart::End => {
             put_closing(level, is_first, out)?;
@@ -140,14 +140,14 @@ fn put_part(
 fn put_parts(
     parts: &[InitPart],
     is_first: bool,
-    open: &mut Vec<Level>,
+    levels: &mut Vec<Level>,
     out: &mut Vec<u8>,
 ) -> Result<(), AllocError>
-    ensures { IfOk result (λ _. Wrote (initials.parts (reverse open.old.items) is_first parts.now) out.old.items out.new.items) }
+    ensures { IfOk result (λ _. Wrote (initials.parts (reverse levels.old.items) is_first parts.now) out.old.items out.new.items) }
 {
     let mut is_next_first = is_first;
     'each: for part in parts {
-        is_next_first = put_part(part, is_next_first, open, out)?;
+        is_next_first = put_part(part, is_next_first, levels, out)?;
     }
     Ok(())
 }
@@ -157,9 +157,9 @@ fn put_value(alloc: Global, init: &Init, out: &mut Vec<u8>) -> Result<(), AllocE
     ensures { IfOk result (λ _. Wrote (variables.value init.now) out.old.items out.new.items) }
 {
     let (root, parts) = init.flat();
-    let mut open = Vec::new(alloc);
-    let is_first = put_head(root, &mut open, out)?;
-    put_parts(parts, is_first, &mut open, out)
+    let mut levels = Vec::new(alloc);
+    let is_first = put_head(root, &mut levels, out)?;
+    put_parts(parts, is_first, &mut levels, out)
 }
 
 fn kind(is_constant: bool, out: &mut Vec<u8>) -> Result<(), AllocError>

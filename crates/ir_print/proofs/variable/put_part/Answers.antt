@@ -6,5 +6,5 @@ use Rattle.ir_print.proofs.variable.put_part.Goals as goal
 
 pub returns-in_ok-push-in-Typed-clause-wrote : goal.returns-in_ok-push-in-Typed-clause-wrote
 returns-in_ok-push-in-Typed-clause-wrote c =
-    let open_ones : reverse c.args.open.now.items ≡ c.in-Some.level ∷ reverse c.pop.new.self.items = ap reverse c.in-Some.ensures.items ∙ reverse-append c.pop.new.self.items (c.in-Some.level ∷ []) in
+    let open_ones : reverse c.args.levels.now.items ≡ c.in-Some.level ∷ reverse c.pop.new.self.items = ap reverse c.in-Some.ensures.items ∙ reverse-append c.pop.new.self.items (c.in-Some.level ∷ []) in
     rw (open_ones, c.in-Typed.is) (finish _ _ _ _ _ _ c.in_ok-part_shape-in-Typed.ensures c.put_head.ensures.wrote)

@@ -8,5 +8,5 @@ use Rattle.ir_print.proofs.variable.put_parts.Goals as goal
 
 pub each-preserved : goal.each-preserved
 each-preserved c =
-    let e = dropped c.args.parts.now c.each.part-index c.part-item.result _ c.each-test.true c.part-item.is (λ (ps : List InitPart). c.each.out.items ++ bytes_of (initials.parts (reverse c.each.open.items) c.each.is_next_first ps) ≡ c.args.out.now.items ++ bytes_of (initials.parts (reverse c.args.open.now.items) c.args.is_first c.args.parts.now)) c.each.invariant in
+    let e = dropped c.args.parts.now c.each.part-index c.part-item.result _ c.each-test.true c.part-item.is (λ (ps : List InitPart). c.each.out.items ++ bytes_of (initials.parts (reverse c.each.levels.items) c.each.is_next_first ps) ≡ c.args.out.now.items ++ bytes_of (initials.parts (reverse c.args.levels.now.items) c.args.is_first c.args.parts.now)) c.each.invariant in
     rw (c.in_ok-is_next_first.ensures.opened, c.in_ok-is_next_first.ensures.first) (goes_on _ _ _ _ _ e c.in_ok-is_next_first.ensures.wrote)

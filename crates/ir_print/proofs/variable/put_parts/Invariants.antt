@@ -5,4 +5,4 @@ use Rattle.ir_print.specs.Initials as initials
 use Rattle.ir_print.proofs.variable.put_parts.Given as goal
 
 abbrev pub invariant-each : goal.invariant-each
-invariant-each l = l.out.items ++ bytes_of (initials.parts (reverse l.open.items) l.is_next_first (drop l.part-index l.parts)) ≡ l.fn.out.items ++ bytes_of (initials.parts (reverse l.fn.open.items) l.fn.is_first l.fn.parts)
+invariant-each l = l.out.items ++ bytes_of (initials.parts (reverse l.levels.items) l.is_next_first (drop l.part-index l.parts)) ≡ l.fn.out.items ++ bytes_of (initials.parts (reverse l.fn.levels.items) l.fn.is_first l.fn.parts)
