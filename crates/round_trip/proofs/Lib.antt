@@ -1,0 +1,11 @@
+pub mod Apart
+pub mod Classes
+pub mod Functions
+pub mod Instructions
+pub mod Joined
+pub mod Modules
+pub mod Numbers
+pub mod Operands
+pub mod Quoted
+pub mod Single
+pub mod Variables
