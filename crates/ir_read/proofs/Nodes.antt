@@ -97,7 +97,7 @@ have_ends = record {
   number_fits = λ bs t n e. stays_fits t.ends_line bs (ap (λ (m : Move Bracket). ended_by t.ends_line (open_behind m bs)) (sym (number_stays t.head n)) ∙ e);
 }
 
-line_rule : (bs : List Bracket) → Rule tokens (Run line_step bs) (Run line_step bs) (run_at line_step bs) EVERY [] false
+pub line_rule : (bs : List Bracket) → Rule tokens (Run line_step bs) (Run line_step bs) (run_at line_step bs) EVERY [] false
 line_rule bs = record { law = widened tokens (among tokens EVERY) (among tokens []) (run_lawful tokens line_step have_ends bs) (λ t e. every_class t.head) (λ t e. e) }
 
 rest_of_line_rule : (ends : Bool) → Rule tokens (rest_of_line ends) (rest_of_line ends) (rest_of_line_at ends) EVERY [] true

@@ -18,8 +18,8 @@ use Rattle.ir_read.specs.Classes.{tokens, refusal, NUMERALS}
 use Rattle.ir_read.specs.declared.raw.Operand.{Operand}
 use Rattle.ir_read.specs.declared.raw.Operand.TheVariants as operands
 use Rattle.ir_read.specs.Literals.{literal, unsigned}
-use Rattle.ir_read.specs.Operands.{INTEGER, REG, SCALAR, RESULT, REFUSED_TYPES, LOCAL, OPERAND, POINTER_OPERAND, classes_of, type_refusal, memory_refusal, width, reg_of, is_bit, result_of, reg, integer, bit, scalar, result, named, local, operand_by, operand_of, operand, argument, maybe}
-use Rattle.ir_read.specs.OperandsAt.{reg_at, integer_at, bit_at, scalar_at, result_at, local_at, operand_at, argument_at, maybe_at}
+use Rattle.ir_read.specs.Operands.{INTEGER, REG, SCALAR, RESULT, REFUSED_TYPES, LOCAL, NUMBER_OPERAND, POINTER_OPERAND, classes_of, type_refusal, memory_refusal, width, reg_of, is_bit, result_of, reg, integer, bit, scalar, result, named, local, operand_by, operand_of, simple, maybe}
+use Rattle.ir_read.specs.OperandsAt.{reg_at, integer_at, bit_at, scalar_at, result_at, local_at, simple_at, maybe_at}
 use Rattle.ir_read.proofs.Singles.{sample, word, not_number, not_limit}
 use Rattle.ir_read.proofs.Words.{int_32_real, int_1_real, void_real, null_real, local_real, zero_real, exact_rule, disjoint_rule, samesign_rule, nneg_rule}
 
@@ -38,10 +38,10 @@ type_not_number n e = neither (contains REFUSED_TYPES n) (refusal n) Number (λ 
 pub type_not_limit : (n : ℕ) → type_refusal n ≡ Limit → ⊥
 type_not_limit n e = neither (contains REFUSED_TYPES n) (refusal n) Limit (λ x. cc) (not_limit n) e
 
-memory_not_number : (n : ℕ) → memory_refusal n ≡ Number → ⊥
+pub memory_not_number : (n : ℕ) → memory_refusal n ≡ Number → ⊥
 memory_not_number n e = neither (nat_eq n (number heads.RegisterInteger)) (type_refusal n) Number (λ x. cc) (type_not_number n) e
 
-memory_not_limit : (n : ℕ) → memory_refusal n ≡ Limit → ⊥
+pub memory_not_limit : (n : ℕ) → memory_refusal n ≡ Limit → ⊥
 memory_not_limit n e = neither (nat_eq n (number heads.RegisterInteger)) (type_refusal n) Limit (λ x. cc) (type_not_limit n) e
 
 -- ---- types
@@ -107,20 +107,15 @@ is_some : (o : Operand) → Some o ≡ None → ⊥
 is_some o e = cc
 
 -- only names that are numbers, and literals, can be out of range
-operand_within : (r : Reg) (h : Head) (t : Tok) → t.head ≡ h → contains (classes_of r) (number h) ≡ true → operand_by h r t ≡ None → IsWithin tokens (classes_of r) (operand_of r) t
+pub operand_within : (r : Reg) (h : Head) (t : Tok) → t.head ≡ h → contains (classes_of r) (number h) ≡ true → operand_by h r t ≡ None → IsWithin tokens (classes_of r) (operand_of r) t
 operand_within (Int w) heads.Number t e p q = record { writes = ap (λ (x : Head). contains NUMERALS (number x)) e; other = zero_number; means = operands.Number w 0; alike = sym (ap number e); has = zero_fits w; real = zero_real }
 operand_within (Int w) heads.Local t e p q = record { writes = ap (λ (x : Head). contains NUMERALS (number x)) e; other = zero_local; means = operands.Local zero_local; alike = sym (ap number e); has = local_fits (Int w); real = local_real }
 operand_within Ptr heads.Local t e p q = record { writes = ap (λ (x : Head). contains NUMERALS (number x)) e; other = zero_local; means = operands.Local zero_local; alike = sym (ap number e); has = local_fits Ptr; real = local_real }
 operand_within r h t e p q = absurd cc
 
-pub operand_rule : (r : Reg) → Rule tokens (operand r) (operand r) (operand_at r) OPERAND [] false
-unfolding operand operand_at
-operand_rule (Int w) = rules.valued_rule tokens refusal not_number not_limit OPERAND (operand_of (Int w)) (λ t p q. operand_within (Int w) t.head t refl p q) (word heads.Null (codes "null")) operands.Null refl refl null_real
-operand_rule Ptr = rules.broader tokens OPERAND [] (rules.valued_rule tokens refusal not_number not_limit POINTER_OPERAND (operand_of Ptr) (λ t p q. operand_within Ptr t.head t refl p q) (word heads.Null (codes "null")) operands.Null refl refl null_real) refl refl
-
-pub argument_rule : Rule tokens argument argument argument_at REG [] false
-unfolding argument argument_at
-argument_rule = rules.seq tokens reg_rule (λ r. rules.seq tokens (operand_rule r) (λ _. rules.nothing tokens _) refl) refl
+pub simple_rule : (r : Reg) → Rule tokens (simple r) (simple r) (simple_at r) NUMBER_OPERAND [] false
+simple_rule (Int w) = rules.valued_rule tokens refusal not_number not_limit NUMBER_OPERAND (operand_of (Int w)) (λ t p q. operand_within (Int w) t.head t refl p q) (word heads.Null (codes "null")) operands.Null refl refl null_real
+simple_rule Ptr = rules.broader tokens NUMBER_OPERAND [] (rules.valued_rule tokens refusal not_number not_limit POINTER_OPERAND (operand_of Ptr) (λ t p q. operand_within Ptr t.head t refl p q) (word heads.Null (codes "null")) operands.Null refl refl null_real) refl refl
 
 -- ---- words that may stand or not
 

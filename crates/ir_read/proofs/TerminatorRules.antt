@@ -20,19 +20,21 @@ use Rattle.ir_read.specs.Classes.{tokens, refusal, NUMERALS, IsReal, one_of, one
 use Rattle.ir_read.specs.declared.terminators.End.{End}
 use Rattle.ir_read.specs.declared.terminators.End.TheVariants as end
 use Rattle.ir_read.specs.Literals.{literal}
-use Rattle.ir_read.specs.Operands.{INTEGER, REG, RESULT, OPERAND, type_refusal, reg, reg_of}
+use Rattle.ir_read.specs.Operands.{INTEGER, REG, RESULT, type_refusal, reg, reg_of}
 use Rattle.ir_read.specs.Terminators.{WORDS_OF_BITS, ENDS, case_classes, matched, matched_by, matched_of, ending_of, returned, returning, target, branching, constant, case_of, case, end_of_cases, switching, behind_end, terminator}
 use Rattle.ir_read.specs.TerminatorsAt.{LABEL, returned_at, returning_at, target_at, branching_at, constant_at, case_of_at, case_at, cases_at, end_of_cases_at, switching_at, behind_end_at, terminator_at}
 use Rattle.ir_read.proofs.Nodes.{attachments_rule}
-use Rattle.ir_read.proofs.OperandRules.{type_not_number, type_not_limit, zero_below, reg_rule, integer_rule, bit_rule, result_rule, local_rule, operand_rule}
+use Rattle.ir_read.proofs.OperandRules.{type_not_number, type_not_limit, zero_below, reg_rule, integer_rule, bit_rule, result_rule, local_rule}
+use Rattle.ir_read.specs.ShapeForms.{any_shape, memory_shape}
 use Rattle.ir_read.proofs.Singles.{sample, mark, word, not_number, not_limit, one_rule, comma_rule, open_bracket_rule, close_bracket_real}
+use Rattle.ir_read.proofs.ValueRules.{OPERAND, operand_rule}
 use Rattle.ir_read.proofs.Words.{zero_real, label_rule}
 
-pub returned_rule : (r : Option Reg) → Rule tokens (returned r) (returned r) (returned_at r) OPERAND [] true
+pub returned_rule : (r : Option Reg) → Rule tokens (returned memory_shape r) (returned any_shape r) (returned_at r) OPERAND [] true
 returned_rule None = rules.wider tokens _ _ (rules.nothing tokens _) refl refl
 returned_rule (Some r) = rules.wider tokens _ _ (rules.seq tokens (operand_rule r) (λ _. rules.nothing tokens _) refl) refl refl
 
-pub returning_rule : Rule tokens returning returning returning_at RESULT [] false
+pub returning_rule : Rule tokens (returning memory_shape) (returning any_shape) returning_at RESULT [] false
 unfolding returning returning_at
 returning_rule = rules.seq tokens result_rule returned_rule refl
 
@@ -40,7 +42,7 @@ pub target_rule : Rule tokens target target target_at LABEL [] false
 unfolding target target_at
 target_rule = rules.seq tokens label_rule (λ _. local_rule) refl
 
-pub branching_rule : Rule tokens branching branching branching_at (number heads.LabelType ∷ INTEGER) [] false
+pub branching_rule : Rule tokens (branching memory_shape) (branching any_shape) branching_at (number heads.LabelType ∷ INTEGER) [] false
 unfolding branching branching_at
 branching_rule = rules.alt tokens LABEL (rules.seq tokens target_rule (λ _. rules.nothing tokens _) refl)
     (rules.seq tokens bit_rule
@@ -89,7 +91,7 @@ pub end_of_cases_rule : Rule tokens end_of_cases end_of_cases end_of_cases_at (n
 unfolding is_class
 end_of_cases_rule = rules.class_rule tokens type_refusal type_not_number type_not_limit (number heads.CloseBracket) (mark heads.CloseBracket (codes "]")) refl close_bracket_real
 
-pub switching_rule : Rule tokens switching switching switching_at INTEGER [] false
+pub switching_rule : Rule tokens (switching memory_shape) (switching any_shape) switching_at INTEGER [] false
 unfolding switching switching_at
 switching_rule = rules.seq tokens integer_rule
     (λ w. rules.seq tokens (operand_rule (Int w)) (λ _. rules.seq tokens comma_rule (λ _. rules.seq tokens target_rule (λ _. rules.seq tokens open_bracket_rule (λ _. rules.seq tokens cases_rule (λ _. rules.seq tokens end_of_cases_rule (λ _. rules.nothing tokens _) refl) refl) refl) refl) refl) refl)
@@ -100,7 +102,7 @@ switching_rule = rules.seq tokens integer_rule
 abbrev pub BEHIND : List ℕ
 BEHIND = number heads.Void ∷ number heads.LabelType ∷ REG
 
-pub behind_end_rule : (e : End) → Rule tokens (behind_end e) (behind_end e) (behind_end_at e) BEHIND [] true
+pub behind_end_rule : (e : End) → Rule tokens (behind_end memory_shape e) (behind_end any_shape e) (behind_end_at e) BEHIND [] true
 behind_end_rule end.Ret = rules.wider tokens _ _ returning_rule refl refl
 behind_end_rule end.Br = rules.wider tokens _ _ branching_rule refl refl
 behind_end_rule end.Switch = rules.wider tokens _ _ switching_rule refl refl
@@ -111,6 +113,10 @@ unfolding best_fit rest_fit label_len number_len word_len name_len meta_len dots
 ret_real = record { some = refl; fits = refl; good = refl; class = refl }
 
 -- a terminator delimits itself, but for its attachments
-pub terminator_rule : Rule tokens terminator terminator terminator_at ENDS (number heads.OpenParen ∷ number heads.Comma ∷ []) false
+pub terminator_rule : Rule tokens (terminator memory_shape) (terminator any_shape) terminator_at ENDS (number heads.OpenParen ∷ number heads.Comma ∷ []) false
 unfolding terminator terminator_at
 terminator_rule = rules.seq tokens (one_rule ENDS ending_of (word heads.Ret (codes "ret")) refl ret_real) (λ e. rules.seq tokens (behind_end_rule e.end) (λ _. rules.seq tokens attachments_rule (λ _. rules.nothing tokens _) refl) refl) refl
+
+pub terminator_opens : Opens tokens ENDS (terminator any_shape)
+unfolding terminator
+terminator_opens = rules.opens_seq tokens ENDS (one_of ENDS ending_of) (rules.opens_among tokens refusal ENDS ending_of) (λ e. rules.seq tokens (behind_end_rule e.end) (λ t. rules.seq tokens attachments_rule (λ _. rules.nothing tokens (record { terminator = t; line = e.line })) refl) refl)

@@ -15,13 +15,14 @@ use Rattle.ir_tree.specs.declared.instr.Predicate.TheVariants as predicates
 use Rattle.ir_tree.specs.declared.operand.Reg.{Reg}
 use Rattle.ir_tree.specs.declared.operand.Reg.TheVariants.{Int, Ptr}
 use Rattle.lto_forms.specs.Forms.{Form, ◌>>=◌, either, gives, token, Star}
-use Rattle.lto_forms.specs.Rules.{is_class}
 use Rattle.ir_read.specs.Classes.{tokens, the, one_of}
 use Rattle.ir_read.specs.Decimals.{is_alignment}
 use Rattle.ir_read.specs.declared.raw.Instr.{Instr}
 use Rattle.ir_read.specs.declared.raw.Instr.TheVariants as instrs
 use Rattle.ir_read.specs.Metadata.{attached, attachments}
-use Rattle.ir_read.specs.Operands.{type_refusal, reg, integer, bit, scalar, operand, argument, maybe}
+use Rattle.ir_read.specs.declared.shape.Typed.{Typed}
+use Rattle.ir_read.specs.Operands.{reg, integer, bit, scalar, maybe}
+use Rattle.ir_read.specs.Values.{pointer, operand, argument}
 
 -- ---- flags
 
@@ -50,31 +51,31 @@ wraps = do
 -- ---- on integers
 
 -- iN operand , operand
-unfoldable pub on_two : BinaryOp → Flags → Form Tok Instr
-on_two op f = do
+unfoldable pub on_two : Form Tok Typed → BinaryOp → Flags → Form Tok Instr
+on_two shape op f = do
   w ← integer
-  left ← operand (Int w)
+  left ← operand shape (Int w)
   _ ← the heads.Comma
-  right ← operand (Int w)
+  right ← operand shape (Int w)
   gives (instrs.Binary op f w left right)
 
 -- {nuw/nsw} iN operand , operand
-unfoldable pub wrapping : BinaryOp → Form Tok Instr
-wrapping op = do
+unfoldable pub wrapping : Form Tok Typed → BinaryOp → Form Tok Instr
+wrapping shape op = do
   f ← wraps
-  on_two op f
+  on_two shape op f
 
 -- [exact] iN operand , operand
-unfoldable pub dividing : BinaryOp → Form Tok Instr
-dividing op = do
+unfoldable pub dividing : Form Tok Typed → BinaryOp → Form Tok Instr
+dividing shape op = do
   exact ← maybe heads.Exact
-  on_two op (flags false false exact)
+  on_two shape op (flags false false exact)
 
 -- [disjoint] iN operand , operand
-unfoldable pub joining : Form Tok Instr
-joining = do
+unfoldable pub joining : Form Tok Typed → Form Tok Instr
+joining shape = do
   _ ← maybe heads.Disjoint
-  on_two ops.Or no_flags
+  on_two shape ops.Or no_flags
 
 abbrev pub PREDICATES : List ℕ
 PREDICATES = number heads.Eq ∷ number heads.Ne ∷ number heads.Ugt ∷ number heads.Uge ∷ number heads.Ult ∷ number heads.Ule ∷ number heads.Sgt ∷ number heads.Sge ∷ number heads.Slt ∷ number heads.Sle ∷ []
@@ -95,62 +96,58 @@ abbrev pub predicate_of : Tok → Predicate
 predicate_of t = predicate_by t.head
 
 -- [samesign] predicate reg operand , operand
-unfoldable pub comparing : Form Tok Instr
-comparing = do
+unfoldable pub comparing : Form Tok Typed → Form Tok Instr
+comparing shape = do
   _ ← maybe heads.Samesign
   p ← one_of PREDICATES predicate_of
   r ← reg
-  left ← operand r
+  left ← operand shape r
   _ ← the heads.Comma
-  right ← operand r
+  right ← operand shape r
   gives (instrs.Icmp p r left right)
 
 -- reg operand to reg
-unfoldable pub casting : CastOp → Form Tok Instr
-casting op = do
+unfoldable pub casting : Form Tok Typed → CastOp → Form Tok Instr
+casting shape op = do
   from ← reg
-  value ← operand from
+  value ← operand shape from
   _ ← the heads.To
   to ← reg
   gives (instrs.Cast op from value to)
 
 -- [nneg] reg operand to reg
-unfoldable pub extending : CastOp → Form Tok Instr
-extending op = do
+unfoldable pub extending : Form Tok Typed → CastOp → Form Tok Instr
+extending shape op = do
   _ ← maybe heads.Nneg
-  casting op
+  casting shape op
 
 -- {nuw/nsw} reg operand to reg
-unfoldable pub narrowing : CastOp → Form Tok Instr
-narrowing op = do
+unfoldable pub narrowing : Form Tok Typed → CastOp → Form Tok Instr
+narrowing shape op = do
   _ ← wraps
-  casting op
+  casting shape op
 
 -- ---- on any values
 
 -- i1 operand , reg operand , reg operand
-unfoldable pub selecting : Form Tok Instr
-selecting = do
+unfoldable pub selecting : Form Tok Typed → Form Tok Instr
+selecting shape = do
   w ← bit
-  condition ← operand (Int w)
+  condition ← operand shape (Int w)
   _ ← the heads.Comma
-  one ← argument
+  one ← argument shape
   _ ← the heads.Comma
-  other ← argument
+  other ← argument shape
   gives (instrs.Select condition one other)
 
 -- reg operand
-unfoldable pub freezing : Form Tok Instr
-freezing = do
+unfoldable pub freezing : Form Tok Typed → Form Tok Instr
+freezing shape = do
   r ← reg
-  value ← operand r
+  value ← operand shape r
   gives (instrs.Freeze r value)
 
 -- ---- memory
-
--- ptr
-abbrev pub pointer : Form Tok (Unit {0})
-pointer = token (is_class tokens type_refusal (number heads.Ptr))
 
 -- behind a comma: align N {att} / Meta node {att}
 unfoldable pub aligned : Form Tok (Option ℕ)
@@ -174,22 +171,22 @@ align = either
     (gives None)
 
 -- scalar , ptr operand [, align N] {att}
-unfoldable pub loading : Form Tok Instr
-loading = do
+unfoldable pub loading : Form Tok Typed → Form Tok Instr
+loading shape = do
   r ← scalar
   _ ← the heads.Comma
   _ ← pointer
-  address ← operand Ptr
+  address ← operand shape Ptr
   n ← align
   gives (instrs.Load r address n)
 
 -- scalar operand , ptr operand [, align N] {att}
-unfoldable pub storing : Form Tok Instr
-storing = do
+unfoldable pub storing : Form Tok Typed → Form Tok Instr
+storing shape = do
   r ← scalar
-  value ← operand r
+  value ← operand shape r
   _ ← the heads.Comma
   _ ← pointer
-  address ← operand Ptr
+  address ← operand shape Ptr
   n ← align
   gives (instrs.Store r value address n)

@@ -11,15 +11,14 @@ use Rattle.ir_tree.specs.declared.instr.Flags.{Flags}
 use Rattle.ir_tree.specs.declared.operand.Reg.TheVariants.{Int, Ptr}
 use Rattle.lto_forms.specs.Alphabet.{among}
 use Rattle.lto_forms.specs.Readers.{Reader, ◌>>=◌, done, pick, token_at, star_at}
-use Rattle.lto_forms.specs.Rules.{is_class}
 use Rattle.ir_read.specs.Classes.{tokens, the_at, one_of_at}
 use Rattle.ir_read.specs.Decimals.{is_alignment}
 use Rattle.ir_read.specs.declared.raw.Instr.{Instr}
 use Rattle.ir_read.specs.declared.raw.Instr.TheVariants as instrs
 use Rattle.ir_read.specs.Instructions.{WRAPS, is_nuw, flags, with_wrap, no_flags, PREDICATES, predicate_of}
 use Rattle.ir_read.specs.MetadataAt.{COMMA, attached_at, attachments_at}
-use Rattle.ir_read.specs.Operands.{type_refusal}
-use Rattle.ir_read.specs.OperandsAt.{reg_at, integer_at, bit_at, scalar_at, operand_at, argument_at, maybe_at}
+use Rattle.ir_read.specs.OperandsAt.{reg_at, integer_at, bit_at, scalar_at, maybe_at}
+use Rattle.ir_read.specs.ValuesAt.{pointer_at, operand_at, argument_at}
 
 abbrev pub ALIGN : List ℕ
 ALIGN = number heads.Align ∷ []
@@ -95,9 +94,6 @@ freezing_at = do
   r ← reg_at
   value ← operand_at r
   done (instrs.Freeze r value)
-
-abbrev pub pointer_at : Reader Tok (Unit {0})
-pointer_at = token_at (is_class tokens type_refusal (number heads.Ptr))
 
 unfoldable pub aligned_at : Reader Tok (Option ℕ)
 aligned_at = pick (among tokens ALIGN)

@@ -22,3 +22,17 @@ pub mod Targets
 pub mod TargetsAt
 pub mod Phis
 pub mod PhisAt
+pub mod Extents
+pub mod ShapeForms
+pub mod ShapeFormsAt
+pub mod FunctionHeads
+pub mod FunctionHeadsAt
+pub mod MetadataBehind
+pub mod MetadataBehindAt
+pub mod Items
+pub mod ItemsAt
+pub mod Modules
+pub mod Values
+pub mod ValuesAt
+pub mod Addressing
+pub mod AddressingAt

@@ -18,7 +18,6 @@ use Rattle.lto_forms.specs.Forms.{Form, ◌>>=◌, either, gives, token}
 use Rattle.lto_forms.specs.Rules.{in_range, is_among, is_exact, is_valued}
 use Rattle.ir_read.specs.Classes.{tokens, refusal, the}
 use Rattle.ir_read.specs.Decimals.{decimal}
-use Rattle.ir_read.specs.declared.raw.Argument.{Argument}
 use Rattle.ir_read.specs.declared.raw.Operand.{Operand}
 use Rattle.ir_read.specs.declared.raw.Operand.TheVariants as operands
 use Rattle.ir_read.specs.Literals.{IsWidth, literal}
@@ -110,12 +109,12 @@ local = token (is_valued tokens refusal LOCAL named)
 abbrev pub POINTER_OPERAND : List ℕ
 POINTER_OPERAND = number heads.Local ∷ number heads.True ∷ number heads.False ∷ number heads.Null ∷ number heads.Poison ∷ number heads.Global ∷ number heads.NumberedGlobal ∷ number heads.NumberedDefinition ∷ []
 
-abbrev pub OPERAND : List ℕ
-OPERAND = number heads.Number ∷ POINTER_OPERAND
+abbrev pub NUMBER_OPERAND : List ℕ
+NUMBER_OPERAND = number heads.Number ∷ POINTER_OPERAND
 
 -- no number is of type ptr
 abbrev pub classes_of : Reg → List ℕ
-classes_of (Int w) = OPERAND
+classes_of (Int w) = NUMBER_OPERAND
 classes_of Ptr = POINTER_OPERAND
 
 abbrev pub bits_of : Reg → Tok → Option Operand
@@ -148,16 +147,6 @@ local_value t = in_range (option_map operands.Local (named t))
 -- Local / Number / true / false / null / poison / Global
 abbrev pub simple : Reg → Form Tok Operand
 simple r = token (is_valued tokens refusal (classes_of r) (operand_of r))
-
-unfoldable pub operand : Reg → Form Tok Operand
-operand r = simple r
-
--- reg operand
-unfoldable pub argument : Form Tok Argument
-argument = do
-  r ← reg
-  v ← operand r
-  gives (record { reg = r; operand = v })
 
 -- ---- words that may stand or not
 

@@ -8,7 +8,6 @@ use Rattle.lto_forms.specs.Alphabet.{among}
 use Rattle.lto_forms.specs.Readers.{Reader, ◌>>=◌, done, pick, token_at}
 use Rattle.lto_forms.specs.Rules.{is_among, is_exact, is_valued}
 use Rattle.ir_read.specs.Classes.{tokens, refusal, the_at}
-use Rattle.ir_read.specs.declared.raw.Argument.{Argument}
 use Rattle.ir_read.specs.declared.raw.Operand.{Operand}
 use Rattle.ir_read.specs.Operands.{INTEGER, REG, SCALAR, RESULT, LOCAL, type_refusal, memory_refusal, width, reg_of, is_bit, result_of, named, classes_of, operand_of}
 
@@ -32,15 +31,6 @@ local_at = token_at (is_valued tokens refusal LOCAL named)
 
 abbrev pub simple_at : Reg → Reader Tok Operand
 simple_at r = token_at (is_valued tokens refusal (classes_of r) (operand_of r))
-
-unfoldable pub operand_at : Reg → Reader Tok Operand
-operand_at r = simple_at r
-
-unfoldable pub argument_at : Reader Tok Argument
-argument_at = do
-  r ← reg_at
-  v ← operand_at r
-  done (record { reg = r; operand = v })
 
 abbrev pub maybe_at : Head → Reader Tok Bool
 maybe_at word = pick (among tokens (number word ∷ []))

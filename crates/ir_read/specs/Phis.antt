@@ -11,13 +11,15 @@ use Rattle.ir_read.specs.declared.raw.Incoming.{Incoming}
 use Rattle.ir_read.specs.declared.raw.Instr.{Instr}
 use Rattle.ir_read.specs.declared.raw.Instr.TheVariants as instrs
 use Rattle.ir_read.specs.Metadata.{attached}
-use Rattle.ir_read.specs.Operands.{reg, local, operand}
+use Rattle.ir_read.specs.declared.shape.Typed.{Typed}
+use Rattle.ir_read.specs.Operands.{reg, local}
+use Rattle.ir_read.specs.Values.{operand}
 
 -- [ operand , Local ]
-unfoldable pub incoming : Reg → Form Tok Incoming
-incoming r = do
+unfoldable pub incoming : Form Tok Typed → Reg → Form Tok Incoming
+incoming shape r = do
   _ ← the heads.OpenBracket
-  v ← operand r
+  v ← operand shape r
   _ ← the heads.Comma
   from ← local
   _ ← the heads.CloseBracket
@@ -29,21 +31,21 @@ attaching = do
   _ ← attached
   gives (None, true)
 
-unfoldable pub entering : Reg → Form Tok (Option Incoming × Bool)
-entering r = do
-  i ← incoming r
+unfoldable pub entering : Form Tok Typed → Reg → Form Tok (Option Incoming × Bool)
+entering shape r = do
+  i ← incoming shape r
   gives (Some i, false)
 
 -- behind a comma, with attachments before or not
-abbrev pub behind_comma : Reg → Bool → Form Tok (Option Incoming × Bool)
-behind_comma r true = attaching
-behind_comma r false = either attaching (entering r)
+abbrev pub behind_comma : Form Tok Typed → Reg → Bool → Form Tok (Option Incoming × Bool)
+behind_comma shape r true = attaching
+behind_comma shape r false = either attaching (entering shape r)
 
 -- , [ operand , Local ] / , Meta node
-unfoldable pub further : Reg → Bool → Form Tok (Option Incoming × Bool)
-further r s = do
+unfoldable pub further : Form Tok Typed → Reg → Bool → Form Tok (Option Incoming × Bool)
+further shape r s = do
   _ ← the heads.Comma
-  behind_comma r s
+  behind_comma shape r s
 
 abbrev pub anywhere : Bool → Bool
 anywhere s = true
@@ -53,19 +55,19 @@ keep front None = front
 keep front (Some i) = front ++ i ∷ []
 
 -- {, [ operand , Local ]} {, Meta node}, behind a first entry
-unfoldable pub entries : Reg → Incoming → Form Tok (List Incoming)
-entries r first = do
-  more ← Chain anywhere (further r) false
+unfoldable pub entries : Form Tok Typed → Reg → Incoming → Form Tok (List Incoming)
+entries shape r first = do
+  more ← Chain anywhere (further shape r) false
   gives (fold keep (first ∷ []) more)
 
 -- reg [ operand , Local ] {, [ operand , Local ]} {att}
-unfoldable pub phi_of : Reg → Form Tok Instr
-phi_of r = do
-  first ← incoming r
-  is ← entries r first
+unfoldable pub phi_of : Form Tok Typed → Reg → Form Tok Instr
+phi_of shape r = do
+  first ← incoming shape r
+  is ← entries shape r first
   gives (instrs.Phi r is)
 
-unfoldable pub phi : Form Tok Instr
-phi = do
+unfoldable pub phi : Form Tok Typed → Form Tok Instr
+phi shape = do
   r ← reg
-  phi_of r
+  phi_of shape r

@@ -14,6 +14,7 @@ use Rattle.ir_read.specs.Classes.{tokens, refusal, the, one_of}
 use Rattle.ir_read.specs.declared.raw.Case.{Case}
 use Rattle.ir_read.specs.declared.raw.Terminator.{Terminator}
 use Rattle.ir_read.specs.declared.raw.Terminator.TheVariants as terminators
+use Rattle.ir_read.specs.declared.shape.Typed.{Typed}
 use Rattle.ir_read.specs.declared.terminators.Ending.{Ending}
 use Rattle.ir_read.specs.declared.terminators.End.{End}
 use Rattle.ir_read.specs.declared.terminators.End.TheVariants as end
@@ -21,20 +22,21 @@ use Rattle.ir_read.specs.declared.terminators.Ended.{Ended}
 use Rattle.ir_read.specs.declared.terminators.Matched.{Matched}
 use Rattle.ir_read.specs.Literals.{literal}
 use Rattle.ir_read.specs.Metadata.{attachments}
-use Rattle.ir_read.specs.Operands.{type_refusal, reg, integer, bit, result, local, operand}
+use Rattle.ir_read.specs.Operands.{type_refusal, reg, integer, bit, result, local}
+use Rattle.ir_read.specs.Values.{operand}
 
 -- reg operand, where the type was read; nothing behind void
-abbrev pub returned : Option Reg → Form Tok Terminator
-returned None = gives (terminators.Return None)
-returned (Some r) = do
-  v ← operand r
+abbrev pub returned : Form Tok Typed → Option Reg → Form Tok Terminator
+returned shape None = gives (terminators.Return None)
+returned shape (Some r) = do
+  v ← operand shape r
   gives (terminators.Return (Some (record { reg = r; operand = v })))
 
 -- void / reg operand
-unfoldable pub returning : Form Tok Terminator
-returning = do
+unfoldable pub returning : Form Tok Typed → Form Tok Terminator
+returning shape = do
   r ← result
-  returned r
+  returned shape r
 
 -- label Local
 unfoldable pub target : Form Tok Tok
@@ -43,14 +45,14 @@ target = do
   local
 
 -- label Local / i1 operand , label Local , label Local
-unfoldable pub branching : Form Tok Terminator
-branching = either
+unfoldable pub branching : Form Tok Typed → Form Tok Terminator
+branching shape = either
     (do
       to ← target
       gives (terminators.Jump to))
     (do
       w ← bit
-      condition ← operand (Int w)
+      condition ← operand shape (Int w)
       _ ← the heads.Comma
       if_true ← target
       _ ← the heads.Comma
@@ -110,10 +112,10 @@ abbrev pub end_of_cases : Form Tok (Unit {0})
 end_of_cases = token (is_class tokens type_refusal (number heads.CloseBracket))
 
 -- iN operand , label Local [ {case} ]
-unfoldable pub switching : Form Tok Terminator
-switching = do
+unfoldable pub switching : Form Tok Typed → Form Tok Terminator
+switching shape = do
   w ← integer
-  value ← operand (Int w)
+  value ← operand shape (Int w)
   _ ← the heads.Comma
   default ← target
   _ ← the heads.OpenBracket
@@ -135,15 +137,15 @@ end_by h = end.Ret
 abbrev pub ending_of : Tok → Ending
 ending_of t = record { end = end_by t.head; line = t.line }
 
-abbrev pub behind_end : End → Form Tok Terminator
-behind_end end.Ret = returning
-behind_end end.Br = branching
-behind_end end.Switch = switching
-behind_end end.Unreachable = gives terminators.Unreachable
+abbrev pub behind_end : Form Tok Typed → End → Form Tok Terminator
+behind_end shape end.Ret = returning shape
+behind_end shape end.Br = branching shape
+behind_end shape end.Switch = switching shape
+behind_end shape end.Unreachable = gives terminators.Unreachable
 
-unfoldable pub terminator : Form Tok Ended
-terminator = do
+unfoldable pub terminator : Form Tok Typed → Form Tok Ended
+terminator shape = do
   e ← one_of ENDS ending_of
-  t ← behind_end e.end
+  t ← behind_end shape e.end
   _ ← attachments
   gives (record { terminator = t; line = e.line })

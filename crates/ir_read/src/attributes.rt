@@ -53,7 +53,7 @@ pub enum Place {
 }
 
 /// Whether a word of this class begins no item, no instruction and no terminator.
-fn is_attribute_word(head: Head) -> bool
+pub fn is_attribute_word(head: Head) -> bool
     ensures { result ≡ contains WORDS (number head) }
 {
     matches!(
@@ -155,7 +155,7 @@ fn aligned_at(alloc: Global, tokens: &mut Tokens) -> Result<(), ReadError>
 }
 
 #[tactic(auto, unfolding(crate::specs::AttributesAt::parameter_attribute_at))]
-fn parameter_attribute_at(alloc: Global, tokens: &mut Tokens) -> Result<(), ReadError>
+pub fn parameter_attribute_at(alloc: Global, tokens: &mut Tokens) -> Result<(), ReadError>
     ensures { Gives (λ x. (tt, tokens.new)) result (parameter_attribute_at tokens.old) }
 {
     if tokens.comes(Head::ParameterWord) {
@@ -358,7 +358,7 @@ fn head_alignment_at<'a>(
 }
 
 #[tactic(auto, unfolding(crate::specs::AttributesAt::head_attribute_at))]
-fn head_attribute_at<'a>(
+pub fn head_attribute_at<'a>(
     alloc: Global,
     tokens: &mut Tokens<'_, 'a>,
 ) -> Result<Attribute<'a>, ReadError>

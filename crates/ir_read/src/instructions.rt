@@ -7,16 +7,15 @@ ghost use Rattle.ir_lex.specs.Tok.{tok};
 ghost use Rattle.lto_forms.specs.Rules.{is_among};
 ghost use Rattle.ir_read.specs.Classes.{tokens, refusal, one_of_at};
 ghost use Rattle.ir_read.specs.Instructions.{WRAPS, is_nuw, with_wrap, no_flags, PREDICATES, predicate_of};
-ghost use Rattle.ir_read.specs.InstructionsAt.{wraps_at, on_two_at, wrapping_at, dividing_at, joining_at, comparing_at, casting_at, extending_at, narrowing_at, selecting_at, freezing_at, pointer_at, aligned_at, align_at, loading_at, storing_at};
+ghost use Rattle.ir_read.specs.InstructionsAt.{wraps_at, on_two_at, wrapping_at, dividing_at, joining_at, comparing_at, casting_at, extending_at, narrowing_at, selecting_at, freezing_at, aligned_at, align_at, loading_at, storing_at};
 
 use crate::metadata::{attached_at, attachments_at};
 use crate::numerals::alignment_at;
-use crate::operands::{
-    argument_at, bit_at, integer_at, maybe_at, operand_at, reg_at, scalar_at, type_refusal,
-};
+use crate::operands::{bit_at, integer_at, maybe_at, reg_at, scalar_at};
 use crate::raw::Instr;
 use crate::terminals::{expect, refusal};
 use crate::tokens::Tokens;
+use crate::values::{argument_at, operand_at, pointer_at};
 use ir_lex::{Head, Token};
 use ir_tree::{BinaryOp, CastOp, Flags, Predicate, Reg};
 use lto_forms::{Fault, FaultKind, ReadError};
@@ -82,6 +81,7 @@ fn wraps_at(tokens: &mut Tokens) -> Result<Flags, ReadError>
 /// Reads `iN operand , operand`.
 #[tactic(auto, unfolding(crate::specs::InstructionsAt::on_two_at))]
 pub fn on_two_at<'a>(
+    alloc: Global,
     op: BinaryOp,
     flags: Flags,
     tokens: &mut Tokens<'_, 'a>,
@@ -89,9 +89,9 @@ pub fn on_two_at<'a>(
     ensures { Gives (λ x. (x, tokens.new)) result (on_two_at op flags tokens.old) }
 {
     let width = integer_at(tokens)?;
-    let left = operand_at(Reg::Int(width), tokens)?;
+    let left = operand_at(alloc, Reg::Int(width), tokens)?;
     expect(Head::Comma, tokens)?;
-    let right = operand_at(Reg::Int(width), tokens)?;
+    let right = operand_at(alloc, Reg::Int(width), tokens)?;
     Ok(Instr::Binary {
         op,
         flags,
@@ -103,16 +103,24 @@ pub fn on_two_at<'a>(
 
 /// Reads what follows `add`, `sub`, `mul` or `shl`.
 #[tactic(auto, unfolding(crate::specs::InstructionsAt::wrapping_at))]
-pub fn wrapping_at<'a>(op: BinaryOp, tokens: &mut Tokens<'_, 'a>) -> Result<Instr<'a>, ReadError>
+pub fn wrapping_at<'a>(
+    alloc: Global,
+    op: BinaryOp,
+    tokens: &mut Tokens<'_, 'a>,
+) -> Result<Instr<'a>, ReadError>
     ensures { Gives (λ x. (x, tokens.new)) result (wrapping_at op tokens.old) }
 {
     let flags = wraps_at(tokens)?;
-    on_two_at(op, flags, tokens)
+    on_two_at(alloc, op, flags, tokens)
 }
 
 /// Reads what follows `udiv`, `sdiv`, `lshr` or `ashr`.
 #[tactic(auto, unfolding(crate::specs::InstructionsAt::dividing_at))]
-pub fn dividing_at<'a>(op: BinaryOp, tokens: &mut Tokens<'_, 'a>) -> Result<Instr<'a>, ReadError>
+pub fn dividing_at<'a>(
+    alloc: Global,
+    op: BinaryOp,
+    tokens: &mut Tokens<'_, 'a>,
+) -> Result<Instr<'a>, ReadError>
     ensures { Gives (λ x. (x, tokens.new)) result (dividing_at op tokens.old) }
 {
     let exact = maybe_at(Head::Exact, tokens)?;
@@ -121,12 +129,12 @@ pub fn dividing_at<'a>(op: BinaryOp, tokens: &mut Tokens<'_, 'a>) -> Result<Inst
         nsw: false,
         exact,
     };
-    on_two_at(op, flags, tokens)
+    on_two_at(alloc, op, flags, tokens)
 }
 
 /// Reads what follows `or`.
 #[tactic(auto, unfolding(crate::specs::InstructionsAt::joining_at))]
-pub fn joining_at<'a>(tokens: &mut Tokens<'_, 'a>) -> Result<Instr<'a>, ReadError>
+pub fn joining_at<'a>(alloc: Global, tokens: &mut Tokens<'_, 'a>) -> Result<Instr<'a>, ReadError>
     ensures { Gives (λ x. (x, tokens.new)) result (joining_at tokens.old) }
 {
     maybe_at(Head::Disjoint, tokens)?;
@@ -135,7 +143,7 @@ pub fn joining_at<'a>(tokens: &mut Tokens<'_, 'a>) -> Result<Instr<'a>, ReadErro
         nsw: false,
         exact: false,
     };
-    on_two_at(BinaryOp::Or, flags, tokens)
+    on_two_at(alloc, BinaryOp::Or, flags, tokens)
 }
 
 #[tactic(auto, unfolding(lto_forms::specs::Rules::is_among))]
@@ -176,15 +184,15 @@ fn predicate_at(tokens: &mut Tokens) -> Result<Predicate, ReadError>
 
 /// Reads what follows `icmp`.
 #[tactic(auto, unfolding(crate::specs::InstructionsAt::comparing_at))]
-pub fn comparing_at<'a>(tokens: &mut Tokens<'_, 'a>) -> Result<Instr<'a>, ReadError>
+pub fn comparing_at<'a>(alloc: Global, tokens: &mut Tokens<'_, 'a>) -> Result<Instr<'a>, ReadError>
     ensures { Gives (λ x. (x, tokens.new)) result (comparing_at tokens.old) }
 {
     maybe_at(Head::Samesign, tokens)?;
     let predicate = predicate_at(tokens)?;
     let reg = reg_at(tokens)?;
-    let left = operand_at(reg, tokens)?;
+    let left = operand_at(alloc, reg, tokens)?;
     expect(Head::Comma, tokens)?;
-    let right = operand_at(reg, tokens)?;
+    let right = operand_at(alloc, reg, tokens)?;
     Ok(Instr::Icmp {
         predicate,
         reg,
@@ -195,11 +203,15 @@ pub fn comparing_at<'a>(tokens: &mut Tokens<'_, 'a>) -> Result<Instr<'a>, ReadEr
 
 /// Reads `reg operand to reg`.
 #[tactic(auto, unfolding(crate::specs::InstructionsAt::casting_at))]
-pub fn casting_at<'a>(op: CastOp, tokens: &mut Tokens<'_, 'a>) -> Result<Instr<'a>, ReadError>
+pub fn casting_at<'a>(
+    alloc: Global,
+    op: CastOp,
+    tokens: &mut Tokens<'_, 'a>,
+) -> Result<Instr<'a>, ReadError>
     ensures { Gives (λ x. (x, tokens.new)) result (casting_at op tokens.old) }
 {
     let from = reg_at(tokens)?;
-    let value = operand_at(from, tokens)?;
+    let value = operand_at(alloc, from, tokens)?;
     expect(Head::To, tokens)?;
     let to = reg_at(tokens)?;
     Ok(Instr::Cast {
@@ -212,33 +224,41 @@ pub fn casting_at<'a>(op: CastOp, tokens: &mut Tokens<'_, 'a>) -> Result<Instr<'
 
 /// Reads what follows `zext`.
 #[tactic(auto, unfolding(crate::specs::InstructionsAt::extending_at))]
-pub fn extending_at<'a>(op: CastOp, tokens: &mut Tokens<'_, 'a>) -> Result<Instr<'a>, ReadError>
+pub fn extending_at<'a>(
+    alloc: Global,
+    op: CastOp,
+    tokens: &mut Tokens<'_, 'a>,
+) -> Result<Instr<'a>, ReadError>
     ensures { Gives (λ x. (x, tokens.new)) result (extending_at op tokens.old) }
 {
     maybe_at(Head::Nneg, tokens)?;
-    casting_at(op, tokens)
+    casting_at(alloc, op, tokens)
 }
 
 /// Reads what follows `trunc`.
 #[tactic(auto, unfolding(crate::specs::InstructionsAt::narrowing_at))]
-pub fn narrowing_at<'a>(op: CastOp, tokens: &mut Tokens<'_, 'a>) -> Result<Instr<'a>, ReadError>
+pub fn narrowing_at<'a>(
+    alloc: Global,
+    op: CastOp,
+    tokens: &mut Tokens<'_, 'a>,
+) -> Result<Instr<'a>, ReadError>
     ensures { Gives (λ x. (x, tokens.new)) result (narrowing_at op tokens.old) }
 {
     wraps_at(tokens)?;
-    casting_at(op, tokens)
+    casting_at(alloc, op, tokens)
 }
 
 /// Reads what follows `select`.
 #[tactic(auto, unfolding(crate::specs::InstructionsAt::selecting_at))]
-pub fn selecting_at<'a>(tokens: &mut Tokens<'_, 'a>) -> Result<Instr<'a>, ReadError>
+pub fn selecting_at<'a>(alloc: Global, tokens: &mut Tokens<'_, 'a>) -> Result<Instr<'a>, ReadError>
     ensures { Gives (λ x. (x, tokens.new)) result (selecting_at tokens.old) }
 {
     let width = bit_at(tokens)?;
-    let condition = operand_at(Reg::Int(width), tokens)?;
+    let condition = operand_at(alloc, Reg::Int(width), tokens)?;
     expect(Head::Comma, tokens)?;
-    let if_true = argument_at(tokens)?;
+    let if_true = argument_at(alloc, tokens)?;
     expect(Head::Comma, tokens)?;
-    let if_false = argument_at(tokens)?;
+    let if_false = argument_at(alloc, tokens)?;
     Ok(Instr::Select {
         condition,
         if_true,
@@ -248,41 +268,17 @@ pub fn selecting_at<'a>(tokens: &mut Tokens<'_, 'a>) -> Result<Instr<'a>, ReadEr
 
 /// Reads what follows `freeze`.
 #[tactic(auto, unfolding(crate::specs::InstructionsAt::freezing_at))]
-pub fn freezing_at<'a>(tokens: &mut Tokens<'_, 'a>) -> Result<Instr<'a>, ReadError>
+pub fn freezing_at<'a>(alloc: Global, tokens: &mut Tokens<'_, 'a>) -> Result<Instr<'a>, ReadError>
     ensures { Gives (λ x. (x, tokens.new)) result (freezing_at tokens.old) }
 {
     let reg = reg_at(tokens)?;
-    let value = operand_at(reg, tokens)?;
+    let value = operand_at(alloc, reg, tokens)?;
     Ok(Instr::Freeze { reg, value })
-}
-
-/// Takes `ptr`.
-#[tactic(auto, unfolding(lto_forms::specs::Rules::is_class))]
-fn pointer_at(tokens: &mut Tokens) -> Result<(), ReadError>
-    ensures { Gives (λ x. (tt, tokens.new)) result (pointer_at tokens.old) }
-{
-    let left = tokens.left();
-    match tokens.take() {
-        None => Err(ReadError::Fault(Fault {
-            left,
-            kind: FaultKind::Syntax,
-        })),
-        Some(t) => {
-            if t.head.is(Head::Ptr) {
-                Ok(())
-            } else {
-                Err(ReadError::Fault(Fault {
-                    left,
-                    kind: type_refusal(t.head),
-                }))
-            }
-        }
-    }
 }
 
 /// Reads what follows the comma behind an address: an alignment, or an attachment.
 #[tactic(auto, unfolding(crate::specs::InstructionsAt::aligned_at))]
-fn aligned_at(alloc: Global, tokens: &mut Tokens) -> Result<Option<u64>, ReadError>
+pub fn aligned_at(alloc: Global, tokens: &mut Tokens) -> Result<Option<u64>, ReadError>
     ensures { Gives (λ x. (x, tokens.new)) result (aligned_at tokens.old) }
 {
     if tokens.comes(Head::Align) {
@@ -299,7 +295,7 @@ fn aligned_at(alloc: Global, tokens: &mut Tokens) -> Result<Option<u64>, ReadErr
 
 /// Reads the alignment behind an address, if one stands there, and the attachments.
 #[tactic(auto, unfolding(crate::specs::InstructionsAt::align_at))]
-fn align_at(alloc: Global, tokens: &mut Tokens) -> Result<Option<u64>, ReadError>
+pub fn align_at(alloc: Global, tokens: &mut Tokens) -> Result<Option<u64>, ReadError>
     ensures { Gives (λ x. (x, tokens.new)) result (align_at tokens.old) }
 {
     if tokens.comes(Head::Comma) {
@@ -318,7 +314,7 @@ pub fn loading_at<'a>(alloc: Global, tokens: &mut Tokens<'_, 'a>) -> Result<Inst
     let reg = scalar_at(tokens)?;
     expect(Head::Comma, tokens)?;
     pointer_at(tokens)?;
-    let address = operand_at(Reg::Ptr, tokens)?;
+    let address = operand_at(alloc, Reg::Ptr, tokens)?;
     let align = align_at(alloc, tokens)?;
     Ok(Instr::Load {
         reg,
@@ -333,10 +329,10 @@ pub fn storing_at<'a>(alloc: Global, tokens: &mut Tokens<'_, 'a>) -> Result<Inst
     ensures { Gives (λ x. (x, tokens.new)) result (storing_at tokens.old) }
 {
     let reg = scalar_at(tokens)?;
-    let value = operand_at(reg, tokens)?;
+    let value = operand_at(alloc, reg, tokens)?;
     expect(Head::Comma, tokens)?;
     pointer_at(tokens)?;
-    let address = operand_at(Reg::Ptr, tokens)?;
+    let address = operand_at(alloc, Reg::Ptr, tokens)?;
     let align = align_at(alloc, tokens)?;
     Ok(Instr::Store {
         reg,

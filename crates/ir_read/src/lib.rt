@@ -6,25 +6,30 @@
 #![tactic(auto)]
 
 mod address;
-#[cfg(test)]
-mod attribute_tests;
+mod addressing;
 mod attributes;
 mod brackets;
+mod extents;
+mod function_heads;
 mod instructions;
+mod items;
 mod literals;
 mod metadata;
+mod metadata_behind;
+mod module;
 mod name;
 mod numerals;
 mod operands;
 mod phis;
+mod places;
 mod raw;
 mod shape;
+mod shapes;
 mod targets;
 mod terminals;
 mod terminators;
-#[cfg(test)]
-mod tests;
 mod tokens;
+mod values;
 
 pub use address::{Address, Index, Level, Steps};
 pub use attributes::{
@@ -32,9 +37,14 @@ pub use attributes::{
     parameter_attributes_at,
 };
 pub use brackets::{Bracket, BracketMove, group_at};
+pub use function_heads::{Role, head_at};
+pub use items::items_at;
 pub use metadata::{attached_at, attachments_at, metadata_line_at};
+pub use metadata_behind::{metadata_behind_at, node_yet_at};
+pub use module::{ModuleError, ModuleFault, ModuleFaultKind, read};
 pub use name::Name;
 pub use numerals::{alignment_at, decimal};
+pub use places::{Before, Position};
 pub use raw::{
     Argument, Block, Case, Head, Incoming, Init, InitHead, InitPart, Instr, Item, Line, Operand,
     Param, Terminator, Variable,

@@ -16,7 +16,7 @@ use std::alloc::Global;
 
 /// Takes a name of metadata or a `!`; the answer is whether its line ends behind it.
 #[tactic(auto, unfolding(lto_forms::specs::Rules::is_among))]
-fn meta_at(tokens: &mut Tokens) -> Result<bool, ReadError>
+pub fn meta_at(tokens: &mut Tokens) -> Result<bool, ReadError>
     ensures { Gives (λ x. (x, tokens.new)) result (one_of_at META ends_line tokens.old) }
 {
     let left = tokens.left();
@@ -90,7 +90,7 @@ pub fn attachments_at(alloc: Global, tokens: &mut Tokens) -> Result<(), ReadErro
 
 /// Reads what stands behind a token of a line of metadata at whose end no bracket is open, unless the
 /// line ends there. The brackets that are open are kept, the outermost first.
-fn rest_of_line_at(alloc: Global, ends: bool, tokens: &mut Tokens) -> Result<(), ReadError>
+pub fn rest_of_line_at(alloc: Global, ends: bool, tokens: &mut Tokens) -> Result<(), ReadError>
     ensures { Gives (λ x. (tt, tokens.new)) result (rest_of_line_at ends tokens.old) }
 {
     let mut open = Vec::new(alloc);

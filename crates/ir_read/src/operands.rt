@@ -10,12 +10,12 @@ ghost use Rattle.lto_forms.specs.Rules.{is_among, is_exact, is_valued};
 ghost use Rattle.ir_read.specs.Classes.{tokens, refusal};
 ghost use Rattle.ir_read.specs.Literals.{IsWidth};
 ghost use Rattle.ir_read.specs.Operands.{INTEGER, REG, SCALAR, RESULT, LOCAL, IsReg, type_refusal, memory_refusal, width, reg_of, is_bit, result_of, is_numeral, named, number_means, local_value, classes_of, operand_of};
-ghost use Rattle.ir_read.specs.OperandsAt.{reg_at, integer_at, bit_at, scalar_at, result_at, local_at, operand_at, argument_at, maybe_at};
+ghost use Rattle.ir_read.specs.OperandsAt.{reg_at, integer_at, bit_at, scalar_at, result_at, local_at, simple_at, maybe_at};
 
 use crate::literals::literal;
 use crate::name::Name;
 use crate::numerals::decimal;
-use crate::raw::{Argument, Operand};
+use crate::raw::Operand;
 use crate::terminals::{expect, refusal};
 use crate::tokens::Tokens;
 use ir_lex::{Head, Token};
@@ -33,7 +33,7 @@ pub fn type_refusal(head: Head) -> FaultKind
 }
 
 /// Why a token can't stand where a type of memory must.
-fn memory_refusal(head: Head) -> FaultKind
+pub fn memory_refusal(head: Head) -> FaultKind
     ensures { result ≡ memory_refusal (number head) }
 {
     match head {
@@ -43,14 +43,15 @@ fn memory_refusal(head: Head) -> FaultKind
 }
 
 /// The width of an integer type, in bits.
-fn width(t: &Token) -> u8
+pub fn width(t: &Token) -> u8
     ensures exact { result ≡ width (tok t.now) }
     ensures ranged { IsWidth result }
 {
     t.width().max(1).min(64) as u8
 }
 
-fn reg_of(t: &Token) -> Reg
+/// The type that a token of its class writes.
+pub fn reg_of(t: &Token) -> Reg
     ensures exact { result ≡ reg_of (tok t.now) }
     ensures ranged { IsReg result }
 {
@@ -299,8 +300,9 @@ fn local_value<'a>(t: &Token<'a>) -> Result<Operand<'a>, FaultKind>
     }
 }
 
+/// What a token means where an operand of a type may stand.
 #[tactic(auto, unfolding(lto_forms::specs::Rules::is_valued))]
-fn operand_means<'a>(reg: Reg, t: &Token<'a>) -> Result<Operand<'a>, FaultKind>
+pub fn operand_means<'a>(reg: Reg, t: &Token<'a>) -> Result<Operand<'a>, FaultKind>
     requires { IsReg reg }
     ensures { result ≡ is_valued tokens refusal (classes_of reg) (operand_of reg) (tok t.now) }
 {
@@ -318,11 +320,11 @@ fn operand_means<'a>(reg: Reg, t: &Token<'a>) -> Result<Operand<'a>, FaultKind>
     }
 }
 
-/// Reads an operand of a type. A number is a literal of it; `true` and `false` are those of `i1`.
-#[tactic(auto, unfolding(crate::specs::OperandsAt::operand_at))]
-pub fn operand_at<'a>(reg: Reg, tokens: &mut Tokens<'_, 'a>) -> Result<Operand<'a>, ReadError>
+/// Takes an operand of a type that is one token. A number is a literal of the type; `true` and
+/// `false` are those of `i1`.
+pub fn simple_at<'a>(reg: Reg, tokens: &mut Tokens<'_, 'a>) -> Result<Operand<'a>, ReadError>
     requires { IsReg reg }
-    ensures { Gives (λ x. (x, tokens.new)) result (operand_at reg tokens.old) }
+    ensures { Gives (λ x. (x, tokens.new)) result (simple_at reg tokens.old) }
 {
     let left = tokens.left();
     match tokens.take() {
@@ -335,16 +337,6 @@ pub fn operand_at<'a>(reg: Reg, tokens: &mut Tokens<'_, 'a>) -> Result<Operand<'
             Err(kind) => Err(ReadError::Fault(Fault { left, kind })),
         },
     }
-}
-
-/// Reads a type and an operand of it.
-#[tactic(auto, unfolding(crate::specs::OperandsAt::argument_at))]
-pub fn argument_at<'a>(tokens: &mut Tokens<'_, 'a>) -> Result<Argument<'a>, ReadError>
-    ensures { Gives (λ x. (x, tokens.new)) result (argument_at tokens.old) }
-{
-    let reg = reg_at(tokens)?;
-    let operand = operand_at(reg, tokens)?;
-    Ok(Argument { reg, operand })
 }
 
 /// Takes a word where it stands; the answer is whether it does.

@@ -8,10 +8,11 @@ ghost use Rattle.ir_read.specs.Operands.{IsReg};
 ghost use Rattle.ir_read.specs.PhisAt.{incoming_at, behind_comma_at, further_at, entries_at, phi_at, phi_of_at};
 
 use crate::metadata::attached_at;
-use crate::operands::{local_at, operand_at, reg_at};
+use crate::operands::{local_at, reg_at};
 use crate::raw::{Incoming, Instr};
 use crate::terminals::expect;
 use crate::tokens::Tokens;
+use crate::values::operand_at;
 use ir_lex::Head;
 use ir_tree::{Reg, Rows};
 use lto_forms::ReadError;
@@ -26,12 +27,16 @@ struct Further<'a> {
 
 /// Reads `[ operand , Local ]`.
 #[tactic(auto, unfolding(crate::specs::PhisAt::incoming_at))]
-fn incoming_at<'a>(reg: Reg, tokens: &mut Tokens<'_, 'a>) -> Result<Incoming<'a>, ReadError>
+fn incoming_at<'a>(
+    alloc: Global,
+    reg: Reg,
+    tokens: &mut Tokens<'_, 'a>,
+) -> Result<Incoming<'a>, ReadError>
     requires { IsReg reg }
     ensures { Gives (λ x. (x, tokens.new)) result (incoming_at reg tokens.old) }
 {
     expect(Head::OpenBracket, tokens)?;
-    let value = operand_at(reg, tokens)?;
+    let value = operand_at(alloc, reg, tokens)?;
     expect(Head::Comma, tokens)?;
     let from = local_at(tokens)?;
     expect(Head::CloseBracket, tokens)?;
@@ -63,7 +68,7 @@ fn behind_comma_at<'a>(
             attached: true,
         })
     } else {
-        let incoming = incoming_at(reg, tokens)?;
+        let incoming = incoming_at(alloc, reg, tokens)?;
         Ok(Further {
             entry: Some(incoming),
             attached: false,
@@ -126,7 +131,7 @@ pub fn phi_at<'a>(alloc: Global, tokens: &mut Tokens<'_, 'a>) -> Result<Instr<'a
     ensures { Gives (λ x. (x, tokens.new)) result (phi_at tokens.old) }
 {
     let reg = reg_at(tokens)?;
-    let first = incoming_at(reg, tokens)?;
+    let first = incoming_at(alloc, reg, tokens)?;
     let entries = entries_at(alloc, reg, first, tokens)?;
     Ok(Instr::Phi {
         reg,

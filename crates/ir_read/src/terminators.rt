@@ -12,10 +12,11 @@ ghost use Rattle.ir_read.specs.TerminatorsAt.{returning_at, target_at, branching
 use crate::literals::literal;
 use crate::metadata::attachments_at;
 use crate::name::Name;
-use crate::operands::{bit_at, integer_at, local_at, operand_at, reg_at, result_at, type_refusal};
+use crate::operands::{bit_at, integer_at, local_at, reg_at, result_at, type_refusal};
 use crate::raw::{Argument, Case, Terminator};
 use crate::terminals::{expect, refusal};
 use crate::tokens::Tokens;
+use crate::values::operand_at;
 use ir_lex::{Head, Token};
 use ir_tree::{Reg, Rows};
 use lto_forms::{Fault, FaultKind, ReadError};
@@ -53,13 +54,13 @@ pub struct Matched {
 
 /// Reads what follows `ret`.
 #[tactic(auto, unfolding(crate::specs::TerminatorsAt::returning_at))]
-fn returning_at<'a>(tokens: &mut Tokens<'_, 'a>) -> Result<Terminator<'a>, ReadError>
+fn returning_at<'a>(alloc: Global, tokens: &mut Tokens<'_, 'a>) -> Result<Terminator<'a>, ReadError>
     ensures { Gives (λ x. (x, tokens.new)) result (returning_at tokens.old) }
 {
     match result_at(tokens)? {
         None => Ok(Terminator::Return(None)),
         Some(reg) => {
-            let operand = operand_at(reg, tokens)?;
+            let operand = operand_at(alloc, reg, tokens)?;
             Ok(Terminator::Return(Some(Argument { reg, operand })))
         }
     }
@@ -76,7 +77,7 @@ fn target_at<'a>(tokens: &mut Tokens<'_, 'a>) -> Result<Name<'a>, ReadError>
 
 /// Reads what follows `br`.
 #[tactic(auto, unfolding(crate::specs::TerminatorsAt::branching_at))]
-fn branching_at<'a>(tokens: &mut Tokens<'_, 'a>) -> Result<Terminator<'a>, ReadError>
+fn branching_at<'a>(alloc: Global, tokens: &mut Tokens<'_, 'a>) -> Result<Terminator<'a>, ReadError>
     ensures { Gives (λ x. (x, tokens.new)) result (branching_at tokens.old) }
 {
     if tokens.comes(Head::LabelType) {
@@ -84,7 +85,7 @@ fn branching_at<'a>(tokens: &mut Tokens<'_, 'a>) -> Result<Terminator<'a>, ReadE
         Ok(Terminator::Jump(to))
     } else {
         let width = bit_at(tokens)?;
-        let condition = operand_at(Reg::Int(width), tokens)?;
+        let condition = operand_at(alloc, Reg::Int(width), tokens)?;
         expect(Head::Comma, tokens)?;
         let if_true = target_at(tokens)?;
         expect(Head::Comma, tokens)?;
@@ -200,7 +201,7 @@ fn switching_at<'a>(alloc: Global, tokens: &mut Tokens<'_, 'a>) -> Result<Termin
     ensures { Gives (λ x. (x, tokens.new)) result (switching_at tokens.old) }
 {
     let width = integer_at(tokens)?;
-    let value = operand_at(Reg::Int(width), tokens)?;
+    let value = operand_at(alloc, Reg::Int(width), tokens)?;
     expect(Head::Comma, tokens)?;
     let default = target_at(tokens)?;
     expect(Head::OpenBracket, tokens)?;
@@ -261,8 +262,8 @@ fn behind_end_at<'a>(
     ensures { Gives (λ x. (x, tokens.new)) result (behind_end_at end tokens.old) }
 {
     match end {
-        End::Ret => returning_at(tokens),
-        End::Br => branching_at(tokens),
+        End::Ret => returning_at(alloc, tokens),
+        End::Br => branching_at(alloc, tokens),
         End::Switch => switching_at(alloc, tokens),
         End::Unreachable => Ok(Terminator::Unreachable),
     }

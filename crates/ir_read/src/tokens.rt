@@ -8,7 +8,9 @@ ghost use Rattle.lto_forms.specs.Readers.{next_is};
 ghost use Rattle.ir_read.specs.Classes.{tokens, NextHead};
 ghost use Rattle.ir_read.specs.Instructions.{WRAPS};
 ghost use Rattle.ir_read.specs.Metadata.{META};
-ghost use Rattle.ir_read.specs.Operands.{REG};
+ghost use Rattle.ir_read.specs.Operands.{INTEGER, REG};
+ghost use Rattle.ir_read.specs.ShapeFormsAt.{BRACKETS};
+ghost use Rattle.ir_read.specs.Values.{STEPPING};
 
 use ir_lex::{Head, Token};
 use std::marker::Model;
@@ -69,6 +71,19 @@ impl<'t, 'a> Tokens<'t, 'a> {
         }
     }
 
+    /// Whether the next token is the bracket that an array or a structure begins with.
+    pub fn comes_bracket(&self) -> bool
+        ensures { result ≡ next_is (among tokens BRACKETS) self.now }
+    {
+        match self.rest {
+            [] => false,
+            [t, ..] => matches!(
+                t.head,
+                Head::OpenBracket | Head::OpenBrace | Head::OpenAngle
+            ),
+        }
+    }
+
     /// Whether the next token is metadata.
     pub fn comes_meta(&self) -> bool
         ensures { result ≡ next_is (among tokens META) self.now }
@@ -86,6 +101,26 @@ impl<'t, 'a> Tokens<'t, 'a> {
         match self.rest {
             [] => false,
             [t, ..] => matches!(t.head, Head::Nuw | Head::Nsw),
+        }
+    }
+
+    /// Whether the next token is the type of an integer.
+    pub fn comes_integer(&self) -> bool
+        ensures { result ≡ next_is (among tokens INTEGER) self.now }
+    {
+        match self.rest {
+            [] => false,
+            [t, ..] => matches!(t.head, Head::MemoryInteger | Head::RegisterInteger),
+        }
+    }
+
+    /// Whether the next token is a flag of `getelementptr`.
+    pub fn comes_stepping(&self) -> bool
+        ensures { result ≡ next_is (among tokens STEPPING) self.now }
+    {
+        match self.rest {
+            [] => false,
+            [t, ..] => matches!(t.head, Head::Inbounds | Head::Nuw | Head::Nusw),
         }
     }
 

@@ -1,0 +1,154 @@
+-- Items of a module, and where each may stand (LangRef, "Module Structure").
+--
+-- Behind the head of a declaration its attributes follow, up to the next item: so a form of an item knows what stands
+-- before it, and says what stands before the next one.
+use Rattle.std.specs.Prelude.{ℕ, zero, suc, ◌-◌, Bool, true, nat_eq, if◌then◌else◌, Option, Some, None, List, [], ◌∷◌, ◌++◌}
+use Rattle.std.specs.List.{fold}
+use Rattle.ir_lex.specs.declared.head.Head.TheVariants as heads
+use Rattle.ir_lex.specs.Heads.{number}
+use Rattle.ir_lex.specs.Tok.{Tok}
+use Rattle.lto_forms.specs.Chained.{Chain}
+use Rattle.lto_forms.specs.Forms.{Form, ◌>>=◌, either, gives, Star}
+use Rattle.ir_read.specs.Attributes.{head_attribute, attribute_group}
+use Rattle.ir_read.specs.Classes.{the}
+use Rattle.ir_read.specs.FunctionHeads.{head, any_head}
+use Rattle.ir_read.specs.Metadata.{attached, metadata_line}
+use Rattle.ir_read.specs.MetadataBehind.{metadata_behind, node_yet}
+use Rattle.ir_read.specs.Targets.{target_line, source_line, comdat_line}
+use Rattle.ir_read.specs.declared.function_heads.Role.TheVariants as roles
+use Rattle.ir_read.specs.declared.places.Before.{Before}
+use Rattle.ir_read.specs.declared.places.Before.TheVariants as befores
+use Rattle.ir_read.specs.declared.places.Position.{Position}
+use Rattle.ir_read.specs.declared.raw.Head.{Head}
+use Rattle.ir_read.specs.declared.raw.Item.{Item}
+use Rattle.ir_read.specs.declared.raw.Item.TheVariants.{Declaration}
+
+-- an item, where it is kept, and what stands before the next one
+abbrev pub Found : Type 0
+Found = Option Item × Before
+
+unfoldable pub left_out : Form Tok (Unit {0}) → Form Tok Found
+left_out g = do
+  _ ← g
+  gives (None, befores.Item)
+
+unfoldable pub kept : Form Tok Item → Form Tok Found
+kept g = do
+  i ← g
+  gives (Some i, befores.Item)
+
+-- ---- items that define and declare no global name
+
+unfoldable pub unnamed : Form Tok Found
+unnamed = either (left_out source_line)
+    (either (kept target_line)
+    (either (left_out comdat_line)
+    (kept attribute_group)))
+
+-- an attribute behind a declaration's head, which is dropped
+unfoldable pub attribute_behind : Form Tok Found
+attribute_behind = do
+  _ ← head_attribute
+  gives (None, befores.Declaration)
+
+unfoldable pub placed : Form Tok Before → Form Tok Found
+placed g = do
+  before ← g
+  gives (None, before)
+
+-- metadata, by what stands before it
+abbrev pub metadata_there : Before → Form Tok Found
+metadata_there befores.Item = left_out metadata_line
+metadata_there befores.Declaration = placed metadata_behind
+metadata_there befores.Name = placed node_yet
+
+abbrev pub plainly : Before → Form Tok Found
+plainly befores.Item = unnamed
+plainly befores.Declaration = either attribute_behind unnamed
+plainly befores.Name = unnamed
+
+unfoldable pub beside : Before → Form Tok Found
+beside before = either (metadata_there before) (plainly before)
+
+-- ---- items that define or declare a global name
+
+-- a declaration of a lifetime marker is dropped
+abbrev pub declared : Head → Option Item
+declared h = if nat_eq (number h.name.head) (number heads.LifetimeMarker) then None else Some (Declaration h)
+
+-- {Meta node}
+unfoldable pub attached_before : Form Tok (Unit {0})
+attached_before = do
+  _ ← Star attached
+  gives tt
+
+-- declare {Meta node} head, but for the attributes behind it; so many parameters at most behind the first
+unfoldable pub declaration : ℕ → Form Tok Found
+declaration room = do
+  _ ← the heads.Declare
+  _ ← attached_before
+  h ← head roles.Declaration room
+  gives (declared h, befores.Declaration)
+
+unfoldable pub any_declaration : Form Tok Found
+any_declaration = do
+  _ ← the heads.Declare
+  _ ← attached_before
+  h ← any_head roles.Declaration
+  gives (declared h, befores.Declaration)
+
+abbrev pub naming : ℕ → Form Tok Found
+naming room = declaration room
+
+abbrev pub any_naming : Form Tok Found
+any_naming = any_declaration
+
+-- ---- all items, with how many global names there may still be
+
+abbrev pub at_place : ℕ → Found → Option Item × Position
+at_place names x = (x.0, record { before = x.1; names = names })
+
+unfoldable pub other : Before → ℕ → Form Tok (Option Item × Position)
+other before names = do
+  x ← beside before
+  gives (at_place names x)
+
+unfoldable pub any_named : ℕ → Form Tok (Option Item × Position)
+any_named names = do
+  x ← any_naming
+  gives (at_place (names - 1) x)
+
+unfoldable pub named : ℕ → ℕ → Form Tok (Option Item × Position)
+named room names = do
+  x ← naming room
+  gives (at_place (names - 1) x)
+
+-- none where there is no room for a name
+abbrev pub named_within : ℕ → ℕ → Form Tok (Option Item × Position)
+named_within room zero = λ ts x. ⊥
+named_within room (suc n) = named room (suc n)
+
+unfoldable pub piece : ℕ → Before → ℕ → Form Tok (Option Item × Position)
+piece room before names = either (named_within room names) (other before names)
+
+unfoldable pub any_piece : Before → ℕ → Form Tok (Option Item × Position)
+any_piece before names = either (any_named names) (other before names)
+
+abbrev pub anywhere : Position → Bool
+anywhere at = true
+
+abbrev pub keep : List Item → Option Item → List Item
+keep front None = front
+keep front (Some i) = front ++ i ∷ []
+
+-- {item}: so many names at most, and so many parameters behind the first of each function
+unfoldable pub items : ℕ → ℕ → Form Tok (List Item)
+items room names = do
+  all ← Chain anywhere (λ at. piece room at.before at.names) (record { before = befores.Item; names = names })
+  gives (fold keep [] all)
+
+-- the same without limits on how many names and parameters there are
+unfoldable pub any_items : ℕ → Form Tok (List Item)
+any_items names = do
+  all ← Chain anywhere (λ at. any_piece at.before at.names) (record { before = befores.Item; names = names })
+  gives (fold keep [] all)

@@ -1,0 +1,131 @@
+-- Operands, with constant addresses among them (LangRef, "Constant Expressions"), over what spells a shape.
+use Rattle.std.specs.Prelude.{ℕ, Bool, true, false, ◌||◌, nat_eq, Option, option_map, List, [], ◌∷◌, reverse}
+use Rattle.std.specs.List.{fold}
+use Rattle.ir_lex.specs.declared.head.Head.TheVariants as heads
+use Rattle.ir_lex.specs.Heads.{number}
+use Rattle.ir_lex.specs.Tok.{Tok}
+use Rattle.ir_tree.specs.declared.operand.Reg.{Reg}
+use Rattle.lto_forms.specs.Forms.{Form, ◌>>=◌, either, gives, token, Star}
+use Rattle.lto_forms.specs.Rules.{is_class, is_valued}
+use Rattle.ir_read.specs.Classes.{tokens, refusal, the, one_of, itself}
+use Rattle.ir_read.specs.declared.address.Index.{Index}
+use Rattle.ir_read.specs.declared.address.Level.{Level}
+use Rattle.ir_read.specs.declared.address.Steps.{Steps}
+use Rattle.ir_read.specs.declared.raw.Argument.{Argument}
+use Rattle.ir_read.specs.declared.raw.Operand.{Operand}
+use Rattle.ir_read.specs.declared.raw.Operand.TheVariants as operands
+use Rattle.ir_read.specs.declared.shape.Typed.{Typed}
+use Rattle.ir_read.specs.Literals.{literal}
+use Rattle.ir_read.specs.Operands.{type_refusal, reg, integer, simple}
+
+-- ptr
+abbrev pub pointer : Form Tok (Unit {0})
+pointer = token (is_class tokens type_refusal (number heads.Ptr))
+
+-- ---- flags of getelementptr
+
+abbrev pub STEPPING : List ℕ
+STEPPING = number heads.Inbounds ∷ number heads.Nuw ∷ number heads.Nusw ∷ []
+
+abbrev pub is_inbounds : Tok → Bool
+is_inbounds t = nat_eq (number t.head) (number heads.Inbounds)
+
+abbrev pub or_inbounds : Bool → Bool → Bool
+or_inbounds any one = any || one
+
+-- {inbounds/nuw/nusw}; whether `inbounds` is among them
+unfoldable pub stepping : Form Tok Bool
+stepping = do
+  flags ← Star (one_of STEPPING is_inbounds)
+  gives (fold or_inbounds false flags)
+
+-- ---- indices of constant addresses
+
+abbrev pub NUMBER : List ℕ
+NUMBER = number heads.Number ∷ []
+
+abbrev pub index_of : ℕ → Tok → Option Index
+index_of w t = option_map (λ bits. record { width = w; bits = bits; line = t.line }) (literal w t.text)
+
+abbrev pub index_number : ℕ → Form Tok Index
+index_number w = token (is_valued tokens refusal NUMBER (index_of w))
+
+-- , iN Number
+unfoldable pub index : Form Tok Index
+index = do
+  _ ← the heads.Comma
+  w ← integer
+  index_number w
+
+-- ---- constant addresses
+
+abbrev pub GLOBAL : List ℕ
+GLOBAL = number heads.Global ∷ number heads.NumberedGlobal ∷ number heads.NumberedDefinition ∷ []
+
+abbrev pub level : Typed → List Index → Level
+level typed indices = record { typed = typed; indices = indices }
+
+abbrev pub steps : Tok → List Level → Steps
+steps name levels = record { name = name; levels = levels }
+
+-- {, iN Number} ), which closes a level
+unfoldable pub closing_one : Typed → Form Tok Level
+closing_one typed = do
+  indices ← Star index
+  _ ← the heads.CloseParen
+  gives (level typed indices)
+
+-- what closes these levels, one after another
+abbrev pub closing : List Typed → Form Tok (List Level)
+closing [] = gives []
+closing (typed ∷ outer) = do
+  one ← closing_one typed
+  more ← closing outer
+  gives (one ∷ more)
+
+-- Global, behind the levels that are open, the outermost first
+unfoldable pub reached : List Typed → Form Tok Operand
+reached outer = do
+  name ← one_of GLOBAL itself
+  levels ← closing (reverse outer)
+  gives (operands.Address (steps name levels))
+
+module _ (shape : Form Tok Typed) where
+  -- {inbounds/nuw/nusw} ( shape , ptr
+  unfoldable pub opened : Form Tok Typed
+  opened = do
+    _ ← stepping
+    _ ← the heads.OpenParen
+    typed ← shape
+    _ ← the heads.Comma
+    _ ← pointer
+    gives typed
+
+  -- getelementptr {inbounds/nuw/nusw} ( shape , ptr
+  unfoldable pub opening : Form Tok Typed
+  opening = do
+    _ ← the heads.GetElementPtr
+    opened
+
+  -- behind the first level
+  unfoldable pub address_behind : Typed → Form Tok Operand
+  address_behind first = do
+    inner ← Star opening
+    reached (first ∷ inner)
+
+  -- getelementptr {inbounds/nuw/nusw} ( shape , ptr (Global / address) {, iN Number} )
+  unfoldable pub address : Form Tok Operand
+  address = do
+    first ← opening
+    address_behind first
+
+  -- Local / Number / true / false / null / poison / Global / address
+  unfoldable pub operand : Reg → Form Tok Operand
+  operand r = either address (simple r)
+
+  -- reg operand
+  unfoldable pub argument : Form Tok Argument
+  argument = do
+    r ← reg
+    v ← operand r
+    gives (record { reg = r; operand = v })
