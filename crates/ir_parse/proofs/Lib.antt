@@ -9,3 +9,4 @@ mod Powers
 mod Trimming
 mod Bodies
 mod Names
+mod Searched

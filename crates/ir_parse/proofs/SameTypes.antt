@@ -1,5 +1,5 @@
 -- Type names in the map, and what they stand for.
-use Rattle.std.proofs.Common.{sym, ◌∙◌, zero, ◌+◌, nat_lt, lt-ltb, le-ltb, ltb-true, ltb-false, arith, position, slice_get, option_copied, is_some, ◌++◌, ◌≡◌, refl, ap, Bool, true, false, None, Some, ℕ, suc, List, [], ◌∷◌, length, cond, Option, option_map}
+use Rattle.std.proofs.Common.{sym, ◌∙◌, zero, ◌+◌, nat_lt, lt-ltb, le-ltb, ltb-true, ltb-false, arith, position, map, slice_get, option_copied, is_some, ◌++◌, ◌≡◌, refl, ap, Bool, true, false, None, Some, ℕ, suc, List, [], ◌∷◌, length, cond, Option, option_map}
 use Rattle.std.specs.Borrow.{Bor}
 use Rattle.std.specs.Map.{keys_of, lookup}
 use Rattle.indexmap.proofs.CallerLemmas.{insert_entry-new}
@@ -10,6 +10,7 @@ use Rattle.ir_parse.specs.declared.key.Key as code
 use Rattle.ir_parse.specs.contracts.key.KeyPartialEq.TheImpl as derived
 use Rattle.ir_parse.specs.Keys.{same_key}
 use Rattle.ir_parse.specs.KeyViews.{key}
+use Rattle.ir_parse.specs.TypeNames.{place_of}
 use Rattle.ir_parse.specs.Types.{entry_of, shape_at}
 use Rattle.ir_parse.specs.TypesViews.{types, type_def}
 use Rattle.ir_parse.proofs.SameKeys.{same}
@@ -37,6 +38,18 @@ entries k (e ∷ es) = by (derived.eq-value.it k e.0) refl (sym (same k e.0)) (e
         → option_map (λ p. shape_at (types (e ∷ es)) p) (position (derived.eq-value.it k) (keys_of (e ∷ es))) ≡ entry_of (types (e ∷ es)) (key k)
     by true h s rest = rw (s, h, lt-ltb 0 (suc (length (keys_of es))) (omega arith)) refl
     by false h s rest = rw (s, h) (place_behind (λ p. shape_at (types (e ∷ es)) p) (λ p. shape_at (types es) p) front (length (keys_of es)) (λ p. refl) ∙ rest)
+
+keys_long : (es : List (code.Key × Option (Bor Written))) → length (keys_of es) ≡ length (map (λ d. d.0) (types es))
+keys_long [] = refl
+keys_long (e ∷ es) = ap (λ n. suc n) (keys_long es)
+
+fronts : (k : code.Key) (es : List (code.Key × Option (Bor Written))) → position_or_len (derived.eq-value.it k) (keys_of es) ≡ position_or_len (same_key (key k)) (map (λ d. d.0) (types es))
+fronts k [] = refl
+fronts k (e ∷ es) = rw (same k e.0, fronts k es) refl
+
+-- the place of a key in the map is that of what it stands for
+pub places : (k : code.Key) (es : List (code.Key × Option (Bor Written))) → position (derived.eq-value.it k) (keys_of es) ≡ place_of (types es) (key k)
+places k es = rw (fronts k es, keys_long es) refl
 
 abbrev pub said : Option (code.Key × Option (Bor Written)) → Option Written
 said None = None

@@ -2,6 +2,8 @@
 use Rattle.std.specs.Prelude.{ℕ, ◌+◌, Bool, List, [], ◌∷◌, length, Option, None, Some, Result, Ok}
 use Rattle.ir_read.specs.declared.raw.Block as raw_block
 use Rattle.ir_read.specs.declared.raw.Head as raw_head
+use Rattle.ir_read.specs.declared.raw.Line as raw_line
+use Rattle.ir_read.specs.declared.raw.Terminator as raw_end
 use Rattle.ir_read.specs.declared.raw.Param as raw_param
 use Rattle.ir_tree.specs.declared.block.Block.{Block}
 use Rattle.ir_tree.specs.declared.function.Function.{Function}
@@ -47,9 +49,16 @@ rest_of (l ∷ ls) = lines_behind (as_phi l) (l ∷ ls) (rest_of ls)
 abbrev pub body_of : List Line → Body
 body_of ls = record { phis = phis_of ls; lines = rest_of ls }
 
+abbrev pub body_in : Types → Known → ℕ → List raw_line.Line → Result Body Fault
+body_in types locals next lines = lines_in types locals next lines >>= λ ls. Ok (body_of ls)
+
+-- a block under its number; its lines take the numbers behind it
+unfoldable pub block_of : Types → Known → ℕ → List raw_line.Line → raw_end.Terminator → Result Block Fault
+block_of types locals number lines end =
+    body_in types locals (number + 1) lines >>= λ body. end_in types locals end >>= λ e. Ok (record { number = number; phis = body.phis; lines = body.lines; end = e })
+
 abbrev pub block_in : Types → Known → ℕ → raw_block.Block → Result Block Fault
-block_in types locals number b =
-    lines_in types locals (number + 1) b.lines >>= λ ls. end_in types locals b.end >>= λ e. Ok (record { number = number; phis = phis_of ls; lines = rest_of ls; end = e })
+block_in types locals number b = block_of types locals number b.lines b.end
 
 abbrev pub behind_block : ℕ → raw_block.Block → ℕ
 behind_block number b = behind_lines (number + 1) b.lines

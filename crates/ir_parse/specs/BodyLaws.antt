@@ -1,15 +1,9 @@
 -- Bodies of blocks, a line at a time.
-use Rattle.std.specs.Prelude.{ℕ, List, [], ◌∷◌, ◌++◌, Option, None, Some, Result, Ok}
-use Rattle.ir_read.specs.declared.raw.Line as raw_line
+use Rattle.std.specs.Prelude.{List, [], ◌∷◌, ◌++◌, Option, None, Some}
 use Rattle.ir_tree.specs.declared.instr.Line.{Line}
 use Rattle.ir_tree.specs.declared.instr.Phi.{Phi}
 use Rattle.ir_parse.specs.declared.block.Body.{Body}
-use Rattle.ir_parse.specs.declared.fault.Fault.{Fault}
-use Rattle.ir_parse.specs.Blocks.{as_phi, phis_of, rest_of, body_of}
-use Rattle.ir_parse.specs.Bodies.{lines_in}
-use Rattle.ir_parse.specs.Locals.{Known}
-use Rattle.ir_parse.specs.Settled.{◌>>=◌}
-use Rattle.ir_parse.specs.Types.{Types}
+use Rattle.ir_parse.specs.Blocks.{as_phi, phis_of, rest_of}
 
 abbrev pub placed_first : List Phi → Line → Option Phi → Body
 placed_first phis l None = record { phis = phis; lines = l ∷ [] }
@@ -29,6 +23,3 @@ followed_in phis (k ∷ ks) more = record { phis = phis; lines = k ∷ ks ++ mor
 
 abbrev pub followed : Body → List Line → Body
 followed b more = followed_in b.phis b.lines more
-
-abbrev pub body_in : Types → Known → ℕ → List raw_line.Line → Result Body Fault
-body_in types locals next lines = lines_in types locals next lines >>= λ ls. Ok (body_of ls)

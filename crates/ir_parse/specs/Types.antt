@@ -1,8 +1,6 @@
 -- Type names, and shapes with their type names expanded (LangRef, "Structure Type" and "Opaque Structure Types").
 use Rattle.std.specs.Prelude.{ℕ, zero, suc, ◌+◌, ◌^◌, Bool, ◌&&◌, nat_le, if◌then◌else◌, List, [], ◌∷◌, ◌++◌, length, is_some, Option, None, Some, Result, Ok, Err}
 use Rattle.ir_lex.specs.Tok.{Tok}
-use Rattle.ir_read.specs.declared.raw.Item.{Item}
-use Rattle.ir_read.specs.declared.raw.Item.TheVariants as item
 use Rattle.ir_read.specs.declared.shape.Typed.{Typed}
 use Rattle.ir_read.specs.Shapes.{Written, int, pointer, array, structure, named, list_of}
 use Rattle.ir_tree.specs.Forms as tree
@@ -110,15 +108,3 @@ with_type types name shape =
 abbrev pub shape_if : Option Typed → Option Written
 shape_if None = None
 shape_if (Some typed) = Some typed.shape
-
--- what an item says of a type name
-abbrev pub with_item : Types → Item → Result Types Fault
-with_item types (item.Type name typed) = with_type types name (shape_if typed)
-with_item types _ = Ok types
-
-abbrev pub with_items : Types → List Item → Result Types Fault
-with_items types [] = Ok types
-with_items types (i ∷ is) = with_item types i >>= λ ts. with_items ts is
-
-unfoldable pub types_of : List Item → Result Types Fault
-types_of items = with_items [] items

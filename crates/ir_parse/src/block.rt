@@ -1,16 +1,18 @@
 //! The lines of blocks with their names resolved (LangRef, "Functions").
 ghost use Rattle.std.specs.Prelude.{◌≡◌, ◌+◌, OnOk, Ok, IfOk};
-ghost use Rattle.ir_parse.specs.Bodies.{local_at, behind_line};
-ghost use Rattle.ir_parse.specs.BodyLaws.{placed, body_in};
+ghost use Rattle.ir_parse.specs.Bodies.{local_at, behind_line, behind_lines};
+ghost use Rattle.ir_parse.specs.Blocks.{body_in, block_of};
+ghost use Rattle.ir_parse.specs.BodyLaws.{placed};
 ghost use Rattle.ir_parse.specs.Settled.{Settles};
 
 use crate::fault::ResolveError;
 use crate::instr::instr_in;
 use crate::locals::Locals;
 use crate::numbering::is_defined;
+use crate::terminator::end_in;
 use crate::types::Types;
-use ir_read::Line as WrittenLine;
-use ir_tree::{Instr, Line, Phi, Rows};
+use ir_read::{Line as WrittenLine, Terminator as WrittenEnd};
+use ir_tree::{Block, Instr, Line, Phi, Rows};
 use std::alloc::Global;
 
 /// The phis that stand first in a block, and its other lines.
@@ -92,4 +94,38 @@ pub fn body_in<'t, 'a>(
         next = behind_line(next, line)?;
     }
     Ok(body)
+}
+
+/// The number behind these lines, the first of which takes this number, where it takes one.
+pub fn behind_lines(first: u32, lines: &[WrittenLine]) -> Result<u32, ResolveError>
+    ensures { Settles (λ n. n) result (Ok (behind_lines first lines.now)) }
+{
+    let mut next = first;
+    'each: for line in lines {
+        next = behind_line(next, line)?;
+    }
+    Ok(next)
+}
+
+/// The block of these lines and this end, under a number.
+#[tactic(auto, unfolding(crate::specs::Blocks::block_of))]
+pub fn block_of<'t, 'a>(
+    alloc: Global,
+    types: &Types<'t, 'a>,
+    locals: &Locals<'a>,
+    number: u32,
+    lines: &'t [WrittenLine<'a>],
+    end: &'t WrittenEnd<'a>,
+) -> Result<Block, ResolveError>
+    ensures { Settles (λ b. b) result (block_of types.now locals.now number lines.now end.now) }
+{
+    let first = after(number)?;
+    let body = body_in(alloc, types, locals, first, lines)?;
+    let end = end_in(alloc, types, locals, end)?;
+    Ok(Block {
+        number,
+        phis: body.phis,
+        lines: body.lines,
+        end,
+    })
 }

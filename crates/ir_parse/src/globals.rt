@@ -1,17 +1,16 @@
 //! The names of globals (LangRef, "Identifiers", "Global Variables" and "Functions").
-ghost use Rattle.std.specs.Prelude.{◌≡◌, ◌+◌, ◌≤◌, ◌^◌, ◌++◌, ◌∷◌, [], false, Ok, IfOk, option_copied};
+ghost use Rattle.std.specs.Prelude.{◌≡◌, ◌+◌, ◌≤◌, ◌^◌, ◌++◌, ◌∷◌, [], false, Ok, IfOk};
 ghost use Rattle.std.specs.Cow.{cow_slice_items};
-ghost use Rattle.ir_parse.specs.Globals.{no_globals, has_name, is_low, counted_by, with_global, global_of, with_item, with_items, globals_of, known_in};
-ghost use Rattle.ir_parse.specs.Globals as globals;
+ghost use Rattle.ir_parse.specs.Globals.{no_globals, has_name, is_low, counted_by, with_global};
 ghost use Rattle.ir_parse.specs.Symbols.{symbol_name};
 ghost use Rattle.ir_parse.specs.Settled.{Settles};
 
 use crate::fault::{Fault, FaultKind, ResolveError};
-use crate::key::{bare, number_of};
+use crate::key::number_of;
 use crate::number::is_numeral;
 use crate::symbol::trimmed;
 use indexmap::IndexSet;
-use ir_read::{Item, Name};
+use ir_read::Name;
 use std::alloc::{AllocError, Global};
 use std::borrow::CowSlice;
 use std::marker::Model;
@@ -37,10 +36,10 @@ impl<'a> Model for Globals<'a> {
 
 /// The bytes of a global's name, borrowed where they are written without a backslash.
 #[tactic(auto, unfolding(crate::specs::Symbols::symbol_name))]
-fn name_of<'a>(alloc: Global, name: &Name<'a>) -> Result<CowSlice<'a, u8, Global>, AllocError>
+pub fn name_of<'a>(alloc: Global, name: &Name<'a>) -> Result<CowSlice<'a, u8, Global>, AllocError>
     ensures { IfOk result (λ c. cow_slice_items c ≡ symbol_name name.now) }
 {
-    let digits = bare(name.token());
+    let digits = name.token().bare();
     if is_numeral(digits) {
         Ok(CowSlice::Borrowed(trimmed(digits)))
     } else {
@@ -102,21 +101,6 @@ impl<'a> Globals<'a> {
         Ok(())
     }
 
-    /// Whether a name that is used is there: a fault at the name where it isn't.
-    pub fn find(&self, alloc: Global, name: &Name<'a>) -> Result<(), ResolveError>
-        ensures { Settles (λ _. tt) result (known_in self.now name.now) }
-    {
-        let wanted = name_of(alloc, name)?;
-        if self.has_name(&wanted) {
-            Ok(())
-        } else {
-            Err(ResolveError::Fault(Fault {
-                line: name.line(),
-                kind: FaultKind::Unknown,
-            }))
-        }
-    }
-
     /// One more definition or declaration, in the order of the text.
     pub fn define(&mut self, alloc: Global, name: &Name<'a>) -> Result<(), ResolveError>
         ensures { Settles (λ _. self.new) result (with_global self.old name.now) }
@@ -131,42 +115,4 @@ impl<'a> Globals<'a> {
         }
         self.push(wanted, number)
     }
-}
-
-/// What an item defines or declares.
-fn global_of<'i, 'a>(item: &'i Item<'a>) -> Option<&'i Name<'a>>
-    ensures { option_copied result ≡ global_of item.now }
-{
-    match item {
-        Item::Variable(variable) => Some(&variable.name),
-        Item::Declaration(head) => Some(&head.name),
-        Item::Definition(head, _) => Some(&head.name),
-        _ => None,
-    }
-}
-
-fn with_item<'a>(
-    alloc: Global,
-    found: &mut Globals<'a>,
-    item: &Item<'a>,
-) -> Result<(), ResolveError>
-    ensures { Settles (λ _. found.new) result (with_item found.old (global_of item.now)) }
-{
-    match global_of(item) {
-        None => Ok(()),
-        Some(name) => found.define(alloc, name),
-    }
-}
-
-/// The globals of a module. A name that is defined or declared twice, and a number below the counter,
-/// are faults at the name.
-#[tactic(auto, unfolding(crate::specs::Globals::globals_of))]
-pub fn globals_of<'a>(alloc: Global, items: &[Item<'a>]) -> Result<Globals<'a>, ResolveError>
-    ensures { Settles (λ g. g) result (globals.globals_of items.now) }
-{
-    let mut found = Globals::new(alloc);
-    'each: for item in items {
-        with_item(alloc, &mut found, item)?;
-    }
-    Ok(found)
 }

@@ -15,7 +15,7 @@ use ir_tree::{BinaryOp, Flags, Instr, Predicate, Reg, Rows, Shape, align_of};
 use std::alloc::Global;
 
 /// What an `alloca` of so many of a shape takes: a count other than 1 makes an array.
-fn allocated<'t, 'a>(
+pub fn allocated<'t, 'a>(
     alloc: Global,
     types: &Types<'t, 'a>,
     typed: &'t Typed<'a>,

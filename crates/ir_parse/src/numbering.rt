@@ -1,5 +1,5 @@
 //! The definitions of a function, in the order of its text (LangRef, "Identifiers" and "Functions").
-ghost use Rattle.std.specs.Prelude.{◌≡◌, Ok, Some, None};
+ghost use Rattle.std.specs.Prelude.{◌≡◌, [], Ok, Some, None};
 ghost use Rattle.ir_parse.specs.Numbering.{has_result, is_defined, with_params, with_line, with_lines, with_block, with_blocks, locals_of};
 ghost use Rattle.ir_parse.specs.Numbering as numbering;
 ghost use Rattle.ir_parse.specs.Settled.{Settles};
@@ -90,6 +90,16 @@ fn with_blocks<'a>(
         with_block(alloc, locals, block)?;
     }
     Ok(())
+}
+
+/// The definitions of a declaration: its parameters.
+#[tactic(auto, unfolding(crate::specs::Numbering::locals_of))]
+pub fn params_of<'a>(alloc: Global, params: &[Param<'a>]) -> Result<Locals<'a>, ResolveError>
+    ensures { Settles (λ k. k) result (numbering.locals_of params.now []) }
+{
+    let mut locals = Locals::new(alloc);
+    with_params(alloc, &mut locals, params)?;
+    Ok(locals)
 }
 
 /// The definitions of a function: its parameters, and each block before its results.

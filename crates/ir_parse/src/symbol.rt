@@ -2,7 +2,6 @@
 ghost use Rattle.std.specs.Prelude.{◌≡◌, IfOk};
 ghost use Rattle.ir_parse.specs.Symbols.{is_padded, trimmed, symbol_name, symbol_of};
 
-use crate::key::bare;
 use crate::number::is_numeral;
 use ir_read::Name;
 use ir_tree::{Symbol, Text};
@@ -35,7 +34,7 @@ pub fn trimmed<'a>(digits: &'a [u8]) -> &'a [u8]
 pub fn symbol_name(alloc: Global, name: &Name) -> Result<Text, AllocError>
     ensures { IfOk result (λ text. text ≡ symbol_name name.now) }
 {
-    let digits = bare(name.token());
+    let digits = name.token().bare();
     if is_numeral(digits) {
         return Text::copied(alloc, trimmed(digits));
     }

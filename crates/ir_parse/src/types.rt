@@ -1,5 +1,5 @@
 //! Type names and what they stand for (LangRef, "Structure Type" and "Opaque Structure Types").
-ghost use Rattle.std.specs.Prelude.{◌≡◌, ◌≤◌, ◌^◌, [], Some, None, option_copied, option_map, is_some, false, ◌++◌, ◌∷◌, Ok, length, IfOk, nat_le};
+ghost use Rattle.std.specs.Prelude.{◌≡◌, ◌≤◌, ◌^◌, [], Some, None, option_copied, option_map, is_some, false, ◌++◌, ◌∷◌, Ok, length, IfOk, nat_le, if◌then◌else◌};
 ghost use Rattle.ir_tree.specs.Layout.{IsLaidOut, AreLaidOut, size};
 ghost use Rattle.ir_tree.specs.Forms.{structure, forms_of};
 ghost use Rattle.ir_parse.specs.Keys.{key_of};
@@ -7,13 +7,13 @@ ghost use Rattle.ir_parse.specs.KeyViews.{key};
 ghost use Rattle.ir_parse.specs.Locals.{unknown};
 ghost use Rattle.ir_parse.specs.declared.fault.ResolveError.TheVariants as errors;
 ghost use Rattle.ir_parse.specs.Settled.{Settles};
-ghost use Rattle.ir_parse.specs.Types.{entry_of, entry_in, shape_at, shape_in, head_from, head_of, chased, with_type, shape_if, with_item, with_items};
-ghost use Rattle.ir_parse.specs.Types as typing;
+ghost use Rattle.ir_parse.specs.TypeNames.{place_of};
+ghost use Rattle.ir_parse.specs.Types.{entry_of, entry_in, shape_at, shape_in, head_from, head_of, chased, with_type, shape_if};
 
 use crate::fault::{Fault, FaultKind, ResolveError};
 use crate::key::{Key, key_of};
 use indexmap::IndexMap;
-use ir_read::{Item, Name, Shape, ShapeNode, Typed};
+use ir_read::{Name, Shape, ShapeNode, Typed};
 use std::alloc::Global;
 use std::marker::Model;
 
@@ -67,6 +67,22 @@ impl<'t, 'a> Types<'t, 'a> {
         self.push(wanted, shape)
     }
 
+    /// One more type name, where it isn't there.
+    pub fn add(
+        &mut self,
+        alloc: Global,
+        name: &Name<'a>,
+        shape: Option<&'t Shape<'a>>,
+    ) -> Result<(), ResolveError>
+        ensures { Settles (λ _. self.new) result (Ok (if is_some (entry_of self.old (key_of name.now)) then self.old else self.old ++ (key_of name.now, option_copied shape.entry) ∷ [])) }
+    {
+        let wanted = key_of(alloc, name)?;
+        if self.place_of(&wanted).is_some() {
+            return Ok(());
+        }
+        self.push(wanted, shape)
+    }
+
     /// One more definition, under a key that isn't there.
     fn push(&mut self, wanted: Key<'a>, shape: Option<&'t Shape<'a>>) -> Result<(), ResolveError>
         requires { is_some (entry_of self.old (key wanted)) ≡ false }
@@ -77,7 +93,7 @@ impl<'t, 'a> Types<'t, 'a> {
     }
 
     /// How many names there are.
-    fn len(&self) -> usize
+    pub fn len(&self) -> usize
         ensures { result ≡ length self.now }
     {
         self.map.len()
@@ -94,15 +110,39 @@ impl<'t, 'a> Types<'t, 'a> {
         }
     }
 
+    /// The place of a type name among the definitions, where it is there.
+    pub fn place_of_name(
+        &self,
+        alloc: Global,
+        name: &Name<'a>,
+    ) -> Result<Option<usize>, ResolveError>
+        ensures { Settles (λ p. p) result (Ok (place_of self.now (key_of name.now))) }
+    {
+        let wanted = key_of(alloc, name)?;
+        Ok(self.place_of(&wanted))
+    }
+
+    /// What a type name that is used is defined as.
+    pub fn shape_in(&self, alloc: Global, name: &Name<'a>) -> Result<&'t Shape<'a>, ResolveError>
+        ensures { Settles (λ s. s.now) result (shape_in self.now name.now) }
+    {
+        let place = self.place_in(alloc, name)?;
+        match self.shape_at(place) {
+            None => Err(unknown(name.line())),
+            Some(shape) => Ok(shape),
+        }
+    }
+
     /// The place of a key among the definitions.
     fn place_of(&self, wanted: &Key<'a>) -> Option<usize>
-        ensures { option_map (λ p. shape_at self.now p) result ≡ entry_of self.now (key wanted.now) }
+        ensures place { result ≡ place_of self.now (key wanted.now) }
+        ensures shape { option_map (λ p. shape_at self.now p) result ≡ entry_of self.now (key wanted.now) }
     {
         self.map.get_index_of(wanted)
     }
 
     /// What the definition at a place says.
-    fn shape_at(&self, place: usize) -> Option<&'t Shape<'a>>
+    pub fn shape_at(&self, place: usize) -> Option<&'t Shape<'a>>
         ensures { option_copied result ≡ shape_at self.now place }
     {
         match self.map.get_index(place) {
@@ -162,38 +202,14 @@ impl<'t, 'a> Types<'t, 'a> {
     }
 }
 
-fn shape_if<'t, 'a>(typed: &'t Option<Typed<'a>>) -> Option<&'t Shape<'a>>
+/// The shape of a type name that isn't opaque.
+pub fn shape_if<'t, 'a>(typed: &'t Option<Typed<'a>>) -> Option<&'t Shape<'a>>
     ensures { option_copied result ≡ shape_if typed.now }
 {
     match typed {
         None => None,
         Some(typed) => Some(&typed.shape),
     }
-}
-
-fn with_item<'t, 'a>(
-    alloc: Global,
-    types: &mut Types<'t, 'a>,
-    item: &'t Item<'a>,
-) -> Result<(), ResolveError>
-    ensures { Settles (λ _. types.new) result (with_item types.old item.now) }
-{
-    match item {
-        Item::Type(name, typed) => types.define(alloc, name, shape_if(typed)),
-        _ => Ok(()),
-    }
-}
-
-/// The type names of a module. A name that is defined twice is a fault at its second definition.
-#[tactic(auto, unfolding(crate::specs::Types::types_of))]
-pub fn types_of<'t, 'a>(alloc: Global, items: &'t [Item<'a>]) -> Result<Types<'t, 'a>, ResolveError>
-    ensures { Settles (λ t. t) result (typing.types_of items.now) }
-{
-    let mut types = Types::new(alloc);
-    'each: for item in items {
-        with_item(alloc, &mut types, item)?;
-    }
-    Ok(types)
 }
 
 /// The fault of an unknown name on a line.

@@ -1,6 +1,6 @@
 use Rattle.std.proofs.Common.{◌≡◌, drop}
 use Rattle.ir_parse.specs.Bodies.{lines_in}
-use Rattle.ir_parse.specs.BodyLaws.{body_in}
+use Rattle.ir_parse.specs.Blocks.{body_in}
 use Rattle.ir_parse.proofs.Bodies.{onto}
 use Rattle.ir_parse.proofs.block.body_in.Given as goal
 
