@@ -1,0 +1,5 @@
+pub mod Reading
+pub mod Lists
+pub mod Numbers
+pub mod Simple
+pub mod OneCommand
