@@ -1,0 +1,6 @@
+mod Casts
+mod Indices
+mod Names
+mod Ones
+mod Parts
+mod Wraps

@@ -1,0 +1,27 @@
+//! Constant folding and algebraic simplification of one instruction: the rule table.
+//!
+//! [`rule`] gives the operand that may stand for what an instruction gives, by the first row of the table of
+//! `ir_meaning` that fits (`specs/Table.antt` there, one line a row; LLVM's InstSimplify has such a table). The
+//! contract is that it is that row's operand, and none exactly where no row fits. That each row may stand for
+//! what its instruction gives, under some free choice, is the law `table_right` of `ir_better`, of the same
+//! definition.
+//!
+//! Below this crate stand `ir_tree`, `lto_bits` and `ir_meaning`. No call but [`Folded::operand`] takes memory: an
+//! operand of the instruction is borrowed. A row costs a constant number of machine instructions, but for names
+//! that are compared and for the indices of an address, which are gone through twice.
+#![tactic(auto)]
+
+mod address;
+mod binary;
+mod choice;
+mod comparison;
+mod folded;
+mod operands;
+mod rows;
+mod table;
+#[cfg(test)]
+mod tests;
+
+pub use folded::Folded;
+pub use operands::is_same;
+pub use table::rule;

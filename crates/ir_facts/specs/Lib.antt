@@ -1,0 +1,5 @@
+pub mod Askable
+pub mod Candidates
+pub mod Laws
+pub mod Membership
+pub mod Pairs
