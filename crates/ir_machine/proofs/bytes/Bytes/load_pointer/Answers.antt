@@ -1,0 +1,36 @@
+use Rattle.std.proofs.Common.{◌≡◌, ◌+◌, ◌-◌, ◌≤◌, ℕ, List, length, take, drop, sym, ap, ◌∙◌, arith}
+use Rattle.std.proofs.lemmas.List.{length-drop, length-take}
+use Rattle.ir_tree.specs.declared.operand.Reg.TheVariants.{Ptr}
+use Rattle.ir_meaning.specs.Bytes.{read}
+use Rattle.ir_meaning.specs.Operate.{Is}
+use Rattle.ir_meaning.specs.declared.value.Byte.{Byte}
+use Rattle.ir_machine.specs.Bytes.{pointer_at}
+use Rattle.ir_machine.specs.Meant.{meant}
+use Rattle.ir_machine.specs.declared.mark.Mark.{Mark}
+use Rattle.ir_machine.specs.declared.scalar.Scalar.{Scalar}
+use Rattle.ir_machine.proofs.Reading.{pointer_read, pointer_spoilt, pointer_unset}
+use Rattle.ir_machine.proofs.Windows.{window_of}
+use Rattle.ir_machine.proofs.bytes.Bytes.load_pointer.Goals as goal
+
+pub returns-then-any_unset : goal.returns-then-any_unset
+returns-then-any_unset c = λ names.
+    sym (ap (λ (bs : List Byte). read Ptr bs)
+    (window_of names (pointer_at c.args.self.now) 8 (c.args.place + 8 - c.args.place) c.args.place c.args.self.now.marks.items c.deref.result.now c.deref.ensures.value (omega arith))
+    ∙ pointer_unset names (pointer_at c.args.self.now) c.args.place (take (c.args.place + 8 - c.args.place) (drop c.args.place c.deref.result.now)) (sym c.any_unset.ensures ∙ c.if-any_unset.true))
+
+pub returns-then-any_spoilt : goal.returns-then-any_spoilt
+returns-then-any_spoilt c = λ names.
+    sym (ap (λ (bs : List Byte). read Ptr bs)
+    (window_of names (pointer_at c.args.self.now) 8 (c.args.place + 8 - c.args.place) c.args.place c.args.self.now.marks.items c.deref.result.now c.deref.ensures.value (omega arith))
+    ∙ pointer_spoilt names (pointer_at c.args.self.now) c.args.place (take (c.args.place + 8 - c.args.place) (drop c.args.place c.deref.result.now)) (sym c.any_unset.ensures ∙ c.if-any_unset.false) (sym c.any_spoilt.ensures ∙ c.if-any_spoilt.true))
+
+some : (xs : List Mark) (n o : ℕ) → n ≡ 8 → o + 8 ≤ length xs → 1 ≤ length (take n (drop o xs))
+some xs n o e h = omega (arith, e, h, length-drop {A = Mark}, length-take {A = Mark})
+
+pub returns : goal.returns
+returns c = λ names.
+    sym (ap (λ (bs : List Byte). read Ptr bs)
+    (window_of names (pointer_at c.args.self.now) 8 (c.args.place + 8 - c.args.place) c.args.place c.args.self.now.marks.items c.deref.result.now c.deref.ensures.value (omega arith))
+    ∙ pointer_read names (pointer_at c.args.self.now) c.args.place (take (c.args.place + 8 - c.args.place) (drop c.args.place c.deref.result.now))
+    (some c.deref.result.now (c.args.place + 8 - c.args.place) c.args.place (omega arith) (omega arith)) (sym c.any_unset.ensures ∙ c.if-any_unset.false) (sym c.any_spoilt.ensures ∙ c.if-any_spoilt.false)
+    ∙ ap (λ (v : Scalar). Is (meant names v)) (sym c.pointer_in.ensures))

@@ -1,0 +1,6 @@
+pub mod Meant
+pub mod Marks
+pub mod Bytes
+pub mod Blocks
+pub mod Memories
+pub mod Names
