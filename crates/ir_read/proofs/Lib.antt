@@ -8,7 +8,6 @@ pub mod FunctionHeadRules
 pub mod Groups
 pub mod Heads
 pub mod InstructionRules
-pub mod ItemRules
 pub mod Layouts
 pub mod LeafRules
 pub mod Levels
@@ -16,7 +15,6 @@ pub mod LineStarts
 pub mod Lines
 pub mod MemoryRules
 pub mod MetadataBehindRules
-pub mod ModuleRules
 pub mod Nodes
 pub mod OperandRules
 pub mod PhiRules

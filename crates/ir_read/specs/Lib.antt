@@ -29,9 +29,6 @@ pub mod FunctionHeads
 pub mod FunctionHeadsAt
 pub mod MetadataBehind
 pub mod MetadataBehindAt
-pub mod Items
-pub mod ItemsAt
-pub mod Modules
 pub mod Values
 pub mod ValuesAt
 pub mod Addressing

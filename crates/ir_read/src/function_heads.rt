@@ -56,7 +56,7 @@ fn is_linkage_of(role: Role, head: Head) -> bool
     }
 }
 
-fn linkage_by(head: Head) -> Linkage
+pub fn linkage_by(head: Head) -> Linkage
     ensures { result ≡ linkage_by head }
 {
     match head {
@@ -97,7 +97,7 @@ fn linkage_at(role: Role, tokens: &mut Tokens) -> Result<Linkage, ReadError>
 
 /// Takes a word of visibility, of addresses or of a calling convention.
 #[tactic(auto, unfolding(lto_forms::specs::Rules::is_among))]
-fn qualifier_word_at(tokens: &mut Tokens) -> Result<(), ReadError>
+pub fn qualifier_word_at(tokens: &mut Tokens) -> Result<(), ReadError>
     ensures { Gives (λ x. (tt, tokens.new)) result (one_of_at QUALIFIERS nothing_of tokens.old) }
 {
     let left = tokens.left();
@@ -119,7 +119,7 @@ fn qualifier_word_at(tokens: &mut Tokens) -> Result<(), ReadError>
     }
 }
 
-fn is_qualifier(head: Head) -> bool
+pub fn is_qualifier(head: Head) -> bool
     ensures { result ≡ contains QUALIFIERS (number head) }
 {
     matches!(
@@ -129,7 +129,7 @@ fn is_qualifier(head: Head) -> bool
 }
 
 /// Whether a word of visibility, of addresses or of a calling convention comes.
-fn comes_qualifier(rest: &Tokens) -> bool
+pub fn comes_qualifier(rest: &Tokens) -> bool
     ensures { result ≡ next_is (among tokens QUALIFIERS) rest.now }
 {
     match rest.head() {
@@ -227,7 +227,7 @@ fn leading_at(
     }
 }
 
-fn with_linkage(linkage: Linkage, written: Option<Linkage>) -> Linkage
+pub fn with_linkage(linkage: Linkage, written: Option<Linkage>) -> Linkage
     ensures { result ≡ with_linkage linkage written }
 {
     match written {
@@ -251,7 +251,7 @@ fn prefix_at(alloc: Global, role: Role, tokens: &mut Tokens) -> Result<Linkage, 
     Ok(linkage)
 }
 
-fn is_local(linkage: Linkage) -> bool
+pub fn is_local(linkage: Linkage) -> bool
     ensures { result ≡ is_local linkage }
 {
     matches!(linkage, Linkage::Private | Linkage::Internal)

@@ -91,7 +91,7 @@ fn leaf_means<'a>(room: Room, t: &Token<'a>) -> Result<Measured<'a>, FaultKind>
 }
 
 /// Takes a scalar or a type name.
-fn leaf_at<'a>(room: Room, tokens: &mut Tokens<'_, 'a>) -> Result<Measured<'a>, ReadError>
+pub fn leaf_at<'a>(room: Room, tokens: &mut Tokens<'_, 'a>) -> Result<Measured<'a>, ReadError>
     requires { IsRoom room }
     ensures exact { Gives (λ x. (x.typed, tokens.new)) result (leaf_at room tokens.old) }
     ensures measured { IfOk result (λ x. x.extent ≡ extent_of x.typed.shape) }
@@ -158,7 +158,7 @@ fn count_means(t: &Token) -> Result<u64, FaultKind>
 }
 
 /// Takes a count, from 0 to `2^64 - 1`.
-fn count_at(tokens: &mut Tokens) -> Result<u64, ReadError>
+pub fn count_at(tokens: &mut Tokens) -> Result<u64, ReadError>
     ensures { Gives (λ x. (x, tokens.new)) result (count_at tokens.old) }
 {
     let left = tokens.left();
@@ -176,7 +176,7 @@ fn count_at(tokens: &mut Tokens) -> Result<u64, ReadError>
 
 /// Takes a token of this class; the answer is its line.
 #[tactic(auto, unfolding(lto_forms::specs::Rules::is_among))]
-fn line_at(wanted: Head, tokens: &mut Tokens) -> Result<u32, ReadError>
+pub fn line_at(wanted: Head, tokens: &mut Tokens) -> Result<u32, ReadError>
     ensures { Gives (λ x. (x, tokens.new)) result (one_of_at (number wanted ∷ []) line_of tokens.old) }
 {
     let left = tokens.left();
@@ -199,7 +199,7 @@ fn line_at(wanted: Head, tokens: &mut Tokens) -> Result<u32, ReadError>
 }
 
 /// Why a token can't stand behind a `<`: a number would begin a vector, which is left out.
-fn angle_refusal(head: Head) -> FaultKind
+pub fn angle_refusal(head: Head) -> FaultKind
     ensures { result ≡ angle_refusal (number head) }
 {
     match head {
@@ -210,7 +210,7 @@ fn angle_refusal(head: Head) -> FaultKind
 
 /// Takes the `{` behind a `<`.
 #[tactic(auto, unfolding(lto_forms::specs::Rules::is_class))]
-fn brace_behind_angle_at(tokens: &mut Tokens) -> Result<(), ReadError>
+pub fn brace_behind_angle_at(tokens: &mut Tokens) -> Result<(), ReadError>
     ensures { Gives (λ x. (tt, tokens.new)) result (brace_behind_angle_at tokens.old) }
 {
     let left = tokens.left();

@@ -68,7 +68,7 @@ fn returning_at<'a>(alloc: Global, tokens: &mut Tokens<'_, 'a>) -> Result<Termin
 
 /// Reads `label Local`.
 #[tactic(auto, unfolding(crate::specs::TerminatorsAt::target_at))]
-fn target_at<'a>(tokens: &mut Tokens<'_, 'a>) -> Result<Name<'a>, ReadError>
+pub fn target_at<'a>(tokens: &mut Tokens<'_, 'a>) -> Result<Name<'a>, ReadError>
     ensures { Gives (λ x. (x, tokens.new)) result (target_at tokens.old) }
 {
     expect(Head::LabelType, tokens)?;
@@ -125,7 +125,7 @@ fn constant_means(reg: Reg, t: &Token) -> Result<Matched, FaultKind>
 }
 
 /// Takes the number of a case of this type, `true` or `false`.
-fn constant_at(reg: Reg, tokens: &mut Tokens) -> Result<Matched, ReadError>
+pub fn constant_at(reg: Reg, tokens: &mut Tokens) -> Result<Matched, ReadError>
     requires { IsReg reg }
     ensures { Gives (λ x. (x, tokens.new)) result (constant_at reg tokens.old) }
 {

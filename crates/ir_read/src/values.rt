@@ -110,7 +110,7 @@ fn index_means(width: u8, t: &Token) -> Result<Index, FaultKind>
     }
 }
 
-fn index_number_at(width: u8, tokens: &mut Tokens) -> Result<Index, ReadError>
+pub fn index_number_at(width: u8, tokens: &mut Tokens) -> Result<Index, ReadError>
     requires { IsWidth width }
     ensures { Gives (λ x. (x, tokens.new)) result (index_number_at width tokens.old) }
 {
@@ -225,7 +225,7 @@ fn openings_at<'a>(
 
 /// Takes the name of a global.
 #[tactic(auto, unfolding(lto_forms::specs::Rules::is_among))]
-fn global_at<'a>(tokens: &mut Tokens<'_, 'a>) -> Result<Name<'a>, ReadError>
+pub fn global_at<'a>(tokens: &mut Tokens<'_, 'a>) -> Result<Name<'a>, ReadError>
     ensures { Gives (λ x. (x, tokens.new)) result (one_of_at GLOBAL itself tokens.old) }
 {
     let left = tokens.left();

@@ -4,7 +4,7 @@ use Rattle.lto_forms.proofs.Stars.{takes, folds_on}
 use Rattle.ir_read.specs.Classes.{tokens}
 use Rattle.ir_read.specs.Metadata.{META}
 use Rattle.ir_read.proofs.Nodes.{attached_rule}
-use Rattle.ir_read.proofs.items.attached_before_at.Goals as goal
+use Rattle.ir_items.proofs.items.attached_before_at.Goals as goal
 
 pub each-smaller : goal.each-smaller
 each-smaller c = takes tokens (among tokens META) attached_rule.law _ _ _ c.in_ok-attached_at.ensures

@@ -15,14 +15,14 @@ use Rattle.lto_forms.specs.Forms.{Form}
 use Rattle.lto_forms.specs.Readers.{whole_of, next_is}
 use Rattle.ir_read.specs.Classes.{tokens}
 use Rattle.ir_read.specs.FunctionHeads.{name_refusal}
-use Rattle.ir_read.specs.Items.{items, any_items}
-use Rattle.ir_read.specs.ItemsAt.{items_at}
+use Rattle.ir_items.specs.Items.{items, any_items}
+use Rattle.ir_items.specs.ItemsAt.{items_at}
 use Rattle.ir_read.specs.Targets.{STRING}
-use Rattle.ir_read.specs.declared.module.ModuleError.{ModuleError}
-use Rattle.ir_read.specs.declared.module.ModuleError.TheVariants as module_errors
-use Rattle.ir_read.specs.declared.module.ModuleFault.{ModuleFault}
-use Rattle.ir_read.specs.declared.module.ModuleFaultKind.{ModuleFaultKind}
-use Rattle.ir_read.specs.declared.module.ModuleFaultKind.TheVariants as kinds
+use Rattle.ir_items.specs.declared.module.ModuleError.{ModuleError}
+use Rattle.ir_items.specs.declared.module.ModuleError.TheVariants as module_errors
+use Rattle.ir_items.specs.declared.module.ModuleFault.{ModuleFault}
+use Rattle.ir_items.specs.declared.module.ModuleFaultKind.{ModuleFaultKind}
+use Rattle.ir_items.specs.declared.module.ModuleFaultKind.TheVariants as kinds
 use Rattle.ir_read.specs.declared.raw.Item.{Item}
 
 -- a function has at most so many parameters behind the first

@@ -8,10 +8,10 @@ use Rattle.lto_forms.proofs.Stars.{takes, folded_is}
 use Rattle.ir_read.specs.Classes.{tokens}
 use Rattle.ir_read.specs.declared.places.Position.{Position}
 use Rattle.ir_read.specs.declared.raw.Item.{Item}
-use Rattle.ir_read.specs.Items.{anywhere, keep}
-use Rattle.ir_read.specs.ItemsAt.{beginnings, begins_there, there_at, first_place, items_at}
-use Rattle.ir_read.proofs.ItemRules.{there_rule}
-use Rattle.ir_read.proofs.items.items_at.Goals as goal
+use Rattle.ir_items.specs.Items.{anywhere, keep}
+use Rattle.ir_items.specs.ItemsAt.{beginnings, begins_there, there_at, first_place, items_at}
+use Rattle.ir_items.proofs.ItemRules.{there_rule}
+use Rattle.ir_items.proofs.items.items_at.Goals as goal
 
 shorter : (room : ℕ) (at : Position) (ts rest : List Tok) (x : Option Item × Position) → there_at room at ts ≡ Ok (x, rest) → length rest < length ts
 shorter room at ts rest x e = takes tokens (among tokens (beginnings at.before)) (there_rule room at).law ts rest x e

@@ -3,11 +3,11 @@ use Rattle.std.specs.Prelude.{IfOk, IfErr}
 use Rattle.ir_lex.specs.Tok.{toks}
 use Rattle.lto_forms.specs.Faults.{StopsAt}
 use Rattle.ir_read.specs.Classes.{tokens}
-use Rattle.ir_read.specs.declared.module.ModuleError.{ModuleError}
+use Rattle.ir_items.specs.declared.module.ModuleError.{ModuleError}
 use Rattle.ir_read.specs.declared.raw.Item.{Item}
-use Rattle.ir_read.specs.Modules.{whole_module, last_tokens, AreRead, IfModuleFault, FitsNumber, FitsLimits, FitsString}
-use Rattle.ir_read.proofs.ModuleRules.{found, only, stops, number, limit, layout}
-use Rattle.ir_read.proofs.module.read.Goals as goal
+use Rattle.ir_items.specs.Modules.{whole_module, last_tokens, AreRead, IfModuleFault, FitsNumber, FitsLimits, FitsString}
+use Rattle.ir_items.proofs.ModuleRules.{found, only, stops, number, limit, layout}
+use Rattle.ir_items.proofs.module.read.Goals as goal
 
 abbrev Answer : Type 0
 Answer = Result (List Item) ModuleError

@@ -5,14 +5,12 @@ ghost use Rattle.ir_lex.specs.Tok.{tok, toks};
 ghost use Rattle.lto_forms.specs.Faults.{StopsAt};
 ghost use Rattle.lto_forms.specs.Readers.{Gives};
 ghost use Rattle.ir_read.specs.Classes.{tokens};
-ghost use Rattle.ir_read.specs.Modules.{FURTHER_PARAMETERS, GLOBAL_NAMES, whole_module, item_refusal, module_of, refused_at, kind_at, last_tokens, answer, AreRead, IfModuleFault, FitsNumber, FitsLimits, FitsString};
+ghost use Rattle.ir_items.specs.Modules.{FURTHER_PARAMETERS, GLOBAL_NAMES, whole_module, item_refusal, module_of, refused_at, kind_at, last_tokens, answer, AreRead, IfModuleFault, FitsNumber, FitsLimits, FitsString};
 ghost use Rattle.ir_read.specs.declared.raw.Item.{Item};
 
-use crate::function_heads::name_refusal;
 use crate::items::items_at;
-use crate::raw::Item;
-use crate::tokens::Tokens;
 use ir_lex::{Head, Token};
+use ir_read::{Item, Tokens, name_refusal};
 use ir_tree::Rows;
 use lto_forms::{Fault, FaultKind, ReadError};
 use std::alloc::Global;

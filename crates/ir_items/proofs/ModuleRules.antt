@@ -16,15 +16,15 @@ use Rattle.lto_forms.specs.Readers.{Reader, Gives, whole_of, ended, next_is}
 use Rattle.lto_forms.proofs.Composed.{wrong, wrong_is}
 use Rattle.lto_forms.proofs.Whole as whole
 use Rattle.ir_read.specs.Classes.{tokens}
-use Rattle.ir_read.specs.declared.module.ModuleError.TheVariants as module_errors
-use Rattle.ir_read.specs.declared.module.ModuleFaultKind.{ModuleFaultKind}
-use Rattle.ir_read.specs.declared.module.ModuleFaultKind.TheVariants as kinds
+use Rattle.ir_items.specs.declared.module.ModuleError.TheVariants as module_errors
+use Rattle.ir_items.specs.declared.module.ModuleFaultKind.{ModuleFaultKind}
+use Rattle.ir_items.specs.declared.module.ModuleFaultKind.TheVariants as kinds
 use Rattle.ir_read.specs.declared.raw.Item.{Item}
-use Rattle.ir_read.specs.ItemsAt.{ITEM, items_at}
-use Rattle.ir_read.specs.Modules.{FURTHER_PARAMETERS, GLOBAL_NAMES, whole_module, any_module, item_refusal, module_of, refused_at, kind_at, last_tokens, answer, AreRead, IfModuleFault, FitsNumber, FitsLimits, FitsString}
+use Rattle.ir_items.specs.ItemsAt.{ITEM, items_at}
+use Rattle.ir_items.specs.Modules.{FURTHER_PARAMETERS, GLOBAL_NAMES, whole_module, any_module, item_refusal, module_of, refused_at, kind_at, last_tokens, answer, AreRead, IfModuleFault, FitsNumber, FitsLimits, FitsString}
 use Rattle.ir_read.specs.Targets.{STRING}
 use Rattle.ir_read.proofs.FunctionHeadRules.{name_not_number, name_not_limit}
-use Rattle.ir_read.proofs.ItemRules.{ANY, items_rule}
+use Rattle.ir_items.proofs.ItemRules.{ANY, items_rule}
 
 abbrev reader : Reader Tok (List Item)
 reader = items_at FURTHER_PARAMETERS GLOBAL_NAMES

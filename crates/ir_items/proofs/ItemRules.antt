@@ -25,8 +25,8 @@ use Rattle.ir_read.specs.declared.places.Before.{Before}
 use Rattle.ir_read.specs.declared.places.Before.TheVariants as befores
 use Rattle.ir_read.specs.declared.places.Position.{Position}
 use Rattle.ir_read.specs.declared.raw.Item.{Item}
-use Rattle.ir_read.specs.Items.{Found, left_out, kept, unnamed, attribute_behind, placed, metadata_there, plainly, beside, attached_before, declaration, any_declaration, naming, any_naming, at_place, other, any_named, named, named_within, piece, any_piece, anywhere, items, any_items}
-use Rattle.ir_read.specs.ItemsAt.{SOURCE, TARGET, COMDAT, UNNAMED, NAMING, ITEM, beginnings, left_out_at, kept_at, unnamed_at, attribute_behind_at, placed_at, metadata_there_at, plainly_at, beside_at, attached_before_at, declaration_at, naming_at, other_at, named_at, named_within_at, piece_at, begins_there, there_at, first_place, items_at}
+use Rattle.ir_items.specs.Items.{Found, left_out, kept, unnamed, attribute_behind, placed, metadata_there, plainly, beside, attached_before, declaration, any_declaration, naming, any_naming, at_place, other, any_named, named, named_within, piece, any_piece, anywhere, items, any_items}
+use Rattle.ir_items.specs.ItemsAt.{SOURCE, TARGET, COMDAT, UNNAMED, NAMING, ITEM, beginnings, left_out_at, kept_at, unnamed_at, attribute_behind_at, placed_at, metadata_there_at, plainly_at, beside_at, attached_before_at, declaration_at, naming_at, other_at, named_at, named_within_at, piece_at, begins_there, there_at, first_place, items_at}
 use Rattle.ir_read.specs.Metadata.{META}
 use Rattle.ir_read.specs.MetadataAt.{PAREN}
 use Rattle.ir_read.specs.MetadataBehind.{BRACES}

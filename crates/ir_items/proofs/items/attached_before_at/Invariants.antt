@@ -4,7 +4,7 @@ use Rattle.lto_forms.specs.Readers.{star_at, folded, dropped}
 use Rattle.ir_read.specs.Classes.{tokens}
 use Rattle.ir_read.specs.Metadata.{META}
 use Rattle.ir_read.specs.MetadataAt.{attached_at}
-use Rattle.ir_read.proofs.items.attached_before_at.Given as goal
+use Rattle.ir_items.proofs.items.attached_before_at.Given as goal
 
 abbrev pub invariant-each : goal.invariant-each
 invariant-each l = folded dropped tt (star_at (among tokens META) attached_at l.tokens) ≡ folded dropped tt (star_at (among tokens META) attached_at l.fn.tokens)

@@ -6,21 +6,16 @@ ghost use Rattle.lto_forms.specs.Alphabet.{contains, among};
 ghost use Rattle.lto_forms.specs.Readers.{Gives, next_is};
 ghost use Rattle.ir_read.specs.AttributesAt.{HEAD};
 ghost use Rattle.ir_read.specs.Classes.{tokens};
-ghost use Rattle.ir_read.specs.Items.{declared, keep};
-ghost use Rattle.ir_read.specs.ItemsAt.{ITEM, NAMING, beginnings, unnamed_at, attribute_behind_at, metadata_there_at, plainly_at, beside_at, attached_before_at, declaration_at, naming_at, named_within_at, piece_at, items_at};
+ghost use Rattle.ir_items.specs.Items.{declared, keep};
+ghost use Rattle.ir_items.specs.ItemsAt.{ITEM, NAMING, beginnings, unnamed_at, attribute_behind_at, metadata_there_at, plainly_at, beside_at, attached_before_at, declaration_at, naming_at, named_within_at, piece_at, items_at};
 ghost use Rattle.ir_read.specs.declared.places.Before.TheVariants as befores;
 
-use crate::attributes::{attribute_group_at, head_attribute_at, is_attribute_word};
-use crate::function_heads::{Role, head_at};
-use crate::metadata::{attached_at, metadata_line_at};
-use crate::metadata_behind::{metadata_behind_at, node_yet_at};
-use crate::places::{Before, Position};
-use crate::raw;
-use crate::raw::Item;
-use crate::targets::{comdat_line_at, source_line_at, target_line_at};
-use crate::terminals::expect;
-use crate::tokens::Tokens;
 use ir_lex::Head;
+use ir_read::{
+    Before, Item, Position, Role, Tokens, attached_at, attribute_group_at, comdat_line_at, expect,
+    head_at, head_attribute_at, is_attribute_word, metadata_behind_at, metadata_line_at,
+    node_yet_at, source_line_at, target_line_at,
+};
 use lto_forms::{Fault, FaultKind, ReadError};
 use std::alloc::{AllocFailed, Global};
 
@@ -188,7 +183,7 @@ fn attached_before_at(alloc: Global, tokens: &mut Tokens) -> Result<(), ReadErro
 }
 
 /// What a head declares; a lifetime marker isn't kept.
-fn declared(head: raw::Head) -> Option<Item>
+fn declared(head: ir_read::Head) -> Option<Item>
     ensures { result ≡ declared head.entry }
 {
     if head.name.token().head.is(Head::LifetimeMarker) {

@@ -11,7 +11,7 @@ use Rattle.lto_forms.specs.Readers.{Reader, ◌>>=◌, done, fault_at, pick, sta
 use Rattle.ir_read.specs.AttributesAt.{HEAD, head_attribute_at, attribute_group_at}
 use Rattle.ir_read.specs.Classes.{tokens, the_at}
 use Rattle.ir_read.specs.FunctionHeadsAt.{head_at}
-use Rattle.ir_read.specs.Items.{Found, declared, at_place, anywhere, keep}
+use Rattle.ir_items.specs.Items.{Found, declared, at_place, anywhere, keep}
 use Rattle.ir_read.specs.Metadata.{META}
 use Rattle.ir_read.specs.MetadataAt.{attached_at, metadata_line_at}
 use Rattle.ir_read.specs.MetadataBehindAt.{metadata_behind_at, node_yet_at}

@@ -1,0 +1,2 @@
+pub mod ItemRules
+pub mod ModuleRules
