@@ -1,0 +1,6 @@
+pub mod Reads
+pub mod Printed
+pub mod Readable
+pub mod Behind
+pub mod Pieces
+pub mod Writable
