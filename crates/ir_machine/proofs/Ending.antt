@@ -16,7 +16,7 @@ pub last_at : (m : Memory) (b : Block) (m' : Memory) → m.blocks.items ≡ m'.b
 last_at m b m' items = ap (λ (bs : List Block). slice_get bs (length m'.blocks.items)) items ∙ get_last m'.blocks.items b
 
 -- a block of m' is where it was
-still : (m : Memory) (b : Block) (m' : Memory) → m.blocks.items ≡ m'.blocks.items ++ b ∷ [] → (q : ℕ) (d : Block) → block_at m' q ≡ Some d → block_at m q ≡ Some d
+pub still : (m : Memory) (b : Block) (m' : Memory) → m.blocks.items ≡ m'.blocks.items ++ b ∷ [] → (q : ℕ) (d : Block) → block_at m' q ≡ Some d → block_at m q ≡ Some d
 still m b m' items q d e =
     ap (λ (bs : List Block). slice_get bs q) items ∙ get_front m'.blocks.items b q (slice_get_within m'.blocks.items q d e) ∙ e
 
@@ -82,6 +82,16 @@ ended names m memory b m' s items made =
   where
     last_place : (n k : ℕ) → n ≡ k + 1 → n - 1 ≡ k
     last_place n k e = omega (arith, e)
+
+-- the block that was made last is the one that a pop takes
+pub last_popped : (m : Memory) (m' : Memory) (r : Option Block) → IsSome r → m.blocks.items ≡ m'.blocks.items ++ option_to_list r →
+    (b : Block) → block_at m (length m.blocks.items - 1) ≡ Some b → m.blocks.items ≡ m'.blocks.items ++ b ∷ []
+last_popped m m' None some items b at = absurd (cc some)
+last_popped m m' (Some d) some items b at =
+    let count : length m.blocks.items - 1 ≡ length m'.blocks.items = omega (arith, ap length items, length-append m'.blocks.items (d ∷ [])) in
+    let both : Some b ≡ Some d = sym at ∙ ap (λ (n : ℕ). block_at m n) count ∙ last_at m d m' items in
+    let one : d ≡ b = cc both in
+    items ∙ ap (λ (x : Block). m'.blocks.items ++ x ∷ []) one
 
 -- by what a pop of the list gave
 pub ended_by : (names : List Symbol) (m : Memory) (memory : MeantMemory) (m' : Memory) (r : Option Block) → Stands names m memory → IsSome r →

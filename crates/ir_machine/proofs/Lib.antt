@@ -8,3 +8,4 @@ pub mod Growing
 pub mod Ending
 pub mod Filling
 pub mod Comparing
+pub mod Origins

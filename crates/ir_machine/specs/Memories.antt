@@ -1,18 +1,23 @@
 -- What the machine's memory stands for: the live blocks by position, against all blocks by number.
-use Rattle.std.specs.Prelude.{◌≡◌, ℕ, ◌<◌, true, List, [], ◌∷◌, ◌++◌, length, slice_get, slice_set, Option, Some, None}
+use Rattle.std.specs.Prelude.{◌≡◌, ℕ, ◌<◌, ◌⊎◌, true, List, [], ◌∷◌, ◌++◌, length, slice_get, slice_set, Option, Some, None}
 use Rattle.ir_tree.specs.declared.operand.Symbol.{Symbol}
 use Rattle.ir_tree.specs.declared.operand.Reg.{Reg}
 use Rattle.ir_meaning.specs.Access.{store, store_cause}
 use Rattle.ir_meaning.specs.Memory.{Memory as MeantMemory, MemoryBlock, end_life, fresh, size_or_zero}
 use Rattle.ir_machine.specs.Blocks.{block_meant}
 use Rattle.ir_meaning.specs.declared.value.Value.{Value as MeantValue}
+use Rattle.ir_machine.specs.Bytes.{null}
+use Rattle.ir_machine.specs.Origins.{Holds}
 use Rattle.ir_machine.specs.declared.block.Block.{Block}
 use Rattle.ir_machine.specs.declared.block.Stored.{Stored}
 use Rattle.ir_machine.specs.declared.block.Stored.TheVariants.{Done, Undefined}
 use Rattle.ir_machine.specs.declared.memory.Memory.{Memory}
+use Rattle.ir_machine.specs.declared.outcome.Outcome.{Outcome}
+use Rattle.ir_machine.specs.declared.outcome.Outcome.TheVariants.{Uninit, Undefined as Undefines, Value as OfValue}
 use Rattle.ir_machine.specs.declared.scalar.Base.{Base}
 use Rattle.ir_machine.specs.declared.scalar.Base.TheVariants.{Block as OfBlock, Function, Null}
 use Rattle.ir_machine.specs.declared.scalar.Handle.{Handle}
+use Rattle.ir_machine.specs.declared.scalar.Pointer.{Pointer}
 use Rattle.ir_machine.specs.declared.scalar.Scalar.{Scalar}
 use Rattle.ir_machine.specs.declared.scalar.Scalar.TheVariants as scalar
 
@@ -81,3 +86,34 @@ abbrev pub IsEnded : List Symbol → Memory → MeantMemory → Block → Memory
 IsEnded names m memory b m' =
     Stands names m' (end_life memory b.number (slice_get memory b.number))
     × KeepsHandles m memory m' (end_life memory b.number (slice_get memory b.number))
+
+-- ---- pointers in memory
+
+-- one of these blocks holds a pointer
+abbrev pub InBlocks : List Block → Pointer → Type 0
+InBlocks blocks p = (q : ℕ) × ((b : Block) × ((slice_get blocks q ≡ Some b) × Holds b.bytes p))
+
+-- a live block holds a pointer
+abbrev pub InMemory : Memory → Pointer → Type 0
+InMemory m p = InBlocks m.blocks.items p
+
+-- a pointer that is loaded is null or one that a live block holds
+abbrev pub IsLoaded : Memory → Outcome → Type 0
+IsLoaded m (OfValue (scalar.Number n)) = Unit {0}
+IsLoaded m (OfValue (scalar.Pointer p)) = (p ≡ null) ⊎ InMemory m p
+IsLoaded m (OfValue scalar.Poison) = Unit {0}
+IsLoaded m (Undefines cause) = Unit {0}
+IsLoaded m Uninit = Unit {0}
+
+-- what blocks hold after it, they held before, but for the value that was stored
+abbrev pub GainsOnly : Memory → Scalar → Memory → Type 0
+GainsOnly m value m' = (p : Pointer) → InMemory m' p → InMemory m p ⊎ (value ≡ scalar.Pointer p)
+
+-- what blocks hold after it, they held before
+abbrev pub GainsNone : Memory → Memory → Type 0
+GainsNone m m' = (p : Pointer) → InMemory m' p → InMemory m p
+
+-- the numbers of blocks, in their order
+abbrev pub numbers_of : List Block → List ℕ
+numbers_of [] = []
+numbers_of (b ∷ bs) = b.number ∷ numbers_of bs

@@ -6,6 +6,7 @@ ghost use Rattle.ir_meaning.specs.Bytes as meaning;
 ghost use Rattle.ir_machine.specs.Marks.{HasWidth};
 ghost use Rattle.ir_machine.specs.Meant.{answered, meant};
 ghost use Rattle.ir_machine.specs.Blocks.{block_meant, refused, IsStored};
+ghost use Rattle.ir_machine.specs.Origins.{HoldsNoMore, IsHeld};
 
 use crate::bytes::Bytes;
 use crate::outcome::Outcome;
@@ -62,7 +63,8 @@ impl Block {
     pub fn load(&self, reg: Reg, offset: u64, align: u64) -> Outcome
         requires width { HasWidth reg }
         requires aligned { 1 ≤ align }
-        ensures { (names : List Symbol) → answered names result ≡ load_from (Some (block_meant names self.now)) reg offset align }
+        ensures value { (names : List Symbol) → answered names result ≡ load_from (Some (block_meant names self.now)) reg offset align }
+        ensures held { IsHeld self.now.bytes result }
     {
         match self.refusal(reg_size(reg), offset, align) {
             Some(cause) => Outcome::Undefined(cause),
@@ -84,6 +86,7 @@ impl Block {
         ensures ok { IfOk result (λ done. (names : List Symbol) → IsStored (block_meant names self.old) reg (meant names value) offset align (block_meant names self.new) done) }
         ensures err { OnErr result ((names : List Symbol) → block_meant names self.new ≡ block_meant names self.old) }
         ensures number { self.new.number ≡ self.old.number }
+        ensures held { HoldsNoMore self.old.bytes value self.new.bytes }
     {
         if !self.writable {
             return Ok(Stored::Undefined(Cause::StoreToConstant));

@@ -29,11 +29,14 @@ pub struct Bytes {
 
 impl Bytes {
     ghost use Rattle.ir_machine.specs.Bytes.{bytes_len, bytes_meant, pointer_at, pointer_in};
+    ghost use Rattle.ir_machine.specs.Origins.{HoldsNoMore, HoldsNone, IsHeld};
+    ghost use Rattle.ir_machine.specs.declared.scalar.Scalar.TheVariants as scalar;
 
     /// So many bytes that were never written.
     pub fn unset(alloc: Global, size: usize) -> Result<Bytes, AllocError>
         ensures bytes { IfOk result (λ b. (names : List Symbol) → bytes_meant names b ≡ replicate size Unset) }
         ensures length { IfOk result (λ b. bytes_len b ≡ size) }
+        ensures empty { IfOk result (λ b. HoldsNone b) }
     {
         let mut marks = Vec::new(alloc);
         marks.resize(size, Mark::Unset)?;
@@ -47,6 +50,7 @@ impl Bytes {
     pub fn zeros(alloc: Global, size: usize) -> Result<Bytes, AllocError>
         ensures bytes { IfOk result (λ b. (names : List Symbol) → bytes_meant names b ≡ replicate size (Plain 0)) }
         ensures length { IfOk result (λ b. bytes_len b ≡ size) }
+        ensures empty { IfOk result (λ b. HoldsNone b) }
     {
         let mut marks = Vec::new(alloc);
         marks.resize(size, Mark::Plain(0))?;
@@ -97,7 +101,8 @@ impl Bytes {
     fn load_integer(&self, place: usize, size: usize) -> Outcome
         requires few { size ≤ 8 }
         requires within { place + size ≤ length self.now.marks.items }
-        ensures { (names : List Symbol) (w : ℕ) → answered names result ≡ read (Int w) (take size (drop place (bytes_meant names self.now))) }
+        ensures value { (names : List Symbol) (w : ℕ) → answered names result ≡ read (Int w) (take size (drop place (bytes_meant names self.now))) }
+        ensures held { IsHeld self.now result }
     {
         let window = &self.marks[place..place + size];
         match number_in(window) {
@@ -115,7 +120,8 @@ impl Bytes {
     /// The pointer that eight bytes are, of which the first is at a place.
     fn load_pointer(&self, place: usize) -> Outcome
         requires { place + 8 ≤ length self.now.marks.items }
-        ensures { (names : List Symbol) → answered names result ≡ read Ptr (take 8 (drop place (bytes_meant names self.now))) }
+        ensures value { (names : List Symbol) → answered names result ≡ read Ptr (take 8 (drop place (bytes_meant names self.now))) }
+        ensures held { IsHeld self.now result }
     {
         let window = &self.marks[place..place + 8];
         if any_unset(window) {
@@ -132,6 +138,7 @@ impl Bytes {
         requires { place + size ≤ length self.old.marks.items }
         ensures bytes { (names : List Symbol) → bytes_meant names self.new ≡ overwritten (bytes_meant names self.old) place (number_bytes size number) }
         ensures length { length self.new.marks.items ≡ length self.old.marks.items }
+        ensures pointers { self.new.pointers ≡ self.old.pointers }
     {
         write_number(&mut self.marks, place, size, number);
     }
@@ -141,6 +148,7 @@ impl Bytes {
         requires { place + size ≤ length self.old.marks.items }
         ensures bytes { (names : List Symbol) → bytes_meant names self.new ≡ overwritten (bytes_meant names self.old) place (replicate size Spoilt) }
         ensures length { length self.new.marks.items ≡ length self.old.marks.items }
+        ensures pointers { self.new.pointers ≡ self.old.pointers }
     {
         write_poison(&mut self.marks, place, size);
     }
@@ -151,6 +159,7 @@ impl Bytes {
         ensures ok { OnOk result ((names : List Symbol) → bytes_meant names self.new ≡ overwritten (bytes_meant names self.old) place (fragments 8 0 (base_meant names pointer.base) pointer.offset)) }
         ensures err { OnErr result ((names : List Symbol) → bytes_meant names self.new ≡ bytes_meant names self.old) }
         ensures length { length self.new.marks.items ≡ length self.old.marks.items }
+        ensures held { HoldsNoMore self.old (scalar.Pointer pointer) self.new }
     {
         self.pointers.insert(place, pointer)?;
         write_parts(&mut self.marks, place);
@@ -162,7 +171,8 @@ impl Bytes {
     pub fn load(&self, reg: Reg, place: usize) -> Outcome
         requires width { HasWidth reg }
         requires within { place + reg_size reg ≤ bytes_len self.now }
-        ensures { (names : List Symbol) → answered names result ≡ read reg (take (reg_size reg) (drop place (bytes_meant names self.now))) }
+        ensures value { (names : List Symbol) → answered names result ≡ read reg (take (reg_size reg) (drop place (bytes_meant names self.now))) }
+        ensures held { IsHeld self.now result }
     {
         match reg {
             Reg::Int(width) => self.load_integer(place, usize::from(width / 8)),
@@ -176,6 +186,7 @@ impl Bytes {
         ensures ok { OnOk result ((names : List Symbol) → bytes_meant names self.new ≡ overwritten (bytes_meant names self.old) place (pointer_bytes 8 (base_meant names pointer.base) pointer.offset)) }
         ensures err { OnErr result ((names : List Symbol) → bytes_meant names self.new ≡ bytes_meant names self.old) }
         ensures length { bytes_len self.new ≡ bytes_len self.old }
+        ensures held { HoldsNoMore self.old (scalar.Pointer pointer) self.new }
     {
         match pointer.base {
             Base::Null if pointer.offset == 0 => {
@@ -194,6 +205,7 @@ impl Bytes {
         ensures ok { OnOk result ((names : List Symbol) → bytes_meant names self.new ≡ overwritten (bytes_meant names self.old) place (stored_bytes reg (meant names value))) }
         ensures err { OnErr result ((names : List Symbol) → bytes_meant names self.new ≡ bytes_meant names self.old) }
         ensures length { bytes_len self.new ≡ bytes_len self.old }
+        ensures held { HoldsNoMore self.old value self.new }
     {
         match (reg, value) {
             (Reg::Int(width), value) => {

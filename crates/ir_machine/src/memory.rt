@@ -1,5 +1,5 @@
 //! Memory: the live blocks (LangRef, "Memory Model", "Object Lifetime" and "alloca Instruction").
-ghost use Rattle.std.specs.Prelude.{◌≡◌, ◌≢◌, true, false, ◌≤◌, ℕ, List, IfSome, Some, None, OnOk, IfOk, OnErr, length, ◌<◌, ◌-◌, option_copied};
+ghost use Rattle.std.specs.Prelude.{◌≡◌, ◌≢◌, true, false, ◌≤◌, ℕ, List, IfSome, Some, None, OnOk, IfOk, OnErr, length, ◌<◌, ◌-◌, [], ◌∷◌, ◌++◌, option_copied};
 ghost use Rattle.ir_tree.specs.declared.operand.Symbol.{Symbol};
 ghost use Rattle.ir_meaning.specs.Access as access;
 ghost use Rattle.ir_meaning.specs.Memory.{Memory as MeantMemory};
@@ -7,7 +7,7 @@ ghost use Rattle.ir_machine.specs.Marks.{HasWidth};
 ghost use Rattle.ir_machine.specs.Meant.{answered, meant};
 ghost use Rattle.ir_machine.specs.declared.block.Block.{Block};
 ghost use Rattle.ir_machine.specs.Blocks.{block_meant, IsStored};
-ghost use Rattle.ir_machine.specs.Memories.{block_at, Stands, IsEnded, IsScalar, IsMemoryStored, IsReserved, Replaced};
+ghost use Rattle.ir_machine.specs.Memories.{block_at, Stands, GainsNone, GainsOnly, IsEnded, IsLoaded, IsScalar, IsMemoryStored, IsReserved, KeepsHandles, Replaced, numbers_of};
 
 use crate::block::{Block, Stored};
 use crate::bytes::Bytes;
@@ -41,7 +41,8 @@ impl Memory {
     pub fn load(&self, reg: Reg, address: Scalar, align: u64) -> Outcome
         requires width { HasWidth reg }
         requires aligned { 1 ≤ align }
-        ensures { (names : List Symbol) (memory : MeantMemory) → Stands names self.now memory → IsScalar self.now memory address → answered names result ≡ access.load memory reg (meant names address) align }
+        ensures value { (names : List Symbol) (memory : MeantMemory) → Stands names self.now memory → IsScalar self.now memory address → answered names result ≡ access.load memory reg (meant names address) align }
+        ensures held { IsLoaded self.now result }
     {
         let Scalar::Pointer(pointer) = address else {
             return Outcome::Undefined(Cause::BadPointer);
@@ -69,6 +70,8 @@ impl Memory {
         requires there { position < length self.old.blocks.items }
         ensures ok { IfOk result (λ done. (b : Block) × ((c : Block) × (Replaced self.old position b c self.new × ((names : List Symbol) → IsStored (block_meant names b) reg (meant names value) offset align (block_meant names c) done)))) }
         ensures err { OnErr result ((b : Block) × ((c : Block) × (Replaced self.old position b c self.new × ((names : List Symbol) → block_meant names c ≡ block_meant names b)))) }
+        ensures held { GainsOnly self.old value self.new }
+        ensures numbers { numbers_of self.new.blocks.items ≡ numbers_of self.old.blocks.items }
     {
         let stored = self.blocks[position].store(reg, value, offset, align)?;
         Ok(stored)
@@ -98,7 +101,9 @@ impl Memory {
         requires width { HasWidth reg }
         requires aligned { 1 ≤ align }
         ensures ok { IfOk result (λ done. (names : List Symbol) (memory : MeantMemory) → Stands names self.old memory → IsScalar self.old memory address → IsMemoryStored names self.old memory reg (meant names value) (meant names address) align self.new done) }
-        ensures err { OnErr result ((names : List Symbol) (memory : MeantMemory) → Stands names self.old memory → Stands names self.new memory) }
+        ensures err { OnErr result ((names : List Symbol) (memory : MeantMemory) → Stands names self.old memory → Stands names self.new memory × KeepsHandles self.old memory self.new memory) }
+        ensures held { GainsOnly self.old value self.new }
+        ensures numbers { numbers_of self.new.blocks.items ≡ numbers_of self.old.blocks.items }
     {
         let Scalar::Pointer(pointer) = address else {
             return Ok(Stored::Undefined(Cause::BadPointer));
@@ -119,6 +124,8 @@ impl Memory {
     pub fn reserve(&mut self, alloc: Global, size: usize, align: u64) -> Result<Handle, AllocError>
         ensures ok { IfOk result (λ h. (names : List Symbol) (memory : MeantMemory) → Stands names self.old memory → IsReserved names self.old memory size align self.new h) }
         ensures err { OnErr result ((self.new.blocks.items ≡ self.old.blocks.items) × (self.new.made ≡ self.old.made)) }
+        ensures held { GainsNone self.old self.new }
+        ensures grown { IfOk result (λ h. (b : Block) × ((self.new.blocks.items ≡ self.old.blocks.items ++ b ∷ []) × (b.number ≡ h.number))) }
     {
         if self.made == usize::MAX {
             return Err(AllocError);
@@ -142,7 +149,9 @@ impl Memory {
     /// Ends the life of the block that was made last of those that live.
     pub fn pop(&mut self)
         requires { 0 < length self.old.blocks.items }
-        ensures { (names : List Symbol) (memory : MeantMemory) → Stands names self.old memory → (b : Block) × ((block_at self.old (length self.old.blocks.items - 1) ≡ Some b) × IsEnded names self.old memory b self.new) }
+        ensures ended { (names : List Symbol) (memory : MeantMemory) → Stands names self.old memory → (b : Block) × ((block_at self.old (length self.old.blocks.items - 1) ≡ Some b) × IsEnded names self.old memory b self.new) }
+        ensures held { GainsNone self.old self.new }
+        ensures last { (b : Block) → block_at self.old (length self.old.blocks.items - 1) ≡ Some b → self.old.blocks.items ≡ self.new.blocks.items ++ b ∷ [] }
     {
         let _ = self.blocks.pop();
     }

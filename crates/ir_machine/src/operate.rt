@@ -2,7 +2,7 @@
 //!
 //! Each is the definition's operation on what its operands mean. Widths are 1 to 64; an operand that is
 //! no number of its operation's width counts as poison. No call takes memory.
-ghost use Rattle.std.specs.Prelude.{IfSome, ◌≡◌, ◌<◌, ◌≤◌, ◌^◌, List};
+ghost use Rattle.std.specs.Prelude.{IfSome, ◌≡◌, ◌<◌, ◌≤◌, ◌^◌, ◌⊎◌, List};
 ghost use Rattle.ir_tree.specs.declared.operand.Symbol.{Symbol};
 ghost use Rattle.ir_tree.specs.declared.operand.Reg.TheVariants.{Int};
 ghost use Rattle.ir_meaning.specs.Operate as operate;
@@ -113,7 +113,8 @@ pub fn cast(op: CastOp, from: u8, to: u8, value: Scalar) -> Scalar
 /// A choice between two values (LangRef, "`select` Instruction"): of a poison condition it gives
 /// poison, and only the chosen arm counts.
 pub fn select(condition: Scalar, if_true: Scalar, if_false: Scalar) -> Scalar
-    ensures { (names : List Symbol) → meant names result ≡ operate.selected (meant names condition) (meant names if_true) (meant names if_false) }
+    ensures value { (names : List Symbol) → meant names result ≡ operate.selected (meant names condition) (meant names if_true) (meant names if_false) }
+    ensures chosen { (result ≡ if_true) ⊎ ((result ≡ if_false) ⊎ (result ≡ Scalar.Poison)) }
 {
     match bits(1, condition) {
         Some(0) => if_false,

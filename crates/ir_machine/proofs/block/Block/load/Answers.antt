@@ -9,13 +9,13 @@ load-requires-clause-within c =
     reached_within [] c.args.self.now c.args.offset (reg_size c.args.reg) c.args.align
     (ap (λ (s : ℕ). refused (block_meant [] c.args.self.now) c.args.offset s c.args.align) (sym c.reg_size.ensures) ∙ sym (c.refusal.ensures []) ∙ c.in-None.is)
 
-pub returns-in-Some : goal.returns-in-Some
-returns-in-Some c = λ names.
+pub returns-in-Some-clause-value : goal.returns-in-Some-clause-value
+returns-in-Some-clause-value c = λ names.
     sym (not_loaded (block_meant names c.args.self.now) c.args.reg c.args.offset c.args.align c.in-Some.cause
     (ap (λ (s : ℕ). refused (block_meant names c.args.self.now) c.args.offset s c.args.align) (sym c.reg_size.ensures) ∙ sym (c.refusal.ensures names) ∙ c.in-Some.is))
 
-pub returns-in-None : goal.returns-in-None
-returns-in-None c = λ names.
-    c.load.ensures names
+pub returns-in-None-clause-value : goal.returns-in-None-clause-value
+returns-in-None-clause-value c = λ names.
+    c.load.ensures.value names
     ∙ sym (loaded (block_meant names c.args.self.now) c.args.reg c.args.offset c.args.align
     (ap (λ (s : ℕ). refused (block_meant names c.args.self.now) c.args.offset s c.args.align) (sym c.reg_size.ensures) ∙ sym (c.refusal.ensures names) ∙ c.in-None.is))

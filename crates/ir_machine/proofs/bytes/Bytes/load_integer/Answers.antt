@@ -7,20 +7,20 @@ use Rattle.ir_machine.proofs.Reading.{integer_read, mixed_read, unset_read}
 use Rattle.ir_machine.proofs.Windows.{window_of}
 use Rattle.ir_machine.proofs.bytes.Bytes.load_integer.Goals as goal
 
-pub returns-in-Some : goal.returns-in-Some
-returns-in-Some c = λ names w.
+pub returns-in-Some-clause-value : goal.returns-in-Some-clause-value
+returns-in-Some-clause-value c = λ names w.
     sym (ap (λ (bs : List Byte). read (Int w) bs)
     (window_of names (pointer_at c.args.self.now) c.args.size (c.args.place + c.args.size - c.args.place) c.args.place c.args.self.now.marks.items c.deref.result.now c.deref.ensures.value (omega arith))
     ∙ integer_read names (pointer_at c.args.self.now) c.args.place w c.in-Some.number (take (c.args.place + c.args.size - c.args.place) (drop c.args.place c.deref.result.now)) (sym c.number_in.ensures.number ∙ c.in-Some.is))
 
-pub returns-then-any_unset : goal.returns-then-any_unset
-returns-then-any_unset c = λ names w.
+pub returns-then-any_unset-clause-value : goal.returns-then-any_unset-clause-value
+returns-then-any_unset-clause-value c = λ names w.
     sym (ap (λ (bs : List Byte). read (Int w) bs)
     (window_of names (pointer_at c.args.self.now) c.args.size (c.args.place + c.args.size - c.args.place) c.args.place c.args.self.now.marks.items c.deref.result.now c.deref.ensures.value (omega arith))
     ∙ unset_read names (pointer_at c.args.self.now) c.args.place w (take (c.args.place + c.args.size - c.args.place) (drop c.args.place c.deref.result.now)) (sym c.any_unset.ensures ∙ c.if-any_unset.true))
 
-pub returns-else-any_unset : goal.returns-else-any_unset
-returns-else-any_unset c = λ names w.
+pub returns-else-any_unset-clause-value : goal.returns-else-any_unset-clause-value
+returns-else-any_unset-clause-value c = λ names w.
     sym (ap (λ (bs : List Byte). read (Int w) bs)
     (window_of names (pointer_at c.args.self.now) c.args.size (c.args.place + c.args.size - c.args.place) c.args.place c.args.self.now.marks.items c.deref.result.now c.deref.ensures.value (omega arith))
     ∙ mixed_read names (pointer_at c.args.self.now) c.args.place w (take (c.args.place + c.args.size - c.args.place) (drop c.args.place c.deref.result.now)) (sym c.any_unset.ensures ∙ c.if-any_unset.false) (sym c.number_in.ensures.number ∙ c.in-None.is))

@@ -1,14 +1,10 @@
-use Rattle.std.proofs.Common.{◌≡◌, ◌≢◌, ℕ, Bool, true, false, nat_eq, refl, sym, ap, ◌∙◌, eqb-true}
+use Rattle.std.proofs.Common.{◌≢◌, ℕ, nat_eq, refl, ap, ◌∙◌}
 use Rattle.ir_machine.specs.Bytes.{pointer_at, pointer_or_null}
 use Rattle.ir_machine.specs.Marks.{are_small, part_marks}
+use Rattle.ir_machine.specs.declared.scalar.Scalar.TheVariants as scalar
+use Rattle.ir_machine.proofs.Origins.{apart, put_holds, unchanged_holds}
 use Rattle.ir_machine.proofs.Writing.{pointer_stored, small_written}
 use Rattle.ir_machine.proofs.bytes.Bytes.store_parts.Goals as goal
-
-apart : (a b : ℕ) → b ≢ a → nat_eq a b ≡ false
-apart a b h = by (nat_eq a b) refl where
-  by : (v : Bool) → nat_eq a b ≡ v → nat_eq a b ≡ false
-  by false e = e
-  by true e = absurd (h (sym (eqb-true a b e)))
 
 pub invariant_of-self-2 : goal.invariant_of-self-2
 invariant_of-self-2 c = record {
@@ -22,3 +18,10 @@ returns-clause-ok c = λ names.
     (λ (r : ℕ) (ne : r ≢ c.args.place). ap pointer_or_null (c.in_ok-insert.ensures.updates.2 r (apart c.args.place r ne)))
     (ap pointer_or_null c.in_ok-insert.ensures.updates.1)
     c.args.self.now.small c.requires c.write_parts.ensures
+
+pub returns-clause-held : goal.returns-clause-held
+returns-clause-held c = λ p h.
+    put_holds c.args.self.now.pointers.entries c.insert.new.self.entries c.args.place c.args.pointer c.in_ok-insert.ensures.updates.1 c.in_ok-insert.ensures.updates.2 p h.0 h.1
+
+pub returns-in_err-insert-clause-held : goal.returns-in_err-insert-clause-held
+returns-in_err-insert-clause-held c = unchanged_holds c.args.self.now.pointers.entries c.insert.new.self.entries (scalar.Pointer c.args.pointer) c.in_err-insert.ensures.err

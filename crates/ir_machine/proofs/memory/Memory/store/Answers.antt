@@ -13,7 +13,7 @@ use Rattle.ir_machine.proofs.memory.Memory.store.Goals as goal
 pub returns-in_err-stored-clause-err : goal.returns-in_err-stored-clause-err
 returns-in_err-stored-clause-err c =
     let e = c.in_err-stored.ensures.err in
-    on_err c.from_residual.result (λ names memory s. (unchanged names c.args.self.now memory c.in-Block.handle.position e.0 e.1.0 c.store_at.new.self s e.1.1.0 (e.1.1.1 names)).0)
+    on_err c.from_residual.result (λ names memory s. unchanged names c.args.self.now memory c.in-Block.handle.position e.0 e.1.0 c.store_at.new.self s e.1.1.0 (e.1.1.1 names))
 
 pub returns-in_ok-stored-clause-ok : goal.returns-in_ok-stored-clause-ok
 returns-in_ok-stored-clause-ok c = λ names memory s k.

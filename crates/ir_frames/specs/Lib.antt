@@ -1,0 +1,4 @@
+pub mod Locals
+pub mod Tasks
+pub mod Phis
+pub mod Runs
