@@ -1,0 +1,4 @@
+pub mod Calls
+pub mod Exits
+pub mod Entering
+pub mod Slots
