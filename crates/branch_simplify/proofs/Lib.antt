@@ -1,0 +1,6 @@
+mod Better
+mod Counting
+mod Kept
+mod Left
+mod Loops
+mod SimplifiedSound

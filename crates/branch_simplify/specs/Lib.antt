@@ -1,0 +1,4 @@
+pub mod Decided
+pub mod Laws
+pub mod Simplified
+pub mod Tables
