@@ -1,0 +1,7 @@
+pub mod BlockRules
+pub mod CallRules
+pub mod LineRules
+pub mod Loops
+pub mod Samples
+pub mod SuccessiveRules
+pub mod WrittenTypes

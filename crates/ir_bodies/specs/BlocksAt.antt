@@ -1,0 +1,80 @@
+-- What the readers of blocks and definitions give.
+use Rattle.std.specs.Prelude.{ℕ, ◌-◌, Option, Some, None, List, [], ◌∷◌, ◌++◌, length}
+use Rattle.std.specs.List.{fold}
+use Rattle.ir_lex.specs.declared.head.Head.TheVariants as heads
+use Rattle.ir_lex.specs.Heads.{number}
+use Rattle.ir_lex.specs.Tok.{Tok}
+use Rattle.lto_forms.specs.Alphabet.{among}
+use Rattle.lto_forms.specs.Readers.{Reader, ◌>>=◌, done, pick, many_at, token_at}
+use Rattle.lto_forms.specs.Rules.{is_valued}
+use Rattle.ir_read.specs.AttributesAt.{definition_attributes_at}
+use Rattle.ir_read.specs.Classes.{tokens, refusal, the_at}
+use Rattle.ir_read.specs.declared.function_heads.Role.TheVariants as roles
+use Rattle.ir_read.specs.declared.raw.Block.{Block}
+use Rattle.ir_read.specs.declared.raw.Item.{Item}
+use Rattle.ir_read.specs.declared.raw.Item.TheVariants.{Definition}
+use Rattle.ir_read.specs.declared.raw.Line.{Line}
+use Rattle.ir_read.specs.FunctionHeadsAt.{head_at}
+use Rattle.ir_read.specs.Operands.{named}
+use Rattle.ir_read.specs.Terminators.{ENDS}
+use Rattle.ir_read.specs.TerminatorsAt.{terminator_at}
+use Rattle.ir_bodies.specs.Blocks.{LABEL, keep, block_of, FURTHER_BLOCKS, INSTRUCTIONS, with_kept}
+use Rattle.ir_bodies.specs.LinesAt.{LINE, line_at}
+use Rattle.ir_bodies.specs.Successive.{successive_at}
+
+-- what a block begins with
+abbrev pub BLOCK : List ℕ
+BLOCK = LABEL ++ (LINE ++ ENDS)
+
+abbrev pub label_at : Reader Tok Tok
+label_at = token_at (is_valued tokens refusal LABEL named)
+
+abbrev pub all_lines_at : ℕ → Reader Tok (List (Option Line))
+all_lines_at = many_at (among tokens LINE) line_at
+
+-- the lines that are kept, and how many more there may be
+unfoldable pub lines_at : ℕ → Reader Tok (List Line × ℕ)
+lines_at room = do
+  ls ← all_lines_at room
+  done (fold keep [] ls, room - length ls)
+
+unfoldable pub block_behind_at : ℕ → Option Tok → Reader Tok (Block × ℕ)
+block_behind_at room name = do
+  ls ← lines_at room
+  e ← terminator_at
+  done (block_of name ls.0 e, ls.1)
+
+unfoldable pub block_at : ℕ → Reader Tok (Block × ℕ)
+block_at room = pick (among tokens LABEL)
+    (do
+      l ← label_at
+      block_behind_at room (Some l))
+    (block_behind_at room None)
+
+abbrev pub further_blocks_at : ℕ → ℕ → Reader Tok (List Block)
+further_blocks_at = successive_at (among tokens BLOCK) block_at
+
+-- those behind a first one
+unfoldable pub blocks_behind_at : ℕ → ℕ → Block → Reader Tok (List Block)
+blocks_behind_at further instructions first = do
+  more ← further_blocks_at further instructions
+  done (first ∷ more)
+
+unfoldable pub blocks_at : ℕ → ℕ → Reader Tok (List Block)
+blocks_at further instructions = do
+  first ← block_at instructions
+  blocks_behind_at further first.1 first.0
+
+-- what a definition begins with
+abbrev pub DEFINE : List ℕ
+DEFINE = number heads.Define ∷ []
+
+unfoldable pub definition_at : ℕ → Reader Tok Item
+definition_at room = do
+  _ ← the_at heads.Define
+  h ← head_at roles.Definition room
+  k ← definition_attributes_at
+  _ ← the_at heads.OpenBrace
+  bs ← blocks_at FURTHER_BLOCKS INSTRUCTIONS
+  _ ← the_at heads.CloseBrace
+  done (Definition (with_kept h k) bs)

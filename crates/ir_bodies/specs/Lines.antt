@@ -1,0 +1,146 @@
+-- Instructions, dispatched by their first word, and lines: instructions with the names of their results (LangRef,
+-- "Instruction Reference").
+use Rattle.std.specs.Prelude.{ℕ, Bool, true, false, Option, Some, None, List, [], ◌∷◌}
+use Rattle.ir_lex.specs.declared.head.Head.{Head}
+use Rattle.ir_lex.specs.declared.head.Head.TheVariants as heads
+use Rattle.ir_lex.specs.Heads.{number}
+use Rattle.ir_lex.specs.Tok.{Tok}
+use Rattle.ir_tree.specs.declared.instr.BinaryOp.TheVariants as ops
+use Rattle.ir_tree.specs.declared.instr.CastOp.TheVariants as casts
+use Rattle.lto_forms.specs.Forms.{Form, ◌>>=◌, either, gives}
+use Rattle.ir_read.specs.Addressing.{reserving, addressing}
+use Rattle.ir_read.specs.Classes.{the, one_of}
+use Rattle.ir_read.specs.declared.raw.Instr.{Instr}
+use Rattle.ir_read.specs.declared.raw.Line.{Line}
+use Rattle.ir_read.specs.declared.shape.Typed.{Typed}
+use Rattle.ir_read.specs.Instructions.{no_flags, on_two, wrapping, dividing, joining, comparing, casting, extending, narrowing, selecting, freezing, loading, storing}
+use Rattle.ir_read.specs.Metadata.{attachments}
+use Rattle.ir_read.specs.Phis.{phi}
+use Rattle.ir_bodies.specs.Calls.{calling, tail_calling}
+use Rattle.ir_bodies.specs.declared.opcodes.Begun.{Begun}
+use Rattle.ir_bodies.specs.declared.opcodes.Opcode.{Opcode}
+use Rattle.ir_bodies.specs.declared.opcodes.Opcode.TheVariants as opcodes
+use Rattle.ir_bodies.specs.declared.opcodes.Operation.{Operation}
+use Rattle.ir_bodies.specs.declared.opcodes.Operation.TheVariants as operations
+
+-- ---- first words
+
+-- of instructions that may give a result
+abbrev pub GIVING : List ℕ
+GIVING =
+    number heads.Add ∷ number heads.Sub ∷ number heads.Mul ∷ number heads.Shl
+    ∷ number heads.Udiv ∷ number heads.Sdiv ∷ number heads.Lshr ∷ number heads.Ashr
+    ∷ number heads.Urem ∷ number heads.Srem ∷ number heads.And ∷ number heads.Xor ∷ number heads.Or
+    ∷ number heads.Icmp ∷ number heads.Zext ∷ number heads.Sext ∷ number heads.Trunc ∷ number heads.Select ∷ number heads.Freeze
+    ∷ number heads.Phi ∷ number heads.Alloca ∷ number heads.Load ∷ number heads.GetElementPtr
+    ∷ number heads.TailMark ∷ number heads.Call ∷ []
+
+-- of all instructions
+abbrev pub OPCODES : List ℕ
+OPCODES = number heads.Store ∷ GIVING
+
+abbrev pub value_of : Operation → Opcode
+value_of o = opcodes.Value o
+
+abbrev pub opcode_by : Head → Opcode
+opcode_by heads.Add = value_of (operations.Wrapping ops.Add)
+opcode_by heads.Sub = value_of (operations.Wrapping ops.Sub)
+opcode_by heads.Mul = value_of (operations.Wrapping ops.Mul)
+opcode_by heads.Shl = value_of (operations.Wrapping ops.Shl)
+opcode_by heads.Udiv = value_of (operations.Dividing ops.Udiv)
+opcode_by heads.Sdiv = value_of (operations.Dividing ops.Sdiv)
+opcode_by heads.Lshr = value_of (operations.Dividing ops.Lshr)
+opcode_by heads.Ashr = value_of (operations.Dividing ops.Ashr)
+opcode_by heads.Urem = value_of (operations.Plain ops.Urem)
+opcode_by heads.Srem = value_of (operations.Plain ops.Srem)
+opcode_by heads.And = value_of (operations.Plain ops.And)
+opcode_by heads.Xor = value_of (operations.Plain ops.Xor)
+opcode_by heads.Or = value_of operations.Or
+opcode_by heads.Icmp = value_of operations.Icmp
+opcode_by heads.Zext = value_of operations.Zext
+opcode_by heads.Sext = value_of operations.Sext
+opcode_by heads.Trunc = value_of operations.Trunc
+opcode_by heads.Select = value_of operations.Select
+opcode_by heads.Freeze = value_of operations.Freeze
+opcode_by heads.Phi = opcodes.Phi
+opcode_by heads.Alloca = opcodes.Alloca
+opcode_by heads.Load = opcodes.Load
+opcode_by heads.GetElementPtr = opcodes.GetElementPtr
+opcode_by heads.Store = opcodes.Store
+opcode_by heads.TailMark = opcodes.Tail
+opcode_by h = opcodes.Call
+
+abbrev pub opcode_of : Tok → Opcode
+opcode_of t = opcode_by t.head
+
+abbrev pub begun_of : Tok → Begun
+begun_of t = record { opcode = opcode_by t.head; line = t.line }
+
+-- ---- what follows them
+
+-- of an operation on values, but for its attachments
+abbrev pub operation : Form Tok Typed → Operation → Form Tok Instr
+operation shape (operations.Wrapping op) = wrapping shape op
+operation shape (operations.Dividing op) = dividing shape op
+operation shape (operations.Plain op) = on_two shape op no_flags
+operation shape operations.Or = joining shape
+operation shape operations.Icmp = comparing shape
+operation shape operations.Zext = extending shape casts.Zext
+operation shape operations.Sext = casting shape casts.Sext
+operation shape operations.Trunc = narrowing shape casts.Trunc
+operation shape operations.Select = selecting shape
+operation shape operations.Freeze = freezing shape
+
+-- g {att}
+unfoldable pub attended : Form Tok Instr → Form Tok (Option Instr)
+attended g = do
+  i ← g
+  _ ← attachments
+  gives (Some i)
+
+unfoldable pub kept : Form Tok Instr → Form Tok (Option Instr)
+kept g = do
+  i ← g
+  gives (Some i)
+
+-- of an instruction, with its attachments, with a name before it or not; nothing where it is dropped
+abbrev pub behind : Form Tok Typed → Bool → Opcode → Form Tok (Option Instr)
+behind shape named (opcodes.Value o) = attended (operation shape o)
+behind shape named opcodes.Phi = kept (phi shape)
+behind shape named opcodes.Alloca = kept (reserving shape)
+behind shape named opcodes.Load = kept (loading shape)
+behind shape named opcodes.GetElementPtr = kept (addressing shape)
+behind shape named opcodes.Store = kept (storing shape)
+behind shape named opcodes.Tail = tail_calling shape named
+behind shape named opcodes.Call = calling shape named
+
+-- ---- lines
+
+abbrev pub lined : Option Tok → ℕ → Option Instr → Option Line
+lined name line None = None
+lined name line (Some i) = Some (record { name = name; instr = i; line = line })
+
+-- = instr {att}, behind a name: an instruction that may give a result
+unfoldable pub line_behind : Form Tok Typed → Tok → Form Tok (Option Line)
+line_behind shape name = do
+  _ ← the heads.Equals
+  o ← one_of GIVING opcode_of
+  i ← behind shape true o
+  gives (lined (Some name) name.line i)
+
+-- Local = instr {att}, over what spells the name
+unfoldable pub named_line : Form Tok Tok → Form Tok Typed → Form Tok (Option Line)
+named_line name shape = do
+  n ← name
+  line_behind shape n
+
+-- instr {att}
+unfoldable pub plain_line : Form Tok Typed → Form Tok (Option Line)
+plain_line shape = do
+  b ← one_of OPCODES begun_of
+  i ← behind shape false b.opcode
+  gives (lined None b.line i)
+
+-- [Local =] instr {att}
+unfoldable pub line : Form Tok Tok → Form Tok Typed → Form Tok (Option Line)
+line name shape = either (named_line name shape) (plain_line shape)

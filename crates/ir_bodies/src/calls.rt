@@ -1,0 +1,530 @@
+//! Reads calls (LangRef, "call Instruction").
+
+ghost use Rattle.std.specs.Prelude.{◌≡◌, ◌∷◌, IfOk};
+ghost use Rattle.ir_lex.specs.Tok.{tok};
+ghost use Rattle.lto_forms.specs.Alphabet.{among};
+ghost use Rattle.lto_forms.specs.Readers.{Gives, next_is};
+ghost use Rattle.lto_forms.specs.Rules.{is_among, is_class, is_exact, is_valued};
+ghost use Rattle.ir_read.specs.Classes.{tokens, itself};
+ghost use Rattle.ir_read.specs.FunctionHeadsAt.{end_of_none_at};
+ghost use Rattle.ir_read.specs.Operands.{IsReg, REG, type_refusal, reg_of, classes_of, operand_of};
+ghost use Rattle.ir_tree.specs.declared.operand.Reg.TheVariants.{Ptr};
+ghost use Rattle.ir_bodies.specs.Calls.{same_reg, is_type, marker_refusal, called};
+ghost use Rattle.ir_bodies.specs.CallsAt.{CONVENTIONS, convention_at, conventions_at, written_type_at, further_type_at, types_behind_at, some_types_at, listed_types_at, types_at, argument_behind_at, argument_at, further_argument_at, arguments_behind_at, some_arguments_at, any_arguments_at, type_again_at, argument_of_at, further_of_at, each_behind_at, some_of_at, arguments_of_at, arguments_at, called_value_at, marker_at, unmarked_at, unmarked_value_at, callee_at, maybe_types_at, calling_at, tail_calling_at};
+
+use ir_lex::{Head, Token};
+use ir_read::{
+    Argument, Instr, Name, Operand, Tokens, address_at, attachments_at, call_attributes_at, expect,
+    operand_at, operand_means, parameter_attribute_at, parameter_attributes_at, reg_at, reg_of,
+    result_at, type_refusal,
+};
+use ir_tree::{Reg, Rows};
+use lto_forms::{Fault, FaultKind, ReadError};
+use std::alloc::Global;
+
+/// Reads a calling convention, or an attribute of the result.
+#[tactic(auto, unfolding(crate::specs::CallsAt::convention_at))]
+fn convention_at(alloc: Global, tokens: &mut Tokens) -> Result<(), ReadError>
+    ensures { Gives (λ x. (tt, tokens.new)) result (convention_at tokens.old) }
+{
+    if tokens.comes(Head::CallingConvention) {
+        expect(Head::CallingConvention, tokens)
+    } else {
+        parameter_attribute_at(alloc, tokens)
+    }
+}
+
+/// Whether a calling convention, or an attribute of the result, comes.
+fn comes_convention(rest: &Tokens) -> bool
+    ensures { result ≡ next_is (among tokens CONVENTIONS) rest.now }
+{
+    match rest.head() {
+        Some(head) => matches!(
+            head,
+            Head::CallingConvention | Head::ParameterWord | Head::ParameterGroup | Head::Align
+        ),
+        None => false,
+    }
+}
+
+/// Reads what stands before the result of a call: `fastcc noundef`.
+#[tactic(auto, unfolding(crate::specs::CallsAt::conventions_at))]
+fn conventions_at(alloc: Global, tokens: &mut Tokens) -> Result<(), ReadError>
+    ensures { Gives (λ x. (tt, tokens.new)) result (conventions_at tokens.old) }
+{
+    'each: while comes_convention(tokens) {
+        convention_at(alloc, tokens)?;
+    }
+    Ok(())
+}
+
+/// Takes the type of a parameter of a callee.
+#[tactic(auto, unfolding(lto_forms::specs::Rules::is_among))]
+fn written_type_at<'a>(tokens: &mut Tokens<'_, 'a>) -> Result<Name<'a>, ReadError>
+    ensures { Gives (λ x. (x, tokens.new)) result (written_type_at tokens.old) }
+{
+    let left = tokens.left();
+    match tokens.take() {
+        None => Err(ReadError::Fault(Fault {
+            left,
+            kind: FaultKind::Syntax,
+        })),
+        Some(t) => match t.head {
+            Head::MemoryInteger | Head::RegisterInteger | Head::Ptr => Ok(Name::of(t)),
+            head => Err(ReadError::Fault(Fault {
+                left,
+                kind: type_refusal(head),
+            })),
+        },
+    }
+}
+
+#[tactic(auto, unfolding(crate::specs::CallsAt::further_type_at))]
+fn further_type_at<'a>(tokens: &mut Tokens<'_, 'a>) -> Result<Name<'a>, ReadError>
+    ensures { Gives (λ x. (x, tokens.new)) result (further_type_at tokens.old) }
+{
+    expect(Head::Comma, tokens)?;
+    written_type_at(tokens)
+}
+
+/// Reads the types behind a first one, and adds that in front.
+#[tactic(auto, unfolding(crate::specs::CallsAt::types_behind_at))]
+fn types_behind_at<'a>(
+    alloc: Global,
+    first: Name<'a>,
+    tokens: &mut Tokens<'_, 'a>,
+) -> Result<Vec<Name<'a>>, ReadError>
+    ensures { Gives (λ x. (x.items, tokens.new)) result (types_behind_at first.entry tokens.old) }
+{
+    let mut types = Vec::new(alloc);
+    types.push(first)?;
+    'each: while tokens.comes(Head::Comma) {
+        let further = further_type_at(tokens)?;
+        types.push(further)?;
+    }
+    Ok(types)
+}
+
+#[tactic(auto, unfolding(crate::specs::CallsAt::some_types_at))]
+fn some_types_at<'a>(alloc: Global, tokens: &mut Tokens<'_, 'a>) -> Result<Vec<Name<'a>>, ReadError>
+    ensures { Gives (λ x. (x.items, tokens.new)) result (some_types_at tokens.old) }
+{
+    let first = written_type_at(tokens)?;
+    types_behind_at(alloc, first, tokens)
+}
+
+/// Takes the `)` behind a `(`, where a type might have stood.
+#[tactic(auto, unfolding(lto_forms::specs::Rules::is_class))]
+fn end_of_none_at(tokens: &mut Tokens) -> Result<(), ReadError>
+    ensures { Gives (λ x. (tt, tokens.new)) result (end_of_none_at tokens.old) }
+{
+    let left = tokens.left();
+    match tokens.take() {
+        None => Err(ReadError::Fault(Fault {
+            left,
+            kind: FaultKind::Syntax,
+        })),
+        Some(t) => {
+            if t.head.is(Head::CloseParen) {
+                Ok(())
+            } else {
+                Err(ReadError::Fault(Fault {
+                    left,
+                    kind: type_refusal(t.head),
+                }))
+            }
+        }
+    }
+}
+
+#[tactic(auto, unfolding(crate::specs::CallsAt::listed_types_at))]
+fn listed_types_at<'a>(
+    alloc: Global,
+    tokens: &mut Tokens<'_, 'a>,
+) -> Result<Vec<Name<'a>>, ReadError>
+    ensures { Gives (λ x. (x.items, tokens.new)) result (listed_types_at tokens.old) }
+{
+    if tokens.comes_reg() {
+        let types = some_types_at(alloc, tokens)?;
+        expect(Head::CloseParen, tokens)?;
+        Ok(types)
+    } else {
+        end_of_none_at(tokens)?;
+        Ok(Vec::new(alloc))
+    }
+}
+
+/// Reads the types of a callee's parameters: `(i32, ptr)`.
+#[tactic(auto, unfolding(crate::specs::CallsAt::types_at))]
+fn types_at<'a>(alloc: Global, tokens: &mut Tokens<'_, 'a>) -> Result<Vec<Name<'a>>, ReadError>
+    ensures { Gives (λ x. (x.items, tokens.new)) result (types_at tokens.old) }
+{
+    expect(Head::OpenParen, tokens)?;
+    listed_types_at(alloc, tokens)
+}
+
+/// Reads an argument behind its type.
+#[tactic(auto, unfolding(crate::specs::CallsAt::argument_behind_at))]
+fn argument_behind_at<'a>(
+    alloc: Global,
+    reg: Reg,
+    tokens: &mut Tokens<'_, 'a>,
+) -> Result<Argument<'a>, ReadError>
+    requires { IsReg reg }
+    ensures { Gives (λ x. (x, tokens.new)) result (argument_behind_at reg tokens.old) }
+{
+    parameter_attributes_at(alloc, tokens)?;
+    let operand = operand_at(alloc, reg, tokens)?;
+    Ok(Argument { reg, operand })
+}
+
+/// Reads an argument of any type: `ptr noundef %p`.
+#[tactic(auto, unfolding(crate::specs::CallsAt::argument_at))]
+fn argument_at<'a>(alloc: Global, tokens: &mut Tokens<'_, 'a>) -> Result<Argument<'a>, ReadError>
+    ensures { Gives (λ x. (x, tokens.new)) result (argument_at tokens.old) }
+{
+    let reg = reg_at(tokens)?;
+    argument_behind_at(alloc, reg, tokens)
+}
+
+#[tactic(auto, unfolding(crate::specs::CallsAt::further_argument_at))]
+fn further_argument_at<'a>(
+    alloc: Global,
+    tokens: &mut Tokens<'_, 'a>,
+) -> Result<Argument<'a>, ReadError>
+    ensures { Gives (λ x. (x, tokens.new)) result (further_argument_at tokens.old) }
+{
+    expect(Head::Comma, tokens)?;
+    argument_at(alloc, tokens)
+}
+
+/// Reads the arguments behind a first one, and adds that in front.
+#[tactic(auto, unfolding(crate::specs::CallsAt::arguments_behind_at))]
+fn arguments_behind_at<'a>(
+    alloc: Global,
+    first: Argument<'a>,
+    tokens: &mut Tokens<'_, 'a>,
+) -> Result<Vec<Argument<'a>>, ReadError>
+    ensures { Gives (λ x. (x.items, tokens.new)) result (arguments_behind_at first.entry tokens.old) }
+{
+    let mut arguments = Vec::new(alloc);
+    arguments.push(first)?;
+    'each: while tokens.comes(Head::Comma) {
+        let further = further_argument_at(alloc, tokens)?;
+        arguments.push(further)?;
+    }
+    Ok(arguments)
+}
+
+#[tactic(auto, unfolding(crate::specs::CallsAt::some_arguments_at))]
+fn some_arguments_at<'a>(
+    alloc: Global,
+    tokens: &mut Tokens<'_, 'a>,
+) -> Result<Vec<Argument<'a>>, ReadError>
+    ensures { Gives (λ x. (x.items, tokens.new)) result (some_arguments_at tokens.old) }
+{
+    let first = argument_at(alloc, tokens)?;
+    arguments_behind_at(alloc, first, tokens)
+}
+
+/// Reads arguments of any types, and the `)` behind them.
+#[tactic(auto, unfolding(crate::specs::CallsAt::any_arguments_at))]
+fn any_arguments_at<'a>(
+    alloc: Global,
+    tokens: &mut Tokens<'_, 'a>,
+) -> Result<Vec<Argument<'a>>, ReadError>
+    ensures { Gives (λ x. (x.items, tokens.new)) result (any_arguments_at tokens.old) }
+{
+    if tokens.comes_reg() {
+        let arguments = some_arguments_at(alloc, tokens)?;
+        expect(Head::CloseParen, tokens)?;
+        Ok(arguments)
+    } else {
+        end_of_none_at(tokens)?;
+        Ok(Vec::new(alloc))
+    }
+}
+
+fn is_same_reg(left: Reg, right: Reg) -> bool
+    ensures { result ≡ same_reg left right }
+{
+    match (left, right) {
+        (Reg::Int(v), Reg::Int(w)) => v == w,
+        (Reg::Ptr, Reg::Ptr) => true,
+        _ => false,
+    }
+}
+
+/// What a token means where the type that another writes must stand.
+#[tactic(auto, unfolding(lto_forms::specs::Rules::is_exact))]
+fn type_again(written: &Token, t: &Token) -> Result<Reg, FaultKind>
+    ensures exact { result ≡ is_exact tokens type_refusal REG (is_type (tok written.now)) reg_of (tok t.now) }
+    ensures ranged { IfOk result IsReg }
+{
+    match t.head {
+        Head::MemoryInteger | Head::RegisterInteger | Head::Ptr => {
+            let reg = reg_of(t);
+            if is_same_reg(reg_of(written), reg) {
+                Ok(reg)
+            } else {
+                Err(type_refusal(t.head))
+            }
+        }
+        head => Err(type_refusal(head)),
+    }
+}
+
+/// Takes the type that stands in a list of types.
+fn type_again_at(written: &Name, tokens: &mut Tokens) -> Result<Reg, ReadError>
+    ensures exact { Gives (λ x. (x, tokens.new)) result (type_again_at written.now tokens.old) }
+    ensures ranged { IfOk result IsReg }
+{
+    let token = written.token();
+    let left = tokens.left();
+    match tokens.take() {
+        None => Err(ReadError::Fault(Fault {
+            left,
+            kind: FaultKind::Syntax,
+        })),
+        Some(t) => match type_again(&token, &t) {
+            Ok(x) => Ok(x),
+            Err(kind) => Err(ReadError::Fault(Fault { left, kind })),
+        },
+    }
+}
+
+/// Reads an argument of the type that is written.
+#[tactic(auto, unfolding(crate::specs::CallsAt::argument_of_at))]
+fn argument_of_at<'a>(
+    alloc: Global,
+    written: &Name,
+    tokens: &mut Tokens<'_, 'a>,
+) -> Result<Argument<'a>, ReadError>
+    ensures { Gives (λ x. (x, tokens.new)) result (argument_of_at written.now tokens.old) }
+{
+    let reg = type_again_at(written, tokens)?;
+    argument_behind_at(alloc, reg, tokens)
+}
+
+#[tactic(auto, unfolding(crate::specs::CallsAt::further_of_at))]
+fn further_of_at<'a>(
+    alloc: Global,
+    written: &Name,
+    tokens: &mut Tokens<'_, 'a>,
+) -> Result<Argument<'a>, ReadError>
+    ensures { Gives (λ x. (x, tokens.new)) result (further_of_at written.now tokens.old) }
+{
+    expect(Head::Comma, tokens)?;
+    argument_of_at(alloc, written, tokens)
+}
+
+/// Reads an argument of each of these types behind a first one, and adds that in front.
+#[tactic(auto, unfolding(crate::specs::CallsAt::each_behind_at))]
+fn each_behind_at<'a>(
+    alloc: Global,
+    types: &[Name],
+    first: Argument<'a>,
+    tokens: &mut Tokens<'_, 'a>,
+) -> Result<Vec<Argument<'a>>, ReadError>
+    ensures { Gives (λ x. (x.items, tokens.new)) result (each_behind_at types.now first.entry tokens.old) }
+{
+    let mut arguments = Vec::new(alloc);
+    arguments.push(first)?;
+    'each: for written in types {
+        let further = further_of_at(alloc, written, tokens)?;
+        arguments.push(further)?;
+    }
+    Ok(arguments)
+}
+
+#[tactic(auto, unfolding(crate::specs::CallsAt::some_of_at))]
+fn some_of_at<'a>(
+    alloc: Global,
+    written: &Name,
+    further: &[Name],
+    tokens: &mut Tokens<'_, 'a>,
+) -> Result<Vec<Argument<'a>>, ReadError>
+    ensures { Gives (λ x. (x.items, tokens.new)) result (some_of_at written.now further.now tokens.old) }
+{
+    let first = argument_of_at(alloc, written, tokens)?;
+    each_behind_at(alloc, further, first, tokens)
+}
+
+/// Reads an argument of each of these types, and the `)` behind them.
+fn arguments_of_at<'a>(
+    alloc: Global,
+    types: &[Name],
+    tokens: &mut Tokens<'_, 'a>,
+) -> Result<Vec<Argument<'a>>, ReadError>
+    ensures { Gives (λ x. (x.items, tokens.new)) result (arguments_of_at types.now tokens.old) }
+{
+    match types {
+        [] => {
+            end_of_none_at(tokens)?;
+            Ok(Vec::new(alloc))
+        }
+        [first, further @ ..] => {
+            let arguments = some_of_at(alloc, first, further, tokens)?;
+            expect(Head::CloseParen, tokens)?;
+            Ok(arguments)
+        }
+    }
+}
+
+/// Reads the arguments of a call: of the types that are written, where they are.
+fn arguments_at<'a>(
+    alloc: Global,
+    types: &Option<Rows<Name>>,
+    tokens: &mut Tokens<'_, 'a>,
+) -> Result<Vec<Argument<'a>>, ReadError>
+    ensures { Gives (λ x. (x.items, tokens.new)) result (arguments_at types.now tokens.old) }
+{
+    match types {
+        None => any_arguments_at(alloc, tokens),
+        Some(written) => arguments_of_at(alloc, written.as_slice(), tokens),
+    }
+}
+
+#[tactic(auto, unfolding(crate::specs::CallsAt::called_value_at))]
+fn called_value_at<'a>(
+    alloc: Global,
+    tokens: &mut Tokens<'_, 'a>,
+) -> Result<Option<Operand<'a>>, ReadError>
+    ensures { Gives (λ x. (x, tokens.new)) result (called_value_at tokens.old) }
+{
+    let value = operand_at(alloc, Reg::Ptr, tokens)?;
+    Ok(Some(value))
+}
+
+/// What a token means as the callee of a call that has a name and gives nothing.
+#[tactic(auto, unfolding(lto_forms::specs::Rules::is_valued))]
+fn unmarked_means<'a>(t: &Token<'a>) -> Result<Operand<'a>, FaultKind>
+    ensures { result ≡ is_valued tokens marker_refusal (classes_of Ptr) (operand_of Ptr) (tok t.now) }
+{
+    if t.head.is(Head::LifetimeMarker) {
+        Err(FaultKind::Syntax)
+    } else {
+        operand_means(Reg::Ptr, t)
+    }
+}
+
+fn unmarked_at<'a>(tokens: &mut Tokens<'_, 'a>) -> Result<Operand<'a>, ReadError>
+    ensures { Gives (λ x. (x, tokens.new)) result (unmarked_at tokens.old) }
+{
+    let left = tokens.left();
+    match tokens.take() {
+        None => Err(ReadError::Fault(Fault {
+            left,
+            kind: FaultKind::Syntax,
+        })),
+        Some(t) => match unmarked_means(&t) {
+            Ok(x) => Ok(x),
+            Err(kind) => Err(ReadError::Fault(Fault { left, kind })),
+        },
+    }
+}
+
+#[tactic(auto, unfolding(crate::specs::CallsAt::unmarked_value_at))]
+fn unmarked_value_at<'a>(
+    alloc: Global,
+    tokens: &mut Tokens<'_, 'a>,
+) -> Result<Option<Operand<'a>>, ReadError>
+    ensures { Gives (λ x. (x, tokens.new)) result (unmarked_value_at tokens.old) }
+{
+    if tokens.comes(Head::GetElementPtr) {
+        let value = address_at(alloc, tokens)?;
+        Ok(Some(value))
+    } else {
+        let value = unmarked_at(tokens)?;
+        Ok(Some(value))
+    }
+}
+
+/// Reads what is called: `None` for a lifetime marker, whose call is dropped.
+#[tactic(auto, unfolding(crate::specs::CallsAt::marker_at))]
+fn callee_at<'a>(
+    alloc: Global,
+    named: bool,
+    reg: Option<Reg>,
+    tokens: &mut Tokens<'_, 'a>,
+) -> Result<Option<Operand<'a>>, ReadError>
+    ensures { Gives (λ x. (x, tokens.new)) result (callee_at named reg tokens.old) }
+{
+    if reg.is_some() {
+        called_value_at(alloc, tokens)
+    } else if named {
+        unmarked_value_at(alloc, tokens)
+    } else if tokens.comes(Head::LifetimeMarker) {
+        expect(Head::LifetimeMarker, tokens)?;
+        Ok(None)
+    } else {
+        called_value_at(alloc, tokens)
+    }
+}
+
+/// A call, unless it is dropped.
+fn called<'a>(
+    reg: Option<Reg>,
+    callee: Option<Operand<'a>>,
+    arguments: Vec<Argument<'a>>,
+) -> Option<Instr<'a>>
+    ensures { result ≡ called reg callee.entry arguments.entry.items }
+{
+    match callee {
+        None => None,
+        Some(callee) => Some(Instr::Call {
+            result: reg,
+            callee,
+            arguments: Rows::of(arguments),
+        }),
+    }
+}
+
+/// Reads the types of the callee's parameters, where they are written.
+fn maybe_types_at<'a>(
+    alloc: Global,
+    tokens: &mut Tokens<'_, 'a>,
+) -> Result<Option<Rows<Name<'a>>>, ReadError>
+    ensures { Gives (λ x. (x, tokens.new)) result (maybe_types_at tokens.old) }
+{
+    if tokens.comes(Head::OpenParen) {
+        let types = types_at(alloc, tokens)?;
+        Ok(Some(Rows::of(types)))
+    } else {
+        Ok(None)
+    }
+}
+
+/// Reads what follows `call`, with the name of a result before it or not: `None` where the callee is a
+/// lifetime marker.
+#[tactic(auto, unfolding(crate::specs::CallsAt::calling_at))]
+pub fn calling_at<'a>(
+    alloc: Global,
+    named: bool,
+    tokens: &mut Tokens<'_, 'a>,
+) -> Result<Option<Instr<'a>>, ReadError>
+    ensures { Gives (λ x. (x, tokens.new)) result (calling_at named tokens.old) }
+{
+    conventions_at(alloc, tokens)?;
+    let result = result_at(tokens)?;
+    let types = maybe_types_at(alloc, tokens)?;
+    let callee = callee_at(alloc, named, result, tokens)?;
+    expect(Head::OpenParen, tokens)?;
+    let arguments = arguments_at(alloc, &types, tokens)?;
+    call_attributes_at(alloc, tokens)?;
+    attachments_at(alloc, tokens)?;
+    Ok(called(result, callee, arguments))
+}
+
+/// Reads what follows `tail` or `notail`.
+#[tactic(auto, unfolding(crate::specs::CallsAt::tail_calling_at))]
+pub fn tail_calling_at<'a>(
+    alloc: Global,
+    named: bool,
+    tokens: &mut Tokens<'_, 'a>,
+) -> Result<Option<Instr<'a>>, ReadError>
+    ensures { Gives (λ x. (x, tokens.new)) result (tail_calling_at named tokens.old) }
+{
+    expect(Head::Call, tokens)?;
+    calling_at(alloc, named, tokens)
+}

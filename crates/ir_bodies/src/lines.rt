@@ -1,0 +1,139 @@
+//! Reads instructions with the names of their results (LangRef, "Instruction Reference").
+
+ghost use Rattle.std.specs.Prelude.{◌≡◌};
+ghost use Rattle.lto_forms.specs.Readers.{Gives};
+ghost use Rattle.ir_bodies.specs.Lines.{lined};
+ghost use Rattle.ir_bodies.specs.LinesAt.{operation_at, behind_at, line_behind_at, named_line_at, plain_line_at, line_at};
+
+use crate::calls::{calling_at, tail_calling_at};
+use crate::opcodes::{Opcode, Operation, begun_at, giving_at};
+use ir_lex::Head;
+use ir_read::{
+    Instr, Line, Name, Tokens, addressing_at, attachments_at, casting_at, comparing_at,
+    dividing_at, expect, extending_at, freezing_at, joining_at, loading_at, local_at, narrowing_at,
+    on_two_at, phi_at, reserving_at, selecting_at, storing_at, wrapping_at,
+};
+use ir_tree::{CastOp, Flags};
+use lto_forms::ReadError;
+use std::alloc::Global;
+
+/// Reads what follows the first word of an operation on values, but for its attachments.
+fn operation_at<'a>(
+    alloc: Global,
+    operation: Operation,
+    tokens: &mut Tokens<'_, 'a>,
+) -> Result<Instr<'a>, ReadError>
+    ensures { Gives (λ x. (x, tokens.new)) result (operation_at operation tokens.old) }
+{
+    match operation {
+        Operation::Wrapping(op) => wrapping_at(alloc, op, tokens),
+        Operation::Dividing(op) => dividing_at(alloc, op, tokens),
+        Operation::Plain(op) => {
+            let flags = Flags {
+                nuw: false,
+                nsw: false,
+                exact: false,
+            };
+            on_two_at(alloc, op, flags, tokens)
+        }
+        Operation::Or => joining_at(alloc, tokens),
+        Operation::Icmp => comparing_at(alloc, tokens),
+        Operation::Zext => extending_at(alloc, CastOp::Zext, tokens),
+        Operation::Sext => casting_at(alloc, CastOp::Sext, tokens),
+        Operation::Trunc => narrowing_at(alloc, CastOp::Trunc, tokens),
+        Operation::Select => selecting_at(alloc, tokens),
+        Operation::Freeze => freezing_at(alloc, tokens),
+    }
+}
+
+/// Reads what follows the first word of an instruction, with the name of a result before it or not:
+/// `None` for a call that is dropped.
+#[tactic(auto, unfolding(crate::specs::LinesAt::attended_at, crate::specs::LinesAt::kept_at))]
+fn behind_at<'a>(
+    alloc: Global,
+    named: bool,
+    opcode: Opcode,
+    tokens: &mut Tokens<'_, 'a>,
+) -> Result<Option<Instr<'a>>, ReadError>
+    ensures { Gives (λ x. (x, tokens.new)) result (behind_at named opcode tokens.old) }
+{
+    match opcode {
+        Opcode::Value(operation) => {
+            let instr = operation_at(alloc, operation, tokens)?;
+            attachments_at(alloc, tokens)?;
+            Ok(Some(instr))
+        }
+        Opcode::Phi => Ok(Some(phi_at(alloc, tokens)?)),
+        Opcode::Alloca => Ok(Some(reserving_at(alloc, tokens)?)),
+        Opcode::Load => Ok(Some(loading_at(alloc, tokens)?)),
+        Opcode::GetElementPtr => Ok(Some(addressing_at(alloc, tokens)?)),
+        Opcode::Store => Ok(Some(storing_at(alloc, tokens)?)),
+        Opcode::Tail => tail_calling_at(alloc, named, tokens),
+        Opcode::Call => calling_at(alloc, named, tokens),
+    }
+}
+
+/// A line, unless its call is dropped.
+fn lined<'a>(name: Option<Name<'a>>, line: u32, instr: Option<Instr<'a>>) -> Option<Line<'a>>
+    ensures { result ≡ lined name.entry line instr.entry }
+{
+    match instr {
+        None => None,
+        Some(instr) => Some(Line { name, instr, line }),
+    }
+}
+
+/// Reads `= instr` behind the name of a result.
+#[tactic(auto, unfolding(crate::specs::LinesAt::line_behind_at))]
+fn line_behind_at<'a>(
+    alloc: Global,
+    name: Name<'a>,
+    tokens: &mut Tokens<'_, 'a>,
+) -> Result<Option<Line<'a>>, ReadError>
+    ensures { Gives (λ x. (x, tokens.new)) result (line_behind_at name.entry tokens.old) }
+{
+    let line = name.line();
+    expect(Head::Equals, tokens)?;
+    let opcode = giving_at(tokens)?;
+    let instr = behind_at(alloc, true, opcode, tokens)?;
+    Ok(lined(Some(name), line, instr))
+}
+
+#[tactic(auto, unfolding(crate::specs::LinesAt::named_line_at))]
+fn named_line_at<'a>(
+    alloc: Global,
+    tokens: &mut Tokens<'_, 'a>,
+) -> Result<Option<Line<'a>>, ReadError>
+    ensures { Gives (λ x. (x, tokens.new)) result (named_line_at tokens.old) }
+{
+    let name = local_at(tokens)?;
+    line_behind_at(alloc, name, tokens)
+}
+
+#[tactic(auto, unfolding(crate::specs::LinesAt::plain_line_at))]
+fn plain_line_at<'a>(
+    alloc: Global,
+    tokens: &mut Tokens<'_, 'a>,
+) -> Result<Option<Line<'a>>, ReadError>
+    ensures { Gives (λ x. (x, tokens.new)) result (plain_line_at tokens.old) }
+{
+    let begun = begun_at(tokens)?;
+    let instr = behind_at(alloc, false, begun.opcode, tokens)?;
+    Ok(lined(None, begun.line, instr))
+}
+
+/// Reads an instruction with the name of its result, where it has one, and its attachments: `None`
+/// for a call that is dropped.
+#[tactic(auto, unfolding(crate::specs::LinesAt::line_at))]
+pub fn line_at<'a>(
+    alloc: Global,
+    tokens: &mut Tokens<'_, 'a>,
+) -> Result<Option<Line<'a>>, ReadError>
+    ensures { Gives (λ x. (x, tokens.new)) result (line_at tokens.old) }
+{
+    if tokens.comes(Head::Local) {
+        named_line_at(alloc, tokens)
+    } else {
+        plain_line_at(alloc, tokens)
+    }
+}
