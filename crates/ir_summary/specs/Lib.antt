@@ -1,0 +1,4 @@
+pub mod Once
+pub mod References
+pub mod Summaries
+pub mod Walked

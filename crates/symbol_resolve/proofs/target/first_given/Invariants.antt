@@ -1,0 +1,7 @@
+use Rattle.std.proofs.Common.{◌≡◌, drop}
+use Rattle.std.specs.List.{position_from}
+use Rattle.symbol_resolve.specs.Clashes.{is_given, target_text}
+use Rattle.symbol_resolve.proofs.target.first_given.Given as goal
+
+abbrev pub invariant-loop-i : goal.invariant-loop-i
+invariant-loop-i l = position_from (λ m. is_given (target_text l.line m)) l.i (drop l.i l.modules) ≡ position_from (λ m. is_given (target_text l.line m)) 0 l.modules
