@@ -1,0 +1,7 @@
+pub mod Closes
+pub mod ConstantRules
+pub mod InitialiserRules
+pub mod Reversed
+pub mod Scalars
+pub mod TypeDefinitionRules
+pub mod VariableRules

@@ -1,0 +1,13 @@
+use Rattle.std.proofs.Common.{◌≡◌, length, reverse}
+use Rattle.lto_forms.specs.Chained.{chain_at}
+use Rattle.lto_forms.specs.Readers.{folded}
+use Rattle.lto_forms.proofs.Stars.{behind}
+use Rattle.ir_globals.specs.Initialisers.{outermost}
+use Rattle.ir_globals.specs.InitialisersAt.{begins_there, there_at, listed_at}
+use Rattle.ir_globals.proofs.initialisers.listed_at.Given as goal
+
+abbrev pub invariant-each : goal.invariant-each
+invariant-each l = folded behind l.parts.items (chain_at outermost begins_there there_at (l.first, reverse l.around.items) l.tokens) ≡ listed_at l.fn.tokens
+
+abbrev pub decreases-each : goal.decreases-each
+decreases-each l = length l.tokens

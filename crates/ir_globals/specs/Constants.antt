@@ -1,0 +1,53 @@
+-- Constants that a variable, or a part of one, begins with (LangRef, "Constants"), over what spells a shape.
+use Rattle.std.specs.Prelude.{ℕ, Option, Some, None, option_map, List, [], ◌∷◌}
+use Rattle.ir_lex.specs.declared.head.Head.{Head}
+use Rattle.ir_lex.specs.declared.head.Head.TheVariants as heads
+use Rattle.ir_lex.specs.Heads.{number}
+use Rattle.ir_lex.specs.Tok.{Tok}
+use Rattle.ir_tree.specs.declared.operand.Reg.{Reg}
+use Rattle.ir_tree.specs.declared.operand.Reg.TheVariants.{Int, Ptr}
+use Rattle.lto_forms.specs.Forms.{Form, either, token}
+use Rattle.lto_forms.specs.Rules.{is_valued}
+use Rattle.ir_read.specs.Classes.{tokens, refusal}
+use Rattle.ir_read.specs.declared.raw.Operand.{Operand}
+use Rattle.ir_read.specs.declared.raw.Operand.TheVariants as operands
+use Rattle.ir_read.specs.declared.shape.Typed.{Typed}
+use Rattle.ir_read.specs.Literals.{literal}
+use Rattle.ir_read.specs.Values.{address}
+
+abbrev pub CONSTANTS : List ℕ
+CONSTANTS = number heads.Number ∷ number heads.True ∷ number heads.False ∷ number heads.Null ∷ number heads.Poison ∷ number heads.Global ∷ number heads.NumberedGlobal ∷ number heads.NumberedDefinition ∷ []
+
+-- the type of a constant: where no scalar begins with it, i1, which no shape in memory has
+abbrev pub type_of : Option Reg → Reg
+type_of (Some r) = r
+type_of None = Int 1
+
+-- a literal of an integer's type; where no integer begins with it, a number of any size is one of i1
+abbrev pub number_of : Option Reg → Tok → Option Operand
+number_of (Some (Int w)) t = option_map (operands.Number w) (literal w t.text)
+number_of (Some Ptr) t = Some (operands.Number 1 0)
+number_of None t = Some (operands.Number 1 0)
+
+-- what a token of such a class means, by its class
+abbrev pub constant_by : Head → Option Reg → Tok → Option Operand
+constant_by heads.Number scalar t = number_of scalar t
+constant_by heads.True scalar t = Some (operands.Number 1 1)
+constant_by heads.False scalar t = Some (operands.Number 1 0)
+constant_by heads.Null scalar t = Some operands.Null
+constant_by heads.Poison scalar t = Some (operands.Poison (type_of scalar))
+constant_by heads.Global scalar t = Some (operands.Global t)
+constant_by heads.NumberedGlobal scalar t = Some (operands.Global t)
+constant_by heads.NumberedDefinition scalar t = Some (operands.Global t)
+constant_by h scalar t = None
+
+abbrev pub constant_of : Option Reg → Tok → Option Operand
+constant_of scalar t = constant_by t.head scalar t
+
+-- Number / true / false / null / poison / Global
+abbrev pub single : Option Reg → Form Tok Operand
+single scalar = token (is_valued tokens refusal CONSTANTS (constant_of scalar))
+
+-- an operand that is no Local, which this scalar begins with, or what is none
+unfoldable pub constant : Form Tok Typed → Option Reg → Form Tok Operand
+constant shape scalar = either (address shape) (single scalar)

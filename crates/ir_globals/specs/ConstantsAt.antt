@@ -1,0 +1,17 @@
+-- What the readers of constants give.
+use Rattle.std.specs.Prelude.{Option}
+use Rattle.ir_lex.specs.Tok.{Tok}
+use Rattle.ir_tree.specs.declared.operand.Reg.{Reg}
+use Rattle.lto_forms.specs.Alphabet.{among}
+use Rattle.lto_forms.specs.Readers.{Reader, pick, token_at}
+use Rattle.lto_forms.specs.Rules.{is_valued}
+use Rattle.ir_read.specs.Classes.{tokens, refusal}
+use Rattle.ir_read.specs.declared.raw.Operand.{Operand}
+use Rattle.ir_read.specs.ValuesAt.{ADDRESS, address_at}
+use Rattle.ir_globals.specs.Constants.{CONSTANTS, constant_of}
+
+abbrev pub single_at : Option Reg → Reader Tok Operand
+single_at scalar = token_at (is_valued tokens refusal CONSTANTS (constant_of scalar))
+
+unfoldable pub constant_at : Option Reg → Reader Tok Operand
+constant_at scalar = pick (among tokens ADDRESS) address_at (single_at scalar)

@@ -1,0 +1,9 @@
+pub mod Closed
+pub mod Constants
+pub mod ConstantsAt
+pub mod Initialisers
+pub mod InitialisersAt
+pub mod TypeDefinitions
+pub mod TypeDefinitionsAt
+pub mod Variables
+pub mod VariablesAt

@@ -1,0 +1,29 @@
+-- Type definitions (LangRef, "Structure Type", "Opaque Structure Types"), over what spells a shape.
+use Rattle.std.specs.Prelude.{Option, Some, None}
+use Rattle.ir_lex.specs.declared.head.Head.TheVariants as heads
+use Rattle.ir_lex.specs.Tok.{Tok}
+use Rattle.lto_forms.specs.Forms.{Form, ◌>>=◌, either, gives}
+use Rattle.ir_read.specs.Classes.{the}
+use Rattle.ir_read.specs.declared.raw.Item.{Item}
+use Rattle.ir_read.specs.declared.raw.Item.TheVariants as items
+use Rattle.ir_read.specs.declared.shape.Typed.{Typed}
+use Rattle.ir_read.specs.Operands.{local}
+
+-- opaque / shape
+unfoldable pub defined : Form Tok Typed → Form Tok (Option Typed)
+defined shape = either
+    (do
+      _ ← the heads.Opaque
+      gives None)
+    (do
+      typed ← shape
+      gives (Some typed))
+
+-- Local = type (opaque / shape)
+unfoldable pub type_line : Form Tok Typed → Form Tok Item
+type_line shape = do
+  name ← local
+  _ ← the heads.Equals
+  _ ← the heads.Type
+  typed ← defined shape
+  gives (items.Type name typed)

@@ -1,0 +1,33 @@
+-- What the readers of type definitions give.
+use Rattle.std.specs.Prelude.{ℕ, Option, Some, None, List, [], ◌∷◌}
+use Rattle.ir_lex.specs.declared.head.Head.TheVariants as heads
+use Rattle.ir_lex.specs.Heads.{number}
+use Rattle.ir_lex.specs.Tok.{Tok}
+use Rattle.lto_forms.specs.Alphabet.{among}
+use Rattle.lto_forms.specs.Readers.{Reader, ◌>>=◌, done, pick}
+use Rattle.ir_read.specs.Classes.{tokens, the_at}
+use Rattle.ir_read.specs.declared.raw.Item.{Item}
+use Rattle.ir_read.specs.declared.raw.Item.TheVariants as items
+use Rattle.ir_read.specs.declared.shape.Typed.{Typed}
+use Rattle.ir_read.specs.OperandsAt.{local_at}
+use Rattle.ir_read.specs.ShapeFormsAt.{memory_shape_at}
+
+abbrev pub OPAQUE : List ℕ
+OPAQUE = number heads.Opaque ∷ []
+
+unfoldable pub defined_at : Reader Tok (Option Typed)
+defined_at = pick (among tokens OPAQUE)
+    (do
+      _ ← the_at heads.Opaque
+      done None)
+    (do
+      typed ← memory_shape_at
+      done (Some typed))
+
+unfoldable pub type_line_at : Reader Tok Item
+type_line_at = do
+  name ← local_at
+  _ ← the_at heads.Equals
+  _ ← the_at heads.Type
+  typed ← defined_at
+  done (items.Type name typed)

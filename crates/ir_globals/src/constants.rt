@@ -1,0 +1,98 @@
+//! Reads the constants that variables and their parts begin with (LangRef, "Constants").
+
+ghost use Rattle.std.specs.Prelude.{◌≡◌, IfSome};
+ghost use Rattle.ir_lex.specs.Tok.{tok};
+ghost use Rattle.lto_forms.specs.Readers.{Gives};
+ghost use Rattle.lto_forms.specs.Rules.{in_range, is_valued};
+ghost use Rattle.ir_read.specs.Classes.{tokens, refusal};
+ghost use Rattle.ir_read.specs.Operands.{IsReg};
+ghost use Rattle.ir_globals.specs.Constants.{CONSTANTS, type_of, number_of, constant_of};
+ghost use Rattle.ir_globals.specs.ConstantsAt.{single_at, constant_at};
+
+use ir_lex::{Head, Token};
+use ir_read::{Name, Operand, Tokens, address_at, literal, refusal};
+use ir_tree::Reg;
+use lto_forms::{Fault, FaultKind, ReadError};
+use std::alloc::Global;
+
+/// The type of a constant: `i1`, which nothing in memory has, where it is of no scalar.
+fn type_of(scalar: Option<Reg>) -> Reg
+    ensures { result ≡ type_of scalar }
+{
+    match scalar {
+        Some(reg) => reg,
+        None => Reg::Int(1),
+    }
+}
+
+/// A literal of an integer. Of anything else a number is none: it is kept as one of `i1`.
+fn number_means<'a>(scalar: Option<Reg>, t: &Token<'a>) -> Result<Operand<'a>, FaultKind>
+    requires { IfSome scalar IsReg }
+    ensures { result ≡ in_range (number_of scalar (tok t.now)) }
+{
+    match scalar {
+        Some(Reg::Int(width)) => match literal(width, t.text) {
+            None => Err(FaultKind::Number),
+            Some(bits) => Ok(Operand::Number { width, bits }),
+        },
+        Some(Reg::Ptr) => Ok(Operand::Number { width: 1, bits: 0 }),
+        None => Ok(Operand::Number { width: 1, bits: 0 }),
+    }
+}
+
+/// What a token means where a constant may stand.
+#[tactic(auto, unfolding(lto_forms::specs::Rules::is_valued))]
+fn constant_means<'a>(scalar: Option<Reg>, t: &Token<'a>) -> Result<Operand<'a>, FaultKind>
+    requires { IfSome scalar IsReg }
+    ensures { result ≡ is_valued tokens refusal CONSTANTS (constant_of scalar) (tok t.now) }
+{
+    match t.head {
+        Head::Number => number_means(scalar, t),
+        Head::True => Ok(Operand::Number { width: 1, bits: 1 }),
+        Head::False => Ok(Operand::Number { width: 1, bits: 0 }),
+        Head::Null => Ok(Operand::Null),
+        Head::Poison => Ok(Operand::Poison(type_of(scalar))),
+        Head::Global | Head::NumberedGlobal | Head::NumberedDefinition => {
+            Ok(Operand::Global(Name::of(*t)))
+        }
+        head => Err(refusal(head)),
+    }
+}
+
+fn single_at<'a>(scalar: Option<Reg>, tokens: &mut Tokens<'_, 'a>) -> Result<Operand<'a>, ReadError>
+    requires { IfSome scalar IsReg }
+    ensures { Gives (λ x. (x, tokens.new)) result (single_at scalar tokens.old) }
+{
+    let left = tokens.left();
+    match tokens.take() {
+        None => Err(ReadError::Fault(Fault {
+            left,
+            kind: FaultKind::Syntax,
+        })),
+        Some(t) => match constant_means(scalar, &t) {
+            Ok(x) => Ok(x),
+            Err(kind) => Err(ReadError::Fault(Fault { left, kind })),
+        },
+    }
+}
+
+/// Reads an operand that is no local, for a scalar of this type, or for what is no scalar.
+///
+/// A number is a literal of an integer's type. For a pointer, an array, a structure or a type name a
+/// number of any size is read and kept as one of `i1`, and `poison` for what is no scalar is one of
+/// `i1` too: neither fits what it stands for, which the verifier says.
+#[tactic(auto, unfolding(crate::specs::ConstantsAt::constant_at))]
+pub fn constant_at<'a>(
+    alloc: Global,
+    scalar: Option<Reg>,
+    tokens: &mut Tokens<'_, 'a>,
+) -> Result<Operand<'a>, ReadError>
+    requires { IfSome scalar IsReg }
+    ensures { Gives (λ x. (x, tokens.new)) result (constant_at scalar tokens.old) }
+{
+    if tokens.comes(Head::GetElementPtr) {
+        address_at(alloc, tokens)
+    } else {
+        single_at(scalar, tokens)
+    }
+}

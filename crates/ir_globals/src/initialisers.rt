@@ -1,0 +1,420 @@
+//! Reads initialisers (LangRef, "Global Variables", "Complex Constants"). Which aggregates are open is
+//! kept in a list, so an initialiser may nest as deep as its text does.
+
+ghost use Rattle.std.specs.Prelude.{◌≡◌, not, reverse, IfOk, IfSome};
+ghost use Rattle.ir_lex.specs.Heads.{number};
+ghost use Rattle.lto_forms.specs.Alphabet.{contains, among};
+ghost use Rattle.lto_forms.specs.Chained.{stops_here};
+ghost use Rattle.lto_forms.specs.Readers.{Gives, next_is};
+ghost use Rattle.ir_read.specs.Classes.{tokens};
+ghost use Rattle.ir_read.specs.Operands.{IsReg};
+ghost use Rattle.ir_read.specs.ShapeFormsAt.{memory_shape_at};
+ghost use Rattle.ir_globals.specs.Initialisers.{scalar_of, aggregate_of, closing_refusal, entered, outermost, is_none};
+ghost use Rattle.ir_globals.specs.InitialisersAt.{bytes_at, aggregate_begin_at, beginning_at, mark_at, closing_at, part_shape_at, part_at, begun_at, piece_at, CLOSER, SHAPE, PART, begins_there, listed_at, parts_at, behind_at, initialiser_at};
+
+use crate::constants::constant_at;
+use ir_lex::Head;
+use ir_read::{
+    Init, InitHead, InitPart, Name, Shape, ShapeNode, Tokens, Typed, brace_behind_angle_at, expect,
+    memory_refusal, memory_shape_at, refusal,
+};
+use ir_tree::{Reg, Rows};
+use lto_forms::{Fault, FaultKind, ReadError};
+use std::alloc::{AllocFailed, Global};
+
+/// What an initialiser with parts is of.
+#[derive(Clone, Copy, Debug, PartialEq, Eq)]
+pub enum Aggregate {
+    /// `[` and `]`
+    Array,
+    /// `{` and `}`, or `<{` and `}>` where it is packed.
+    Struct { packed: bool },
+}
+
+/// A part with its shape, up to its own parts.
+#[derive(Drop)]
+struct Part<'a> {
+    typed: Typed<'a>,
+    head: InitHead<'a>,
+}
+
+/// A part, or the end of an aggregate's parts, and whether the next part is the first of its aggregate.
+#[derive(Drop)]
+struct Piece<'a> {
+    part: InitPart<'a>,
+    first: bool,
+}
+
+/// The scalar that a shape is, if it is one.
+pub fn scalar_of(shape: &Shape) -> Option<Reg>
+    ensures { result ≡ scalar_of shape.now }
+{
+    match shape.node() {
+        ShapeNode::Int(width) => Some(Reg::Int(*width)),
+        ShapeNode::Ptr => Some(Reg::Ptr),
+        ShapeNode::Array(_, _) => None,
+        ShapeNode::Struct(_, _) => None,
+        ShapeNode::Named(_) => None,
+    }
+}
+
+/// What the parts of an initialiser belong to, where it has parts.
+fn aggregate_of(head: &InitHead) -> Option<Aggregate>
+    ensures { result ≡ aggregate_of head.now }
+{
+    match head {
+        InitHead::Plain(_) => None,
+        InitHead::Zeros => None,
+        InitHead::Bytes(_) => None,
+        InitHead::Array => Some(Aggregate::Array),
+        InitHead::Struct { packed } => Some(Aggregate::Struct { packed: *packed }),
+    }
+}
+
+/// Takes a string of bytes.
+#[tactic(auto, unfolding(lto_forms::specs::Rules::is_among, crate::specs::InitialisersAt::bytes_at))]
+fn bytes_at<'a>(tokens: &mut Tokens<'_, 'a>) -> Result<InitHead<'a>, ReadError>
+    ensures { Gives (λ x. (x, tokens.new)) result (bytes_at tokens.old) }
+{
+    let left = tokens.left();
+    match tokens.take() {
+        None => Err(ReadError::Fault(Fault {
+            left,
+            kind: FaultKind::Syntax,
+        })),
+        Some(t) => {
+            if t.head.is(Head::CStr) {
+                Ok(InitHead::Bytes(Name::of(t)))
+            } else {
+                Err(ReadError::Fault(Fault {
+                    left,
+                    kind: refusal(t.head),
+                }))
+            }
+        }
+    }
+}
+
+/// Takes what the parts of an aggregate stand behind.
+#[tactic(auto, unfolding(crate::specs::InitialisersAt::aggregate_begin_at, crate::specs::InitialisersAt::array_begin_at, crate::specs::InitialisersAt::structure_begin_at, crate::specs::InitialisersAt::packed_begin_at))]
+fn aggregate_begin_at<'a>(tokens: &mut Tokens<'_, 'a>) -> Result<InitHead<'a>, ReadError>
+    ensures { Gives (λ x. (x, tokens.new)) result (aggregate_begin_at tokens.old) }
+{
+    if tokens.comes(Head::OpenBracket) {
+        expect(Head::OpenBracket, tokens)?;
+        Ok(InitHead::Array)
+    } else if tokens.comes(Head::OpenBrace) {
+        expect(Head::OpenBrace, tokens)?;
+        Ok(InitHead::Struct { packed: false })
+    } else {
+        expect(Head::OpenAngle, tokens)?;
+        brace_behind_angle_at(tokens)?;
+        Ok(InitHead::Struct { packed: true })
+    }
+}
+
+/// Reads an initialiser up to its parts, for a scalar of this type, or for what is no scalar.
+#[tactic(auto, unfolding(crate::specs::InitialisersAt::beginning_at, crate::specs::InitialisersAt::zeros_at, crate::specs::InitialisersAt::plain_at))]
+fn beginning_at<'a>(
+    alloc: Global,
+    scalar: Option<Reg>,
+    tokens: &mut Tokens<'_, 'a>,
+) -> Result<InitHead<'a>, ReadError>
+    requires { IfSome scalar IsReg }
+    ensures { Gives (λ x. (x, tokens.new)) result (beginning_at scalar tokens.old) }
+{
+    if tokens.comes(Head::ZeroInitializer) {
+        expect(Head::ZeroInitializer, tokens)?;
+        Ok(InitHead::Zeros)
+    } else if tokens.comes(Head::CStr) {
+        bytes_at(tokens)
+    } else if tokens.comes_bracket() {
+        aggregate_begin_at(tokens)
+    } else {
+        let operand = constant_at(alloc, scalar, tokens)?;
+        Ok(InitHead::Plain(operand))
+    }
+}
+
+/// Why a token can't stand where an aggregate must close, if none of its parts stands there yet, or if
+/// one does.
+fn closing_refusal(none: bool, head: Head) -> FaultKind
+    ensures { result ≡ closing_refusal none (number head) }
+{
+    if none {
+        memory_refusal(head)
+    } else {
+        refusal(head)
+    }
+}
+
+#[tactic(auto, unfolding(lto_forms::specs::Rules::is_class))]
+fn mark_at(none: bool, wanted: Head, tokens: &mut Tokens) -> Result<(), ReadError>
+    ensures { Gives (λ x. (tt, tokens.new)) result (mark_at none wanted tokens.old) }
+{
+    let left = tokens.left();
+    match tokens.take() {
+        None => Err(ReadError::Fault(Fault {
+            left,
+            kind: FaultKind::Syntax,
+        })),
+        Some(t) => {
+            if t.head.is(wanted) {
+                Ok(())
+            } else {
+                Err(ReadError::Fault(Fault {
+                    left,
+                    kind: closing_refusal(none, t.head),
+                }))
+            }
+        }
+    }
+}
+
+/// Takes what closes an aggregate.
+#[tactic(auto, unfolding(crate::specs::InitialisersAt::brace_at))]
+fn closing_at(none: bool, aggregate: Aggregate, tokens: &mut Tokens) -> Result<(), ReadError>
+    ensures { Gives (λ x. (tt, tokens.new)) result (closing_at none aggregate tokens.old) }
+{
+    match aggregate {
+        Aggregate::Array => mark_at(none, Head::CloseBracket, tokens),
+        Aggregate::Struct { packed } => {
+            mark_at(none, Head::CloseBrace, tokens)?;
+            if packed {
+                expect(Head::CloseAngle, tokens)
+            } else {
+                Ok(())
+            }
+        }
+    }
+}
+
+/// Whether what closes an aggregate comes.
+fn comes_closing(aggregate: Aggregate, rest: &Tokens) -> bool
+    ensures { result ≡ next_is (among tokens (CLOSER aggregate)) rest.now }
+{
+    match aggregate {
+        Aggregate::Array => rest.comes(Head::CloseBracket),
+        Aggregate::Struct { packed: _ } => rest.comes(Head::CloseBrace),
+    }
+}
+
+/// Reads a shape of memory. If it is a scalar it has the type of a register.
+pub fn shape_at<'a>(alloc: Global, tokens: &mut Tokens<'_, 'a>) -> Result<Typed<'a>, ReadError>
+    ensures exact { Gives (λ x. (x, tokens.new)) result (memory_shape_at tokens.old) }
+    ensures ranged { IfOk result (λ x. IfSome (scalar_of x.shape) IsReg) }
+{
+    let shape = memory_shape_at(alloc, tokens)?;
+    Ok(shape.typed)
+}
+
+/// Reads the shape of a part, with a comma before it where it is not the first.
+fn part_shape_at<'a>(
+    alloc: Global,
+    first: bool,
+    tokens: &mut Tokens<'_, 'a>,
+) -> Result<Typed<'a>, ReadError>
+    ensures exact { Gives (λ x. (x, tokens.new)) result (part_shape_at first tokens.old) }
+    ensures ranged { IfOk result (λ x. IfSome (scalar_of x.shape) IsReg) }
+{
+    if first {
+        return shape_at(alloc, tokens);
+    }
+    expect(Head::Comma, tokens)?;
+    shape_at(alloc, tokens)
+}
+
+/// Reads a part up to its own parts.
+#[tactic(auto, unfolding(crate::specs::InitialisersAt::part_at))]
+fn part_at<'a>(
+    alloc: Global,
+    first: bool,
+    tokens: &mut Tokens<'_, 'a>,
+) -> Result<Part<'a>, ReadError>
+    ensures { Gives (λ x. ((x.typed, x.head), tokens.new)) result (part_at first tokens.old) }
+{
+    let typed = part_shape_at(alloc, first, tokens)?;
+    let head = beginning_at(alloc, scalar_of(&typed.shape), tokens)?;
+    Ok(Part { typed, head })
+}
+
+/// Opens an aggregate, where there is one; the answer is whether there is.
+fn enter(
+    aggregate: Option<Aggregate>,
+    around: &mut Vec<Aggregate>,
+) -> Result<bool, AllocFailed<Aggregate>>
+    ensures { IfOk result (λ first. (first, reverse around.new.items) ≡ entered aggregate (reverse around.old.items)) }
+{
+    match aggregate {
+        None => Ok(false),
+        Some(inner) => {
+            around.push(inner)?;
+            Ok(true)
+        }
+    }
+}
+
+/// Reads a part up to its own parts inside these aggregates, the outermost first.
+#[tactic(auto, unfolding(crate::specs::InitialisersAt::begun_at))]
+fn begun_at<'a>(
+    alloc: Global,
+    first: bool,
+    around: &mut Vec<Aggregate>,
+    tokens: &mut Tokens<'_, 'a>,
+) -> Result<Piece<'a>, ReadError>
+    ensures { Gives (λ x. ((x.part, (x.first, reverse around.new.items)), tokens.new)) result (begun_at first (reverse around.old.items) tokens.old) }
+{
+    let part = part_at(alloc, first, tokens)?;
+    let first = enter(aggregate_of(&part.head), around)?;
+    Ok(Piece {
+        part: InitPart::Typed {
+            typed: part.typed,
+            head: part.head,
+        },
+        first,
+    })
+}
+
+/// Reads a part up to its own parts, or what closes the innermost of these aggregates, the outermost
+/// first.
+#[tactic(auto, unfolding(crate::specs::InitialisersAt::closed_at))]
+fn piece_at<'a>(
+    alloc: Global,
+    first: bool,
+    around: &mut Vec<Aggregate>,
+    tokens: &mut Tokens<'_, 'a>,
+) -> Result<Piece<'a>, ReadError>
+    ensures { Gives (λ x. ((x.part, (x.first, reverse around.new.items)), tokens.new)) result (piece_at first (reverse around.old.items) tokens.old) }
+{
+    let Some(inner) = around.pop() else {
+        return begun_at(alloc, first, around, tokens);
+    };
+    if comes_closing(inner, tokens) {
+        closing_at(false, inner, tokens)?;
+        Ok(Piece {
+            part: InitPart::End,
+            first: false,
+        })
+    } else {
+        around.push(inner)?;
+        begun_at(alloc, first, around, tokens)
+    }
+}
+
+fn begins_shape(head: Head) -> bool
+    ensures { result ≡ contains SHAPE (number head) }
+{
+    matches!(
+        head,
+        Head::OpenBracket
+            | Head::OpenBrace
+            | Head::OpenAngle
+            | Head::Local
+            | Head::MemoryInteger
+            | Head::Ptr
+    )
+}
+
+/// Whether a shape comes.
+fn comes_shape(rest: &Tokens) -> bool
+    ensures { result ≡ next_is (among tokens SHAPE) rest.now }
+{
+    match rest.head() {
+        Some(head) => begins_shape(head),
+        None => false,
+    }
+}
+
+/// Whether a part comes where it is the first, or a further one.
+fn comes_part(first: bool, rest: &Tokens) -> bool
+    ensures { result ≡ next_is (among tokens (PART first)) rest.now }
+{
+    if first {
+        comes_shape(rest)
+    } else {
+        rest.comes(Head::Comma)
+    }
+}
+
+/// Whether the parts go on: where aggregates are open they do.
+#[tactic(auto, using(crate::proofs::Reversed::some_open))]
+fn goes_on(first: bool, around: &[Aggregate], rest: &Tokens) -> bool
+    ensures { not result ≡ stops_here outermost begins_there (first, reverse around.now) rest.now }
+{
+    match around {
+        [] => comes_part(first, rest),
+        [_, ..] => true,
+    }
+}
+
+/// Reads the parts of an aggregate, each before its own parts and their end.
+fn listed_at<'a>(alloc: Global, tokens: &mut Tokens<'_, 'a>) -> Result<Vec<InitPart<'a>>, ReadError>
+    ensures { Gives (λ x. (x.items, tokens.new)) result (listed_at tokens.old) }
+{
+    let mut parts = Vec::new(alloc);
+    let mut around = Vec::new(alloc);
+    let mut first = true;
+    'each: while goes_on(first, &around, tokens) {
+        let piece = piece_at(alloc, first, &mut around, tokens)?;
+        first = piece.first;
+        parts.push(piece.part)?;
+    }
+    Ok(parts)
+}
+
+/// Whether there are no parts.
+fn is_none(parts: &[InitPart]) -> bool
+    ensures { result ≡ is_none parts.now }
+{
+    match parts {
+        [] => true,
+        [_, ..] => false,
+    }
+}
+
+/// Reads the parts of an aggregate, and what closes it.
+#[tactic(auto, unfolding(crate::specs::InitialisersAt::parts_at))]
+fn parts_at<'a>(
+    alloc: Global,
+    whole: Aggregate,
+    tokens: &mut Tokens<'_, 'a>,
+) -> Result<Vec<InitPart<'a>>, ReadError>
+    ensures { Gives (λ x. (x.items, tokens.new)) result (parts_at whole tokens.old) }
+{
+    let mut parts = listed_at(alloc, tokens)?;
+    closing_at(is_none(&parts), whole, tokens)?;
+    parts.push(InitPart::End)?;
+    Ok(parts)
+}
+
+/// Reads the parts behind the beginning of an initialiser, where it has parts.
+fn behind_at<'a>(
+    alloc: Global,
+    whole: Option<Aggregate>,
+    tokens: &mut Tokens<'_, 'a>,
+) -> Result<Vec<InitPart<'a>>, ReadError>
+    ensures { Gives (λ x. (x.items, tokens.new)) result (behind_at whole tokens.old) }
+{
+    match whole {
+        None => Ok(Vec::new(alloc)),
+        Some(whole) => parts_at(alloc, whole, tokens),
+    }
+}
+
+/// Reads the initialiser of a scalar of this type, or of what is no scalar: `[i8 1, i8 2]`.
+#[tactic(auto, unfolding(crate::specs::InitialisersAt::initialiser_at))]
+pub fn initialiser_at<'a>(
+    alloc: Global,
+    scalar: Option<Reg>,
+    tokens: &mut Tokens<'_, 'a>,
+) -> Result<Init<'a>, ReadError>
+    requires { IfSome scalar IsReg }
+    ensures { Gives (λ x. (x, tokens.new)) result (initialiser_at scalar tokens.old) }
+{
+    let root = beginning_at(alloc, scalar, tokens)?;
+    let parts = behind_at(alloc, aggregate_of(&root), tokens)?;
+    Ok(Init {
+        root,
+        parts: Rows::of(parts),
+    })
+}

@@ -1,0 +1,286 @@
+//! Reads global variables (LangRef, "Global Variables", "Linkage Types", "Comdats").
+
+ghost use Rattle.std.specs.Prelude.{◌≡◌, IfSome};
+ghost use Rattle.ir_lex.specs.Heads.{number};
+ghost use Rattle.lto_forms.specs.Alphabet.{contains, among};
+ghost use Rattle.lto_forms.specs.Readers.{Gives, next_is};
+ghost use Rattle.ir_read.specs.Classes.{tokens, one_of_at};
+ghost use Rattle.ir_read.specs.FunctionHeads.{LINKAGES, linkage_word};
+ghost use Rattle.ir_read.specs.Operands.{IsReg};
+ghost use Rattle.ir_globals.specs.Variables.{KINDS, is_constant, is_declared, with_align};
+ghost use Rattle.ir_globals.specs.VariablesAt.{variable_name_at, linkage_at, qualifiers_at, linked_at, value_at, comdat_name_at, in_comdat_at, aligned_at, marked_at, further_at, tail_at, behind_kind_at, variable_line_at};
+
+use crate::initialisers::{initialiser_at, scalar_of, shape_at};
+use ir_lex::Head;
+use ir_read::{
+    Init, Item, Name, Tokens, Variable, alignment_at, attached_at, comes_qualifier, expect,
+    linkage_by, name_refusal, qualifier_word_at, refusal, with_linkage,
+};
+use ir_tree::{Linkage, Reg};
+use lto_forms::{Fault, FaultKind, ReadError};
+use std::alloc::Global;
+
+/// Takes the name of a variable. One that is a number is taken where `= private` or `= internal`
+/// stands behind it.
+#[tactic(auto, unfolding(lto_forms::specs::Rules::is_among))]
+fn variable_name_at<'a>(tokens: &mut Tokens<'_, 'a>) -> Result<Name<'a>, ReadError>
+    ensures { Gives (λ x. (x, tokens.new)) result (variable_name_at tokens.old) }
+{
+    let left = tokens.left();
+    match tokens.take() {
+        None => Err(ReadError::Fault(Fault {
+            left,
+            kind: FaultKind::Syntax,
+        })),
+        Some(t) => match t.head {
+            Head::Global | Head::NumberedDefinition => Ok(Name::of(t)),
+            head => Err(ReadError::Fault(Fault {
+                left,
+                kind: name_refusal(head),
+            })),
+        },
+    }
+}
+
+fn is_linkage(head: Head) -> bool
+    ensures { result ≡ contains LINKAGES (number head) }
+{
+    matches!(
+        head,
+        Head::Private
+            | Head::Internal
+            | Head::External
+            | Head::Linkonce
+            | Head::LinkonceOdr
+            | Head::Weak
+            | Head::WeakOdr
+            | Head::AvailableExternally
+    )
+}
+
+/// Whether a linkage comes.
+fn comes_linkage(rest: &Tokens) -> bool
+    ensures { result ≡ next_is (among tokens LINKAGES) rest.now }
+{
+    match rest.head() {
+        Some(head) => is_linkage(head),
+        None => false,
+    }
+}
+
+#[tactic(auto, unfolding(lto_forms::specs::Rules::is_among))]
+fn linkage_word_at(tokens: &mut Tokens) -> Result<Linkage, ReadError>
+    ensures { Gives (λ x. (x, tokens.new)) result (one_of_at LINKAGES linkage_word tokens.old) }
+{
+    let left = tokens.left();
+    match tokens.take() {
+        None => Err(ReadError::Fault(Fault {
+            left,
+            kind: FaultKind::Syntax,
+        })),
+        Some(t) => {
+            if is_linkage(t.head) {
+                Ok(linkage_by(t.head))
+            } else {
+                Err(ReadError::Fault(Fault {
+                    left,
+                    kind: refusal(t.head),
+                }))
+            }
+        }
+    }
+}
+
+/// Takes a linkage, where one stands.
+fn linkage_at(tokens: &mut Tokens) -> Result<Option<Linkage>, ReadError>
+    ensures { Gives (λ x. (x, tokens.new)) result (linkage_at tokens.old) }
+{
+    if comes_linkage(tokens) {
+        let linkage = linkage_word_at(tokens)?;
+        Ok(Some(linkage))
+    } else {
+        Ok(None)
+    }
+}
+
+/// Takes the words of visibility, of addresses and of calling conventions, and drops them.
+#[tactic(auto, unfolding(crate::specs::VariablesAt::qualifiers_at))]
+fn qualifiers_at(tokens: &mut Tokens) -> Result<(), ReadError>
+    ensures { Gives (λ x. (tt, tokens.new)) result (qualifiers_at tokens.old) }
+{
+    'each: while comes_qualifier(tokens) {
+        qualifier_word_at(tokens)?;
+    }
+    Ok(())
+}
+
+/// Reads what stands before `global` or `constant`: the linkage that is written.
+#[tactic(auto, unfolding(crate::specs::VariablesAt::linked_at))]
+fn linked_at(tokens: &mut Tokens) -> Result<Option<Linkage>, ReadError>
+    ensures { Gives (λ x. (x, tokens.new)) result (linked_at tokens.old) }
+{
+    let linkage = linkage_at(tokens)?;
+    qualifiers_at(tokens)?;
+    Ok(linkage)
+}
+
+/// Takes `global` or `constant`; the answer is whether it is `constant`.
+#[tactic(auto, unfolding(lto_forms::specs::Rules::is_among))]
+fn kind_at(tokens: &mut Tokens) -> Result<bool, ReadError>
+    ensures { Gives (λ x. (x, tokens.new)) result (one_of_at KINDS is_constant tokens.old) }
+{
+    let left = tokens.left();
+    match tokens.take() {
+        None => Err(ReadError::Fault(Fault {
+            left,
+            kind: FaultKind::Syntax,
+        })),
+        Some(t) => match t.head {
+            Head::GlobalVariable => Ok(false),
+            Head::Constant => Ok(true),
+            head => Err(ReadError::Fault(Fault {
+                left,
+                kind: refusal(head),
+            })),
+        },
+    }
+}
+
+/// Whether `external` is written, which is said of a variable that is only declared.
+fn is_declared(linkage: Option<Linkage>) -> bool
+    ensures { result ≡ is_declared linkage }
+{
+    matches!(linkage, Some(Linkage::External))
+}
+
+/// Reads an initialiser, unless the variable is only declared.
+fn value_at<'a>(
+    alloc: Global,
+    declared: bool,
+    scalar: Option<Reg>,
+    tokens: &mut Tokens<'_, 'a>,
+) -> Result<Option<Init<'a>>, ReadError>
+    requires { IfSome scalar IsReg }
+    ensures { Gives (λ x. (x, tokens.new)) result (value_at declared scalar tokens.old) }
+{
+    if declared {
+        return Ok(None);
+    }
+    let init = initialiser_at(alloc, scalar, tokens)?;
+    Ok(Some(init))
+}
+
+/// Takes the name of a comdat in brackets.
+#[tactic(auto, unfolding(crate::specs::VariablesAt::comdat_name_at))]
+fn comdat_name_at(tokens: &mut Tokens) -> Result<(), ReadError>
+    ensures { Gives (λ x. (tt, tokens.new)) result (comdat_name_at tokens.old) }
+{
+    expect(Head::OpenParen, tokens)?;
+    expect(Head::ComdatName, tokens)?;
+    expect(Head::CloseParen, tokens)
+}
+
+/// Reads `comdat [(Comdat)]`, and drops it.
+#[tactic(auto, unfolding(crate::specs::VariablesAt::in_comdat_at))]
+fn in_comdat_at(tokens: &mut Tokens) -> Result<Option<u64>, ReadError>
+    ensures { Gives (λ x. (x, tokens.new)) result (in_comdat_at tokens.old) }
+{
+    expect(Head::Comdat, tokens)?;
+    if tokens.comes(Head::OpenParen) {
+        comdat_name_at(tokens)?;
+    }
+    Ok(None)
+}
+
+/// Reads `align N`.
+#[tactic(auto, unfolding(crate::specs::VariablesAt::aligned_at))]
+fn aligned_at(tokens: &mut Tokens) -> Result<Option<u64>, ReadError>
+    ensures { Gives (λ x. (x, tokens.new)) result (aligned_at tokens.old) }
+{
+    expect(Head::Align, tokens)?;
+    let align = alignment_at(tokens)?;
+    Ok(Some(align))
+}
+
+/// Reads what follows the initialiser behind a comma: the alignment, where it is one.
+#[tactic(auto, unfolding(crate::specs::VariablesAt::further_at, crate::specs::VariablesAt::marked_at))]
+fn further_at(alloc: Global, tokens: &mut Tokens) -> Result<Option<u64>, ReadError>
+    ensures { Gives (λ x. (x, tokens.new)) result (further_at tokens.old) }
+{
+    expect(Head::Comma, tokens)?;
+    if tokens.comes(Head::Comdat) {
+        in_comdat_at(tokens)
+    } else if tokens.comes(Head::Align) {
+        aligned_at(tokens)
+    } else {
+        attached_at(alloc, tokens)?;
+        Ok(None)
+    }
+}
+
+/// The last of two alignments that is written.
+fn with_align(align: Option<u64>, last: Option<u64>) -> Option<u64>
+    ensures { result ≡ with_align align last }
+{
+    match last {
+        None => align,
+        Some(last) => Some(last),
+    }
+}
+
+/// Reads all that follows the initialiser: the last alignment, where one is written.
+#[tactic(auto, unfolding(crate::specs::VariablesAt::tail_at))]
+fn tail_at(alloc: Global, tokens: &mut Tokens) -> Result<Option<u64>, ReadError>
+    ensures { Gives (λ x. (x, tokens.new)) result (tail_at tokens.old) }
+{
+    let mut align = None;
+    'each: while tokens.comes(Head::Comma) {
+        let further = further_at(alloc, tokens)?;
+        align = with_align(align, further);
+    }
+    Ok(align)
+}
+
+/// Reads a variable from its shape on.
+#[tactic(auto, unfolding(crate::specs::VariablesAt::behind_kind_at))]
+fn behind_kind_at<'a>(
+    alloc: Global,
+    name: Name<'a>,
+    linkage: Option<Linkage>,
+    constant: bool,
+    tokens: &mut Tokens<'_, 'a>,
+) -> Result<Item<'a>, ReadError>
+    ensures { Gives (λ x. (x, tokens.new)) result (behind_kind_at name.entry linkage constant tokens.old) }
+{
+    let typed = shape_at(alloc, tokens)?;
+    let init = value_at(alloc, is_declared(linkage), scalar_of(&typed.shape), tokens)?;
+    let align = tail_at(alloc, tokens)?;
+    let line = name.line();
+    Ok(Item::Variable(Variable {
+        name,
+        linkage: with_linkage(Linkage::External, linkage),
+        constant,
+        typed,
+        init,
+        align,
+        line,
+    }))
+}
+
+/// Reads a variable: `@g = internal constant [2 x i8] c"a\00", align 1`.
+///
+/// An initialiser stands exactly where `external` isn't written. Words of visibility, comdats and
+/// metadata are dropped, and of several alignments the last one stands.
+#[tactic(auto, unfolding(crate::specs::VariablesAt::variable_line_at))]
+pub fn variable_line_at<'a>(
+    alloc: Global,
+    tokens: &mut Tokens<'_, 'a>,
+) -> Result<Item<'a>, ReadError>
+    ensures { Gives (λ x. (x, tokens.new)) result (variable_line_at tokens.old) }
+{
+    let name = variable_name_at(tokens)?;
+    expect(Head::Equals, tokens)?;
+    let linkage = linked_at(tokens)?;
+    let constant = kind_at(tokens)?;
+    behind_kind_at(alloc, name, linkage, constant, tokens)
+}
