@@ -1,2 +1,22 @@
-mod Standing
-mod Widths
+pub mod Availability
+pub mod Better
+pub mod Blocks
+pub mod Covering
+pub mod Covers
+pub mod EditedItems
+pub mod Editing
+pub mod Holding
+pub mod InRounds
+pub mod Lookups
+pub mod Matching
+pub mod Passing
+pub mod RightSources
+pub mod RuleReads
+pub mod RuleTypes
+pub mod SourceTypes
+pub mod Sourcing
+pub mod Standing
+pub mod StepSound
+pub mod Substituting
+pub mod Widths
+pub mod Words

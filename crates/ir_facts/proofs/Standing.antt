@@ -3,6 +3,7 @@ use Rattle.std.proofs.Common.{◌≡◌, ℕ, Bool, true, false, ◌&&◌, ◌||
 use Rattle.std.specs.Prelude.{not}
 use Rattle.std.proofs.lemmas.Bool.{and_parts, or_cases, eqb-true}
 use Rattle.ir_tree.specs.declared.instr.Incoming.{Incoming}
+use Rattle.ir_tree.specs.declared.instr.Line.{Line}
 use Rattle.ir_tree.specs.declared.instr.Phi.{Phi}
 use Rattle.ir_tree.specs.declared.operand.Operand.{Operand}
 use Rattle.ir_tree.specs.declared.operand.Operand.TheVariants.{Local, Null, Number as Constant, Poison as PoisonOf, Symbol as Named}
@@ -15,7 +16,7 @@ use Rattle.ir_meaning.specs.Table.{rule, same}
 use Rattle.ir_better.specs.Facts.{Facts, is_local, is_phi, is_phi_operand, edge_operand}
 use Rattle.ir_better.proofs.Names.Moved.{symbol_true}
 use Rattle.ir_better.proofs.Rules.Tabled.{table_right}
-use Rattle.ir_facts.specs.Candidates.{first_other, takes_only, sole_source, phi_source, other_than, paired, phi_candidates}
+use Rattle.ir_facts.specs.Candidates.{first_other, takes_only, sole_source, phi_source, line_candidates, other_than, paired, phi_candidates, result_candidate}
 use Rattle.ir_facts.specs.Membership.{is_member, sole_beside, source_beside}
 use Rattle.ir_facts.specs.Laws.{IsLineSource, IsPhiSource, LineSourcesRight, PhiSourcesRight}
 
@@ -142,6 +143,14 @@ pushed all rest more p old new s e es er =
     ∙ ap (λ (ps : List Phi). old ++ phi_candidates all ps) (sym er)
 
 -- ---- instructions
+
+-- one more line
+pub line_pushed : (k : Bool) (rest more : List Line) (l : Line) (old new : Facts) → new ≡ old ++ result_candidate k l.local l.instr → more ≡ l ∷ rest →
+    new ++ line_candidates k rest ≡ old ++ line_candidates k more
+line_pushed k rest more l old new e er =
+    ap (λ (fs : Facts). fs ++ line_candidates k rest) e
+    ∙ append_assoc old (result_candidate k l.local l.instr) (line_candidates k rest)
+    ∙ ap (λ (ls : List Line). old ++ line_candidates k ls) (sym er)
 
 pub line_sources_right : LineSourcesRight
 line_sources_right x i v e = by (rule i) refl e

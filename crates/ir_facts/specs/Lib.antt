@@ -2,4 +2,4 @@ pub mod Askable
 pub mod Candidates
 pub mod Laws
 pub mod Membership
-pub mod Pairs
+pub mod Steps

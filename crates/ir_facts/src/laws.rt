@@ -1,5 +1,6 @@
-//! Laws of the candidates.
+//! Laws of the candidates, and of substitution by them.
 ghost use Rattle.ir_facts.specs.Laws.{FormedHaveWidths, LineSourcesRight, PhiSourcesRight};
+ghost use Rattle.ir_facts.specs.Steps.{RoundsAreAll, RoundsAreBetter, SettledIsBetter};
 
 /// The candidate of a phi is another operand, no phi of the same block, and taken on each edge on which the
 /// phi doesn't take its own value again.
@@ -16,4 +17,21 @@ pub fn line_sources_right()
 /// The instructions of a formed function have widths of 1 to 64 bits and shapes of some size.
 pub fn formed_functions_have_widths()
     ensures { FormedHaveWidths }
+{}
+
+/// In a sound function all whose blocks are reached a candidate's fact holds wherever its local is used, so rounds
+/// that replace every use are those of the greatest solution.
+pub fn facts_hold_at_uses()
+    ensures { RoundsAreAll }
+{}
+
+/// What rounds make of a sound function all whose blocks are reached is better.
+pub fn rounds_are_better()
+    ensures { RoundsAreBetter }
+{}
+
+/// A sound function with the uses of freezes and comparisons of pointers replaced by the constants of their rows is
+/// that of the greatest solution, and better, whether its blocks are reached or not.
+pub fn settled_is_better()
+    ensures { SettledIsBetter }
 {}

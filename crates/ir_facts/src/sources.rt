@@ -5,13 +5,11 @@ ghost use Rattle.ir_better.specs.Facts.{is_local, is_phi};
 ghost use Rattle.fold_rules.specs.Folding.{row_of};
 ghost use Rattle.fold_rules.specs.Widths.{HasWidths};
 ghost use Rattle.ir_facts.specs.Askable.{BlocksHaveWidths, LinesHaveWidths};
-ghost use Rattle.ir_facts.specs.Candidates.{block_candidates, blocks_candidates, candidates, first_other, line_candidates, line_source, paired, phi_candidates, result_candidate, takes_only};
+ghost use Rattle.ir_facts.specs.Candidates.{block_candidates, blocks_candidates, candidates, first_other, line_candidates, line_source, may_settle, of_kind, paired, phi_candidates, phis_candidates, result_candidate, takes_only};
 ghost use Rattle.ir_facts.specs.Membership.{is_member, source_beside};
-ghost use Rattle.ir_facts.specs.Pairs.{pairs_of};
 
-use crate::candidate::Candidate;
 use fold_rules::{Folded, is_same, rule};
-use ir_tree::{Block, Duplicate, Function, Incoming, Instr, Line, Operand, Phi};
+use ir_tree::{Block, Duplicate, Function, Incoming, Instr, Line, Operand, Phi, Reg};
 use std::alloc::{AllocError, Global};
 use std::collections::HashSet;
 
@@ -85,18 +83,15 @@ fn phi_source<'a>(among: &HashSet<u32>, phi: &'a Phi) -> Option<&'a Operand>
 
 fn push_phi(
     alloc: Global,
-    found: &mut Vec<Candidate>,
+    found: &mut Vec<(u32, Operand)>,
     among: &HashSet<u32>,
     phi: &Phi,
 ) -> Result<(), AllocError>
-    ensures { OnOk result (pairs_of found.new.items ≡ pairs_of found.old.items ++ paired phi.now.local (source_beside (contains nat_eq among.now) phi.now)) }
+    ensures { OnOk result (found.new.items ≡ found.old.items ++ paired phi.now.local (source_beside (contains nat_eq among.now) phi.now)) }
 {
     if let Some(source) = phi_source(among, phi) {
         let value = source.duplicate(alloc)?;
-        found.push(Candidate {
-            local: phi.local,
-            value,
-        })?;
+        found.push((phi.local, value))?;
     }
     Ok(())
 }
@@ -115,22 +110,50 @@ fn line_source<'a>(local: u32, instr: &'a Instr) -> Option<Folded<'a>>
     Some(folded)
 }
 
-fn push_line(alloc: Global, found: &mut Vec<Candidate>, line: &Line) -> Result<(), AllocError>
+/// Whether an instruction is a freeze or a comparison of pointers, whose row may rest on a free choice.
+fn may_settle(instr: &Instr) -> bool
+    ensures { result ≡ may_settle instr.now }
+{
+    match instr {
+        Instr::Freeze { .. } => true,
+        Instr::Icmp { reg, .. } => matches!(reg, Reg::Ptr),
+        _ => false,
+    }
+}
+
+/// The operand of the rule table, of instructions of this kind alone.
+fn source_of_kind<'a>(settling: bool, local: u32, instr: &'a Instr) -> Option<Folded<'a>>
+    requires sized { HasWidths instr.now }
+    ensures { row_of result ≡ of_kind settling instr.now (line_source local instr.now) }
+{
+    if may_settle(instr) == settling {
+        line_source(local, instr)
+    } else {
+        None
+    }
+}
+
+fn push_line(
+    alloc: Global,
+    found: &mut Vec<(u32, Operand)>,
+    settling: bool,
+    line: &Line,
+) -> Result<(), AllocError>
     requires sized { HasWidths line.now.instr }
-    ensures { OnOk result (pairs_of found.new.items ≡ pairs_of found.old.items ++ result_candidate line.now.local line.now.instr) }
+    ensures { OnOk result (found.new.items ≡ found.old.items ++ result_candidate settling line.now.local line.now.instr) }
 {
     let Some(local) = line.local else {
         return Ok(());
     };
-    if let Some(folded) = line_source(local, &line.instr) {
+    if let Some(folded) = source_of_kind(settling, local, &line.instr) {
         let value = folded.operand(alloc)?;
-        found.push(Candidate { local, value })?;
+        found.push((local, value))?;
     }
     Ok(())
 }
 
-fn push_phis(alloc: Global, found: &mut Vec<Candidate>, phis: &[Phi]) -> Result<(), AllocError>
-    ensures { OnOk result (pairs_of found.new.items ≡ pairs_of found.old.items ++ phi_candidates phis.now phis.now) }
+fn push_phis(alloc: Global, found: &mut Vec<(u32, Operand)>, phis: &[Phi]) -> Result<(), AllocError>
+    ensures { OnOk result (found.new.items ≡ found.old.items ++ phi_candidates phis.now phis.now) }
 {
     let among = phi_locals(alloc, phis)?;
     for phi in phis {
@@ -139,49 +162,80 @@ fn push_phis(alloc: Global, found: &mut Vec<Candidate>, phis: &[Phi]) -> Result<
     Ok(())
 }
 
-fn push_lines(alloc: Global, found: &mut Vec<Candidate>, lines: &[Line]) -> Result<(), AllocError>
+/// No phi settles a free choice.
+fn push_phis_of_kind(
+    alloc: Global,
+    found: &mut Vec<(u32, Operand)>,
+    settling: bool,
+    phis: &[Phi],
+) -> Result<(), AllocError>
+    ensures { OnOk result (found.new.items ≡ found.old.items ++ phis_candidates settling phis.now) }
+{
+    if settling {
+        return Ok(());
+    }
+    push_phis(alloc, found, phis)
+}
+
+fn push_lines(
+    alloc: Global,
+    found: &mut Vec<(u32, Operand)>,
+    settling: bool,
+    lines: &[Line],
+) -> Result<(), AllocError>
     requires sized { LinesHaveWidths lines.now }
-    ensures { OnOk result (pairs_of found.new.items ≡ pairs_of found.old.items ++ line_candidates lines.now) }
+    ensures { OnOk result (found.new.items ≡ found.old.items ++ line_candidates settling lines.now) }
 {
     for line in lines {
-        push_line(alloc, found, line)?;
+        push_line(alloc, found, settling, line)?;
     }
     Ok(())
 }
 
 #[tactic(auto, unfolding(crate::specs::Candidates::block_candidates))]
-fn push_block(alloc: Global, found: &mut Vec<Candidate>, block: &Block) -> Result<(), AllocError>
+fn push_block(
+    alloc: Global,
+    found: &mut Vec<(u32, Operand)>,
+    settling: bool,
+    block: &Block,
+) -> Result<(), AllocError>
     requires sized { LinesHaveWidths block.now.lines }
-    ensures { OnOk result (pairs_of found.new.items ≡ pairs_of found.old.items ++ block_candidates block.now) }
+    ensures { OnOk result (found.new.items ≡ found.old.items ++ block_candidates settling block.now) }
 {
-    push_phis(alloc, found, block.phis.as_slice())?;
-    push_lines(alloc, found, block.lines.as_slice())
+    push_phis_of_kind(alloc, found, settling, block.phis.as_slice())?;
+    push_lines(alloc, found, settling, block.lines.as_slice())
 }
 
 fn push_blocks(
     alloc: Global,
-    found: &mut Vec<Candidate>,
+    found: &mut Vec<(u32, Operand)>,
+    settling: bool,
     blocks: &[Block],
 ) -> Result<(), AllocError>
     requires sized { BlocksHaveWidths blocks.now }
-    ensures { OnOk result (pairs_of found.new.items ≡ pairs_of found.old.items ++ blocks_candidates blocks.now) }
+    ensures { OnOk result (found.new.items ≡ found.old.items ++ blocks_candidates settling blocks.now) }
 {
     for block in blocks {
-        push_block(alloc, found, block)?;
+        push_block(alloc, found, settling, block)?;
     }
     Ok(())
 }
 
-/// The locals for whose values another operand may stand, with that operand, in the order of the text: of a phi
-/// the one operand that it takes beside its own value, of an instruction that of the rule table.
+/// The locals for whose values another operand may stand, with that operand, in the order of the text: where a
+/// free choice may be settled, of freezes and comparisons of pointers the constant of the rule table, and else
+/// of a phi the one operand that it takes beside its own value, and of any other instruction that of the table.
 ///
 /// The widths of instructions are 1 to 64 and their shapes have sizes, as in each formed function
 /// ([`formed_functions_have_widths`]).
-pub fn candidates(alloc: Global, f: &Function) -> Result<Vec<Candidate>, AllocError>
+pub fn candidates(
+    alloc: Global,
+    f: &Function,
+    settling: bool,
+) -> Result<Vec<(u32, Operand)>, AllocError>
     requires sized { BlocksHaveWidths f.now.blocks }
-    ensures { IfOk result (λ found. pairs_of found.items ≡ candidates f.now) }
+    ensures { IfOk result (λ found. found.items ≡ candidates settling f.now) }
 {
     let mut found = Vec::new(alloc);
-    push_blocks(alloc, &mut found, f.blocks.as_slice())?;
+    push_blocks(alloc, &mut found, settling, f.blocks.as_slice())?;
     Ok(found)
 }

@@ -3,7 +3,6 @@ use Rattle.std.proofs.Math.Seq.{drop-cons}
 use Rattle.std.specs.HashSet.{contains}
 use Rattle.ir_tree.specs.declared.instr.Phi.{Phi}
 use Rattle.ir_facts.specs.Membership.{source_beside}
-use Rattle.ir_facts.specs.Pairs.{pairs_of}
 use Rattle.ir_facts.proofs.Standing.{pushed, source_is}
 use Rattle.ir_facts.proofs.sources.push_phis.Goals as goal
 
@@ -16,6 +15,6 @@ loop-phi-preserved c =
     let one : suc i ≡ i + 1 = omega arith in
     let more = drop-cons phis i phi c.loop-phi-test.true ∙ ap (λ (p : Phi). p ∷ drop (suc i) phis) (sym c.phi-item.is) ∙ ap (λ (j : ℕ). phi ∷ drop j phis) one in
     record {
-      found = pushed phis (drop (i + 1) phis) (drop i phis) phi (pairs_of c.loop-phi.found.items) (pairs_of c.push_phi.new.found.items) (source_beside among phi)
+      found = pushed phis (drop (i + 1) phis) (drop i phis) phi c.loop-phi.found.items c.push_phi.new.found.items (source_beside among phi)
           c.in_ok-push_phi.ensures (source_is among phis c.in_ok-among.ensures phi) more ∙ c.loop-phi.invariant.found;
     }

@@ -1,0 +1,90 @@
+-- Facts at the points of a function, and substitution by them in rounds (Kildall 1973, "A unified approach to global program optimization").
+use Rattle.std.specs.Prelude.{◌≡◌, ℕ, zero, suc, ◌<◌, length, List, [], Bool, true, false, slice_get, Option, Some, None}
+use Rattle.ir_tree.specs.declared.block.Block.{Block}
+use Rattle.ir_tree.specs.declared.function.Function.{Function}
+use Rattle.ir_tree.specs.declared.operand.Operand.{Operand}
+use Rattle.ir_tree.specs.Flow.{Reachable}
+use Rattle.ir_tree.specs.Rules.{Sound}
+use Rattle.ir_meaning.specs.Act.{find_block}
+use Rattle.ir_meaning.specs.Near.{BetterThan}
+use Rattle.ir_meaning.specs.Program.{Program}
+use Rattle.ir_better.specs.Facts.{EdgeFacts, Facts, Has, IsTarget, behind_lines, function_replaced}
+use Rattle.ir_better.specs.Formed.{IsFormed}
+use Rattle.ir_edit.specs.Substituted.{replacement, substituted}
+use Rattle.ir_facts.specs.Candidates.{candidates}
+
+-- ---- facts at points
+
+-- the facts at the end of a block: those at its start, behind its lines
+abbrev pub end_of : (ℕ → Option Operand) → (ℕ → Facts) → Option Block → Facts
+end_of candidate starts None = []
+end_of candidate starts (Some b) = behind_lines candidate b.lines (starts b.number)
+
+abbrev pub ends_of : (ℕ → Option Operand) → (ℕ → Facts) → Function → ℕ → Facts
+ends_of candidate starts f n = end_of candidate starts (find_block f.blocks n)
+
+-- Facts at the start of each block, behind its phis, that follow from those at the ends of its predecessors: a local that no phi
+-- gives a value has the fact at each of these ends, and one that a phi gives a value is the candidate on the edge, or itself with
+-- its fact; no phi of the block gives the candidate's local a value.
+pub record IsSolution (candidate : ℕ → Option Operand) (f : Function) (starts : ℕ → Facts) : Type 0 where
+  pub known : (n x : ℕ) (v : Operand) → Has (starts n) x v → candidate x ≡ Some v
+  pub entry : (b : Block) → slice_get f.blocks 0 ≡ Some b → starts b.number ≡ []
+  pub edges : (m n : ℕ) (a b : Block) → find_block f.blocks m ≡ Some a → IsTarget a.end n → find_block f.blocks n ≡ Some b
+      → EdgeFacts (ends_of candidate starts f m) m b.phis (starts n)
+
+-- each use replaced by what has the fact there: in a phi's entry at the end of the predecessor
+abbrev pub substituted_by : (ℕ → Option Operand) → (ℕ → Facts) → Function → Function
+substituted_by candidate starts f = function_replaced candidate starts (ends_of candidate starts f) f
+
+abbrev pub AreAmong : (ℕ → Facts) → (ℕ → Facts) → Type 0
+AreAmong starts others = (n x : ℕ) (v : Operand) → Has (starts n) x v → Has (others n) x v
+
+-- g is f with each use replaced whose fact the greatest solution has: no larger solution than this one makes another function
+pub record IsStep (candidate : ℕ → Option Operand) (f g : Function) : Type 0 where
+  pub starts : ℕ → Facts
+  pub solution : IsSolution candidate f starts
+  pub most : (others : ℕ → Facts) → IsSolution candidate f others → AreAmong starts others → g ≡ substituted_by candidate others f
+
+-- ---- rounds
+
+-- what may stand for a local: of a freeze or a comparison of pointers, or of a phi or another instruction
+abbrev pub candidate_of : Bool → Function → ℕ → Option Operand
+candidate_of settling f x = replacement (candidates settling f) x
+
+-- Free choices are settled first, each local's uses all by one constant; then the other candidates of what is made take their places.
+abbrev pub IsRound : Function → Function → Type 0
+IsRound f g = (h : Function) × IsStep (candidate_of true f) f h × IsStep (candidate_of false h) h g
+
+-- behind a round that changes nothing no other changes anything
+unfoldable pub AreRounds : ℕ → Function → Function → Type 0
+AreRounds zero f g = g ≡ f
+AreRounds (suc n) f g = (h : Function) × IsRound f h × AreRounds n h g
+
+-- ---- where all blocks are reached
+
+abbrev pub AllReached : Function → Type 0
+AllReached f = (b : ℕ) → b < length f.blocks → Reachable f b
+
+-- each use replaced, wherever it stands
+abbrev pub step_of : Bool → Function → Function
+step_of settling f = substituted (candidates settling f) f
+
+abbrev pub round_of : Function → Function
+round_of f = step_of false (step_of true f)
+
+unfoldable pub rounds_of : ℕ → Function → Function
+rounds_of zero f = f
+rounds_of (suc n) f = rounds_of n (round_of f)
+
+-- rounds are these, and so are the uses at which the facts hold: in a sound function all whose blocks are reached a candidate has
+-- its fact wherever its local is used
+abbrev pub RoundsAreAll : Type 0
+RoundsAreAll = (n : ℕ) (f : Function) → Sound f → AllReached f → AreRounds n f (rounds_of n f)
+
+-- and what they make is better in every program
+abbrev pub RoundsAreBetter : Type 0
+RoundsAreBetter = (n : ℕ) (f : Function) → Sound f → AllReached f → (p : Program) → IsFormed p → BetterThan p 1 (rounds_of n f) f
+
+-- settling free choices is better, reached or not
+abbrev pub SettledIsBetter : Type 0
+SettledIsBetter = (f : Function) → Sound f → IsStep (candidate_of true f) f (step_of true f) × ((p : Program) → IsFormed p → BetterThan p 1 (step_of true f) f)
