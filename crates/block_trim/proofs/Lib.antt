@@ -1,0 +1,6 @@
+mod Members
+mod Standing
+mod TrimBetter
+mod TrimKept
+mod TrimPlaces
+mod TrimSound
