@@ -1,5 +1,5 @@
 -- The readers of items read them.
-use Rattle.std.proofs.Common.{◌≡◌, ℕ, zero, suc, ◌-◌, Bool, true, false, cond, nat_eq, Option, List, [], ◌∷◌, ◌++◌, refl, sym, ap, ◌⊎◌, inl, inr, arith}
+use Rattle.std.proofs.Common.{◌≡◌, ℕ, zero, suc, ◌-◌, Bool, true, false, cond, nat_eq, Option, Some, List, [], ◌∷◌, ◌++◌, refl, sym, ap, ◌⊎◌, inl, inr, arith}
 use Rattle.std.specs.Prelude.{codes}
 use Rattle.ir_lex.specs.Bytes.{has}
 use Rattle.ir_lex.specs.declared.head.Head.TheVariants as heads
@@ -18,6 +18,12 @@ use Rattle.lto_forms.proofs.Chains.{chain_lawful}
 use Rattle.lto_forms.proofs.Composed.{same_form}
 use Rattle.lto_forms.proofs.Rules as rules
 use Rattle.lto_forms.proofs.Rules.{apart_from, within_of}
+use Rattle.ir_bodies.specs.Blocks.{any_definition}
+use Rattle.ir_bodies.specs.BlocksAt.{DEFINE}
+use Rattle.ir_bodies.proofs.BlockRules.{definition_rule, definition_opens}
+use Rattle.ir_globals.specs.Variables.{NAMES, variable_line}
+use Rattle.ir_globals.proofs.TypeDefinitionRules.{type_line_rule}
+use Rattle.ir_globals.proofs.VariableRules.{variable_line_rule, variable_line_opens}
 use Rattle.ir_read.specs.AttributesAt.{HEAD}
 use Rattle.ir_read.specs.Classes.{tokens, IsReal, the, the_at}
 use Rattle.ir_read.specs.declared.function_heads.Role.TheVariants as roles
@@ -26,10 +32,12 @@ use Rattle.ir_read.specs.declared.places.Before.TheVariants as befores
 use Rattle.ir_read.specs.declared.places.Position.{Position}
 use Rattle.ir_read.specs.declared.raw.Item.{Item}
 use Rattle.ir_items.specs.Items.{Found, left_out, kept, unnamed, attribute_behind, placed, metadata_there, plainly, beside, attached_before, declaration, any_declaration, naming, any_naming, at_place, other, any_named, named, named_within, piece, any_piece, anywhere, items, any_items}
-use Rattle.ir_items.specs.ItemsAt.{SOURCE, TARGET, COMDAT, UNNAMED, NAMING, ITEM, beginnings, left_out_at, kept_at, unnamed_at, attribute_behind_at, placed_at, metadata_there_at, plainly_at, beside_at, attached_before_at, declaration_at, naming_at, other_at, named_at, named_within_at, piece_at, begins_there, there_at, first_place, items_at}
+use Rattle.ir_items.specs.ItemsAt.{SOURCE, TARGET, COMDAT, DECLARE, UNNAMED, NAMING, ITEM, beginnings, left_out_at, kept_at, unnamed_at, attribute_behind_at, placed_at, metadata_there_at, plainly_at, beside_at, attached_before_at, declaration_at, naming_at, other_at, named_at, named_within_at, piece_at, begins_there, there_at, first_place, items_at}
 use Rattle.ir_read.specs.Metadata.{META}
 use Rattle.ir_read.specs.MetadataAt.{PAREN}
 use Rattle.ir_read.specs.MetadataBehind.{BRACES}
+use Rattle.ir_read.specs.Operands.{LOCAL}
+use Rattle.ir_read.specs.ShapeForms.{any_shape, memory_shape}
 use Rattle.ir_read.proofs.AttributeRules.{head_attribute_rule, attribute_group_rule}
 use Rattle.ir_read.proofs.Refusing.{barred}
 use Rattle.ir_read.proofs.FunctionHeadRules.{HEADED, head_rule}
@@ -42,14 +50,15 @@ use Rattle.ir_read.proofs.TargetRules.{target_line_rule, source_line_rule, comda
 abbrev pub MORE : List ℕ
 MORE = number heads.Number ∷ number heads.Equals ∷ number heads.Comma ∷ BRACES
 
-unnamed_rule : Rule tokens unnamed unnamed unnamed_at UNNAMED [] false
+unnamed_rule : Rule tokens (unnamed memory_shape) (unnamed any_shape) unnamed_at UNNAMED [] false
 unfolding unnamed unnamed_at left_out left_out_at kept kept_at
 unnamed_rule = rules.broader tokens UNNAMED []
     (rules.alt tokens SOURCE (rules.seq tokens source_line_rule (λ _. rules.nothing tokens _) refl)
     (rules.alt tokens TARGET (rules.seq tokens target_line_rule (λ _. rules.nothing tokens _) refl)
     (rules.alt tokens COMDAT (rules.seq tokens comdat_line_rule (λ _. rules.nothing tokens _) refl)
+    (rules.alt tokens LOCAL (rules.seq tokens type_line_rule (λ _. rules.nothing tokens _) refl)
     (rules.seq tokens attribute_group_rule (λ _. rules.nothing tokens _) refl)
-    refl refl) refl refl) refl refl)
+    refl refl) refl refl) refl refl) refl refl)
     refl refl
 
 attribute_behind_rule : Rule tokens attribute_behind attribute_behind attribute_behind_at HEAD MORE false
@@ -68,12 +77,12 @@ plain_beginnings befores.Item = UNNAMED
 plain_beginnings befores.Declaration = HEAD ++ UNNAMED
 plain_beginnings befores.Name = UNNAMED
 
-plainly_rule : (before : Before) → Rule tokens (plainly before) (plainly before) (plainly_at before) (plain_beginnings before) MORE false
+plainly_rule : (before : Before) → Rule tokens (plainly memory_shape before) (plainly any_shape before) (plainly_at before) (plain_beginnings before) MORE false
 plainly_rule befores.Item = rules.broader tokens UNNAMED MORE unnamed_rule refl refl
 plainly_rule befores.Declaration = rules.broader tokens (HEAD ++ UNNAMED) MORE (rules.alt tokens HEAD attribute_behind_rule unnamed_rule refl refl) refl refl
 plainly_rule befores.Name = rules.broader tokens UNNAMED MORE unnamed_rule refl refl
 
-beside_rule : (before : Before) → Rule tokens (beside before) (beside before) (beside_at before) (META ++ plain_beginnings before) MORE false
+beside_rule : (before : Before) → Rule tokens (beside memory_shape before) (beside any_shape before) (beside_at before) (META ++ plain_beginnings before) MORE false
 unfolding beside beside_at
 beside_rule befores.Item = rules.broader tokens _ MORE (rules.alt tokens META (metadata_there_rule befores.Item) (plainly_rule befores.Item) refl refl) refl refl
 beside_rule befores.Declaration = rules.broader tokens _ MORE (rules.alt tokens META (metadata_there_rule befores.Declaration) (plainly_rule befores.Declaration) refl refl) refl refl
@@ -85,7 +94,7 @@ declare_real : IsReal (word heads.Declare (codes "declare"))
 unfolding best_fit rest_fit label_len number_len word_len name_len meta_len dots_len other_len string_len has is_bad is_zero_name head_of word_head listed_head words_7
 declare_real = record { some = refl; fits = refl; good = refl; class = refl }
 
-declare_rule : Rule tokens (the heads.Declare) (the heads.Declare) (the_at heads.Declare) (number heads.Declare ∷ []) [] false
+declare_rule : Rule tokens (the heads.Declare) (the heads.Declare) (the_at heads.Declare) DECLARE [] false
 unfolding is_class
 declare_rule = the_rule heads.Declare (word heads.Declare (codes "declare")) refl declare_real
 
@@ -93,23 +102,39 @@ attached_before_rule : Rule tokens attached_before attached_before attached_befo
 unfolding attached_before attached_before_at
 attached_before_rule = rules.wider tokens META (PAREN ++ META) (rules.seq tokens (rules.star tokens META attached_rule attached_opens refl refl) (λ _. rules.nothing tokens tt) refl) refl refl
 
-declaration_rule : (room : ℕ) → Rule tokens (declaration room) any_declaration (declaration_at room) (number heads.Declare ∷ []) [] false
+declaration_rule : (room : ℕ) → Rule tokens (declaration room) any_declaration (declaration_at room) DECLARE [] false
 unfolding declaration any_declaration declaration_at
 declaration_rule room = rules.seq tokens declare_rule (λ _. rules.seq tokens attached_before_rule (λ _. rules.seq tokens (head_rule roles.Declaration room) (λ h. rules.nothing tokens _) refl) refl) refl
 
-any_declaration_opens : Opens tokens (number heads.Declare ∷ []) any_declaration
+any_declaration_opens : Opens tokens DECLARE any_declaration
 unfolding any_declaration
-any_declaration_opens = rules.opens_seq tokens (number heads.Declare ∷ []) (the heads.Declare) (the_opens heads.Declare) (λ _. rules.seq tokens attached_before_rule (λ _. rules.seq tokens (head_rule roles.Declaration 0) (λ h. rules.nothing tokens _) refl) refl)
+any_declaration_opens = rules.opens_seq tokens DECLARE (the heads.Declare) (the_opens heads.Declare) (λ _. rules.seq tokens attached_before_rule (λ _. rules.seq tokens (head_rule roles.Declaration 0) (λ h. rules.nothing tokens _) refl) refl)
+
+any_variable_opens : Opens tokens NAMES (kept (variable_line any_shape))
+unfolding kept
+any_variable_opens = rules.opens_seq tokens NAMES (variable_line any_shape) variable_line_opens (λ i. rules.nothing tokens (Some i, befores.Item))
+
+kept_definition_opens : Opens tokens DEFINE (kept any_definition)
+unfolding kept
+kept_definition_opens = rules.opens_seq tokens DEFINE any_definition definition_opens (λ i. rules.nothing tokens (Some i, befores.Item))
 
 naming_rule : (room : ℕ) → Rule tokens (naming room) any_naming (naming_at room) NAMING MORE false
-naming_rule room = rules.broader tokens NAMING MORE (declaration_rule room) refl refl
+unfolding kept kept_at
+naming_rule room = rules.broader tokens NAMING MORE
+    (rules.alt tokens NAMES (rules.seq tokens variable_line_rule (λ _. rules.nothing tokens _) refl)
+    (rules.alt tokens DECLARE (declaration_rule room)
+    (rules.seq tokens (definition_rule room) (λ _. rules.nothing tokens _) refl)
+    refl refl) refl refl)
+    refl refl
 
 any_naming_opens : Opens tokens NAMING any_naming
-any_naming_opens = any_declaration_opens
+any_naming_opens = rules.opens_either tokens NAMES (DECLARE ++ DEFINE) (kept (variable_line any_shape)) (form.either any_declaration (kept any_definition)) any_variable_opens
+    (rules.opens_either tokens DECLARE DEFINE any_declaration (kept any_definition) any_declaration_opens
+    kept_definition_opens)
 
 -- ---- with limits on how many names there are
 
-other_rule : (before : Before) (names : ℕ) → Rule tokens (other before names) (other before names) (other_at before names) (META ++ plain_beginnings before) MORE false
+other_rule : (before : Before) (names : ℕ) → Rule tokens (other memory_shape before names) (other any_shape before names) (other_at before names) (META ++ plain_beginnings before) MORE false
 unfolding other other_at
 other_rule befores.Item names = rules.broader tokens _ MORE (rules.seq tokens (beside_rule befores.Item) (λ _. rules.nothing tokens _) refl) refl refl
 other_rule befores.Declaration names = rules.broader tokens _ MORE (rules.seq tokens (beside_rule befores.Declaration) (λ _. rules.nothing tokens _) refl) refl refl
@@ -145,7 +170,7 @@ roomy_rule : (room : ℕ) (before : Before) (n : ℕ) → disjoint (META ++ plai
 unfolding piece any_piece piece_at
 roomy_rule room before n d = by_test (nat_eq (suc n) 0) (not_zero n)
   where
-    by_test : (b : Bool) → b ≡ false → Rule tokens (form.either (named room (suc n)) (other before (suc n))) (form.either (any_named (suc n)) (other before (suc n))) (pick (among tokens NAMING) (cond b (fault_at Limit) (named_at room (suc n))) (other_at before (suc n))) (NAMING ++ (META ++ plain_beginnings before)) ((MORE ++ MORE) ++ []) false
+    by_test : (b : Bool) → b ≡ false → Rule tokens (form.either (named room (suc n)) (other memory_shape before (suc n))) (form.either (any_named (suc n)) (other any_shape before (suc n))) (pick (among tokens NAMING) (cond b (fault_at Limit) (named_at room (suc n))) (other_at before (suc n))) (NAMING ++ (META ++ plain_beginnings before)) ((MORE ++ MORE) ++ []) false
     by_test true e = absurd cc
     by_test false e = rules.alt tokens NAMING (named_rule room (suc n)) (other_rule before (suc n)) refl d
 

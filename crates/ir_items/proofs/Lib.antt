@@ -1,2 +1,3 @@
+pub mod ItemLoops
 pub mod ItemRules
 pub mod ModuleRules

@@ -9,6 +9,9 @@ use Rattle.ir_lex.specs.Heads.{number}
 use Rattle.ir_lex.specs.Tok.{Tok}
 use Rattle.lto_forms.specs.Chained.{Chain}
 use Rattle.lto_forms.specs.Forms.{Form, ◌>>=◌, either, gives, Star}
+use Rattle.ir_bodies.specs.Blocks.{definition, any_definition}
+use Rattle.ir_globals.specs.TypeDefinitions.{type_line}
+use Rattle.ir_globals.specs.Variables.{variable_line}
 use Rattle.ir_read.specs.Attributes.{head_attribute, attribute_group}
 use Rattle.ir_read.specs.Classes.{the}
 use Rattle.ir_read.specs.FunctionHeads.{head, any_head}
@@ -22,6 +25,8 @@ use Rattle.ir_read.specs.declared.places.Position.{Position}
 use Rattle.ir_read.specs.declared.raw.Head.{Head}
 use Rattle.ir_read.specs.declared.raw.Item.{Item}
 use Rattle.ir_read.specs.declared.raw.Item.TheVariants.{Declaration}
+use Rattle.ir_read.specs.declared.shape.Typed.{Typed}
+use Rattle.ir_read.specs.ShapeForms.{any_shape, memory_shape}
 
 -- an item, where it is kept, and what stands before the next one
 abbrev pub Found : Type 0
@@ -37,13 +42,14 @@ kept g = do
   i ← g
   gives (Some i, befores.Item)
 
--- ---- items that define and declare no global name
+-- ---- items that define and declare no global name, over what spells a shape
 
-unfoldable pub unnamed : Form Tok Found
-unnamed = either (left_out source_line)
+unfoldable pub unnamed : Form Tok Typed → Form Tok Found
+unnamed shape = either (left_out source_line)
     (either (kept target_line)
     (either (left_out comdat_line)
-    (kept attribute_group)))
+    (either (kept (type_line shape))
+    (kept attribute_group))))
 
 -- an attribute behind a declaration's head, which is dropped
 unfoldable pub attribute_behind : Form Tok Found
@@ -62,13 +68,13 @@ metadata_there befores.Item = left_out metadata_line
 metadata_there befores.Declaration = placed metadata_behind
 metadata_there befores.Name = placed node_yet
 
-abbrev pub plainly : Before → Form Tok Found
-plainly befores.Item = unnamed
-plainly befores.Declaration = either attribute_behind unnamed
-plainly befores.Name = unnamed
+abbrev pub plainly : Form Tok Typed → Before → Form Tok Found
+plainly shape befores.Item = unnamed shape
+plainly shape befores.Declaration = either attribute_behind (unnamed shape)
+plainly shape befores.Name = unnamed shape
 
-unfoldable pub beside : Before → Form Tok Found
-beside before = either (metadata_there before) (plainly before)
+unfoldable pub beside : Form Tok Typed → Before → Form Tok Found
+beside shape before = either (metadata_there before) (plainly shape before)
 
 -- ---- items that define or declare a global name
 
@@ -98,19 +104,23 @@ any_declaration = do
   gives (declared h, befores.Declaration)
 
 abbrev pub naming : ℕ → Form Tok Found
-naming room = declaration room
+naming room = either (kept (variable_line memory_shape))
+    (either (declaration room)
+    (kept (definition room)))
 
 abbrev pub any_naming : Form Tok Found
-any_naming = any_declaration
+any_naming = either (kept (variable_line any_shape))
+    (either any_declaration
+    (kept any_definition))
 
 -- ---- all items, with how many global names there may still be
 
 abbrev pub at_place : ℕ → Found → Option Item × Position
 at_place names x = (x.0, record { before = x.1; names = names })
 
-unfoldable pub other : Before → ℕ → Form Tok (Option Item × Position)
-other before names = do
-  x ← beside before
+unfoldable pub other : Form Tok Typed → Before → ℕ → Form Tok (Option Item × Position)
+other shape before names = do
+  x ← beside shape before
   gives (at_place names x)
 
 unfoldable pub any_named : ℕ → Form Tok (Option Item × Position)
@@ -129,10 +139,10 @@ named_within room zero = λ ts x. ⊥
 named_within room (suc n) = named room (suc n)
 
 unfoldable pub piece : ℕ → Before → ℕ → Form Tok (Option Item × Position)
-piece room before names = either (named_within room names) (other before names)
+piece room before names = either (named_within room names) (other memory_shape before names)
 
 unfoldable pub any_piece : Before → ℕ → Form Tok (Option Item × Position)
-any_piece before names = either (any_named names) (other before names)
+any_piece before names = either (any_named names) (other any_shape before names)
 
 abbrev pub anywhere : Position → Bool
 anywhere at = true
@@ -147,7 +157,8 @@ items room names = do
   all ← Chain anywhere (λ at. piece room at.before at.names) (record { before = befores.Item; names = names })
   gives (fold keep [] all)
 
--- the same without limits on how many names and parameters there are
+-- the same without limits on how many names, parameters, blocks and instructions there are, on the numbers of locals, and on
+-- shapes
 unfoldable pub any_items : ℕ → Form Tok (List Item)
 any_items names = do
   all ← Chain anywhere (λ at. any_piece at.before at.names) (record { before = befores.Item; names = names })

@@ -8,6 +8,10 @@ use Rattle.lto_forms.specs.Alphabet.{among}
 use Rattle.lto_forms.specs.Chained.{chain_at}
 use Rattle.lto_forms.specs.declared.fault.FaultKind.TheVariants.{Limit}
 use Rattle.lto_forms.specs.Readers.{Reader, ◌>>=◌, done, fault_at, pick, star_at}
+use Rattle.ir_bodies.specs.BlocksAt.{DEFINE, definition_at}
+use Rattle.ir_globals.specs.TypeDefinitionsAt.{type_line_at}
+use Rattle.ir_globals.specs.Variables.{NAMES}
+use Rattle.ir_globals.specs.VariablesAt.{variable_line_at}
 use Rattle.ir_read.specs.AttributesAt.{HEAD, head_attribute_at, attribute_group_at}
 use Rattle.ir_read.specs.Classes.{tokens, the_at}
 use Rattle.ir_read.specs.FunctionHeadsAt.{head_at}
@@ -15,6 +19,7 @@ use Rattle.ir_items.specs.Items.{Found, declared, at_place, anywhere, keep}
 use Rattle.ir_read.specs.Metadata.{META}
 use Rattle.ir_read.specs.MetadataAt.{attached_at, metadata_line_at}
 use Rattle.ir_read.specs.MetadataBehindAt.{metadata_behind_at, node_yet_at}
+use Rattle.ir_read.specs.Operands.{LOCAL}
 use Rattle.ir_read.specs.TargetsAt.{target_line_at, source_line_at, comdat_line_at}
 use Rattle.ir_read.specs.declared.function_heads.Role.TheVariants as roles
 use Rattle.ir_read.specs.declared.places.Before.{Before}
@@ -33,10 +38,13 @@ abbrev pub COMDAT : List ℕ
 COMDAT = number heads.ComdatName ∷ []
 
 abbrev pub UNNAMED : List ℕ
-UNNAMED = number heads.SourceFilename ∷ number heads.Target ∷ number heads.ComdatName ∷ number heads.Attributes ∷ []
+UNNAMED = number heads.SourceFilename ∷ number heads.Target ∷ number heads.ComdatName ∷ number heads.Local ∷ number heads.Attributes ∷ []
+
+abbrev pub DECLARE : List ℕ
+DECLARE = number heads.Declare ∷ []
 
 abbrev pub NAMING : List ℕ
-NAMING = number heads.Declare ∷ []
+NAMING = NAMES ++ (DECLARE ++ DEFINE)
 
 abbrev pub ITEM : List ℕ
 ITEM = META ++ UNNAMED ++ NAMING
@@ -61,7 +69,8 @@ unfoldable pub unnamed_at : Reader Tok Found
 unnamed_at = pick (among tokens SOURCE) (left_out_at source_line_at)
     (pick (among tokens TARGET) (kept_at target_line_at)
     (pick (among tokens COMDAT) (left_out_at comdat_line_at)
-    (kept_at attribute_group_at)))
+    (pick (among tokens LOCAL) (kept_at type_line_at)
+    (kept_at attribute_group_at))))
 
 unfoldable pub attribute_behind_at : Reader Tok Found
 attribute_behind_at = do
@@ -99,7 +108,9 @@ declaration_at room = do
   done (declared h, befores.Declaration)
 
 abbrev pub naming_at : ℕ → Reader Tok Found
-naming_at room = declaration_at room
+naming_at room = pick (among tokens NAMES) (kept_at variable_line_at)
+    (pick (among tokens DECLARE) (declaration_at room)
+    (kept_at (definition_at room)))
 
 unfoldable pub other_at : Before → ℕ → Reader Tok (Option Item × Position)
 other_at before names = do

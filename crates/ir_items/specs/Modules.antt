@@ -37,7 +37,7 @@ GLOBAL_NAMES = 65535
 unfoldable pub whole_module : Form Tok (List Item)
 whole_module = items FURTHER_PARAMETERS GLOBAL_NAMES
 
--- the same without limits on how many parameters and global names there are
+-- the same without limits on how many parameters, global names, blocks and instructions there are
 unfoldable pub any_module : Form Tok (List Item)
 any_module = any_items GLOBAL_NAMES
 

@@ -6,10 +6,13 @@ ghost use Rattle.lto_forms.specs.Alphabet.{contains, among};
 ghost use Rattle.lto_forms.specs.Readers.{Gives, next_is};
 ghost use Rattle.ir_read.specs.AttributesAt.{HEAD};
 ghost use Rattle.ir_read.specs.Classes.{tokens};
+ghost use Rattle.ir_globals.specs.Variables.{NAMES};
 ghost use Rattle.ir_items.specs.Items.{declared, keep};
 ghost use Rattle.ir_items.specs.ItemsAt.{ITEM, NAMING, beginnings, unnamed_at, attribute_behind_at, metadata_there_at, plainly_at, beside_at, attached_before_at, declaration_at, naming_at, named_within_at, piece_at, items_at};
 ghost use Rattle.ir_read.specs.declared.places.Before.TheVariants as befores;
 
+use ir_bodies::definition_at;
+use ir_globals::{type_line_at, variable_line_at};
 use ir_lex::Head;
 use ir_read::{
     Before, Item, Position, Role, Tokens, attached_at, attribute_group_at, comdat_line_at, expect,
@@ -71,6 +74,9 @@ fn unnamed_at<'a>(alloc: Global, tokens: &mut Tokens<'_, 'a>) -> Result<Found<'a
     } else if tokens.comes(Head::ComdatName) {
         comdat_line_at(tokens)?;
         Ok(Found::left_out())
+    } else if tokens.comes(Head::Local) {
+        let item = type_line_at(alloc, tokens)?;
+        Ok(Found::kept(item))
     } else {
         let item = attribute_group_at(alloc, tokens)?;
         Ok(Found::kept(item))
@@ -211,13 +217,45 @@ fn declaration_at<'a>(
     })
 }
 
+/// Whether a token of this class names a variable.
+fn begins_variable(head: Head) -> bool
+    ensures { result ≡ contains NAMES (number head) }
+{
+    matches!(head, Head::Global | Head::NumberedDefinition)
+}
+
+/// Whether a variable comes.
+fn comes_variable(rest: &Tokens) -> bool
+    ensures { result ≡ next_is (among tokens NAMES) rest.now }
+{
+    match rest.head() {
+        Some(head) => begins_variable(head),
+        None => false,
+    }
+}
+
+/// Whether a token of this class begins an item that defines or declares a global name.
+fn begins_naming(head: Head) -> bool
+    ensures { result ≡ contains NAMING (number head) }
+{
+    matches!(
+        head,
+        Head::Global | Head::NumberedDefinition | Head::Declare | Head::Define
+    )
+}
+
 /// Whether an item comes that defines or declares a global name.
 fn comes_naming(rest: &Tokens) -> bool
     ensures { result ≡ next_is (among tokens NAMING) rest.now }
 {
-    rest.comes(Head::Declare)
+    match rest.head() {
+        Some(head) => begins_naming(head),
+        None => false,
+    }
 }
 
+/// Reads an item that defines or declares a global name.
+#[tactic(auto, unfolding(crate::specs::ItemsAt::kept_at))]
 fn naming_at<'a>(
     alloc: Global,
     room: usize,
@@ -225,7 +263,15 @@ fn naming_at<'a>(
 ) -> Result<Found<'a>, ReadError>
     ensures { Gives (λ x. ((x.item, x.before), tokens.new)) result (naming_at room tokens.old) }
 {
-    declaration_at(alloc, room, tokens)
+    if comes_variable(tokens) {
+        let item = variable_line_at(alloc, tokens)?;
+        Ok(Found::kept(item))
+    } else if tokens.comes(Head::Declare) {
+        declaration_at(alloc, room, tokens)
+    } else {
+        let item = definition_at(alloc, room, tokens)?;
+        Ok(Found::kept(item))
+    }
 }
 
 #[tactic(auto, unfolding(crate::specs::ItemsAt::named_at))]
@@ -289,8 +335,12 @@ fn begins_item(head: Head) -> bool
             | Head::SourceFilename
             | Head::Target
             | Head::ComdatName
+            | Head::Local
             | Head::Attributes
+            | Head::Global
+            | Head::NumberedDefinition
             | Head::Declare
+            | Head::Define
     )
 }
 
