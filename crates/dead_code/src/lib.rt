@@ -14,8 +14,6 @@ mod elimination;
 mod laws;
 mod readers;
 mod sweep;
-#[cfg(test)]
-mod tests;
 mod uses;
 mod worklist;
 

@@ -19,8 +19,6 @@ mod folded;
 mod operands;
 mod rows;
 mod table;
-#[cfg(test)]
-mod tests;
 
 pub use folded::Folded;
 pub use operands::is_same;

@@ -11,8 +11,6 @@
 #![tactic(auto)]
 
 mod part;
-#[cfg(test)]
-mod tests;
 mod walk;
 
 pub use walk::Walk;

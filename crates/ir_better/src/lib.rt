@@ -19,8 +19,6 @@ mod naming;
 mod passes;
 mod programs;
 mod stack;
-#[cfg(test)]
-mod tests;
 mod unread;
 
 pub use calls::difference_inlined;

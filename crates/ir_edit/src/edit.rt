@@ -5,8 +5,8 @@ ghost use Rattle.ir_tree.specs.declared.operand.Operand.{Operand};
 use ir_tree::Operand;
 use std::alloc::{AllocError, Global};
 
-/// A change of the numbers and the operands of a function, the same at every place.
-pub(crate) trait Edit {
+/// A change of the numbers and the operands of a function, the same at every place. Crates above make their own edits by it.
+pub trait Edit {
     /// The new number of a block, or of a local that is defined.
     ghost number_of: { Self → ℕ → ℕ };
 

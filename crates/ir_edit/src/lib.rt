@@ -1,10 +1,11 @@
 //! Edits of whole functions: numbers shifted, uses replaced, and all numbered anew.
 //!
 //! An edit changes each number, where it is defined and where it is used, and each operand, the same at
-//! every place; all else stays. One walk makes them all. Contracts say what each gives by the definitions
-//! in `specs/`: `Edited` is the change everywhere, `Substituted` and `Numbered` say what becomes of a use
-//! and of a number. Laws: numbering gives no two numbers one,
-//! and in a formed function the places of the text; a sound function is sound under other numbers.
+//! every place; all else stays. One walk makes them all (`edited`), also those of crates above that meet the
+//! trait `Edit`. Contracts say what each gives by the definitions in `specs/`: `Edited` is the change
+//! everywhere, `Substituted` and `Numbered` say what becomes of a use and of a number. Laws: numbering gives
+//! no two numbers one, and in a formed function the places of the text; a sound function is sound under other
+//! numbers.
 //!
 //! Below this crate stands `ir_tree`. Each edit copies the function once; a use costs one look-up in a
 //! table of as many entries as there are replacements or definitions.
@@ -15,12 +16,12 @@ mod laws;
 mod numbering;
 mod shift;
 mod substitution;
-#[cfg(test)]
-mod tests;
 mod text_order;
 mod walk;
 
+pub use edit::Edit;
 pub use laws::{places_differ, shifted_is_sound, text_order_counts, text_order_is_sound};
 pub use shift::shift_numbers;
 pub use substitution::substitute;
 pub use text_order::renumber;
+pub use walk::edited;

@@ -343,8 +343,10 @@ fn params<E: Edit>(alloc: Global, edit: &E, params: &[Param]) -> Result<Rows<Par
     Ok(rows)
 }
 
-/// The function with each number and each operand changed by this edit.
-pub(crate) fn edited<E: Edit>(alloc: Global, edit: &E, f: &Function) -> Result<Function, AllocError>
+/// The function with each number and each operand changed by this edit; its symbol and all else stay.
+///
+/// A number that the edit refuses is answered as want of memory.
+pub fn edited<E: Edit>(alloc: Global, edit: &E, f: &Function) -> Result<Function, AllocError>
     ensures { IfOk result (λ g. g ≡ edited (E.number_of edit.now) (E.operand_of edit.now) f.now) }
 {
     let symbol = f.symbol.duplicate(alloc)?;

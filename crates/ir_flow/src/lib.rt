@@ -26,8 +26,6 @@ mod reach;
 mod search;
 mod solution;
 mod system;
-#[cfg(test)]
-mod tests;
 mod tree;
 mod work_list;
 

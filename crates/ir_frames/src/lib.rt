@@ -18,8 +18,6 @@ mod registers;
 mod run;
 mod source;
 mod task;
-#[cfg(test)]
-mod tests;
 
 pub use phis::{Edge, Phi};
 pub use registers::Registers;

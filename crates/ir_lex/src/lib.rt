@@ -17,8 +17,6 @@ mod lexer;
 mod names;
 mod quotes;
 mod rows;
-#[cfg(test)]
-mod tests;
 mod token;
 
 pub use head::Head;

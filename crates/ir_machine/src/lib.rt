@@ -26,8 +26,6 @@ mod memory;
 mod operate;
 mod outcome;
 mod scalar;
-#[cfg(test)]
-mod tests;
 
 pub use block::{Block, Stored};
 pub use bytes::Bytes;

@@ -22,11 +22,7 @@ mod event;
 mod examples;
 mod fault;
 mod operate;
-#[cfg(test)]
-mod operate_tests;
 mod operators;
-#[cfg(test)]
-mod tests;
 mod value;
 mod word_laws;
 

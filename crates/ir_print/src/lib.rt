@@ -16,8 +16,6 @@ mod level;
 mod module;
 mod operand;
 mod operators;
-#[cfg(test)]
-mod tests;
 mod token;
 mod types;
 mod variable;

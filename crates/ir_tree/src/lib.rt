@@ -25,8 +25,6 @@ mod rows;
 mod rule;
 mod same;
 mod shape;
-#[cfg(test)]
-mod tests;
 mod text;
 mod verified;
 

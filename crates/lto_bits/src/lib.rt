@@ -21,8 +21,6 @@ mod laws;
 mod operation;
 mod operator;
 mod shift;
-#[cfg(test)]
-mod tests;
 mod word;
 
 pub use answer::{Answer, Cause};

@@ -14,8 +14,6 @@
 
 mod bits;
 mod laws;
-#[cfg(test)]
-mod tests;
 mod word;
 
 pub use bits::Bits;

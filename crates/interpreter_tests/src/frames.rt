@@ -1,6 +1,6 @@
 //! What no clause says: that memory is found. And a few tasks, worked out by hand.
 
-use crate::{Compute, Edge, Phi, Registers, Source, Typed};
+use ir_frames::{Compute, Edge, Phi, Registers, Source, Typed};
 use ir_machine::{Base, Memory, Outcome, Pointer, Scalar};
 use ir_tree::{BinaryOp, Flags, Reg, Shape};
 use std::alloc::{AllocError, Global};

@@ -1,6 +1,6 @@
 //! What no clause says: that memory is found. And the calls once each, on small examples.
 
-use crate::{
+use ir_machine::{
     Base, Bytes, Handle, Memory, Outcome, Pointer, Scalar, Stored, binary, bits, cast,
     compare_integers, freeze, select,
 };

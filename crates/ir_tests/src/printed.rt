@@ -1,6 +1,6 @@
 //! Printed texts, worked out by hand from the LLVM Language Reference's examples.
 
-use crate::{print, print_function, print_variable};
+use ir_print::{print, print_function, print_variable};
 use ir_tree::{
     Argument, BinaryOp, Block, Case, CastOp, Flags, Function, GlobalValue, Incoming, Init,
     InitHead, InitPart, Instr, Line, Linkage, Module, Operand, Param, Phi, Predicate, Reg, Rows,

@@ -1,6 +1,6 @@
 //! One walk, worked out by hand.
 
-use crate::Walk;
+use ir_address::Walk;
 use ir_tree::Shape;
 use std::alloc::AllocError;
 

@@ -1,5 +1,5 @@
 //! Rows against operands worked out by hand.
-use super::*;
+use fold_rules::{Folded, rule};
 use ir_tree::{BinaryOp, Flags, Instr, Operand, Reg};
 use std::alloc::{AllocError, Global};
 

@@ -1,7 +1,6 @@
 //! Examples of the LLVM Language Reference, and operands that count as poison.
 
-use crate::value::Value;
-use crate::{Answer, DivisionCause, binary, bits_of, cast, compare, operations_agree};
+use ir_meaning::{Answer, DivisionCause, Value, binary, bits_of, cast, compare, operations_agree};
 use ir_tree::{BinaryOp, CastOp, Flags, Predicate};
 
 const UNMARKED: Flags = Flags {

@@ -1,5 +1,5 @@
 //! Texts and their tokens, worked out by hand from the table of tokens.
-use super::*;
+use ir_lex::{Kind, LexError, Token, lex, tokens};
 use std::alloc::{AllocError, Global};
 use std::fmt::Write;
 use std::string::String;

@@ -1,5 +1,5 @@
-//! Calls that allocate, and one set of examples.
-use super::*;
+//! Sets: calls that allocate, and one set of examples.
+use lto_sets::Bits;
 use std::alloc::AllocError;
 
 #[test]

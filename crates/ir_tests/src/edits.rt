@@ -1,5 +1,5 @@
 //! Each edit of a loop that counts to its parameter.
-use super::*;
+use ir_edit::{renumber, shift_numbers, substitute};
 use ir_tree::{
     Argument, BinaryOp, Block, Flags, Function, Incoming, Instr, Line, Linkage, Operand, Param,
     Phi, Predicate, Reg, Rows, Symbol, Terminator, Text,

@@ -4,7 +4,7 @@ ghost use Rattle.ir_better.specs.Straight.{IsUnread};
 ghost use Rattle.ir_tree.specs.declared.instr.BinaryOp.TheVariants as op;
 ghost use Rattle.ir_tree.specs.declared.instr.Instr.TheVariants as instr;
 
-use crate::{common_source, copy_forwarded, difference_inlined, slot_promoted, without_local};
+use ir_better::{common_source, copy_forwarded, difference_inlined, slot_promoted, without_local};
 use ir_tree::{
     Argument, BinaryOp, Flags, Incoming, Instr, Line, Operand, Phi, Reg, Rows, Symbol, Terminator,
     Text,
@@ -54,27 +54,29 @@ fn copy(to: u32, from: u32) -> Line {
     }
 }
 
+/// The copy of `%1` in `%2`, and behind it sums of `%of` until `%1` changes, and of `%2` from there on.
+fn lines_over(alloc: Global, of: u32) -> Result<Vec<Line>, AllocError> {
+    let mut lines = Vec::new(alloc);
+    lines.push(copy(2, 1))?;
+    lines.push(sum(3, Operand::Local(of), number(5)))?;
+    lines.push(sum(1, Operand::Local(3), Operand::Local(of)))?;
+    lines.push(sum(4, Operand::Local(2), Operand::Local(1)))?;
+    Ok(lines)
+}
+
 #[test]
-fn a_copy_is_forwarded_until_its_source_changes(rt: HostRuntime) {
-    let rest = [
-        sum(3, Operand::Local(2), number(5)),
-        sum(1, Operand::Local(3), Operand::Local(2)),
-        sum(4, Operand::Local(2), Operand::Local(1)),
-    ];
+fn a_copy_is_forwarded_until_its_source_changes(rt: HostRuntime) -> Result<(), AllocError> {
+    let before = lines_over(rt.alloc(), 2)?;
+    let wanted = lines_over(rt.alloc(), 1)?;
+    assert!(rt; before.len() == 4);
     let end = Terminator::Return(Some(typed(2)));
-    let made = copy_forwarded(rt.alloc(), &copy(2, 1), &rest, &end).expect(&rt, "memory");
-    match made {
-        Some(new) => {
-            let lines = new.lines.as_slice();
-            assert!(rt; lines.len() == 4);
-            assert!(rt; lines[0] == copy(2, 1));
-            assert!(rt; lines[1] == sum(3, Operand::Local(1), number(5)));
-            assert!(rt; lines[2] == sum(1, Operand::Local(3), Operand::Local(1)));
-            assert!(rt; lines[3] == sum(4, Operand::Local(2), Operand::Local(1)));
-            assert!(rt; new.end == Terminator::Return(Some(typed(2))));
-        }
-        None => assert!(rt; false, "forwarded"),
-    }
+    let made = copy_forwarded(rt.alloc(), &copy(2, 1), &before.as_slice()[1..], &end)?;
+    let Some(new) = made else {
+        panic!(rt; "forwarded");
+    };
+    assert!(rt; new.lines.as_slice() == wanted.as_slice());
+    assert!(rt; new.end == end);
+    Ok(())
 }
 
 #[test]

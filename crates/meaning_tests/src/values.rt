@@ -1,6 +1,6 @@
 //! What no clause says: that the laws can be called, and how causes and events are printed.
 
-use crate::{
+use ir_meaning::{
     Base, Byte, Cause, Event, Place, Value, example_operations, example_runs, native_runs,
 };
 use ir_tree::{Symbol, Text};

@@ -1,5 +1,5 @@
-//! Vectors computed outside, at widths 1, 7, 8, 33 and 64.
-use super::*;
+//! Operations on numbers: vectors computed outside, at widths 1, 7, 8, 33 and 64.
+use lto_bits::{Answer, BinaryOp, Cause, Flags, Predicate, binary, compare, narrow, widen};
 
 const POISON: Answer = Answer::Poison;
 

@@ -1,5 +1,5 @@
 //! A loop with a circle of values that nobody else reads.
-use super::*;
+use dead_code::needed;
 use ir_tree::{
     Argument, BinaryOp, Block, Flags, Function, Incoming, Instr, Line, Linkage, Operand, Param,
     Phi, Predicate, Reg, Rows, Shape, Symbol, Terminator, Text,
