@@ -1,0 +1,36 @@
+use Rattle.std.proofs.Common.{◌≡◌, ◌∙◌, ◌<◌, ◌^◌, List, ap, arith, length, map, subst, Err, IfOk, Ok, Result, Vec}
+use Rattle.std.specs.Global.{Global}
+use Rattle.ir_summary.specs.declared.summary.Summary.{Summary}
+use Rattle.combined_index.specs.Entries.{combined}
+use Rattle.combined_index.specs.Indexed.{IsCombined}
+use Rattle.combined_index.specs.Numbered.{NumbersModules, symbols}
+use Rattle.combined_index.proofs.Wholes.{is_combined, is_index}
+use Rattle.combined_index.proofs.combining.combine.Goals as goal
+
+pub of-requires : goal.of-requires
+of-requires c =
+    let keys = c.modules_of.new.table.keys in
+    let few : length keys < 2 ^ 32 = omega (arith, c.len.ensures.len, c.if-len-gt4294967295.false) in
+    is_index c.new-table.result.keys keys _ c.in_ok-modules.modules.items c.in_ok-symbols.symbols.items c.as_slice.ensures.unique few c.in_ok-modules.ensures
+    (c.in_ok-symbols.ensures ∙ ap symbols c.as_slice.ensures.keys)
+
+mapped : {X E : Type 0} (r : Result X E) (P Q : X → Type 0) → ((x : X) → P x → Q x) → IfOk r P → IfOk r Q
+mapped (Ok x) P Q h p = h x p
+mapped (Err e) P Q h p = p
+
+pub returns : goal.returns
+returns c =
+    let keys = c.modules_of.new.table.keys in
+    let few : length keys < 2 ^ 32 = omega (arith, c.len.ensures.len, c.if-len-gt4294967295.false) in
+    let table = c.args.resolution.now in
+    let all = map (λ m. m.items) c.args.summaries.items in
+    let start = c.new-table.result.keys in
+    let modules = c.in_ok-modules.modules.items in
+    let numbered : NumbersModules (symbols start) (combined table all) (symbols keys) modules =
+    subst (λ (z : List (Vec Summary Global)). NumbersModules (symbols start) (combined table (map (λ m. m.items) z)) (symbols keys) modules) c.deref.ensures.value c.in_ok-modules.ensures in
+    let named : c.in_ok-symbols.symbols.items ≡ symbols keys = c.in_ok-symbols.ensures ∙ ap symbols c.as_slice.ensures.keys in
+    mapped c.of.result _ (IsCombined table all)
+    (λ index same.
+    is_combined table all start keys modules c.in_ok-symbols.symbols.items index c.new-table.ensures.empty numbered named
+    (is_index start keys (combined table all) modules c.in_ok-symbols.symbols.items c.as_slice.ensures.unique few numbered named) same)
+    c.of.ensures

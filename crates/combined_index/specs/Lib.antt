@@ -1,0 +1,5 @@
+pub mod Combined
+pub mod Entries
+pub mod Indexed
+pub mod Tables
+pub mod Numbered

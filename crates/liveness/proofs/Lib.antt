@@ -1,0 +1,7 @@
+mod Growing
+mod Lacking
+mod Leasts
+mod Sources
+mod Starting
+mod Told
+mod Walks

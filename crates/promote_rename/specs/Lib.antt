@@ -1,0 +1,5 @@
+pub mod Suffixes
+pub mod Finals
+pub mod Noted
+pub mod Promotions
+pub mod Marks

@@ -1,0 +1,28 @@
+//! The names that symbols have in the linked module, and the locals that imports promote.
+//!
+//! Once a body is imported, another module refers to locals of its module, and locals of two modules
+//! may have one name. So each live local is named by its name and a suffix that is made of its
+//! module's bytes, and every other symbol keeps its name (Johnson, Amini and Li, "ThinLTO: Scalable
+//! and Incremental LTO", 2017, on promotion and renaming). Contracts say that suffixes are those of
+//! `specs/Suffixes.antt`, names those of `specs/Finals.antt`, that a name is refused exactly where two
+//! live symbols have it, and which locals are promoted (`specs/Promotions.antt`).
+//!
+//! Below stand `combined_index`, for symbols and their numbers, `sha1` and `itoa`, for suffixes,
+//! `indexmap`, which finds names that come twice, and `lto_sets`, for sets of symbols. Each name is
+//! copied once and looked up once, and each reference of an imported body is looked at once for each
+//! import: time and memory are linear.
+#![tactic(auto)]
+
+mod error;
+mod lists;
+mod module_suffix;
+mod naming;
+mod promotion;
+mod taken;
+#[cfg(test)]
+mod tests;
+
+pub use error::NamesError;
+pub use module_suffix::suffix;
+pub use naming::final_names;
+pub use promotion::promoted;
