@@ -1,0 +1,3 @@
+mod Closings
+mod Initials
+pub mod Lined

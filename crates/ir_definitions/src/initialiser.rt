@@ -1,0 +1,113 @@
+//! Initialisers with their names resolved (LangRef, "Constants").
+ghost use Rattle.std.specs.Prelude.{◌≡◌, IfOk};
+ghost use Rattle.ir_lex.specs.Quotes.{content};
+ghost use Rattle.ir_names.specs.Settled.{Settles, each};
+ghost use Rattle.ir_names.specs.Variables.{head_in, part_in};
+ghost use Rattle.ir_names.specs.Variables as definitions;
+ghost use Rattle.ir_definitions.specs.Closing.{tree_in, initial_in};
+ghost use Rattle.ir_tree.specs.Initials.{tree_of, IsFlat};
+
+use crate::collected::{behind, finish, push};
+use ir_names::{Locals, ResolveError, Types, expanded, operand_in};
+use ir_read::{Init as Written, InitHead as WrittenHead, InitPart as WrittenPart, Name};
+use ir_tree::{Init, InitHead, InitPart, Rows, Text};
+use std::alloc::{AllocError, Global};
+
+/// The bytes that a string writes.
+fn bytes_of(alloc: Global, string: &Name) -> Result<Text, AllocError>
+    ensures { IfOk result (λ text. text ≡ content string.now.kind string.now.text) }
+{
+    let content = string.token().content(alloc)?;
+    Text::copied(alloc, content.as_slice())
+}
+
+/// What an initialiser without parts stands for, or the beginning of one with parts.
+fn head_in<'t, 'a>(
+    alloc: Global,
+    types: &Types<'t, 'a>,
+    locals: &Locals<'a>,
+    head: &'t WrittenHead<'a>,
+) -> Result<InitHead, ResolveError>
+    ensures { Settles (λ h. h) result (head_in types.now locals.now head.now) }
+{
+    match head {
+        WrittenHead::Plain(operand) => {
+            let operand = operand_in(alloc, types, locals, operand)?;
+            Ok(InitHead::Plain(operand))
+        }
+        WrittenHead::Zeros => Ok(InitHead::Zeros),
+        WrittenHead::Bytes(string) => {
+            let text = bytes_of(alloc, string)?;
+            Ok(InitHead::Bytes(text))
+        }
+        WrittenHead::Array => Ok(InitHead::Array),
+        WrittenHead::Struct { packed } => Ok(InitHead::Struct { packed: *packed }),
+    }
+}
+
+/// What a part stands for.
+fn part_in<'t, 'a>(
+    alloc: Global,
+    types: &Types<'t, 'a>,
+    locals: &Locals<'a>,
+    part: &'t WrittenPart<'a>,
+) -> Result<InitPart, ResolveError>
+    ensures { Settles (λ p. p) result (part_in types.now locals.now part.now) }
+{
+    match part {
+        WrittenPart::Typed { typed, head } => {
+            let shape = expanded(alloc, types, typed)?;
+            let head = head_in(alloc, types, locals, head)?;
+            Ok(InitPart::Typed { shape, head })
+        }
+        WrittenPart::End => Ok(InitPart::End),
+    }
+}
+
+/// The parts behind the beginning of an initialiser, each of whose aggregates is closed.
+#[tactic(auto, using(crate::proofs::Closings::pushed_more))]
+fn parts_in<'t, 'a>(
+    alloc: Global,
+    types: &Types<'t, 'a>,
+    locals: &Locals<'a>,
+    root: &InitHead,
+    parts: &'t [WrittenPart<'a>],
+) -> Result<Rows<InitPart>, ResolveError>
+    ensures tree { Settles (λ ps. tree_of (root.now, ps)) result (tree_in root.now (each (part_in types.now locals.now) parts.now)) }
+    ensures flat { IfOk result (λ ps. IsFlat root.now ps) }
+{
+    let mut collected = behind(alloc, root)?;
+    'each: for part in parts {
+        let made = part_in(alloc, types, locals, part)?;
+        push(&mut collected, made)?;
+    }
+    let out = finish(collected)?;
+    Ok(out)
+}
+
+/// What an initialiser stands for, with these locals known.
+#[tactic(auto, using(crate::proofs::Closings::same_tree))]
+fn initial_in<'t, 'a>(
+    alloc: Global,
+    types: &Types<'t, 'a>,
+    locals: &Locals<'a>,
+    init: &'t Written<'a>,
+) -> Result<Init, ResolveError>
+    ensures { Settles (λ v. v) result (initial_in types.now locals.now init.now) }
+{
+    let root = head_in(alloc, types, locals, &init.root)?;
+    let parts = parts_in(alloc, types, locals, &root, init.parts.as_slice())?;
+    Ok(Init::of(root, parts))
+}
+
+/// What an initialiser stands for. No local is known in it.
+pub fn init_in<'t, 'a>(
+    alloc: Global,
+    types: &Types<'t, 'a>,
+    init: &'t Written<'a>,
+) -> Result<Init, ResolveError>
+    ensures { Settles (λ v. v) result (definitions.init_in types.now init.now) }
+{
+    let locals = Locals::new(alloc);
+    initial_in(alloc, types, &locals, init)
+}

@@ -1,0 +1,12 @@
+mod Digits
+mod SameKeys
+mod Definitions
+mod SameTypes
+mod Sizes
+pub mod Each
+mod Expanding
+mod Powers
+mod Trimming
+mod Bodies
+mod Names
+mod Searched

@@ -1,0 +1,25 @@
+-- Bodies of blocks, a line at a time.
+use Rattle.std.specs.Prelude.{List, [], ◌∷◌, ◌++◌, Option, None, Some}
+use Rattle.ir_tree.specs.declared.instr.Line.{Line}
+use Rattle.ir_tree.specs.declared.instr.Phi.{Phi}
+use Rattle.ir_names.specs.declared.block.Body.{Body}
+use Rattle.ir_names.specs.Blocks.{as_phi, phis_of, rest_of}
+
+abbrev pub placed_first : List Phi → Line → Option Phi → Body
+placed_first phis l None = record { phis = phis; lines = l ∷ [] }
+placed_first phis l (Some p) = record { phis = phis ++ p ∷ []; lines = [] }
+
+abbrev pub placed_in : List Phi → List Line → Line → Body
+placed_in phis [] l = placed_first phis l (as_phi l)
+placed_in phis (k ∷ ks) l = record { phis = phis; lines = k ∷ ks ++ l ∷ [] }
+
+-- one more line: a phi where only phis stand before it, else a line
+abbrev pub placed : Body → Line → Body
+placed b l = placed_in b.phis b.lines l
+
+abbrev pub followed_in : List Phi → List Line → List Line → Body
+followed_in phis [] more = record { phis = phis ++ phis_of more; lines = rest_of more }
+followed_in phis (k ∷ ks) more = record { phis = phis; lines = k ∷ ks ++ more }
+
+abbrev pub followed : Body → List Line → Body
+followed b more = followed_in b.phis b.lines more

@@ -1,0 +1,104 @@
+//! Attribute groups, and what they say of a definition (LangRef, "Attribute Groups").
+ghost use Rattle.std.specs.Prelude.{◌≡◌, Ok, drop};
+ghost use Rattle.std.specs.Cow.{cow_slice_items};
+ghost use Rattle.ir_names.specs.Groups.{group_key, no_groups, said, with_group, any_of, is_noinline, is_optnone};
+ghost use Rattle.ir_names.specs.Groups as groups;
+ghost use Rattle.ir_names.specs.Settled.{Settles};
+
+use crate::fault::ResolveError;
+use crate::name_set::NameSet;
+use crate::symbol::trimmed;
+use ir_read::{Head, Item, Name};
+use std::alloc::Global;
+use std::borrow::CowSlice;
+
+/// The groups of a module that say `noinline`, and those that say `optnone`.
+#[derive(Drop)]
+pub struct Groups<'a> {
+    pub noinline: NameSet<'a>,
+    pub optnone: NameSet<'a>,
+}
+
+/// The digits behind the sign of a group.
+fn digits_of<'a>(text: &'a [u8]) -> &'a [u8]
+    ensures { result.now ≡ drop 1 text.now }
+{
+    match text {
+        [] => text,
+        [_sign, digits @ ..] => digits,
+    }
+}
+
+/// What a group is known by.
+fn group_key<'a>(name: &Name<'a>) -> CowSlice<'a, u8, Global>
+    ensures { cow_slice_items result ≡ group_key name.now }
+{
+    let text = name.token().text;
+    CowSlice::Borrowed(trimmed(digits_of(text)))
+}
+
+/// One more name, where it is said.
+fn said<'a>(says: bool, names: &mut NameSet<'a>, name: &Name<'a>) -> Result<(), ResolveError>
+    ensures { Settles (λ _. names.new) result (Ok (said says names.old (group_key name.now))) }
+{
+    if says {
+        names.add(group_key(name))
+    } else {
+        Ok(())
+    }
+}
+
+fn with_group<'a>(found: &mut Groups<'a>, item: &Item<'a>) -> Result<(), ResolveError>
+    ensures { Settles (λ _. found.new) result (Ok (with_group found.old item.now)) }
+{
+    match item {
+        Item::Attributes {
+            group,
+            noinline,
+            optnone,
+        } => {
+            said(*noinline, &mut found.noinline, group)?;
+            said(*optnone, &mut found.optnone, group)
+        }
+        _ => Ok(()),
+    }
+}
+
+/// The groups of a module. A group that stands twice says what both say.
+pub fn groups_of<'a>(alloc: Global, items: &[Item<'a>]) -> Result<Groups<'a>, ResolveError>
+    ensures { Settles (λ g. g) result (Ok (groups.groups_of items.now)) }
+{
+    let mut found = Groups {
+        noinline: NameSet::new(alloc),
+        optnone: NameSet::new(alloc),
+    };
+    'each: for item in items {
+        with_group(&mut found, item)?;
+    }
+    Ok(found)
+}
+
+fn any_of<'a>(names: &NameSet<'a>, named: &[Name<'a>]) -> bool
+    ensures { result ≡ any_of names.now named.now }
+{
+    'each: for name in named {
+        if names.contains(&group_key(name)) {
+            return true;
+        }
+    }
+    false
+}
+
+/// Whether a function's own words or a group that it names say `noinline`.
+pub fn is_noinline<'a>(found: &Groups<'a>, head: &Head<'a>) -> bool
+    ensures { result ≡ is_noinline found.now head.now }
+{
+    head.noinline || any_of(&found.noinline, head.groups.as_slice())
+}
+
+/// Whether a function's own words or a group that it names say `optnone`.
+pub fn is_optnone<'a>(found: &Groups<'a>, head: &Head<'a>) -> bool
+    ensures { result ≡ is_optnone found.now head.now }
+{
+    head.optnone || any_of(&found.optnone, head.groups.as_slice())
+}

@@ -1,0 +1,296 @@
+//! Instructions with their names resolved (LangRef, "Instruction Reference").
+ghost use Rattle.std.specs.Prelude.{◌≡◌, ◌≤◌, IfOk};
+ghost use Rattle.ir_tree.specs.Layout.{IsLaidOut};
+ghost use Rattle.ir_names.specs.Bodies.{instr_in, allocated, align_or, reg_align};
+ghost use Rattle.ir_read.specs.declared.raw.Instr.TheVariants as written;
+ghost use Rattle.ir_names.specs.Settled.{Settles};
+
+use crate::expand::{array_of, expanded};
+use crate::fault::ResolveError;
+use crate::locals::Locals;
+use crate::operand::{argument_in, arguments_in, entries_in, operand_in};
+use crate::types::Types;
+use ir_read::{Argument, Instr as Written, Operand, Typed};
+use ir_tree::{BinaryOp, Flags, Instr, Predicate, Reg, Rows, Shape, align_of};
+use std::alloc::Global;
+
+/// What an `alloca` of so many of a shape takes: a count other than 1 makes an array.
+pub fn allocated<'t, 'a>(
+    alloc: Global,
+    types: &Types<'t, 'a>,
+    typed: &'t Typed<'a>,
+    count: u64,
+) -> Result<Shape, ResolveError>
+    ensures given { Settles (λ s. s) result (allocated types.now typed.now count) }
+    ensures laid { IfOk result (λ s. IsLaidOut s) }
+{
+    if count == 1 {
+        expanded(alloc, types, typed)
+    } else {
+        array_of(alloc, types, typed, count)
+    }
+}
+
+/// The alignment that is written, or this one.
+pub fn align_or(default: u64, written: Option<u64>) -> u64
+    ensures { result ≡ align_or default written }
+{
+    match written {
+        None => default,
+        Some(align) => align,
+    }
+}
+
+/// The alignment of a scalar.
+fn reg_align(reg: Reg) -> u64
+    ensures { result ≡ reg_align reg }
+{
+    match reg {
+        Reg::Int(width) => u64::from(width) / 8,
+        Reg::Ptr => 8,
+    }
+}
+
+fn binary_in<'t, 'a>(
+    alloc: Global,
+    types: &Types<'t, 'a>,
+    locals: &Locals<'a>,
+    op: BinaryOp,
+    flags: Flags,
+    width: u8,
+    left: &'t Operand<'a>,
+    right: &'t Operand<'a>,
+) -> Result<Instr, ResolveError>
+    ensures { Settles (λ i. i) result (instr_in types.now locals.now (written.Binary op flags width left.now right.now)) }
+{
+    let left = operand_in(alloc, types, locals, left)?;
+    let right = operand_in(alloc, types, locals, right)?;
+    Ok(Instr::Binary {
+        op,
+        flags,
+        width,
+        left,
+        right,
+    })
+}
+
+fn icmp_in<'t, 'a>(
+    alloc: Global,
+    types: &Types<'t, 'a>,
+    locals: &Locals<'a>,
+    predicate: Predicate,
+    reg: Reg,
+    left: &'t Operand<'a>,
+    right: &'t Operand<'a>,
+) -> Result<Instr, ResolveError>
+    ensures { Settles (λ i. i) result (instr_in types.now locals.now (written.Icmp predicate reg left.now right.now)) }
+{
+    let left = operand_in(alloc, types, locals, left)?;
+    let right = operand_in(alloc, types, locals, right)?;
+    Ok(Instr::Icmp {
+        predicate,
+        reg,
+        left,
+        right,
+    })
+}
+
+fn select_in<'t, 'a>(
+    alloc: Global,
+    types: &Types<'t, 'a>,
+    locals: &Locals<'a>,
+    condition: &'t Operand<'a>,
+    if_true: &'t Argument<'a>,
+    if_false: &'t Argument<'a>,
+) -> Result<Instr, ResolveError>
+    ensures { Settles (λ i. i) result (instr_in types.now locals.now (written.Select condition.now if_true.now if_false.now)) }
+{
+    let condition = operand_in(alloc, types, locals, condition)?;
+    let if_true = argument_in(alloc, types, locals, if_true)?;
+    let if_false = argument_in(alloc, types, locals, if_false)?;
+    Ok(Instr::Select {
+        condition,
+        if_true,
+        if_false,
+    })
+}
+
+fn alloca_in<'t, 'a>(
+    alloc: Global,
+    types: &Types<'t, 'a>,
+    locals: &Locals<'a>,
+    typed: &'t Typed<'a>,
+    count: u64,
+    align: Option<u64>,
+) -> Result<Instr, ResolveError>
+    ensures { Settles (λ i. i) result (instr_in types.now locals.now (written.Alloca typed.now count align)) }
+{
+    let shape = allocated(alloc, types, typed, count)?;
+    let align = align_or(align_of(&shape), align);
+    Ok(Instr::Alloca { shape, align })
+}
+
+fn load_in<'t, 'a>(
+    alloc: Global,
+    types: &Types<'t, 'a>,
+    locals: &Locals<'a>,
+    reg: Reg,
+    address: &'t Operand<'a>,
+    align: Option<u64>,
+) -> Result<Instr, ResolveError>
+    ensures { Settles (λ i. i) result (instr_in types.now locals.now (written.Load reg address.now align)) }
+{
+    let address = operand_in(alloc, types, locals, address)?;
+    let align = align_or(reg_align(reg), align);
+    Ok(Instr::Load {
+        reg,
+        address,
+        align,
+    })
+}
+
+fn store_in<'t, 'a>(
+    alloc: Global,
+    types: &Types<'t, 'a>,
+    locals: &Locals<'a>,
+    reg: Reg,
+    value: &'t Operand<'a>,
+    address: &'t Operand<'a>,
+    align: Option<u64>,
+) -> Result<Instr, ResolveError>
+    ensures { Settles (λ i. i) result (instr_in types.now locals.now (written.Store reg value.now address.now align)) }
+{
+    let value = operand_in(alloc, types, locals, value)?;
+    let address = operand_in(alloc, types, locals, address)?;
+    let align = align_or(reg_align(reg), align);
+    Ok(Instr::Store {
+        reg,
+        value,
+        address,
+        align,
+    })
+}
+
+fn address_in<'t, 'a>(
+    alloc: Global,
+    types: &Types<'t, 'a>,
+    locals: &Locals<'a>,
+    inbounds: bool,
+    typed: &'t Typed<'a>,
+    base: &'t Operand<'a>,
+    indices: &'t Rows<Argument<'a>>,
+) -> Result<Instr, ResolveError>
+    ensures { Settles (λ i. i) result (instr_in types.now locals.now (written.Address inbounds typed.now base.now indices.now)) }
+{
+    let shape = expanded(alloc, types, typed)?;
+    let base = operand_in(alloc, types, locals, base)?;
+    let indices = arguments_in(alloc, types, locals, indices.as_slice())?;
+    Ok(Instr::Address {
+        inbounds,
+        shape,
+        base,
+        indices,
+    })
+}
+
+fn call_in<'t, 'a>(
+    alloc: Global,
+    types: &Types<'t, 'a>,
+    locals: &Locals<'a>,
+    result_type: Option<Reg>,
+    callee: &'t Operand<'a>,
+    arguments: &'t Rows<Argument<'a>>,
+) -> Result<Instr, ResolveError>
+    ensures { Settles (λ i. i) result (instr_in types.now locals.now (written.Call result_type callee.now arguments.now)) }
+{
+    let callee = operand_in(alloc, types, locals, callee)?;
+    let arguments = arguments_in(alloc, types, locals, arguments.as_slice())?;
+    Ok(Instr::Call {
+        result: result_type,
+        callee,
+        arguments,
+    })
+}
+
+/// What an instruction stands for.
+pub fn instr_in<'t, 'a>(
+    alloc: Global,
+    types: &Types<'t, 'a>,
+    locals: &Locals<'a>,
+    instr: &'t Written<'a>,
+) -> Result<Instr, ResolveError>
+    ensures { Settles (λ i. i) result (instr_in types.now locals.now instr.now) }
+{
+    match instr {
+        Written::Binary {
+            op,
+            flags,
+            width,
+            left,
+            right,
+        } => binary_in(alloc, types, locals, *op, *flags, *width, left, right),
+        Written::Icmp {
+            predicate,
+            reg,
+            left,
+            right,
+        } => icmp_in(alloc, types, locals, *predicate, *reg, left, right),
+        Written::Cast {
+            op,
+            from,
+            value,
+            to,
+        } => {
+            let value = operand_in(alloc, types, locals, value)?;
+            Ok(Instr::Cast {
+                op: *op,
+                from: *from,
+                value,
+                to: *to,
+            })
+        }
+        Written::Select {
+            condition,
+            if_true,
+            if_false,
+        } => select_in(alloc, types, locals, condition, if_true, if_false),
+        Written::Freeze { reg, value } => {
+            let value = operand_in(alloc, types, locals, value)?;
+            Ok(Instr::Freeze { reg: *reg, value })
+        }
+        Written::Phi { reg, incoming } => {
+            let incoming = entries_in(alloc, types, locals, incoming.as_slice())?;
+            Ok(Instr::Phi {
+                reg: *reg,
+                incoming,
+            })
+        }
+        Written::Alloca {
+            typed,
+            count,
+            align,
+        } => alloca_in(alloc, types, locals, typed, *count, *align),
+        Written::Load {
+            reg,
+            address,
+            align,
+        } => load_in(alloc, types, locals, *reg, address, *align),
+        Written::Store {
+            reg,
+            value,
+            address,
+            align,
+        } => store_in(alloc, types, locals, *reg, value, address, *align),
+        Written::Address {
+            inbounds,
+            typed,
+            base,
+            indices,
+        } => address_in(alloc, types, locals, *inbounds, typed, base, indices),
+        Written::Call {
+            result,
+            callee,
+            arguments,
+        } => call_in(alloc, types, locals, *result, callee, arguments),
+    }
+}

@@ -1,0 +1,43 @@
+//! What a local, a label or a type is known by (LangRef, "Identifiers").
+ghost use Rattle.std.specs.Prelude.{◌≡◌, IfOk};
+ghost use Rattle.ir_names.specs.Keys.{key_of, number_of};
+ghost use Rattle.ir_names.specs.KeyViews.{key};
+
+use crate::number::{decimal_of, is_numeral};
+use ir_read::Name;
+use std::alloc::{AllocError, Global};
+use std::borrow::CowSlice;
+
+/// A name by its bytes, or a number. Bytes that are written without a backslash are borrowed.
+#[derive(PartialEq, Eq, Hash, Drop)]
+pub enum Key<'a> {
+    Spelled(CowSlice<'a, u8, Global>),
+    Written(u32),
+}
+
+/// The number that stands for a name.
+#[tactic(auto, unfolding(crate::specs::Keys::number_of))]
+pub fn number_of(name: &Name) -> Option<u32>
+    ensures { result ≡ number_of name.now }
+{
+    let text = name.token().bare();
+    if is_numeral(text) {
+        decimal_of(text)
+    } else {
+        None
+    }
+}
+
+/// What a name is known by.
+#[tactic(auto, unfolding(crate::specs::Keys::key_of))]
+pub fn key_of<'a>(alloc: Global, name: &Name<'a>) -> Result<Key<'a>, AllocError>
+    ensures { IfOk result (λ k. key k ≡ key_of name.now) }
+{
+    match number_of(name) {
+        Some(n) => Ok(Key::Written(n)),
+        None => {
+            let text = name.token().content(alloc)?;
+            Ok(Key::Spelled(text))
+        }
+    }
+}

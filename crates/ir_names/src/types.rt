@@ -1,0 +1,223 @@
+//! Type names and what they stand for (LangRef, "Structure Type" and "Opaque Structure Types").
+ghost use Rattle.std.specs.Prelude.{◌≡◌, ◌≤◌, ◌^◌, [], Some, None, option_copied, option_map, is_some, false, ◌++◌, ◌∷◌, Ok, length, IfOk, nat_le, if◌then◌else◌};
+ghost use Rattle.ir_tree.specs.Layout.{IsLaidOut, AreLaidOut, size};
+ghost use Rattle.ir_tree.specs.Forms.{structure, forms_of};
+ghost use Rattle.ir_names.specs.Keys.{key_of};
+ghost use Rattle.ir_names.specs.KeyViews.{key};
+ghost use Rattle.ir_names.specs.Locals.{unknown};
+ghost use Rattle.ir_names.specs.declared.fault.ResolveError.TheVariants as errors;
+ghost use Rattle.ir_names.specs.Settled.{Settles};
+ghost use Rattle.ir_names.specs.TypeNames.{place_of};
+ghost use Rattle.ir_names.specs.Types.{entry_of, entry_in, shape_at, shape_in, head_from, head_of, chased, with_type, shape_if};
+
+use crate::fault::{Fault, FaultKind, ResolveError};
+use crate::key::{Key, key_of};
+use indexmap::IndexMap;
+use ir_read::{Name, Shape, ShapeNode, Typed};
+use std::alloc::Global;
+use std::marker::Model;
+
+/// The type names of a module with their shapes, in the order of the text.
+#[derive(Drop)]
+pub struct Types<'t, 'a> {
+    map: IndexMap<Key<'a>, Option<&'t Shape<'a>>>,
+}
+
+impl<'t, 'a> Model for Types<'t, 'a> {
+    ghost use Rattle.std.specs.Prelude.{List, Option};
+    ghost use Rattle.ir_read.specs.Shapes.{Written};
+    ghost use Rattle.ir_read.specs.ShapeCode.{code_from};
+    ghost use Rattle.std.specs.Coded.{codes};
+    ghost use Rattle.ir_names.specs.Keys.{Key};
+    ghost use Rattle.ir_names.specs.TypesViews.{types};
+
+    ghost Value = { List (Key × Option Written) };
+
+    ghost coded = { Prim.hlevel (codes, code_from (Prim.hlevel (codes))) };
+
+    ghost view = { λ t. types t.map.entries };
+}
+
+impl<'t, 'a> Types<'t, 'a> {
+    /// No name.
+    pub fn new(alloc: Global) -> Types<'t, 'a>
+        ensures { result ≡ [] }
+    {
+        Types {
+            map: IndexMap::new(alloc),
+        }
+    }
+
+    /// One more type name, with its shape where it isn't opaque.
+    pub fn define(
+        &mut self,
+        alloc: Global,
+        name: &Name<'a>,
+        shape: Option<&'t Shape<'a>>,
+    ) -> Result<(), ResolveError>
+        ensures { Settles (λ _. self.new) result (with_type self.old name.now (option_copied shape.entry)) }
+    {
+        let wanted = key_of(alloc, name)?;
+        if self.place_of(&wanted).is_some() {
+            return Err(ResolveError::Fault(Fault {
+                line: name.line(),
+                kind: FaultKind::Twice,
+            }));
+        }
+        self.push(wanted, shape)
+    }
+
+    /// One more type name, where it isn't there.
+    pub fn add(
+        &mut self,
+        alloc: Global,
+        name: &Name<'a>,
+        shape: Option<&'t Shape<'a>>,
+    ) -> Result<(), ResolveError>
+        ensures { Settles (λ _. self.new) result (Ok (if is_some (entry_of self.old (key_of name.now)) then self.old else self.old ++ (key_of name.now, option_copied shape.entry) ∷ [])) }
+    {
+        let wanted = key_of(alloc, name)?;
+        if self.place_of(&wanted).is_some() {
+            return Ok(());
+        }
+        self.push(wanted, shape)
+    }
+
+    /// One more definition, under a key that isn't there.
+    fn push(&mut self, wanted: Key<'a>, shape: Option<&'t Shape<'a>>) -> Result<(), ResolveError>
+        requires { is_some (entry_of self.old (key wanted)) ≡ false }
+        ensures { Settles (λ _. self.new) result (Ok (self.old ++ (key wanted.entry, option_copied shape.entry) ∷ [])) }
+    {
+        self.map.insert(wanted, shape)?;
+        Ok(())
+    }
+
+    /// How many names there are.
+    pub fn len(&self) -> usize
+        ensures { result ≡ length self.now }
+    {
+        self.map.len()
+    }
+
+    /// The place of a type name among the definitions.
+    fn place_in(&self, alloc: Global, name: &Name<'a>) -> Result<usize, ResolveError>
+        ensures { Settles (λ p. shape_at self.now p) result (entry_in self.now name.now) }
+    {
+        let wanted = key_of(alloc, name)?;
+        match self.place_of(&wanted) {
+            Some(place) => Ok(place),
+            None => Err(unknown(name.line())),
+        }
+    }
+
+    /// The place of a type name among the definitions, where it is there.
+    pub fn place_of_name(
+        &self,
+        alloc: Global,
+        name: &Name<'a>,
+    ) -> Result<Option<usize>, ResolveError>
+        ensures { Settles (λ p. p) result (Ok (place_of self.now (key_of name.now))) }
+    {
+        let wanted = key_of(alloc, name)?;
+        Ok(self.place_of(&wanted))
+    }
+
+    /// What a type name that is used is defined as.
+    pub fn shape_in(&self, alloc: Global, name: &Name<'a>) -> Result<&'t Shape<'a>, ResolveError>
+        ensures { Settles (λ s. s.now) result (shape_in self.now name.now) }
+    {
+        let place = self.place_in(alloc, name)?;
+        match self.shape_at(place) {
+            None => Err(unknown(name.line())),
+            Some(shape) => Ok(shape),
+        }
+    }
+
+    /// The place of a key among the definitions.
+    fn place_of(&self, wanted: &Key<'a>) -> Option<usize>
+        ensures place { result ≡ place_of self.now (key wanted.now) }
+        ensures shape { option_map (λ p. shape_at self.now p) result ≡ entry_of self.now (key wanted.now) }
+    {
+        self.map.get_index_of(wanted)
+    }
+
+    /// What the definition at a place says.
+    pub fn shape_at(&self, place: usize) -> Option<&'t Shape<'a>>
+        ensures { option_copied result ≡ shape_at self.now place }
+    {
+        match self.map.get_index(place) {
+            None => None,
+            Some((_, shape)) => *shape,
+        }
+    }
+
+    /// The shape that a chain of names leads to, which comes to the definition at a place by a name
+    /// on a line, and goes on by at most so many names.
+    fn chase(
+        &self,
+        alloc: Global,
+        first: usize,
+        first_line: u32,
+        most: usize,
+    ) -> Result<&'t Shape<'a>, ResolveError>
+        ensures { Settles (λ s. s.now) result (chased most self.now first_line (shape_at self.now first)) }
+    {
+        let mut place = first;
+        let mut line = first_line;
+        let mut left = most;
+        'each: loop {
+            match self.shape_at(place) {
+                None => return Err(unknown(line)),
+                Some(shape) => match shape.node() {
+                    ShapeNode::Named(name) => {
+                        if left == 0 {
+                            return Err(unknown(name.line()));
+                        }
+                        place = self.place_in(alloc, name)?;
+                        line = name.line();
+                        left -= 1;
+                    }
+                    _ => return Ok(shape),
+                },
+            }
+        }
+    }
+
+    /// The shape that a shape is, or that the chain of names from it on leads to.
+    #[tactic(auto, unfolding(crate::specs::Types::head_of))]
+    pub fn head_of(
+        &self,
+        alloc: Global,
+        shape: &'t Shape<'a>,
+    ) -> Result<&'t Shape<'a>, ResolveError>
+        ensures { Settles (λ s. s.now) result (head_of self.now shape.now) }
+    {
+        match shape.node() {
+            ShapeNode::Named(name) => {
+                let first = self.place_in(alloc, name)?;
+                self.chase(alloc, first, name.line(), self.len())
+            }
+            _ => Ok(shape),
+        }
+    }
+}
+
+/// The shape of a type name that isn't opaque.
+pub fn shape_if<'t, 'a>(typed: &'t Option<Typed<'a>>) -> Option<&'t Shape<'a>>
+    ensures { option_copied result ≡ shape_if typed.now }
+{
+    match typed {
+        None => None,
+        Some(typed) => Some(&typed.shape),
+    }
+}
+
+/// The fault of an unknown name on a line.
+pub fn unknown(line: u32) -> ResolveError
+    ensures { result ≡ errors.Fault (unknown line) }
+{
+    ResolveError::Fault(Fault {
+        line,
+        kind: FaultKind::Unknown,
+    })
+}

@@ -1,5 +1,0 @@
-use Rattle.ir_parse.proofs.Powers.{all_ones}
-use Rattle.ir_parse.proofs.address.most_of.Goals as goal
-
-pub returns : goal.returns
-returns c = all_ones c.args.width c.requires.most

@@ -1,0 +1,5 @@
+mod Gathering
+mod Kept
+mod Levels
+mod Runs
+mod Marked

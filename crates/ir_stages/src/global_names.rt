@@ -1,0 +1,89 @@
+//! The names of globals (LangRef, "Global Variables" and "Functions").
+ghost use Rattle.std.specs.Prelude.{◌≡◌, Ok, []};
+ghost use Rattle.ir_names.specs.Globals.{no_globals};
+ghost use Rattle.ir_names.specs.Globals as globals;
+ghost use Rattle.ir_names.specs.Settled.{Settles};
+ghost use Rattle.ir_names.specs.Stages as stages;
+ghost use Rattle.ir_stages.specs.MarkViews.{standing, marks};
+
+use crate::mark::{Mark, Marks};
+use crate::type_names::unknown;
+use ir_names::{Globals, NameSet, ResolveError, name_of};
+use ir_read::Name;
+use std::alloc::Global;
+
+fn with_name<'a>(
+    alloc: Global,
+    names: &mut NameSet<'a>,
+    mark: &Mark<'a>,
+) -> Result<(), ResolveError>
+    ensures { Settles (λ _. names.new) result (Ok (stages.global_names names.old (standing mark.now))) }
+{
+    match mark {
+        Mark::Global(name) => names.add(name_of(alloc, name)?),
+        _ => Ok(()),
+    }
+}
+
+/// The names of all globals of a module.
+fn global_names<'a>(alloc: Global, rows: &[Mark<'a>]) -> Result<NameSet<'a>, ResolveError>
+    ensures { Settles (λ s. s) result (Ok (stages.global_names [] (marks rows.now))) }
+{
+    let mut names = NameSet::new(alloc);
+    'each: for mark in rows {
+        with_name(alloc, &mut names, mark)?;
+    }
+    Ok(names)
+}
+
+/// A global that is used: it is defined or declared.
+fn if_there<'a>(alloc: Global, names: &NameSet<'a>, name: &Name<'a>) -> Result<(), ResolveError>
+    ensures { (g : globals.Globals) → Settles (λ _. g) result (stages.if_there names.now g name.now) }
+{
+    if names.contains(&name_of(alloc, name)?) {
+        Ok(())
+    } else {
+        Err(unknown(name.line()))
+    }
+}
+
+fn named<'a>(
+    alloc: Global,
+    names: &NameSet<'a>,
+    globals: &mut Globals<'a>,
+    mark: &Mark<'a>,
+) -> Result<(), ResolveError>
+    ensures { Settles (λ _. globals.new) result (stages.all_named names.now globals.old (standing mark.now)) }
+{
+    match mark {
+        Mark::Global(name) => globals.define(alloc, name),
+        Mark::Symbol(name) => if_there(alloc, names, name),
+        Mark::Address(steps) => if_there(alloc, names, &steps.name),
+        _ => Ok(()),
+    }
+}
+
+fn all_named<'a>(
+    alloc: Global,
+    names: &NameSet<'a>,
+    rows: &[Mark<'a>],
+) -> Result<Globals<'a>, ResolveError>
+    ensures { Settles (λ g. g) result (stages.all_named names.now no_globals (marks rows.now)) }
+{
+    let mut globals = Globals::new(alloc);
+    'each: for mark in rows {
+        named(alloc, names, &mut globals, mark)?;
+    }
+    Ok(globals)
+}
+
+/// The names of globals of a module. A fault is at the first token that defines or declares a global a second
+/// time, or as a number below the counter, or that uses one which is neither.
+#[tactic(auto, unfolding(ir_names::specs::Stages::globals_named))]
+pub fn globals_in<'a>(alloc: Global, marks: &Marks<'a>) -> Result<Globals<'a>, ResolveError>
+    ensures { Settles (λ g. g) result (stages.globals_named marks.now) }
+{
+    let rows = marks.as_slice();
+    let names = global_names(alloc, rows)?;
+    all_named(alloc, &names, rows)
+}

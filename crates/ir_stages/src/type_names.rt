@@ -1,0 +1,146 @@
+//! The type names of a module (LangRef, "Structure Type" and "Opaque Structure Types").
+ghost use Rattle.std.specs.Prelude.{◌≡◌, Ok, [], option_copied};
+ghost use Rattle.ir_names.specs.Locals.{unknown};
+ghost use Rattle.ir_names.specs.declared.fault.ResolveError.TheVariants as errors;
+ghost use Rattle.ir_names.specs.Keys.{key_of};
+ghost use Rattle.ir_names.specs.Settled.{Settles};
+ghost use Rattle.ir_names.specs.Types as typing;
+ghost use Rattle.ir_names.specs.TypeNames.{first_types, all_typed, use_in, holds_itself, type_names};
+ghost use Rattle.ir_stages.specs.Circles.{circles_in, marked_at};
+ghost use Rattle.ir_stages.specs.MarkViews.{standing, marks};
+
+use crate::circles::circles_in;
+use crate::mark::{Mark, Marks};
+use ir_names::{Fault, FaultKind, ResolveError, Types};
+use ir_read::{Name, Shape, Typed};
+use std::alloc::Global;
+
+/// The fault of a name on a line that nothing is known under.
+pub fn unknown(line: u32) -> ResolveError
+    ensures { result ≡ errors.Fault (unknown line) }
+{
+    ResolveError::Fault(Fault {
+        line,
+        kind: FaultKind::Unknown,
+    })
+}
+
+/// The shape of a type name that isn't opaque.
+fn shape_if<'a>(typed: &'a Option<Typed<'a>>) -> Option<&'a Shape<'a>>
+    ensures { option_copied result ≡ typing.shape_if typed.now }
+{
+    match typed {
+        None => None,
+        Some(typed) => Some(&typed.shape),
+    }
+}
+
+fn with_first<'a>(
+    alloc: Global,
+    types: &mut Types<'a, 'a>,
+    mark: &Mark<'a>,
+) -> Result<(), ResolveError>
+    ensures { Settles (λ _. types.new) result (Ok (first_types types.old (standing mark.now))) }
+{
+    match mark {
+        Mark::TypeName(name, typed) => types.add(alloc, name, shape_if(typed)),
+        _ => Ok(()),
+    }
+}
+
+/// The first definition of each type name.
+fn first_types<'a>(alloc: Global, rows: &[Mark<'a>]) -> Result<Types<'a, 'a>, ResolveError>
+    ensures { Settles (λ t. t) result (Ok (first_types [] (marks rows.now))) }
+{
+    let mut types = Types::new(alloc);
+    'each: for mark in rows {
+        with_first(alloc, &mut types, mark)?;
+    }
+    Ok(types)
+}
+
+/// Whether the definition of a name holds itself.
+fn holds_itself<'a>(
+    alloc: Global,
+    all: &Types<'a, 'a>,
+    circles: &[bool],
+    name: &Name<'a>,
+) -> Result<bool, ResolveError>
+    requires { circles.now ≡ circles_in all.now }
+    ensures { Settles (λ b. b) result (Ok (holds_itself all.now (key_of name.now))) }
+{
+    let place = all.place_of_name(alloc, name)?;
+    Ok(is_marked(circles, place))
+}
+
+/// Whether a place is marked.
+fn is_marked(circles: &[bool], place: Option<usize>) -> bool
+    ensures { result ≡ marked_at circles.now place }
+{
+    match place {
+        None => false,
+        Some(place) => place < circles.len() && circles[place],
+    }
+}
+
+/// A type name that is used: it is defined, not opaque, and doesn't hold itself.
+fn use_in<'a>(
+    alloc: Global,
+    all: &Types<'a, 'a>,
+    circles: &[bool],
+    name: &Name<'a>,
+) -> Result<(), ResolveError>
+    requires { circles.now ≡ circles_in all.now }
+    ensures { Settles (λ u. u) result (use_in all.now name.now) }
+{
+    all.shape_in(alloc, name)?;
+    if holds_itself(alloc, all, circles, name)? {
+        return Err(unknown(name.line()));
+    }
+    Ok(())
+}
+
+fn typed_by<'a>(
+    alloc: Global,
+    all: &Types<'a, 'a>,
+    circles: &[bool],
+    types: &mut Types<'a, 'a>,
+    mark: &Mark<'a>,
+) -> Result<(), ResolveError>
+    requires { circles.now ≡ circles_in all.now }
+    ensures { Settles (λ _. types.new) result (all_typed all.now types.old (standing mark.now)) }
+{
+    match mark {
+        Mark::TypeName(name, typed) => types.define(alloc, name, shape_if(typed)),
+        Mark::TypeUse(name) => use_in(alloc, all, circles, name),
+        _ => Ok(()),
+    }
+}
+
+fn all_typed<'a>(
+    alloc: Global,
+    all: &Types<'a, 'a>,
+    circles: &[bool],
+    rows: &[Mark<'a>],
+) -> Result<Types<'a, 'a>, ResolveError>
+    requires { circles.now ≡ circles_in all.now }
+    ensures { Settles (λ t. t) result (all_typed all.now [] (marks rows.now)) }
+{
+    let mut types = Types::new(alloc);
+    'each: for mark in rows {
+        typed_by(alloc, all, circles, &mut types, mark)?;
+    }
+    Ok(types)
+}
+
+/// The type names of a module. A fault is at the first token that defines a name a second time, or that uses
+/// one which isn't defined, is opaque, or holds itself.
+#[tactic(auto, unfolding(ir_names::specs::TypeNames::type_names))]
+pub fn types_in<'a>(alloc: Global, marks: &Marks<'a>) -> Result<Types<'a, 'a>, ResolveError>
+    ensures { Settles (λ t. t) result (type_names marks.now) }
+{
+    let rows = marks.as_slice();
+    let all = first_types(alloc, rows)?;
+    let circles = circles_in(alloc, &all)?;
+    all_typed(alloc, &all, &circles, rows)
+}
