@@ -1,0 +1,22 @@
+-- What the grammar makes of the items of a module.
+use Rattle.std.specs.Prelude.{◌≡◌, Bool, false, []}
+use Rattle.ir_read.specs.declared.raw.Head.{Head}
+use Rattle.ir_read.specs.declared.raw.Item.{Item}
+use Rattle.ir_read.specs.declared.raw.Item.TheVariants as item
+use Rattle.ir_names.specs.Types.{shape_if}
+use Rattle.resolved_forms.specs.Written.{IsWritten, TypeWritten, VariableWritten}
+
+-- no attribute of a declaration is kept
+pub record IsDeclared (head : Head) : Type 0 where
+  pub written : IsWritten head [] false false
+  pub noinline : head.noinline ≡ false
+  pub optnone : head.optnone ≡ false
+  pub groups : head.groups ≡ []
+
+-- a definition is written whatever its attribute groups say of it
+abbrev pub ItemWritten : Item → Type 0
+ItemWritten (item.Type name typed) = TypeWritten (shape_if typed)
+ItemWritten (item.Variable v) = VariableWritten v
+ItemWritten (item.Declaration head) = IsDeclared head
+ItemWritten (item.Definition head blocks) = (noinline optnone : Bool) → IsWritten head blocks noinline optnone
+ItemWritten _ = Unit {0}

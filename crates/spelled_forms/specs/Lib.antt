@@ -1,0 +1,3 @@
+pub mod Sized
+pub mod Items
+pub mod Laws
