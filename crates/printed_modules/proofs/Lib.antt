@@ -1,0 +1,14 @@
+pub mod Successive
+pub mod Calls
+pub mod Lines
+pub mod Blocks
+pub mod Definitions
+pub mod Alignments
+pub mod Constants
+pub mod Initialisers
+pub mod Variables
+pub mod Classed
+pub mod Declarations
+pub mod Items
+pub mod Modules
+pub mod Printable

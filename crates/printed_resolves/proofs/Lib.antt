@@ -1,0 +1,14 @@
+pub mod Binds
+pub mod Keys
+pub mod Symbols
+pub mod Shapes
+pub mod Uses
+pub mod Numbering
+pub mod Operands
+pub mod Instructions
+pub mod Blocks
+pub mod Functions
+pub mod Variables
+pub mod Places
+pub mod Sound
+pub mod InOrder
