@@ -1,0 +1,7 @@
+mod Better
+mod Fitting
+mod Left
+mod Loops
+mod Start
+mod Stepping
+mod Weights

@@ -1,0 +1,13 @@
+-- A sound function whose blocks are joined is better.
+use Rattle.std.specs.Prelude.{◌-◌, ◌^◌, length}
+use Rattle.ir_tree.specs.Rules.{Sound}
+use Rattle.ir_tree.specs.declared.function.Function.{Function}
+use Rattle.ir_meaning.specs.Near.{BetterThan}
+use Rattle.ir_meaning.specs.Program.{Program}
+use Rattle.ir_better.specs.Formed.{IsFormed}
+use Rattle.block_merge.specs.Merged.{IsMergeOf}
+
+-- in every program: a join saves a jump, so that each step answers two at most; soundness gives each phi as many entries as
+-- its block has edges
+abbrev pub MergeIsBetter : Type 0
+MergeIsBetter = (f g : Function) → Sound f → IsMergeOf f g → (p : Program) → IsFormed p → BetterThan p (2 ^ (length f.blocks - length g.blocks)) g f
