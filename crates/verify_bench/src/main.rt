@@ -1,27 +1,19 @@
 //! Functions that are made to a plan, and how long the verifier takes over them.
 //!
 //! `LAYOUT BLOCKS LINES` makes a function of that many blocks, each of that many lines, and says whether the verifier calls it sound; the
-//! layouts are `chain`, `ladder` and `nest`. With a fourth word, `times`, it also prints how long it took to make the function, to go over it once
+//! layouts are `chain`, `ladder`, `nest` and `fan`. With a fourth word, `times`, it also prints how long it took to make the function, to go over it once
 //! (whether its tree is one that the grammar allows), and to verify it, in microseconds. `bench/verify` prints ratios of these.
 //!
-//! Below stand the trees (`ir_tree`), edges and dominators (`ir_flow`) and the verifier (`ir_verify`). What is promised is that the
-//! verifier is asked of formed functions alone (`is_formed`); the tests show each of its rules kept and broken.
+//! Below stand functions by plan (`function_plans`) and the verifier (`ir_verify`). What is promised is that the verifier is asked of
+//! formed functions alone; the tests show each of its rules kept and broken.
 #![tactic(auto)]
 
-mod formed;
-mod lined;
-mod lines;
-mod names;
-mod operands;
-mod plan;
 #[cfg(test)]
 mod tests;
 #[cfg(test)]
 mod verdict;
 
-use crate::formed::is_formed;
-use crate::lined::lines_of;
-use crate::plan::{Layout, Plan};
+use function_plans::{Layout, Plan, Sums, is_formed, lines_of};
 use ir_verify::function_fault;
 use std::alloc::Global;
 use std::rt::Env;
@@ -42,6 +34,7 @@ fn layout_of(word: &str) -> Option<Layout> {
         "chain" => Some(Layout::Chain),
         "ladder" => Some(Layout::Ladder),
         "nest" => Some(Layout::Nest),
+        "fan" => Some(Layout::Fan),
         _ => None,
     }
 }
@@ -56,6 +49,7 @@ fn plan_of(words: &[String]) -> Option<(Plan, bool)> {
     };
     let plan = Plan {
         layout: layout_of(layout.as_str())?,
+        sums: Sums::Ones,
         blocks: blocks.as_str().parse().ok()?,
         lines: lines.as_str().parse().ok()?,
     };
@@ -75,7 +69,7 @@ fn main(rt: HostRuntime) -> io::Result<()> {
         None => None,
     };
     let Some((plan, times)) = given else {
-        println!(rt; "usage: verify_bench chain|ladder|nest BLOCKS LINES [times]")?;
+        println!(rt; "usage: verify_bench chain|ladder|nest|fan BLOCKS LINES [times]")?;
         return Ok(());
     };
     let start = Instant::now(&rt)?;

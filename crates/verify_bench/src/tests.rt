@@ -1,6 +1,6 @@
 //! Each rule kept and broken, the order of faults, and one function of each layout.
-use crate::plan::{Layout, Plan};
 use crate::verdict::{Outcome, said_of};
+use function_plans::{Layout, Plan, Sums};
 use ir_tree::{
     Argument, BinaryOp, Block, Case, CastOp, Flags, Function, Incoming, Instr, Line, Linkage,
     Operand, Param, Phi, Predicate, Reg, Rows, Rule, Shape, Symbol, Terminator, Text,
@@ -401,10 +401,11 @@ fn the_least_line_and_then_the_least_rule(rt: HostRuntime) -> Result<(), Fail> {
 #[test]
 fn functions_of_each_layout_are_sound(rt: HostRuntime) -> Result<(), Fail> {
     let alloc = rt.alloc();
-    for layout in [Layout::Chain, Layout::Ladder, Layout::Nest] {
+    for layout in [Layout::Chain, Layout::Ladder, Layout::Nest, Layout::Fan] {
         for blocks in 1..14 {
             let plan = Plan {
                 layout,
+                sums: Sums::Ones,
                 blocks,
                 lines: 2,
             };

@@ -1,7 +1,6 @@
 //! What the verifier says of a function that wasn't read from a text.
 
-use crate::formed::is_formed;
-use crate::lined::lines_of;
+use function_plans::{is_formed, lines_of};
 use ir_tree::Function;
 use ir_verify::{VerifyFault, function_fault};
 use std::alloc::{AllocError, Global};

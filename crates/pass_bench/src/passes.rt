@@ -1,0 +1,92 @@
+//! The passes, one behind another, with the time that each takes.
+ghost use Rattle.std.specs.Prelude.{IfOk, IsTrue};
+ghost use Rattle.ir_tree.specs.Rules.{Sound};
+
+use block_trim::trim;
+use branch_simplify::branches;
+use dead_code::needed;
+use function_plans::{is_formed, lines_of};
+use ir_facts::apply;
+use ir_tree::Function;
+use ir_verify::function_fault;
+use std::alloc::{AllocError, Global};
+use std::io;
+use std::time::Instant;
+
+/// How long each pass took, in microseconds.
+#[derive(Clone, Copy, Debug)]
+pub(crate) struct Spent {
+    pub facts: u128,
+    pub branches: u128,
+    pub trim: u128,
+    pub needed: u128,
+}
+
+impl Spent {
+    pub(crate) fn none() -> Spent {
+        Spent {
+            facts: 0,
+            branches: 0,
+            trim: 0,
+            needed: 0,
+        }
+    }
+}
+
+/// Whether the verifier calls a function sound. One that the grammar doesn't allow it is never asked of.
+pub(crate) fn checked(alloc: Global, function: &Function) -> Result<bool, AllocError>
+    ensures { IfOk result (λ sound. IsTrue sound → Sound function.now) }
+{
+    if !is_formed(alloc, function)? {
+        return Ok(false);
+    }
+    let lines = lines_of(alloc, function, 1)?;
+    let fault = function_fault(alloc, function, &lines, 0, None)?;
+    match fault {
+        Some(_) => Ok(false),
+        None => Ok(true),
+    }
+}
+
+/// How many phis, instructions and terminators a function has.
+pub(crate) fn count_of(function: &Function) -> u64 {
+    let mut count: u64 = 0;
+    for block in function.blocks.as_slice() {
+        let phis = block.phis.len() as u64;
+        let lines = block.lines.len() as u64;
+        count = count
+            .saturating_add(phis)
+            .saturating_add(lines)
+            .saturating_add(1);
+    }
+    count
+}
+
+/// The microseconds since a moment, from the clock of the machine.
+fn micros_since(rt: &HostRuntime, start: &Instant) -> io::Result<u128> {
+    Ok(start.elapsed(rt)?.as_micros())
+}
+
+/// The function behind all passes.
+pub(crate) fn passed(
+    rt: &HostRuntime,
+    alloc: Global,
+    function: &Function,
+    spent: &mut Spent,
+) -> io::Result<Function>
+    requires { Sound function.now }
+{
+    let start = Instant::now(rt)?;
+    let f = apply(alloc, function)?;
+    spent.facts = micros_since(rt, &start)?;
+    let start = Instant::now(rt)?;
+    let f = branches(alloc, &f)?;
+    spent.branches = micros_since(rt, &start)?;
+    let start = Instant::now(rt)?;
+    let f = trim(alloc, &f)?;
+    spent.trim = micros_since(rt, &start)?;
+    let start = Instant::now(rt)?;
+    let f = needed(alloc, &f)?;
+    spent.needed = micros_since(rt, &start)?;
+    Ok(f)
+}
