@@ -1,0 +1,3 @@
+pub mod Constants
+pub mod Programs
+pub mod Laws
