@@ -1,0 +1,16 @@
+mod Bound
+mod Copied
+mod Final
+mod Fitting
+mod Fixed
+mod Lost
+mod Moved
+mod Once
+mod Rooms
+mod Sparing
+mod Spliced
+mod Standing
+mod Twice
+mod Types
+mod Unset
+mod Whole

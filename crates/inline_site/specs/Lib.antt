@@ -1,0 +1,5 @@
+pub mod Copies
+pub mod Copying
+pub mod Inlined
+pub mod Laws
+pub mod Sites
