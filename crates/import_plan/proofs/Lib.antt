@@ -1,0 +1,6 @@
+mod Lists
+mod Growing
+mod Chained
+mod Noting
+mod Planned
+mod Rising

@@ -1,0 +1,4 @@
+pub mod Chains
+pub mod Plans
+pub mod Walking
+pub mod Views

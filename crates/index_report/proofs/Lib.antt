@@ -1,0 +1,4 @@
+mod Sorting
+mod Tables
+mod Listings
+mod Parts
