@@ -3,3 +3,4 @@ mod Kept
 mod Levels
 mod Runs
 mod Marked
+mod Within

@@ -1,3 +1,4 @@
 pub mod Circles
 pub mod MarkCode
 pub mod MarkViews
+pub mod Reserved

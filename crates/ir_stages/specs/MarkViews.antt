@@ -1,21 +1,14 @@
 -- What the marks that are kept stand for.
 use Rattle.std.specs.Prelude.{List, [], ◌∷◌, ◌++◌}
-use Rattle.ir_read.specs.declared.raw.Instr as raw_instr
-use Rattle.ir_read.specs.declared.raw.Instr.TheVariants as ri
 use Rattle.ir_names.specs.Marks.{Mark, type_name, type_use, shape, many, global, symbol, address}
 use Rattle.ir_stages.specs.declared.mark.Mark as code
 use Rattle.ir_stages.specs.declared.mark.Mark.TheVariants as kept
-
--- an `alloca` is its shape with its count, and no other instruction is kept
-abbrev pub reserved : raw_instr.Instr → List Mark
-reserved (ri.Alloca typed count align) = many typed count ∷ []
-reserved _ = []
 
 abbrev pub standing : code.Mark → List Mark
 standing (kept.TypeName name typed) = type_name name.now typed.now ∷ []
 standing (kept.TypeUse name) = type_use name.now ∷ []
 standing (kept.Shape typed) = shape typed.now ∷ []
-standing (kept.Alloca instr) = reserved instr.now
+standing (kept.Alloca typed count) = many typed.now count ∷ []
 standing (kept.Global name) = global name.now ∷ []
 standing (kept.Symbol name) = symbol name.now ∷ []
 standing (kept.Address steps) = address steps.now ∷ []

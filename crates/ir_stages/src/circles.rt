@@ -22,11 +22,11 @@ fn put(row: &mut Vec<usize>, place: Option<usize>) -> Result<(), AllocError>
 }
 
 /// The place of the definition of a name that is used, where it is defined.
-fn with_place<'a>(
+fn with_place<'t, 'a>(
     alloc: Global,
-    types: &Types<'a, 'a>,
+    types: &Types<'t, 'a>,
     row: &mut Vec<usize>,
-    mark: &Mark<'a>,
+    mark: &Mark<'t, 'a>,
 ) -> Result<(), ResolveError>
     ensures { Settles (λ _. row.new.items) result (Ok (row.old.items ++ places types.now (standing mark.now))) }
 {
@@ -41,10 +41,10 @@ fn with_place<'a>(
 }
 
 /// The places of the definitions of the names that are used and defined.
-fn places<'a>(
+fn places<'t, 'a>(
     alloc: Global,
-    types: &Types<'a, 'a>,
-    rows: &[Mark<'a>],
+    types: &Types<'t, 'a>,
+    rows: &[Mark<'t, 'a>],
 ) -> Result<Vec<usize>, ResolveError>
     ensures { Settles (λ v. v.items) result (Ok (places types.now (marks rows.now))) }
 {
@@ -56,23 +56,27 @@ fn places<'a>(
 }
 
 /// The type names in the shape of the definition at a place.
-fn uses_at<'a>(alloc: Global, types: &Types<'a, 'a>, place: usize) -> Result<Marks<'a>, AllocError>
+fn uses_at<'t, 'a>(
+    alloc: Global,
+    types: &Types<'t, 'a>,
+    place: usize,
+) -> Result<Marks<'t, 'a>, AllocError>
     ensures { IfOk result (λ m. m ≡ uses_in (typing.shape_at types.now place)) }
 {
     let mut marks = Marks::new(alloc);
     match types.shape_at(place) {
         None => Ok(marks),
         Some(shape) => {
-            uses(&mut marks, shape)?;
+            uses(shape, &mut marks)?;
             Ok(marks)
         }
     }
 }
 
 /// The places that the definition at a place leads to.
-fn row_of<'a>(
+fn row_of<'t, 'a>(
     alloc: Global,
-    types: &Types<'a, 'a>,
+    types: &Types<'t, 'a>,
     place: usize,
 ) -> Result<Vec<usize>, ResolveError>
     ensures { Settles (λ v. v.items) result (Ok (places types.now (uses_in (typing.shape_at types.now place)))) }
@@ -82,7 +86,7 @@ fn row_of<'a>(
 }
 
 /// The graph of type names: from each definition an edge to that of each name in its shape.
-fn graph_of<'a>(alloc: Global, types: &Types<'a, 'a>) -> Result<Graph, ResolveError>
+fn graph_of<'t, 'a>(alloc: Global, types: &Types<'t, 'a>) -> Result<Graph, ResolveError>
     ensures { Settles (λ g. g) result (Ok (graph_of types.now)) }
 {
     let mut graph = Graph::new(alloc);
@@ -94,7 +98,7 @@ fn graph_of<'a>(alloc: Global, types: &Types<'a, 'a>) -> Result<Graph, ResolveEr
 
 /// Of each definition whether it holds itself.
 #[tactic(auto, unfolding(crate::specs::Circles::circles_in))]
-pub fn circles_in<'a>(alloc: Global, types: &Types<'a, 'a>) -> Result<Vec<bool>, ResolveError>
+pub fn circles_in<'t, 'a>(alloc: Global, types: &Types<'t, 'a>) -> Result<Vec<bool>, ResolveError>
     ensures { Settles (λ v. v.items) result (Ok (circles_in types.now)) }
 {
     let graph = graph_of(alloc, types)?;

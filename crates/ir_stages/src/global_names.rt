@@ -12,10 +12,10 @@ use ir_names::{Globals, NameSet, ResolveError, name_of};
 use ir_read::Name;
 use std::alloc::Global;
 
-fn with_name<'a>(
+fn with_name<'t, 'a>(
     alloc: Global,
     names: &mut NameSet<'a>,
-    mark: &Mark<'a>,
+    mark: &Mark<'t, 'a>,
 ) -> Result<(), ResolveError>
     ensures { Settles (λ _. names.new) result (Ok (stages.global_names names.old (standing mark.now))) }
 {
@@ -26,7 +26,7 @@ fn with_name<'a>(
 }
 
 /// The names of all globals of a module.
-fn global_names<'a>(alloc: Global, rows: &[Mark<'a>]) -> Result<NameSet<'a>, ResolveError>
+fn global_names<'t, 'a>(rows: &[Mark<'t, 'a>], alloc: Global) -> Result<NameSet<'a>, ResolveError>
     ensures { Settles (λ s. s) result (Ok (stages.global_names [] (marks rows.now))) }
 {
     let mut names = NameSet::new(alloc);
@@ -47,11 +47,11 @@ fn if_there<'a>(alloc: Global, names: &NameSet<'a>, name: &Name<'a>) -> Result<(
     }
 }
 
-fn named<'a>(
+fn named<'t, 'a>(
     alloc: Global,
     names: &NameSet<'a>,
     globals: &mut Globals<'a>,
-    mark: &Mark<'a>,
+    mark: &Mark<'t, 'a>,
 ) -> Result<(), ResolveError>
     ensures { Settles (λ _. globals.new) result (stages.all_named names.now globals.old (standing mark.now)) }
 {
@@ -63,10 +63,10 @@ fn named<'a>(
     }
 }
 
-fn all_named<'a>(
+fn all_named<'t, 'a>(
+    rows: &[Mark<'t, 'a>],
     alloc: Global,
     names: &NameSet<'a>,
-    rows: &[Mark<'a>],
 ) -> Result<Globals<'a>, ResolveError>
     ensures { Settles (λ g. g) result (stages.all_named names.now no_globals (marks rows.now)) }
 {
@@ -80,10 +80,10 @@ fn all_named<'a>(
 /// The names of globals of a module. A fault is at the first token that defines or declares a global a second
 /// time, or as a number below the counter, or that uses one which is neither.
 #[tactic(auto, unfolding(ir_names::specs::Stages::globals_named))]
-pub fn globals_in<'a>(alloc: Global, marks: &Marks<'a>) -> Result<Globals<'a>, ResolveError>
+pub fn globals_in<'t, 'a>(alloc: Global, marks: &Marks<'t, 'a>) -> Result<Globals<'a>, ResolveError>
     ensures { Settles (λ g. g) result (stages.globals_named marks.now) }
 {
     let rows = marks.as_slice();
-    let names = global_names(alloc, rows)?;
-    all_named(alloc, &names, rows)
+    let names = global_names(rows, alloc)?;
+    all_named(rows, alloc, &names)
 }

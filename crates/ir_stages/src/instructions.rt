@@ -9,7 +9,10 @@ use std::alloc::AllocError;
 
 /// A global that an operand names, or the constant address that it is.
 #[tactic(auto, using(crate::proofs::Gathering::joined))]
-pub fn operand_marks<'a>(marks: &mut Marks<'a>, operand: &'a Operand<'a>) -> Result<(), AllocError>
+pub fn operand_marks<'t, 'a>(
+    operand: &'t Operand<'a>,
+    marks: &mut Marks<'t, 'a>,
+) -> Result<(), AllocError>
     ensures { OnOk result (marks.new ≡ marks.old ++ marked.operand_marks operand.now) }
 {
     match operand {
@@ -17,122 +20,125 @@ pub fn operand_marks<'a>(marks: &mut Marks<'a>, operand: &'a Operand<'a>) -> Res
         Operand::Address(address) => {
             let steps = address.steps();
             marks.push(Mark::Address(steps))?;
-            level_uses(marks, steps.levels.as_slice())
+            level_uses(steps.levels.as_slice(), marks)
         }
         _ => Ok(()),
     }
 }
 
 #[tactic(auto, using(crate::proofs::Gathering::joined))]
-fn both<'a>(
-    marks: &mut Marks<'a>,
-    left: &'a Operand<'a>,
-    right: &'a Operand<'a>,
+fn both<'t, 'a>(
+    left: &'t Operand<'a>,
+    right: &'t Operand<'a>,
+    marks: &mut Marks<'t, 'a>,
 ) -> Result<(), AllocError>
     ensures { OnOk result (marks.new ≡ marks.old ++ marked.both left.now right.now) }
 {
-    operand_marks(marks, left)?;
-    operand_marks(marks, right)
+    operand_marks(left, marks)?;
+    operand_marks(right, marks)
 }
 
-fn entries<'a>(marks: &mut Marks<'a>, incoming: &'a [Incoming<'a>]) -> Result<(), AllocError>
+fn entries<'t, 'a>(
+    incoming: &'t [Incoming<'a>],
+    marks: &mut Marks<'t, 'a>,
+) -> Result<(), AllocError>
     ensures { OnOk result (marks.new ≡ marks.old ++ marked.all (λ i. marked.operand_marks i.value) incoming.now) }
 {
     'each: for entry in incoming {
-        operand_marks(marks, &entry.value)?;
+        operand_marks(&entry.value, marks)?;
     }
     Ok(())
 }
 
-fn arguments<'a>(marks: &mut Marks<'a>, given: &'a [Argument<'a>]) -> Result<(), AllocError>
+fn arguments<'t, 'a>(given: &'t [Argument<'a>], marks: &mut Marks<'t, 'a>) -> Result<(), AllocError>
     ensures { OnOk result (marks.new ≡ marks.old ++ marked.all (λ a. marked.operand_marks a.operand) given.now) }
 {
     'each: for argument in given {
-        operand_marks(marks, &argument.operand)?;
+        operand_marks(&argument.operand, marks)?;
     }
     Ok(())
 }
 
 /// The marks of an instruction.
 #[tactic(auto, using(crate::proofs::Gathering::joined))]
-fn instr_marks<'a>(marks: &mut Marks<'a>, instr: &'a Instr<'a>) -> Result<(), AllocError>
+fn instr_marks<'t, 'a>(instr: &'t Instr<'a>, marks: &mut Marks<'t, 'a>) -> Result<(), AllocError>
     ensures { OnOk result (marks.new ≡ marks.old ++ marked.instr_marks instr.now) }
 {
     match instr {
         Instr::Binary { left, right, .. } | Instr::Icmp { left, right, .. } => {
-            both(marks, left, right)
+            both(left, right, marks)
         }
-        Instr::Cast { value, .. } | Instr::Freeze { value, .. } => operand_marks(marks, value),
+        Instr::Cast { value, .. } | Instr::Freeze { value, .. } => operand_marks(value, marks),
         Instr::Select {
             condition,
             if_true,
             if_false,
         } => {
-            operand_marks(marks, condition)?;
-            both(marks, &if_true.operand, &if_false.operand)
+            operand_marks(condition, marks)?;
+            both(&if_true.operand, &if_false.operand, marks)
         }
-        Instr::Phi { incoming, .. } => entries(marks, incoming.as_slice()),
-        Instr::Alloca { typed, .. } => {
-            marks.push(Mark::Alloca(instr))?;
-            uses(marks, &typed.shape)
+        Instr::Phi { incoming, .. } => entries(incoming.as_slice(), marks),
+        Instr::Alloca { typed, count, .. } => {
+            marks.push(Mark::Alloca(typed, *count))?;
+            uses(&typed.shape, marks)
         }
-        Instr::Load { address, .. } => operand_marks(marks, address),
-        Instr::Store { value, address, .. } => both(marks, value, address),
+        Instr::Load { address, .. } => operand_marks(address, marks),
+        Instr::Store { value, address, .. } => both(value, address, marks),
         Instr::Address {
             typed,
             base,
             indices,
             ..
         } => {
-            typed_marks(marks, typed)?;
-            operand_marks(marks, base)?;
-            arguments(marks, indices.as_slice())
+            typed_marks(typed, marks)?;
+            operand_marks(base, marks)?;
+            arguments(indices.as_slice(), marks)
         }
         Instr::Call {
             callee,
             arguments: given,
             ..
         } => {
-            operand_marks(marks, callee)?;
-            arguments(marks, given.as_slice())
+            operand_marks(callee, marks)?;
+            arguments(given.as_slice(), marks)
         }
     }
 }
 
-fn lines<'a>(marks: &mut Marks<'a>, rows: &'a [Line<'a>]) -> Result<(), AllocError>
+fn lines<'t, 'a>(rows: &'t [Line<'a>], marks: &mut Marks<'t, 'a>) -> Result<(), AllocError>
     ensures { OnOk result (marks.new ≡ marks.old ++ marked.all (λ l. marked.instr_marks l.instr) rows.now) }
 {
     'each: for line in rows {
-        instr_marks(marks, &line.instr)?;
+        instr_marks(&line.instr, marks)?;
     }
     Ok(())
 }
 
-fn end_marks<'a>(marks: &mut Marks<'a>, end: &'a Terminator<'a>) -> Result<(), AllocError>
+fn end_marks<'t, 'a>(end: &'t Terminator<'a>, marks: &mut Marks<'t, 'a>) -> Result<(), AllocError>
     ensures { OnOk result (marks.new ≡ marks.old ++ marked.end_marks end.now) }
 {
     match end {
-        Terminator::Return(Some(argument)) => operand_marks(marks, &argument.operand),
-        Terminator::Branch { condition, .. } => operand_marks(marks, condition),
-        Terminator::Switch { value, .. } => operand_marks(marks, value),
+        Terminator::Return(Some(argument)) => operand_marks(&argument.operand, marks),
+        Terminator::Branch { condition, .. } => operand_marks(condition, marks),
+        Terminator::Switch { value, .. } => operand_marks(value, marks),
         Terminator::Return(None) | Terminator::Jump(_) | Terminator::Unreachable => Ok(()),
     }
 }
 
 #[tactic(auto, using(crate::proofs::Gathering::joined))]
-fn block_marks<'a>(marks: &mut Marks<'a>, block: &'a Block<'a>) -> Result<(), AllocError>
+fn block_marks<'t, 'a>(block: &'t Block<'a>, marks: &mut Marks<'t, 'a>) -> Result<(), AllocError>
     ensures { OnOk result (marks.new ≡ marks.old ++ marked.block_marks block.now) }
 {
-    lines(marks, block.lines.as_slice())?;
-    end_marks(marks, &block.end)
+    lines(block.lines.as_slice(), marks)?;
+    end_marks(&block.end, marks)
 }
 
 /// The marks of the blocks of a function.
-pub fn blocks<'a>(marks: &mut Marks<'a>, rows: &'a [Block<'a>]) -> Result<(), AllocError>
+pub fn blocks<'t, 'a>(rows: &'t [Block<'a>], marks: &mut Marks<'t, 'a>) -> Result<(), AllocError>
     ensures { OnOk result (marks.new ≡ marks.old ++ marked.all marked.block_marks rows.now) }
 {
     'each: for block in rows {
-        block_marks(marks, block)?;
+        block_marks(block, marks)?;
     }
     Ok(())
 }

@@ -8,73 +8,79 @@ use crate::uses::{typed_marks, uses_if};
 use ir_read::{Init, InitHead, InitPart, Item, Variable};
 use std::alloc::AllocError;
 
-fn head_marks<'a>(marks: &mut Marks<'a>, head: &'a InitHead<'a>) -> Result<(), AllocError>
+fn head_marks<'t, 'a>(head: &'t InitHead<'a>, marks: &mut Marks<'t, 'a>) -> Result<(), AllocError>
     ensures { OnOk result (marks.new ≡ marks.old ++ marked.head_marks head.now) }
 {
     match head {
-        InitHead::Plain(operand) => operand_marks(marks, operand),
+        InitHead::Plain(operand) => operand_marks(operand, marks),
         _ => Ok(()),
     }
 }
 
 #[tactic(auto, using(crate::proofs::Gathering::joined))]
-fn part_marks<'a>(marks: &mut Marks<'a>, part: &'a InitPart<'a>) -> Result<(), AllocError>
+fn part_marks<'t, 'a>(part: &'t InitPart<'a>, marks: &mut Marks<'t, 'a>) -> Result<(), AllocError>
     ensures { OnOk result (marks.new ≡ marks.old ++ marked.part_marks part.now) }
 {
     match part {
         InitPart::Typed { typed, head } => {
-            typed_marks(marks, typed)?;
-            head_marks(marks, head)
+            typed_marks(typed, marks)?;
+            head_marks(head, marks)
         }
         InitPart::End => Ok(()),
     }
 }
 
-fn all_parts<'a>(marks: &mut Marks<'a>, parts: &'a [InitPart<'a>]) -> Result<(), AllocError>
+fn all_parts<'t, 'a>(parts: &'t [InitPart<'a>], marks: &mut Marks<'t, 'a>) -> Result<(), AllocError>
     ensures { OnOk result (marks.new ≡ marks.old ++ marked.all marked.part_marks parts.now) }
 {
     'each: for part in parts {
-        part_marks(marks, part)?;
+        part_marks(part, marks)?;
     }
     Ok(())
 }
 
 #[tactic(auto, using(crate::proofs::Gathering::joined))]
-fn init_marks<'a>(marks: &mut Marks<'a>, init: &'a Option<Init<'a>>) -> Result<(), AllocError>
+fn init_marks<'t, 'a>(
+    init: &'t Option<Init<'a>>,
+    marks: &mut Marks<'t, 'a>,
+) -> Result<(), AllocError>
     ensures { OnOk result (marks.new ≡ marks.old ++ marked.init_marks init.now) }
 {
     match init {
         None => Ok(()),
         Some(init) => {
-            head_marks(marks, &init.root)?;
-            all_parts(marks, init.parts.as_slice())
+            head_marks(&init.root, marks)?;
+            all_parts(init.parts.as_slice(), marks)
         }
     }
 }
 
 #[tactic(auto, using(crate::proofs::Gathering::joined))]
-fn variable_marks<'a>(marks: &mut Marks<'a>, variable: &'a Variable<'a>) -> Result<(), AllocError>
+fn variable_marks<'t, 'a>(
+    variable: &'t Variable<'a>,
+    marks: &mut Marks<'t, 'a>,
+) -> Result<(), AllocError>
     ensures { OnOk result (marks.new ≡ marks.old ++ marked.variable_marks variable.now) }
 {
     marks.push(Mark::Global(&variable.name))?;
-    typed_marks(marks, &variable.typed)?;
-    init_marks(marks, &variable.init)
+    typed_marks(&variable.typed, marks)?;
+    init_marks(&variable.init, marks)
 }
 
 #[tactic(auto, using(crate::proofs::Gathering::joined))]
-fn item_marks<'a>(marks: &mut Marks<'a>, item: &'a Item<'a>) -> Result<(), AllocError>
+fn item_marks<'t, 'a>(item: &'t Item<'a>, marks: &mut Marks<'t, 'a>) -> Result<(), AllocError>
     ensures { OnOk result (marks.new ≡ marks.old ++ marked.item_marks item.now) }
 {
     match item {
         Item::Type(name, typed) => {
             marks.push(Mark::TypeName(name, typed))?;
-            uses_if(marks, typed)
+            uses_if(typed, marks)
         }
-        Item::Variable(variable) => variable_marks(marks, variable),
+        Item::Variable(variable) => variable_marks(variable, marks),
         Item::Declaration(head) => marks.push(Mark::Global(&head.name)),
         Item::Definition(head, body) => {
             marks.push(Mark::Global(&head.name))?;
-            blocks(marks, body.as_slice())
+            blocks(body.as_slice(), marks)
         }
         _ => Ok(()),
     }
@@ -82,11 +88,11 @@ fn item_marks<'a>(marks: &mut Marks<'a>, item: &'a Item<'a>) -> Result<(), Alloc
 
 /// Keeps what names a type or a global in the items of a module, and what has a shape, in the order of the
 /// text.
-pub fn gather<'a>(marks: &mut Marks<'a>, items: &'a [Item<'a>]) -> Result<(), AllocError>
+pub fn gather<'t, 'a>(items: &'t [Item<'a>], marks: &mut Marks<'t, 'a>) -> Result<(), AllocError>
     ensures { OnOk result (marks.new ≡ marks.old ++ marked.marks_of items.now) }
 {
     'each: for item in items {
-        item_marks(marks, item)?;
+        item_marks(item, marks)?;
     }
     Ok(())
 }

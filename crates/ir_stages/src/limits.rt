@@ -1,19 +1,18 @@
 //! Shapes within the limits, and indices of constant addresses (LangRef, "getelementptr Instruction").
 ghost use Rattle.std.specs.Prelude.{◌≡◌};
+ghost use Rattle.ir_names.specs.Marks as marked;
 ghost use Rattle.ir_names.specs.Settled.{Settles};
 ghost use Rattle.ir_names.specs.Stages as stages;
-ghost use Rattle.ir_stages.specs.MarkViews.{standing, reserved, marks};
 
-use crate::mark::{Mark, Marks};
-use ir_names::{Locals, ResolveError, Types, address_offset, expanded, instr_in};
-use ir_read::{Instr, Level, Steps, Typed};
+use ir_names::{ResolveError, Types, address_offset, expanded};
+use ir_read::{Level, Operand, Steps, Typed};
 use std::alloc::Global;
 
 /// The shapes of a constant address, whose outermost level is the last one and begins first.
-fn levels_within<'a>(
+fn levels_within<'t, 'a>(
+    levels: &'t [Level<'a>],
     alloc: Global,
-    types: &Types<'a, 'a>,
-    levels: &'a [Level<'a>],
+    types: &Types<'t, 'a>,
 ) -> Result<(), ResolveError>
     ensures { Settles (λ u. u) result (stages.levels_within types.now levels.now) }
 {
@@ -26,23 +25,52 @@ fn levels_within<'a>(
 }
 
 /// The shapes of a constant address, and then its indices.
-fn address_within<'a>(
+fn address_within<'t, 'a>(
+    steps: &'t Steps<'a>,
     alloc: Global,
-    types: &Types<'a, 'a>,
-    steps: &'a Steps<'a>,
+    types: &Types<'t, 'a>,
 ) -> Result<(), ResolveError>
     ensures { Settles (λ u. u) result (stages.address_within types.now steps.now) }
 {
     let levels = steps.levels.as_slice();
-    levels_within(alloc, types, levels)?;
+    levels_within(levels, alloc, types)?;
     address_offset(alloc, types, levels)?;
     Ok(())
 }
 
-fn typed_within<'a>(
+/// The constant address that an operand is.
+#[tactic(auto, using(crate::proofs::Within::address_passes))]
+pub fn operand_within<'t, 'a>(
+    operand: &'t Operand<'a>,
     alloc: Global,
-    types: &Types<'a, 'a>,
-    typed: &'a Option<Typed<'a>>,
+    types: &Types<'t, 'a>,
+) -> Result<(), ResolveError>
+    ensures { Settles (λ u. u) result (stages.marks_within types.now (marked.operand_marks operand.now)) }
+{
+    match operand {
+        Operand::Address(address) => address_within(address.steps(), alloc, types),
+        _ => Ok(()),
+    }
+}
+
+/// A shape as it is written somewhere.
+#[tactic(auto, using(crate::proofs::Within::shape_passes))]
+pub fn shape_within<'t, 'a>(
+    typed: &'t Typed<'a>,
+    alloc: Global,
+    types: &Types<'t, 'a>,
+) -> Result<(), ResolveError>
+    ensures { Settles (λ u. u) result (stages.marks_within types.now (marked.typed_marks typed.now)) }
+{
+    expanded(alloc, types, typed)?;
+    Ok(())
+}
+
+/// The shape of a type name, where it isn't opaque.
+pub fn typed_within<'t, 'a>(
+    typed: &'t Option<Typed<'a>>,
+    alloc: Global,
+    types: &Types<'t, 'a>,
 ) -> Result<(), ResolveError>
     ensures { Settles (λ u. u) result (stages.typed_within types.now typed.now) }
 {
@@ -50,65 +78,4 @@ fn typed_within<'a>(
         expanded(alloc, types, typed)?;
     }
     Ok(())
-}
-
-/// The shape of an `alloca` with its count.
-fn reserved_within<'a>(
-    alloc: Global,
-    types: &Types<'a, 'a>,
-    instr: &'a Instr<'a>,
-) -> Result<(), ResolveError>
-    ensures { Settles (λ u. u) result (stages.marks_within types.now (reserved instr.now)) }
-{
-    match instr {
-        Instr::Alloca { .. } => {
-            instr_in(alloc, types, &Locals::new(alloc), instr)?;
-            Ok(())
-        }
-        _ => Ok(()),
-    }
-}
-
-fn mark_within<'a>(
-    alloc: Global,
-    types: &Types<'a, 'a>,
-    mark: &Mark<'a>,
-) -> Result<(), ResolveError>
-    ensures { Settles (λ u. u) result (stages.marks_within types.now (standing mark.now)) }
-{
-    match mark {
-        Mark::TypeName(_, typed) => typed_within(alloc, types, typed),
-        Mark::Shape(typed) => {
-            expanded(alloc, types, typed)?;
-            Ok(())
-        }
-        Mark::Alloca(instr) => reserved_within(alloc, types, instr),
-        Mark::Address(steps) => address_within(alloc, types, steps),
-        Mark::TypeUse(_) | Mark::Global(_) | Mark::Symbol(_) => Ok(()),
-    }
-}
-
-fn marks_within<'a>(
-    alloc: Global,
-    types: &Types<'a, 'a>,
-    rows: &[Mark<'a>],
-) -> Result<(), ResolveError>
-    ensures { Settles (λ u. u) result (stages.marks_within types.now (marks rows.now)) }
-{
-    'each: for mark in rows {
-        mark_within(alloc, types, mark)?;
-    }
-    Ok(())
-}
-
-/// Whether each shape of a module is within the limits as it is expanded, and each index of a constant
-/// address counts a part. A fault is at the first token in the order of the text.
-pub fn shapes_within<'a>(
-    alloc: Global,
-    types: &Types<'a, 'a>,
-    marks: &Marks<'a>,
-) -> Result<(), ResolveError>
-    ensures { Settles (λ u. u) result (stages.marks_within types.now marks.now) }
-{
-    marks_within(alloc, types, marks.as_slice())
 }

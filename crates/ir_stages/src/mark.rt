@@ -2,36 +2,36 @@
 ghost use Rattle.std.specs.Prelude.{◌≡◌, [], ◌++◌, OnOk};
 ghost use Rattle.ir_stages.specs.MarkViews.{standing, marks};
 
-use ir_read::{Instr, Name, Steps, Typed};
+use ir_read::{Name, Steps, Typed};
 use std::alloc::{AllocError, Global};
 use std::marker::Model;
 
 /// A place of a module that names a type or a global, or that has a shape.
 #[derive(Clone, Copy)]
-pub enum Mark<'a> {
+pub enum Mark<'t, 'a> {
     /// A type name that is defined, and its shape where it isn't opaque.
-    TypeName(&'a Name<'a>, &'a Option<Typed<'a>>),
+    TypeName(&'t Name<'a>, &'t Option<Typed<'a>>),
     /// A type name that is used.
-    TypeUse(&'a Name<'a>),
+    TypeUse(&'t Name<'a>),
     /// A shape. The names in it stand behind it.
-    Shape(&'a Typed<'a>),
-    /// An instruction that is an `alloca`. The names in its shape stand behind it.
-    Alloca(&'a Instr<'a>),
+    Shape(&'t Typed<'a>),
+    /// The shape of an `alloca`, and how many of it. The names in it stand behind it.
+    Alloca(&'t Typed<'a>, u64),
     /// A global that is defined or declared.
-    Global(&'a Name<'a>),
+    Global(&'t Name<'a>),
     /// A global that is used.
-    Symbol(&'a Name<'a>),
+    Symbol(&'t Name<'a>),
     /// A constant address. The names in its shapes stand behind it.
-    Address(&'a Steps<'a>),
+    Address(&'t Steps<'a>),
 }
 
 /// The marks of a module, in the order of its text.
 #[derive(Drop)]
-pub struct Marks<'a> {
-    rows: Vec<Mark<'a>>,
+pub struct Marks<'t, 'a> {
+    rows: Vec<Mark<'t, 'a>>,
 }
 
-impl<'a> Model for Marks<'a> {
+impl<'t, 'a> Model for Marks<'t, 'a> {
     ghost use Rattle.std.specs.Prelude.{List};
     ghost use Rattle.ir_names.specs.Marks.{Mark};
     ghost use Rattle.ir_stages.specs.MarkCode.{mark_code};
@@ -48,9 +48,9 @@ impl<'a> Model for Marks<'a> {
     ghost view = { λ m. marks m.rows.items };
 }
 
-impl<'a> Marks<'a> {
+impl<'t, 'a> Marks<'t, 'a> {
     /// No mark.
-    pub fn new(alloc: Global) -> Marks<'a>
+    pub fn new(alloc: Global) -> Marks<'t, 'a>
         ensures { result ≡ [] }
     {
         Marks {
@@ -59,7 +59,7 @@ impl<'a> Marks<'a> {
     }
 
     /// One more mark.
-    pub fn push(&mut self, mark: Mark<'a>) -> Result<(), AllocError>
+    pub fn push(&mut self, mark: Mark<'t, 'a>) -> Result<(), AllocError>
         ensures { OnOk result (self.new ≡ self.old ++ standing mark.entry) }
     {
         self.rows.push(mark)?;
@@ -67,7 +67,7 @@ impl<'a> Marks<'a> {
     }
 
     /// The marks.
-    pub fn as_slice(&self) -> &[Mark<'a>]
+    pub fn as_slice(&self) -> &[Mark<'t, 'a>]
         ensures { marks result.now ≡ self.now }
     {
         &self.rows

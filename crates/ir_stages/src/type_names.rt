@@ -26,7 +26,7 @@ pub fn unknown(line: u32) -> ResolveError
 }
 
 /// The shape of a type name that isn't opaque.
-fn shape_if<'a>(typed: &'a Option<Typed<'a>>) -> Option<&'a Shape<'a>>
+fn shape_if<'t, 'a>(typed: &'t Option<Typed<'a>>) -> Option<&'t Shape<'a>>
     ensures { option_copied result ≡ typing.shape_if typed.now }
 {
     match typed {
@@ -35,10 +35,10 @@ fn shape_if<'a>(typed: &'a Option<Typed<'a>>) -> Option<&'a Shape<'a>>
     }
 }
 
-fn with_first<'a>(
+fn with_first<'t, 'a>(
     alloc: Global,
-    types: &mut Types<'a, 'a>,
-    mark: &Mark<'a>,
+    types: &mut Types<'t, 'a>,
+    mark: &Mark<'t, 'a>,
 ) -> Result<(), ResolveError>
     ensures { Settles (λ _. types.new) result (Ok (first_types types.old (standing mark.now))) }
 {
@@ -49,7 +49,7 @@ fn with_first<'a>(
 }
 
 /// The first definition of each type name.
-fn first_types<'a>(alloc: Global, rows: &[Mark<'a>]) -> Result<Types<'a, 'a>, ResolveError>
+fn first_types<'t, 'a>(alloc: Global, rows: &[Mark<'t, 'a>]) -> Result<Types<'t, 'a>, ResolveError>
     ensures { Settles (λ t. t) result (Ok (first_types [] (marks rows.now))) }
 {
     let mut types = Types::new(alloc);
@@ -60,9 +60,9 @@ fn first_types<'a>(alloc: Global, rows: &[Mark<'a>]) -> Result<Types<'a, 'a>, Re
 }
 
 /// Whether the definition of a name holds itself.
-fn holds_itself<'a>(
+fn holds_itself<'t, 'a>(
     alloc: Global,
-    all: &Types<'a, 'a>,
+    all: &Types<'t, 'a>,
     circles: &[bool],
     name: &Name<'a>,
 ) -> Result<bool, ResolveError>
@@ -84,9 +84,9 @@ fn is_marked(circles: &[bool], place: Option<usize>) -> bool
 }
 
 /// A type name that is used: it is defined, not opaque, and doesn't hold itself.
-fn use_in<'a>(
+fn use_in<'t, 'a>(
     alloc: Global,
-    all: &Types<'a, 'a>,
+    all: &Types<'t, 'a>,
     circles: &[bool],
     name: &Name<'a>,
 ) -> Result<(), ResolveError>
@@ -100,12 +100,12 @@ fn use_in<'a>(
     Ok(())
 }
 
-fn typed_by<'a>(
+fn typed_by<'t, 'a>(
     alloc: Global,
-    all: &Types<'a, 'a>,
+    all: &Types<'t, 'a>,
     circles: &[bool],
-    types: &mut Types<'a, 'a>,
-    mark: &Mark<'a>,
+    types: &mut Types<'t, 'a>,
+    mark: &Mark<'t, 'a>,
 ) -> Result<(), ResolveError>
     requires { circles.now ≡ circles_in all.now }
     ensures { Settles (λ _. types.new) result (all_typed all.now types.old (standing mark.now)) }
@@ -117,12 +117,12 @@ fn typed_by<'a>(
     }
 }
 
-fn all_typed<'a>(
+fn all_typed<'t, 'a>(
     alloc: Global,
-    all: &Types<'a, 'a>,
+    all: &Types<'t, 'a>,
     circles: &[bool],
-    rows: &[Mark<'a>],
-) -> Result<Types<'a, 'a>, ResolveError>
+    rows: &[Mark<'t, 'a>],
+) -> Result<Types<'t, 'a>, ResolveError>
     requires { circles.now ≡ circles_in all.now }
     ensures { Settles (λ t. t) result (all_typed all.now [] (marks rows.now)) }
 {
@@ -136,7 +136,7 @@ fn all_typed<'a>(
 /// The type names of a module. A fault is at the first token that defines a name a second time, or that uses
 /// one which isn't defined, is opaque, or holds itself.
 #[tactic(auto, unfolding(ir_names::specs::TypeNames::type_names))]
-pub fn types_in<'a>(alloc: Global, marks: &Marks<'a>) -> Result<Types<'a, 'a>, ResolveError>
+pub fn types_in<'t, 'a>(alloc: Global, marks: &Marks<'t, 'a>) -> Result<Types<'t, 'a>, ResolveError>
     ensures { Settles (λ t. t) result (type_names marks.now) }
 {
     let rows = marks.as_slice();

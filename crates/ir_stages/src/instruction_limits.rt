@@ -1,0 +1,205 @@
+//! Shapes and constant addresses of instructions and blocks (LangRef, "Instruction Reference").
+ghost use Rattle.std.specs.Prelude.{◌≡◌, ◌++◌};
+ghost use Rattle.ir_names.specs.Marks as marked;
+ghost use Rattle.ir_names.specs.Settled.{Settles};
+ghost use Rattle.ir_names.specs.Stages as stages;
+ghost use Rattle.ir_stages.specs.Reserved.{reserved};
+
+use crate::limits::{operand_within, shape_within};
+use ir_names::{Locals, ResolveError, Types, instr_in};
+use ir_read::{Argument, Block, Incoming, Instr, Line, Operand, Terminator, Typed};
+use std::alloc::Global;
+
+#[tactic(auto, using(crate::proofs::Within::behind))]
+fn both_within<'t, 'a>(
+    left: &'t Operand<'a>,
+    right: &'t Operand<'a>,
+    alloc: Global,
+    types: &Types<'t, 'a>,
+) -> Result<(), ResolveError>
+    ensures { Settles (λ u. u) result (stages.marks_within types.now (marked.both left.now right.now)) }
+{
+    operand_within(left, alloc, types)?;
+    operand_within(right, alloc, types)
+}
+
+#[tactic(auto, using(crate::proofs::Within::behind))]
+fn entries_within<'t, 'a>(
+    incoming: &'t [Incoming<'a>],
+    alloc: Global,
+    types: &Types<'t, 'a>,
+) -> Result<(), ResolveError>
+    ensures { Settles (λ u. u) result (stages.marks_within types.now (marked.all (λ i. marked.operand_marks i.value) incoming.now)) }
+{
+    'each: for entry in incoming {
+        operand_within(&entry.value, alloc, types)?;
+    }
+    Ok(())
+}
+
+#[tactic(auto, using(crate::proofs::Within::behind))]
+fn arguments_within<'t, 'a>(
+    given: &'t [Argument<'a>],
+    alloc: Global,
+    types: &Types<'t, 'a>,
+) -> Result<(), ResolveError>
+    ensures { Settles (λ u. u) result (stages.marks_within types.now (marked.all (λ a. marked.operand_marks a.operand) given.now)) }
+{
+    'each: for argument in given {
+        operand_within(&argument.operand, alloc, types)?;
+    }
+    Ok(())
+}
+
+/// The shape of an `alloca` with its count.
+#[tactic(auto, using(crate::proofs::Within::reserved_passes))]
+fn reserved_within<'t, 'a>(
+    instr: &'t Instr<'a>,
+    alloc: Global,
+    types: &Types<'t, 'a>,
+) -> Result<(), ResolveError>
+    ensures { Settles (λ u. u) result (stages.marks_within types.now (reserved instr.now)) }
+{
+    match instr {
+        Instr::Alloca { .. } => {
+            instr_in(alloc, types, &Locals::new(alloc), instr)?;
+            Ok(())
+        }
+        _ => Ok(()),
+    }
+}
+
+#[tactic(auto, using(crate::proofs::Within::behind))]
+fn choice_within<'t, 'a>(
+    condition: &'t Operand<'a>,
+    if_true: &'t Operand<'a>,
+    if_false: &'t Operand<'a>,
+    alloc: Global,
+    types: &Types<'t, 'a>,
+) -> Result<(), ResolveError>
+    ensures { Settles (λ u. u) result (stages.marks_within types.now (marked.operand_marks condition.now ++ marked.both if_true.now if_false.now)) }
+{
+    operand_within(condition, alloc, types)?;
+    both_within(if_true, if_false, alloc, types)
+}
+
+#[tactic(auto, using(crate::proofs::Within::behind))]
+fn call_within<'t, 'a>(
+    callee: &'t Operand<'a>,
+    given: &'t [Argument<'a>],
+    alloc: Global,
+    types: &Types<'t, 'a>,
+) -> Result<(), ResolveError>
+    ensures { Settles (λ u. u) result (stages.marks_within types.now (marked.operand_marks callee.now ++ marked.all (λ a. marked.operand_marks a.operand) given.now)) }
+{
+    operand_within(callee, alloc, types)?;
+    arguments_within(given, alloc, types)
+}
+
+/// A `getelementptr`: its shape, the address that it steps from, and its indices.
+#[tactic(auto, using(crate::proofs::Within::behind))]
+fn stepping_within<'t, 'a>(
+    typed: &'t Typed<'a>,
+    base: &'t Operand<'a>,
+    indices: &'t [Argument<'a>],
+    alloc: Global,
+    types: &Types<'t, 'a>,
+) -> Result<(), ResolveError>
+    ensures { Settles (λ u. u) result (stages.marks_within types.now (marked.typed_marks typed.now ++ (marked.operand_marks base.now ++ marked.all (λ a. marked.operand_marks a.operand) indices.now))) }
+{
+    shape_within(typed, alloc, types)?;
+    call_within(base, indices, alloc, types)
+}
+
+fn instr_within<'t, 'a>(
+    instr: &'t Instr<'a>,
+    alloc: Global,
+    types: &Types<'t, 'a>,
+) -> Result<(), ResolveError>
+    ensures { Settles (λ u. u) result (stages.marks_within types.now (marked.instr_marks instr.now)) }
+{
+    match instr {
+        Instr::Binary { left, right, .. } | Instr::Icmp { left, right, .. } => {
+            both_within(left, right, alloc, types)
+        }
+        Instr::Cast { value, .. } | Instr::Freeze { value, .. } => {
+            operand_within(value, alloc, types)
+        }
+        Instr::Select {
+            condition,
+            if_true,
+            if_false,
+        } => choice_within(condition, &if_true.operand, &if_false.operand, alloc, types),
+        Instr::Phi { incoming, .. } => entries_within(incoming.as_slice(), alloc, types),
+        Instr::Alloca { .. } => reserved_within(instr, alloc, types),
+        Instr::Load { address, .. } => operand_within(address, alloc, types),
+        Instr::Store { value, address, .. } => both_within(value, address, alloc, types),
+        Instr::Address {
+            typed,
+            base,
+            indices,
+            ..
+        } => stepping_within(typed, base, indices.as_slice(), alloc, types),
+        Instr::Call {
+            callee,
+            arguments: given,
+            ..
+        } => call_within(callee, given.as_slice(), alloc, types),
+    }
+}
+
+#[tactic(auto, using(crate::proofs::Within::behind))]
+fn lines_within<'t, 'a>(
+    rows: &'t [Line<'a>],
+    alloc: Global,
+    types: &Types<'t, 'a>,
+) -> Result<(), ResolveError>
+    ensures { Settles (λ u. u) result (stages.marks_within types.now (marked.all (λ l. marked.instr_marks l.instr) rows.now)) }
+{
+    'each: for line in rows {
+        instr_within(&line.instr, alloc, types)?;
+    }
+    Ok(())
+}
+
+fn end_within<'t, 'a>(
+    end: &'t Terminator<'a>,
+    alloc: Global,
+    types: &Types<'t, 'a>,
+) -> Result<(), ResolveError>
+    ensures { Settles (λ u. u) result (stages.marks_within types.now (marked.end_marks end.now)) }
+{
+    match end {
+        Terminator::Return(Some(argument)) => operand_within(&argument.operand, alloc, types),
+        Terminator::Branch { condition, .. } => operand_within(condition, alloc, types),
+        Terminator::Switch { value, .. } => operand_within(value, alloc, types),
+        Terminator::Return(None) | Terminator::Jump(_) | Terminator::Unreachable => Ok(()),
+    }
+}
+
+#[tactic(auto, using(crate::proofs::Within::behind))]
+fn block_within<'t, 'a>(
+    block: &'t Block<'a>,
+    alloc: Global,
+    types: &Types<'t, 'a>,
+) -> Result<(), ResolveError>
+    ensures { Settles (λ u. u) result (stages.marks_within types.now (marked.block_marks block.now)) }
+{
+    lines_within(block.lines.as_slice(), alloc, types)?;
+    end_within(&block.end, alloc, types)
+}
+
+/// The shapes and constant addresses of the blocks of a function.
+#[tactic(auto, using(crate::proofs::Within::behind))]
+pub fn blocks_within<'t, 'a>(
+    rows: &'t [Block<'a>],
+    alloc: Global,
+    types: &Types<'t, 'a>,
+) -> Result<(), ResolveError>
+    ensures { Settles (λ u. u) result (stages.marks_within types.now (marked.all marked.block_marks rows.now)) }
+{
+    'each: for block in rows {
+        block_within(block, alloc, types)?;
+    }
+    Ok(())
+}

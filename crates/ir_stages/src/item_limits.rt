@@ -1,0 +1,115 @@
+//! Shapes and constant addresses of the items of a module (LangRef, "Module Structure").
+ghost use Rattle.std.specs.Prelude.{◌≡◌};
+ghost use Rattle.ir_names.specs.Marks as marked;
+ghost use Rattle.ir_names.specs.Settled.{Settles};
+ghost use Rattle.ir_names.specs.Stages as stages;
+
+use crate::instruction_limits::blocks_within;
+use crate::limits::{operand_within, shape_within, typed_within};
+use ir_names::{ResolveError, Types};
+use ir_read::{Init, InitHead, InitPart, Item, Variable};
+use std::alloc::Global;
+
+fn head_within<'t, 'a>(
+    head: &'t InitHead<'a>,
+    alloc: Global,
+    types: &Types<'t, 'a>,
+) -> Result<(), ResolveError>
+    ensures { Settles (λ u. u) result (stages.marks_within types.now (marked.head_marks head.now)) }
+{
+    match head {
+        InitHead::Plain(operand) => operand_within(operand, alloc, types),
+        _ => Ok(()),
+    }
+}
+
+#[tactic(auto, using(crate::proofs::Within::behind))]
+fn part_within<'t, 'a>(
+    part: &'t InitPart<'a>,
+    alloc: Global,
+    types: &Types<'t, 'a>,
+) -> Result<(), ResolveError>
+    ensures { Settles (λ u. u) result (stages.marks_within types.now (marked.part_marks part.now)) }
+{
+    match part {
+        InitPart::Typed { typed, head } => {
+            shape_within(typed, alloc, types)?;
+            head_within(head, alloc, types)
+        }
+        InitPart::End => Ok(()),
+    }
+}
+
+#[tactic(auto, using(crate::proofs::Within::behind))]
+fn parts_within<'t, 'a>(
+    parts: &'t [InitPart<'a>],
+    alloc: Global,
+    types: &Types<'t, 'a>,
+) -> Result<(), ResolveError>
+    ensures { Settles (λ u. u) result (stages.marks_within types.now (marked.all marked.part_marks parts.now)) }
+{
+    'each: for part in parts {
+        part_within(part, alloc, types)?;
+    }
+    Ok(())
+}
+
+#[tactic(auto, using(crate::proofs::Within::behind))]
+fn init_within<'t, 'a>(
+    init: &'t Option<Init<'a>>,
+    alloc: Global,
+    types: &Types<'t, 'a>,
+) -> Result<(), ResolveError>
+    ensures { Settles (λ u. u) result (stages.marks_within types.now (marked.init_marks init.now)) }
+{
+    match init {
+        None => Ok(()),
+        Some(init) => {
+            head_within(&init.root, alloc, types)?;
+            parts_within(init.parts.as_slice(), alloc, types)
+        }
+    }
+}
+
+#[tactic(auto, using(crate::proofs::Within::behind))]
+fn variable_within<'t, 'a>(
+    variable: &'t Variable<'a>,
+    alloc: Global,
+    types: &Types<'t, 'a>,
+) -> Result<(), ResolveError>
+    ensures { Settles (λ u. u) result (stages.marks_within types.now (marked.variable_marks variable.now)) }
+{
+    shape_within(&variable.typed, alloc, types)?;
+    init_within(&variable.init, alloc, types)
+}
+
+fn item_within<'t, 'a>(
+    item: &'t Item<'a>,
+    alloc: Global,
+    types: &Types<'t, 'a>,
+) -> Result<(), ResolveError>
+    ensures { Settles (λ u. u) result (stages.marks_within types.now (marked.item_marks item.now)) }
+{
+    match item {
+        Item::Type(_, typed) => typed_within(typed, alloc, types),
+        Item::Variable(variable) => variable_within(variable, alloc, types),
+        Item::Definition(_, body) => blocks_within(body.as_slice(), alloc, types),
+        _ => Ok(()),
+    }
+}
+
+/// Whether each shape of a module is within the limits as it is expanded, and each index of a constant
+/// address counts a part. A fault is at the first token in the order of the text.
+#[tactic(auto, using(crate::proofs::Within::behind))]
+pub fn shapes_within<'t, 'a>(
+    items: &'t [Item<'a>],
+    alloc: Global,
+    types: &Types<'t, 'a>,
+) -> Result<(), ResolveError>
+    ensures { Settles (λ u. u) result (stages.marks_within types.now (marked.marks_of items.now)) }
+{
+    'each: for item in items {
+        item_within(item, alloc, types)?;
+    }
+    Ok(())
+}
