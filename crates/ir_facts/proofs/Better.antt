@@ -46,7 +46,7 @@ settled_free (Address inbounds shape o is) e = absurd (cc e)
 settled_free (Call result o args) e = absurd (cc e)
 settled_free (StrayPhi reg es) e = absurd (cc e)
 
-never_chooses : (i : Instr) → may_settle i ≡ false → may_choose i ≡ false
+pub never_chooses : (i : Instr) → may_settle i ≡ false → may_choose i ≡ false
 never_chooses (Freeze reg o) e = absurd (cc e)
 never_chooses (Icmp p (Int w) l r) e = refl
 never_chooses (Icmp p Ptr l r) e = absurd (cc e)
@@ -67,7 +67,7 @@ constant_kept s Null h = tt
 constant_kept s (PoisonOf reg) h = tt
 constant_kept s (Named t i) h = tt
 
-all_kept : (v : Operand) → IsKept (λ y. true) v
+pub all_kept : (v : Operand) → IsKept (λ y. true) v
 all_kept (Local x) = refl
 all_kept (Constant w n) = tt
 all_kept Null = tt

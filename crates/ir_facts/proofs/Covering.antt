@@ -8,7 +8,7 @@ use Rattle.std.proofs.lemmas.List.Folds.{list_any-append}
 use Rattle.std.proofs.lemmas.List.Sums.{sum_by-cons}
 use Rattle.ir_tree.specs.Flow.{Among, AtEnds, AvailableAt, IsJustified, Justified, availability, defined_before, defined_in, edges, entry_row, holds, line_count, parameters, phi_locals, results}
 use Rattle.ir_tree.specs.Formed.{IsBlock, ItemFormed}
-use Rattle.ir_tree.specs.Items.{Item, phi_item, line_item, end_item, block_items, end_reads, entries, items, items_from, lines_from, reads, typed}
+use Rattle.ir_tree.specs.Items.{Item, phi_item, line_item, end_item, block_items, end_reads, items, items_from, lines_from, reads, typed}
 use Rattle.ir_tree.specs.Rules.{EntriesThere, HasEdges, IsThere, IsThereAtEnd, ReadsThere, Sound, StandsRight, place}
 use Rattle.ir_tree.specs.declared.block.Block.{Block}
 use Rattle.ir_tree.specs.declared.block.Terminator.{Terminator}

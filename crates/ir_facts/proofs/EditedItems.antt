@@ -3,7 +3,7 @@ use Rattle.std.proofs.Common.{◌≡◌, ℕ, suc, List, [], ◌∷◌, ◌++◌
 use Rattle.std.specs.Prelude.{flat_map, filter_map}
 use Rattle.std.specs.List.{cons_option}
 use Rattle.std.proofs.lemmas.List.{map-append}
-use Rattle.ir_tree.specs.Flow.{holds, locals}
+use Rattle.ir_tree.specs.Flow.{holds}
 use Rattle.ir_tree.specs.Formed.{OperandFormed}
 use Rattle.ir_tree.specs.Items.{Item, phi_item, line_item, end_item, block_items, end_reads, items, items_from, lines_from, operands, phi_reads, reads, taken_as, typed}
 use Rattle.ir_tree.specs.Rules.{Typing, block_typings, line_typing, result_type, type_of, typing, typings}

@@ -40,7 +40,7 @@ Held c s fs = (x : ℕ) (v : Operand) → s x ≡ true → c x ≡ Some v → Ha
 abbrev pub Known : (ℕ → Option Operand) → Facts → Type 0
 Known c fs = (x : ℕ) (v : Operand) → Has fs x v → c x ≡ Some v
 
-without_has : (y x : ℕ) (v : Operand) (fs : Facts) → (y ≡ x → ⊥) → is_local y v ≡ false → Has fs x v → Has (without y fs) x v
+pub without_has : (y x : ℕ) (v : Operand) (fs : Facts) → (y ≡ x → ⊥) → is_local y v ≡ false → Has fs x v → Has (without y fs) x v
 without_has y x v [] ne out h = absurd h
 without_has y x v ((z, u) ∷ fs) ne out h = by ((z == y) || is_local y u) refl h (λ h'. without_has y x v fs ne out h')
   where
@@ -54,7 +54,7 @@ without_has y x v ((z, u) ∷ fs) ne out h = by ((z == y) || is_local y u) refl 
           | inr is ↦ false≢true (sym out ∙ sym (ap (is_local y) e.1) ∙ is)
         ])
 
-without_had : (y x : ℕ) (v : Operand) (fs : Facts) → Has (without y fs) x v → Has fs x v
+pub without_had : (y x : ℕ) (v : Operand) (fs : Facts) → Has (without y fs) x v → Has fs x v
 without_had y x v [] h = h
 without_had y x v ((z, u) ∷ fs) h = by ((z == y) || is_local y u) h (λ h'. without_had y x v fs h')
   where

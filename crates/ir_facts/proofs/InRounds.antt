@@ -126,6 +126,12 @@ rounds_left (suc n) f g some e =
     let one : suc n - 1 ≡ n = omega arith in
     ap (λ (m : ℕ). rounds_of m g) one ∙ ap (λ (h : Function). rounds_of n h) e
 
+-- behind a round that changes nothing none changes anything
+pub last_round : (n : ℕ) (f : Function) → f ≡ round_of f → f ≡ rounds_of n f
+unfolding rounds_of
+last_round zero f e = refl
+last_round (suc n) f e = last_round n f e ∙ ap (rounds_of n) e
+
 -- ---- rounds of a copy
 
 pub made_all : (n : ℕ) (f h g : Function) → g ≡ rounds_of n h → h ≡ f → Sound f → AllReached f → AreRounds n f g

@@ -16,7 +16,7 @@ use Rattle.ir_meaning.specs.Table.{rule, same}
 use Rattle.ir_better.specs.Facts.{Facts, is_local, is_phi, is_phi_operand, edge_operand}
 use Rattle.ir_better.proofs.Names.Moved.{symbol_true}
 use Rattle.ir_better.proofs.Rules.Tabled.{table_right}
-use Rattle.ir_facts.specs.Candidates.{first_other, takes_only, sole_source, phi_source, line_candidates, other_than, paired, phi_candidates, result_candidate}
+use Rattle.ir_facts.specs.Candidates.{any_candidate, any_line_candidates, first_other, line_candidates, other_than, paired, phi_candidates, phi_source, result_candidate, sole_source, takes_only}
 use Rattle.ir_facts.specs.Membership.{is_member, sole_beside, source_beside}
 use Rattle.ir_facts.specs.Laws.{IsLineSource, IsPhiSource, LineSourcesRight, PhiSourcesRight}
 
@@ -59,7 +59,7 @@ same_true (PoisonOf reg) (Constant w b) e = absurd (cc e)
 same_true (PoisonOf reg) Null e = absurd (cc e)
 same_true (PoisonOf reg) (Named t j) e = absurd (cc e)
 
-own_local : (x : ℕ) (o : Operand) → is_local x o ≡ true → o ≡ Local x
+pub own_local : (x : ℕ) (o : Operand) → is_local x o ≡ true → o ≡ Local x
 own_local x (Local y) e = ap (λ (n : ℕ). Local n) (eqb-true y x e)
 own_local x (Constant w b) e = absurd (cc e)
 own_local x Null e = absurd (cc e)
@@ -68,7 +68,7 @@ own_local x (Named s i) e = absurd (cc e)
 
 -- ---- phis
 
-another : (x : ℕ) (es : List Incoming) (v : Operand) → first_other x es ≡ Some v → is_local x v ≡ false
+pub another : (x : ℕ) (es : List Incoming) (v : Operand) → first_other x es ≡ Some v → is_local x v ≡ false
 another x [] v e = absurd (cc e)
 another x (d ∷ es) v e = by (is_local x d.value) refl e (λ e'. another x es v e')
   where
@@ -95,7 +95,7 @@ each_entry x v (d ∷ es) h from o e = by (d.from == from) e (λ h' e'. each_ent
     by true e' later = here (or_cases (is_local x d.value) (same v d.value) parts.0) (cc e')
     by false e' later = later parts.1 e'
 
-not_true : (b : Bool) → not b ≡ true → b ≡ false
+pub not_true : (b : Bool) → not b ≡ true → b ≡ false
 not_true false e = refl
 not_true true e = absurd (cc e)
 
@@ -151,6 +151,14 @@ line_pushed k rest more l old new e er =
     ap (λ (fs : Facts). fs ++ line_candidates k rest) e
     ∙ append_assoc old (result_candidate k l.local l.instr) (line_candidates k rest)
     ∙ ap (λ (ls : List Line). old ++ line_candidates k ls) (sym er)
+
+-- and of either kind
+pub any_line_pushed : (rest more : List Line) (l : Line) (old new : Facts) → new ≡ old ++ any_candidate l.local l.instr → more ≡ l ∷ rest →
+    new ++ any_line_candidates rest ≡ old ++ any_line_candidates more
+any_line_pushed rest more l old new e er =
+    ap (λ (fs : Facts). fs ++ any_line_candidates rest) e
+    ∙ append_assoc old (any_candidate l.local l.instr) (any_line_candidates rest)
+    ∙ ap (λ (ls : List Line). old ++ any_line_candidates ls) (sym er)
 
 pub line_sources_right : LineSourcesRight
 line_sources_right x i v e = by (rule i) refl e

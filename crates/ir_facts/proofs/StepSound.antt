@@ -1,12 +1,12 @@
 -- What a step makes of a sound function is sound.
-use Rattle.std.proofs.Common.{◌≡◌, ◌+◌, ℕ, zero, suc, nat_eq, Bool, true, false, cond, List, [], ◌∷◌, ◌++◌, Option, Some, None, map, option_map, get_or, refl, sym, ◌∙◌, ap, subst, if◌then◌else◌}
+use Rattle.std.proofs.Common.{◌≡◌, ◌+◌, ℕ, zero, suc, nat_eq, Bool, true, false, cond, List, [], ◌∷◌, Option, Some, None, map, option_map, get_or, refl, sym, ◌∙◌, ap, subst, if◌then◌else◌}
 use Rattle.std.specs.Prelude.{All, IsSome, slice_get}
 use Rattle.std.specs.List.{count_by}
 use Rattle.std.proofs.lemmas.List.Elements.{All-map}
 use Rattle.std.proofs.lemmas.List.Sums.{sum_by-cons}
 use Rattle.std.proofs.lemmas.Option.{slice_get-map}
 use Rattle.ir_tree.specs.Forms.{Form, int, pointer, array, structure}
-use Rattle.ir_tree.specs.Flow.{edges, holds, targets}
+use Rattle.ir_tree.specs.Flow.{holds, targets}
 use Rattle.ir_tree.specs.Formed.{ArgumentFormed, CaseFormed, CasesFormed, Distinct, Formed, InstrFormed, IsBlock, IsReg, ItemFormed, KindFormed, ResultFormed}
 use Rattle.ir_tree.specs.Items.{Item, phi_item, line_item, end_item, entries, items, operands, taken}
 use Rattle.ir_tree.specs.Rules.{CaseHas, CasesDiffer, CastsRight, DiffersRight, EndDiffers, EndTypes, EntriesThere, Follow, Follows, HasEdges, HasType, IndicesFollow, IsNoPhi, Keeps, KindTypes, LeavesEntry, LineCasts, LineFollows, LineOnEdges, LineTypes, OnEdges, ReadsThere, Sound, StandsRight, place}

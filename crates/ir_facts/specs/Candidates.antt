@@ -90,3 +90,23 @@ blocks_candidates settling (b ∷ bs) = block_candidates settling b ++ blocks_ca
 
 abbrev pub candidates : Bool → Function → Facts
 candidates settling f = blocks_candidates settling f.blocks
+
+-- ---- of either kind
+
+abbrev pub any_candidate : Option ℕ → Instr → Facts
+any_candidate None i = []
+any_candidate (Some x) i = paired x (line_source x i)
+
+abbrev pub any_line_candidates : List Line → Facts
+any_line_candidates [] = []
+any_line_candidates (l ∷ ls) = any_candidate l.local l.instr ++ any_line_candidates ls
+
+unfoldable pub any_block_candidates : Block → Facts
+any_block_candidates b = phi_candidates b.phis b.phis ++ any_line_candidates b.lines
+
+abbrev pub any_blocks_candidates : List Block → Facts
+any_blocks_candidates [] = []
+any_blocks_candidates (b ∷ bs) = any_block_candidates b ++ any_blocks_candidates bs
+
+abbrev pub all_candidates : Function → Facts
+all_candidates f = any_blocks_candidates f.blocks

@@ -1,5 +1,9 @@
 pub mod Askable
 pub mod Candidates
+pub mod FactFlow
+pub mod FlowLaws
 pub mod Laws
 pub mod Membership
+pub mod Naming
+pub mod Points
 pub mod Steps

@@ -1,5 +1,5 @@
 -- Facts at the points of a function, and substitution by them in rounds (Kildall 1973, "A unified approach to global program optimization").
-use Rattle.std.specs.Prelude.{◌≡◌, ℕ, zero, suc, ◌<◌, length, List, [], Bool, true, false, slice_get, Option, Some, None}
+use Rattle.std.specs.Prelude.{◌≡◌, ◌⊎◌, ℕ, zero, suc, ◌<◌, length, [], Bool, true, false, slice_get, Option, Some, None}
 use Rattle.ir_tree.specs.declared.block.Block.{Block}
 use Rattle.ir_tree.specs.declared.function.Function.{Function}
 use Rattle.ir_tree.specs.declared.operand.Operand.{Operand}
@@ -65,6 +65,14 @@ AreRounds (suc n) f g = (h : Function) × IsRound f h × AreRounds n h g
 abbrev pub AllReached : Function → Type 0
 AllReached f = (b : ℕ) → b < length f.blocks → Reachable f b
 
+-- what facts make of a function: sixteen rounds where all its blocks are reached, and else the function itself
+abbrev pub IsApplied : Function → Function → Type 0
+IsApplied f g = (AllReached f × AreRounds 16 f g) ⊎ ((AllReached f → ⊥) × (g ≡ f))
+
+-- there is one such function
+abbrev pub AppliedIsOne : Type 0
+AppliedIsOne = (f g h : Function) → IsApplied f g → IsApplied f h → g ≡ h
+
 -- each use replaced, wherever it stands
 abbrev pub step_of : Bool → Function → Function
 step_of settling f = substituted (candidates settling f) f
@@ -75,6 +83,11 @@ round_of f = step_of false (step_of true f)
 unfoldable pub rounds_of : ℕ → Function → Function
 rounds_of zero f = f
 rounds_of (suc n) f = rounds_of n (round_of f)
+
+-- what is made, or the function itself where nothing is
+abbrev pub or_same : Function → Option Function → Function
+or_same f None = f
+or_same f (Some g) = g
 
 -- rounds are these, and so are the uses at which the facts hold: in a sound function all whose blocks are reached a candidate has
 -- its fact wherever its local is used
@@ -88,3 +101,7 @@ RoundsAreBetter = (n : ℕ) (f : Function) → Sound f → AllReached f → (p :
 -- settling free choices is better, reached or not
 abbrev pub SettledIsBetter : Type 0
 SettledIsBetter = (f : Function) → Sound f → IsStep (candidate_of true f) f (step_of true f) × ((p : Program) → IsFormed p → BetterThan p 1 (step_of true f) f)
+
+-- what a step makes of a sound function with its other candidates is better, whether its blocks are reached or not
+abbrev pub StepsAreBetter : Type 0
+StepsAreBetter = (f g : Function) → Sound f → IsStep (candidate_of false f) f g → (p : Program) → IsFormed p → BetterThan p 1 g f

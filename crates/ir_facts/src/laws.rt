@@ -1,6 +1,13 @@
 //! Laws of the candidates, and of substitution by them.
-ghost use Rattle.ir_facts.specs.Laws.{FormedHaveWidths, LineSourcesRight, PhiSourcesRight};
-ghost use Rattle.ir_facts.specs.Steps.{RoundsAreAll, RoundsAreBetter, SettledIsBetter};
+ghost use Rattle.ir_facts.specs.Laws.{FormedHaveWidths, LineSourcesRight, PhiSourcesAreSole, PhiSourcesRight};
+ghost use Rattle.ir_facts.specs.Points.{FactsAreOne};
+ghost use Rattle.ir_facts.specs.Steps.{AppliedIsOne, RoundsAreAll, RoundsAreBetter, SettledIsBetter, StepsAreBetter};
+
+/// A phi has a candidate exactly where it takes one operand beside its own value and that is no phi of the same
+/// block: that operand.
+pub fn phi_sources_are_sole()
+    ensures { PhiSourcesAreSole }
+{}
 
 /// The candidate of a phi is another operand, no phi of the same block, and taken on each edge on which the
 /// phi doesn't take its own value again.
@@ -19,6 +26,11 @@ pub fn formed_functions_have_widths()
     ensures { FormedHaveWidths }
 {}
 
+/// No two lists are the facts of one function.
+pub fn facts_are_one()
+    ensures { FactsAreOne }
+{}
+
 /// In a sound function all whose blocks are reached a candidate's fact holds wherever its local is used, so rounds
 /// that replace every use are those of the greatest solution.
 pub fn facts_hold_at_uses()
@@ -34,4 +46,15 @@ pub fn rounds_are_better()
 /// that of the greatest solution, and better, whether its blocks are reached or not.
 pub fn settled_is_better()
     ensures { SettledIsBetter }
+{}
+
+/// What a step makes of a sound function with the candidates of phis and of the other instructions is better, whether its
+/// blocks are reached or not: so is what any solution makes.
+pub fn steps_are_better()
+    ensures { StepsAreBetter }
+{}
+
+/// No two functions are what facts make of one function.
+pub fn applied_is_one()
+    ensures { AppliedIsOne }
 {}

@@ -5,8 +5,9 @@ ghost use Rattle.ir_meaning.specs.Near.{BetterThan};
 ghost use Rattle.ir_meaning.specs.Program.{Program};
 ghost use Rattle.ir_better.specs.Formed.{IsFormed};
 ghost use Rattle.ir_facts.specs.Askable.{BlocksHaveWidths};
-ghost use Rattle.ir_facts.specs.Steps.{AllReached, AreRounds, round_of, rounds_of, step_of};
+ghost use Rattle.ir_facts.specs.Steps.{AllReached, IsApplied, or_same, round_of, rounds_of, step_of};
 
+use crate::naming::{blocks_name, keys};
 use crate::sources::candidates;
 use ir_edit::substitute;
 use ir_flow::reachable;
@@ -17,29 +18,45 @@ use std::alloc::{AllocError, Global};
 /// At most so many rounds are made.
 const ROUNDS: u32 = 16;
 
-/// The function with each use of a local replaced by its candidate, of one kind of candidates.
-fn step(alloc: Global, f: &Function, settling: bool) -> Result<Function, AllocError>
+/// The function with each use of a local replaced by its candidate, of one kind of candidates; none where no local
+/// that is used has one.
+fn step(alloc: Global, f: &Function, settling: bool) -> Result<Option<Function>, AllocError>
     requires sized { BlocksHaveWidths f.now.blocks }
-    ensures made { IfOk result (λ g. g ≡ step_of settling f.now) }
-    ensures sized { IfOk result (λ g. BlocksHaveWidths g.blocks) }
+    ensures made { IfOk result (λ g. or_same f.now g ≡ step_of settling f.now) }
+    ensures sized { IfOk result (λ g. BlocksHaveWidths (or_same f.now g).blocks) }
 {
     let found = candidates(alloc, f, settling)?;
+    let among = keys(alloc, found.as_slice())?;
+    if !blocks_name(&among, f.blocks.as_slice()) {
+        return Ok(None);
+    }
     let g = substitute(alloc, f, found.as_slice())?;
-    Ok(g)
+    Ok(Some(g))
 }
 
-/// Free choices settled, and then the other candidates put in place.
-fn round(alloc: Global, f: &Function) -> Result<Function, AllocError>
+/// Free choices settled, and then the other candidates put in place; none where neither changes anything.
+fn round(alloc: Global, f: &Function) -> Result<Option<Function>, AllocError>
     requires sized { BlocksHaveWidths f.now.blocks }
-    ensures made { IfOk result (λ g. g ≡ round_of f.now) }
-    ensures sized { IfOk result (λ g. BlocksHaveWidths g.blocks) }
+    ensures made { IfOk result (λ g. or_same f.now g ≡ round_of f.now) }
+    ensures sized { IfOk result (λ g. BlocksHaveWidths (or_same f.now g).blocks) }
 {
-    let settled = step(alloc, f, true)?;
-    let g = step(alloc, &settled, false)?;
-    Ok(g)
+    let first = step(alloc, f, true)?;
+    match first {
+        None => {
+            let second = step(alloc, f, false)?;
+            Ok(second)
+        }
+        Some(settled) => {
+            let second = step(alloc, &settled, false)?;
+            match second {
+                Some(g) => Ok(Some(g)),
+                None => Ok(Some(settled)),
+            }
+        }
+    }
 }
 
-/// The function after so many rounds.
+/// The function after so many rounds. A round that changes nothing is the last, since no later one changes anything.
 fn rounds(alloc: Global, f: Function, left: u32) -> Result<Function, AllocError>
     requires sized { BlocksHaveWidths f.blocks }
     ensures { IfOk result (λ g. g ≡ rounds_of left f) }
@@ -47,8 +64,11 @@ fn rounds(alloc: Global, f: Function, left: u32) -> Result<Function, AllocError>
     if left == 0 {
         return Ok(f);
     }
-    let g = round(alloc, &f)?;
-    rounds(alloc, g, left - 1)
+    let next = round(alloc, &f)?;
+    match next {
+        Some(g) => rounds(alloc, g, left - 1),
+        None => Ok(f),
+    }
 }
 
 /// Whether all blocks are reached from the entry.
@@ -62,14 +82,14 @@ fn all_reached(alloc: Global, f: &Function) -> Result<bool, AllocError>
 }
 
 /// A sound function with uses of locals replaced by what has their value: the one operand that a phi takes, and
-/// the operand of the rule table; sixteen rounds, of which those behind one that changes nothing change nothing.
+/// the operand of the rule table; sixteen rounds, but none behind one that changes nothing, which would change
+/// nothing either.
 /// In each round free choices are settled first, all uses of such a local by one constant.
 ///
 /// What is made is sound, and better in every program. A function with a block that isn't reached is given back as it is.
 pub fn apply(alloc: Global, f: &Function) -> Result<Function, AllocError>
     requires sound { Sound f.now }
-    ensures rounds { IfOk result (λ g. AllReached f.now → AreRounds 16 f.now g) }
-    ensures same { IfOk result (λ g. (AllReached f.now → ⊥) → g ≡ f.now) }
+    ensures made { IfOk result (λ g. IsApplied f.now g) }
     ensures better { IfOk result (λ g. (p : Program) → IsFormed p → BetterThan p 1 g f.now) }
     ensures sound { IfOk result (λ g. Sound g) }
 {

@@ -5,16 +5,17 @@ ghost use Rattle.ir_better.specs.Facts.{is_local, is_phi};
 ghost use Rattle.fold_rules.specs.Folding.{row_of};
 ghost use Rattle.fold_rules.specs.Widths.{HasWidths};
 ghost use Rattle.ir_facts.specs.Askable.{BlocksHaveWidths, LinesHaveWidths};
-ghost use Rattle.ir_facts.specs.Candidates.{block_candidates, blocks_candidates, candidates, first_other, line_candidates, line_source, may_settle, of_kind, paired, phi_candidates, phis_candidates, result_candidate, takes_only};
-ghost use Rattle.ir_facts.specs.Membership.{is_member, source_beside};
+ghost use Rattle.ir_facts.specs.Candidates.{all_candidates, any_block_candidates, any_blocks_candidates, any_candidate, any_line_candidates, block_candidates, blocks_candidates, candidates, first_other, line_candidates, line_source, may_settle, of_kind, paired, phi_candidates, phis_candidates, result_candidate, takes_only};
+ghost use Rattle.ir_facts.specs.Membership.{source_beside};
 
+use crate::naming::is_among;
 use fold_rules::{Folded, is_same, rule};
 use ir_tree::{Block, Duplicate, Function, Incoming, Instr, Line, Operand, Phi, Reg};
 use std::alloc::{AllocError, Global};
 use std::collections::HashSet;
 
 /// Whether an operand is this local.
-fn is_local(local: u32, operand: &Operand) -> bool
+pub(crate) fn is_local(local: u32, operand: &Operand) -> bool
     ensures { result ≡ is_local local operand.now }
 {
     match operand {
@@ -56,16 +57,6 @@ fn phi_locals(alloc: Global, phis: &[Phi]) -> Result<HashSet<u32>, AllocError>
         set.insert(phi.local)?;
     }
     Ok(set)
-}
-
-/// Whether an operand is a local of the set.
-fn is_among(set: &HashSet<u32>, operand: &Operand) -> bool
-    ensures { result ≡ is_member (contains nat_eq set.now) operand.now }
-{
-    match operand {
-        Operand::Local(local) => set.contains(local),
-        _ => false,
-    }
 }
 
 /// The one operand that a phi takes beside its own local, unless it is a phi of the same block.
@@ -237,5 +228,74 @@ pub fn candidates(
 {
     let mut found = Vec::new(alloc);
     push_blocks(alloc, &mut found, settling, f.blocks.as_slice())?;
+    Ok(found)
+}
+
+fn push_any_line(
+    alloc: Global,
+    found: &mut Vec<(u32, Operand)>,
+    line: &Line,
+) -> Result<(), AllocError>
+    requires sized { HasWidths line.now.instr }
+    ensures { OnOk result (found.new.items ≡ found.old.items ++ any_candidate line.now.local line.now.instr) }
+{
+    let Some(local) = line.local else {
+        return Ok(());
+    };
+    if let Some(folded) = line_source(local, &line.instr) {
+        let source = folded.operand(alloc)?;
+        found.push((local, source))?;
+    }
+    Ok(())
+}
+
+fn push_any_lines(
+    alloc: Global,
+    found: &mut Vec<(u32, Operand)>,
+    lines: &[Line],
+) -> Result<(), AllocError>
+    requires sized { LinesHaveWidths lines.now }
+    ensures { OnOk result (found.new.items ≡ found.old.items ++ any_line_candidates lines.now) }
+{
+    for line in lines {
+        push_any_line(alloc, found, line)?;
+    }
+    Ok(())
+}
+
+#[tactic(auto, unfolding(crate::specs::Candidates::any_block_candidates))]
+fn push_any_block(
+    alloc: Global,
+    found: &mut Vec<(u32, Operand)>,
+    block: &Block,
+) -> Result<(), AllocError>
+    requires sized { LinesHaveWidths block.now.lines }
+    ensures { OnOk result (found.new.items ≡ found.old.items ++ any_block_candidates block.now) }
+{
+    push_phis(alloc, found, block.phis.as_slice())?;
+    push_any_lines(alloc, found, block.lines.as_slice())
+}
+
+fn push_any_blocks(
+    alloc: Global,
+    found: &mut Vec<(u32, Operand)>,
+    blocks: &[Block],
+) -> Result<(), AllocError>
+    requires sized { BlocksHaveWidths blocks.now }
+    ensures { OnOk result (found.new.items ≡ found.old.items ++ any_blocks_candidates blocks.now) }
+{
+    for block in blocks {
+        push_any_block(alloc, found, block)?;
+    }
+    Ok(())
+}
+
+/// All locals that have a candidate, of either kind, in the order of the text.
+pub(crate) fn all_candidates(alloc: Global, f: &Function) -> Result<Vec<(u32, Operand)>, AllocError>
+    requires sized { BlocksHaveWidths f.now.blocks }
+    ensures { IfOk result (λ found. found.items ≡ all_candidates f.now) }
+{
+    let mut found = Vec::new(alloc);
+    push_any_blocks(alloc, &mut found, f.blocks.as_slice())?;
     Ok(found)
 }

@@ -1,0 +1,7 @@
+use Rattle.std.proofs.Common.{◌≡◌, drop, nat_eq}
+use Rattle.std.specs.HashSet.{contains}
+use Rattle.ir_facts.specs.Naming.{blocks_name}
+use Rattle.ir_facts.proofs.naming.blocks_name.Given as goal
+
+abbrev pub invariant-loop-block : goal.invariant-loop-block
+invariant-loop-block l = blocks_name (contains nat_eq l.set) (drop l.block-index l.blocks) ≡ blocks_name (contains nat_eq l.set) l.blocks
