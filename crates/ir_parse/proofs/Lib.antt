@@ -1,0 +1,10 @@
+mod Gives
+mod Marked
+mod KnownFunctions
+mod KnownVariables
+mod Once
+mod GlobalNames
+mod Formedness
+mod Lexed
+mod Stuck
+mod Readings

@@ -1,0 +1,123 @@
+//! The items of a text that is in the grammar, or the first place at which no reading goes on.
+ghost use Rattle.std.specs.Prelude.{◌≡◌, ◌-◌, IfOk, IfErr, true, drop, length};
+ghost use Rattle.ir_lex.specs.Tok.{tok, toks};
+ghost use Rattle.lto_forms.specs.Readers.{Gives};
+ghost use Rattle.ir_items.specs.Modules.{whole_module, module_of, last_tokens};
+ghost use Rattle.ir_parse.specs.Answers.{IfFault, IsStopped};
+ghost use Rattle.ir_parse.specs.FirstFault.{Stuck, end_kind};
+ghost use Rattle.ir_parse.specs.Kinds.{refused_kind, grammar_fault};
+
+use crate::fault::{FaultKind, ReadError, ReadFault};
+use ir_items::items_at;
+use ir_lex::{Head, Lexed, Token};
+use ir_read::{Item, Tokens, name_refusal};
+use ir_tree::Text;
+use lto_forms::{Fault as Refusal, FaultKind as RefusalKind, ReadError as GrammarError};
+use std::alloc::{AllocError, Global};
+
+// How many parameters may stand behind the first of a function.
+const FURTHER_PARAMETERS: usize = 65534;
+
+// How many global names a module may define and declare.
+const GLOBAL_NAMES: usize = 65535;
+
+/// The items that these tokens are read as.
+#[tactic(auto, unfolding(ir_items::specs::Modules::module_of, ir_items::specs::Modules::FURTHER_PARAMETERS, ir_items::specs::Modules::GLOBAL_NAMES))]
+fn items_of<'a>(alloc: Global, all: &[Token<'a>]) -> Result<Vec<Item<'a>>, GrammarError>
+    ensures { Gives (λ v. v.items) result (module_of (toks all.now)) }
+{
+    let mut rest = Tokens::new(all);
+    let items = items_at(alloc, FURTHER_PARAMETERS, GLOBAL_NAMES, &mut rest)?;
+    let left = rest.left();
+    match rest.take() {
+        None => Ok(items),
+        Some(t) => Err(GrammarError::Fault(Refusal {
+            left,
+            kind: name_refusal(t.head),
+        })),
+    }
+}
+
+/// Why a token is refused that belongs to a part of the language that isn't covered.
+fn refused_kind(alloc: Global, t: &Token) -> Result<FaultKind, AllocError>
+    ensures { IfOk result (λ k. k ≡ refused_kind (tok t.now)) }
+{
+    if t.head.is(Head::Str) {
+        Ok(FaultKind::Layout)
+    } else {
+        let word = Text::copied(alloc, t.text)?;
+        Ok(FaultKind::Profile { word })
+    }
+}
+
+/// Why the grammar refuses a token.
+fn grammar_fault(alloc: Global, t: &Token, kind: RefusalKind) -> Result<FaultKind, AllocError>
+    ensures { IfOk result (λ k. k ≡ grammar_fault (tok t.now) kind) }
+{
+    match kind {
+        RefusalKind::Syntax => Ok(FaultKind::Syntax),
+        RefusalKind::Profile => refused_kind(alloc, t),
+        RefusalKind::Number => Ok(FaultKind::Number),
+        RefusalKind::Limit => Ok(FaultKind::Limit),
+    }
+}
+
+/// The last of these tokens, so many.
+fn last_of<'s, 'a>(all: &'s [Token<'a>], left: usize) -> &'s [Token<'a>]
+    ensures { result.now ≡ drop (length all.now - left) all.now }
+{
+    all.split_at(all.len().saturating_sub(left)).1
+}
+
+/// The fault where the tokens end: bytes that are no token, or the end of the text.
+fn fault_behind(lexed: &Lexed) -> ReadFault
+    ensures line { result.line ≡ lexed.now.line }
+    ensures kind { result.kind ≡ end_kind lexed.now.whole }
+{
+    ReadFault {
+        line: lexed.line,
+        kind: if lexed.whole {
+            FaultKind::Syntax
+        } else {
+            FaultKind::Lex
+        },
+    }
+}
+
+/// The fault that the grammar finds.
+fn fault_of(alloc: Global, lexed: &Lexed, refusal: Refusal) -> Result<ReadFault, AllocError>
+    ensures { IfOk result (λ f. IsStopped (last_tokens lexed.now.tokens.items refusal.left) lexed.now.whole lexed.now.line refusal.kind f) }
+{
+    match last_of(&lexed.tokens, refusal.left) {
+        [] => Ok(fault_behind(lexed)),
+        [t, ..] => {
+            let kind = grammar_fault(alloc, t, refusal.kind)?;
+            Ok(ReadFault { line: t.line, kind })
+        }
+    }
+}
+
+/// The items of a text, whose tokens end where the text does.
+///
+/// A fault stands at the first token with which no module goes on, at bytes that are no token where
+/// none stands before, or at the end.
+#[tactic(auto, using(crate::proofs::Stuck::stuck_so, crate::proofs::Stuck::behind_so, crate::proofs::Stuck::whole_so))]
+pub fn items_in<'a>(alloc: Global, lexed: &Lexed<'a>) -> Result<Vec<Item<'a>>, ReadError>
+    ensures found { IfOk result (λ v. (lexed.now.whole ≡ true) × whole_module (toks lexed.now.tokens.items) v.items) }
+    ensures fault { IfErr result (λ e. IfFault e (λ f. Stuck (toks lexed.now.tokens.items) lexed.now.whole lexed.now.line f.line f.kind)) }
+{
+    match items_of(alloc, &lexed.tokens) {
+        Ok(items) => {
+            if lexed.whole {
+                Ok(items)
+            } else {
+                Err(ReadError::Fault(fault_behind(lexed)))
+            }
+        }
+        Err(GrammarError::NoMemory) => Err(ReadError::NoMemory),
+        Err(GrammarError::Fault(refusal)) => {
+            let fault = fault_of(alloc, lexed, refusal)?;
+            Err(ReadError::Fault(fault))
+        }
+    }
+}

@@ -1,0 +1,24 @@
+//! Reads bytes as the one module of LLVM IR that they are, or tells their first fault.
+//!
+//! `parse` cuts the text into tokens, reads these as items, resolves names, shapes and numbers in stages over the whole
+//! text, and gives the module with the lines of its parts. The first place at which no reading goes on is a statement of the
+//! grammar alone; behind it the first stage that finds a fault tells it (`specs/FirstFault.antt`).
+//!
+//! Below stand tokens (`ir_lex`), items (`ir_items`), the stages (`ir_stages`), functions and variables (`ir_definitions`),
+//! names (`ir_names`), and the laws by which what is read is formed (`resolved_forms`, `spelled_forms`). Its promise: exactly
+//! what `specs/Reading.antt` reads is answered, and each other text is refused for its first fault, unless memory runs out.
+//! Reading is linear in the text, but for chains of type names that stand for each other. Tokens and items borrow the text;
+//! nothing recurses in a depth that a text chooses.
+#![tactic(auto)]
+
+mod fault;
+mod grammar;
+mod laws;
+mod reading;
+mod stages;
+mod targets;
+mod values;
+
+pub use fault::{FaultKind, ReadError, ReadFault};
+pub use laws::{decided, one_reading, read_is_parsed};
+pub use reading::parse;
