@@ -1,4 +1,4 @@
-; A chain of sums; names, written numbers and a wrap past 2^32.
+; A chain of sums that wraps past 2^32; it links to `ret i32 -5`.
 define i32 @main() {
   %first = add i32 2147483647, 1
   %"second sum" = add i32 %first, %first

@@ -1,9 +1,3 @@
-mod Digits
-mod Comparing
-mod Bodies
-mod Scoped
-mod Readings
-mod Refining
 mod Pushing
 mod Composing
 mod Told

@@ -1,18 +1,18 @@
 -- The answers of a command, and when each comes.
-use Rattle.std.specs.Prelude.{◌≡◌, ℕ, Bool, true, false, List, [], ◌∷◌, Option, Some, None, Result, Ok, Err, ⊤}
+use Rattle.std.specs.Prelude.{◌≡◌, ◌⊎◌, ◌≤◌, ◌^◌, ℕ, Bool, true, false, List, [], ◌∷◌, length, Option, Some, None, Result, Ok, Err, ⊤}
 use Rattle.lto_outside.specs.Cause.{Rose}
 use Rattle.lto_outside.specs.Calls.{Fetched, Put}
 use Rattle.lto_outside.specs.Seen.{FilesSeen}
 use Rattle.lto_outside.specs.declared.fault.FetchFault.TheVariants.{Fault, TooLong}
-use Rattle.thinlto_main.specs.declared.refusal.Kind.{Kind}
-use Rattle.thinlto_main.specs.declared.refusal.Kind.TheVariants.{Syntax, Limit}
+use Rattle.lto_fault.specs.declared.kind.Kind.{Kind}
+use Rattle.lto_fault.specs.declared.kind.Kind.TheVariants.{Limit}
 use Rattle.thinlto_main.specs.declared.refusal.Refusal.{Refusal}
-use Rattle.thinlto_main.specs.declared.refusal.Refusal.TheVariants.{Usage, ReadFault, Refused, WriteFault}
+use Rattle.thinlto_main.specs.declared.refusal.Refusal.TheVariants.{NoMemory, ReadFault, Refused, Usage, WriteFault}
 use Rattle.thinlto_main.specs.declared.words.Command.{Command}
 use Rattle.thinlto_main.specs.declared.words.Command.TheVariants.{DoLink}
 use Rattle.thinlto_main.specs.declared.words.Link.{Link}
-use Rattle.thinlto_main.specs.Reading.{IsUnread}
-use Rattle.thinlto_main.specs.Linking.{IsLinkOf}
+use Rattle.link_one.specs.Accepted.{Refuses}
+use Rattle.link_one.specs.Linking.{IsLinkOf, IsOnlyLinkOf}
 
 -- ---- a fact for one answer
 
@@ -38,6 +38,12 @@ OnUnwritten (Ok _) P = ⊤
 OnUnwritten (Err (WriteFault name)) P = ⊤
 OnUnwritten (Err _) P = P
 
+-- it is a refusal on this line and of this kind, unless memory ran out
+abbrev pub IsRefusal : {A : Type 0} → Result A Refusal → ℕ → Kind → Type 0
+IsRefusal (Err (Refused file at why)) line kind = (at ≡ line) × (why ≡ kind)
+IsRefusal (Err NoMemory) line kind = ⊤
+IsRefusal _ line kind = ⊥
+
 -- ---- a link
 
 -- the fetch of the file failed, which was the only call
@@ -46,21 +52,31 @@ pub record LinkCannotRead (link : Link) (files : FilesSeen) (name : List ℕ) : 
   pub calls : files.did (Fetched link.file (Err Fault) ∷ [])
   pub rose : Rose files.faults files.faults_now
 
--- the file was fetched, and is too long, or is read as no module
-abbrev pub IsBad : List ℕ → FilesSeen → Kind → Type 0
-IsBad file files Limit = files.did (Fetched file (Err TooLong) ∷ [])
-IsBad file files Syntax = (bytes : List ℕ) × files.did (Fetched file (Ok bytes) ∷ []) × IsUnread bytes
+-- the file is too long, which is told of line 0
+pub record IsTooLong (file : List ℕ) (files : FilesSeen) (line : ℕ) (kind : Kind) : Type 0 where
+  pub calls : files.did (Fetched file (Err TooLong) ∷ [])
+  pub whole_file : line ≡ 0
+  pub told : kind ≡ Limit
+
+-- the file was fetched, and is read as no sound module within the limits: this is its first fault
+pub record IsBad (file : List ℕ) (files : FilesSeen) (line : ℕ) (kind : Kind) : Type 0 where
+  pub bytes : List ℕ
+  pub short : length bytes ≤ 2 ^ 24
+  pub calls : files.did (Fetched file (Ok bytes) ∷ [])
+  pub fault : Refuses bytes line kind
 
 pub record LinkRefused (link : Link) (files : FilesSeen) (file : List ℕ) (line : ℕ) (kind : Kind) : Type 0 where
   pub named : file ≡ link.file
-  pub whole_file : line ≡ 0
-  pub cause : IsBad link.file files kind
+  pub cause : IsTooLong link.file files line kind ⊎ IsBad link.file files line kind
 
--- the file was fetched, and what a link makes of it was put, or its put failed; there were no other calls
+-- The file was fetched, and what a link makes of it was put, or its put failed; there were no other calls. Both halves of the
+-- headline: the linked program does what the program read does, and no other text is a link of these bytes.
 pub record DidLink (link : Link) (files : FilesSeen) (done : Bool) : Type 0 where
   pub bytes : List ℕ
   pub text : List ℕ
+  pub short : length bytes ≤ 2 ^ 24
   pub is_link : IsLinkOf bytes text
+  pub only : IsOnlyLinkOf bytes text
   pub calls : files.did (Fetched link.file (Ok bytes) ∷ Put link.out text done ∷ [])
 
 pub record LinkCannotWrite (link : Link) (files : FilesSeen) (name : List ℕ) : Type 0 where

@@ -1,13 +1,6 @@
 pub mod Words
 pub mod Exit
 pub mod Honest
-pub mod Grammar
-pub mod Resolved
-pub mod Scopes
-pub mod Reading
-pub mod Linked
-pub mod Merged
-pub mod Linking
 pub mod Notes
 pub mod Answers
 pub mod Telling

@@ -3,8 +3,9 @@ use Rattle.std.specs.Prelude.{◌≡◌, ℕ, Bool, true, false, List, [], ◌�
 use Rattle.std.specs.Io.KnownBytes.{Appends}
 use Rattle.lto_outside.specs.Cause.{Rose}
 use Rattle.lto_outside.specs.Seen.{StreamSeen}
-use Rattle.thinlto_main.specs.declared.refusal.Kind.{Kind}
-use Rattle.thinlto_main.specs.declared.refusal.Kind.TheVariants.{Syntax, Limit}
+use Rattle.lto_fault.specs.Texts.{kind_text}
+use Rattle.lto_fault.specs.declared.kind.Kind.{Kind}
+use Rattle.lto_fault.specs.declared.kind.Kind.TheVariants.{Profile}
 use Rattle.thinlto_main.specs.declared.refusal.Refusal.{Refusal}
 use Rattle.thinlto_main.specs.declared.refusal.Refusal.TheVariants.{Usage, ReadFault, Refused, WriteFault, NoMemory}
 
@@ -14,16 +15,21 @@ Pushes before after faults now text true = Appends before after text
 Pushes before after faults now text false =
     (front rest : List ℕ) × (text ≡ front ++ rest) × Appends before after front × Rose faults now
 
-abbrev pub kind_text : Kind → List ℕ
-kind_text Syntax = codes "syntax"
-kind_text Limit = codes "limit passed"
+-- the text of a kind in two parts: its words, and the word that isn't covered
+abbrev pub kind_words : Kind → List ℕ
+kind_words (Profile word) = codes "not in the profile: "
+kind_words kind = kind_text kind
+
+abbrev pub kind_word : Kind → List ℕ
+kind_word (Profile word) = word
+kind_word kind = []
 
 -- the parts of a refusal's line
 abbrev pub note_parts : Refusal → List (List ℕ)
 note_parts Usage = codes "thinlto: " ∷ codes "usage" ∷ codes "\n" ∷ []
 note_parts (ReadFault name) = codes "thinlto: " ∷ codes "cannot read " ∷ name ∷ codes "\n" ∷ []
 note_parts (Refused file line kind) =
-    codes "thinlto: " ∷ file ∷ codes ":" ∷ decimal line ∷ codes ": " ∷ kind_text kind ∷ codes "\n" ∷ []
+    codes "thinlto: " ∷ file ∷ codes ":" ∷ decimal line ∷ codes ": " ∷ kind_words kind ∷ kind_word kind ∷ codes "\n" ∷ []
 note_parts (WriteFault name) = codes "thinlto: " ∷ codes "cannot write " ∷ name ∷ codes "\n" ∷ []
 note_parts NoMemory = codes "thinlto: " ∷ codes "out of memory" ∷ codes "\n" ∷ []
 

@@ -1,32 +1,15 @@
 //! The link: one file is fetched, linked, and its text is put.
-ghost use Rattle.std.specs.Prelude.{◌≡◌, ◌≤◌, true, IfOk, MatchOption, OnOk};
+ghost use Rattle.std.specs.Prelude.{◌≡◌, ◌≤◌, true, OnOk};
 ghost use Rattle.lto_outside.specs.Calls.{DidNoPut};
 ghost use Rattle.lto_outside.specs.Seen.{files_seen};
-ghost use Rattle.thinlto_main.specs.Reading.{IsUnread};
-ghost use Rattle.thinlto_main.specs.Linking.{IsLinkOf};
 ghost use Rattle.thinlto_main.specs.Answers.{OnUsage, OnReadFault, OnRefused, OnWriteFault, OnUnwritten, LinkCannotRead, LinkRefused, LinkCannotWrite, DidLink};
 
-use crate::back_end::linked;
-use crate::read::read;
-use crate::refusal::{Kind, Refusal};
+use crate::refusal::Refusal;
 use crate::words::Link;
-use ir_print::print;
-use ir_tree::Text;
+use link_one::{LinkError, link_text};
+use lto_fault::Kind;
 use lto_outside::{FetchFault, Files};
-use std::alloc::{AllocError, Global};
-
-/// The text of the linked module, or none where the bytes are read as no module.
-fn linked_text(alloc: Global, bytes: &[u8]) -> Result<Option<Text>, AllocError>
-    ensures { IfOk result (λ made. MatchOption made (IsUnread bytes.now) (IsLinkOf bytes.now)) }
-{
-    match read(alloc, bytes)? {
-        Some(m) => {
-            let made = linked(alloc, &m)?;
-            Ok(Some(print(alloc, &made)?))
-        }
-        None => Ok(None),
-    }
-}
+use std::alloc::Global;
 
 /// Does a link.
 pub(crate) fn link<F: Files>(alloc: Global, files: &mut F, link: Link) -> Result<(), Refusal>
@@ -55,16 +38,16 @@ pub(crate) fn link<F: Files>(alloc: Global, files: &mut F, link: Link) -> Result
         }
         Err(FetchFault::NoMemory) => return Err(Refusal::NoMemory),
     };
-    let text = match linked_text(alloc, bytes.as_slice()) {
-        Ok(Some(text)) => text,
-        Ok(None) => {
+    let text = match link_text(alloc, bytes.as_slice()) {
+        Ok(text) => text,
+        Err(LinkError::NoMemory) => return Err(Refusal::NoMemory),
+        Err(LinkError::Refused { line, kind }) => {
             return Err(Refusal::Refused {
                 file: file.into_text(),
-                line: 0,
-                kind: Kind::Syntax,
+                line: u64::from(line),
+                kind,
             });
         }
-        Err(_) => return Err(Refusal::NoMemory),
     };
     match files.put(out.as_str(), text.as_slice()) {
         Ok(()) => Ok(()),

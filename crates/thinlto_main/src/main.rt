@@ -4,24 +4,18 @@
 //! objects, and its contract says when each answer comes and what was done to each object. `main`
 //! makes the real objects, calls `top`, and ends with the status's number.
 //!
-//! Below stand the trees (`ir_tree`), the tokens (`ir_lex`), their edits (`ir_edit`) and their printed
-//! form (`ir_print`), and the outside (`lto_outside`, and its real objects in `outside_real`). The promise kept here is the headline of the linker for the form
-//! that is read so far, a `main` of sums: the bytes put are the text of the linked module, and each
-//! run of the linked program is a run of the module as it was read. Time is linear in the text but
-//! for the look-ups of names, which take the logarithm of their count.
+//! Below stand the link of one module (`link_one`), refusals and their kinds (`lto_fault`), and the outside (`lto_outside`,
+//! and its real objects in `outside_real`). The promise kept here is the headline of the linker for one module of the whole
+//! language: the bytes put are the text of the linked module, and each run of the linked program is a run of the module as
+//! it was read. Beside the link itself, each byte is moved once.
 #![tactic(auto)]
 
-mod back_end;
 mod cache;
 mod entry;
 mod link;
 mod name;
 mod notes;
-mod parse;
-mod read;
 mod refusal;
-mod resolve;
-mod source;
 mod status;
 #[cfg(test)]
 mod tests;
@@ -30,7 +24,7 @@ mod words;
 pub use cache::LinkMakes;
 pub use entry::{Ended, top};
 use outside_real::{RealDisk, RealFiles, RealGate, RealIn, RealOut};
-pub use refusal::{Kind, Refusal, Status};
+pub use refusal::{Refusal, Status};
 pub use status::status_of;
 use std::alloc::Global;
 use std::process::ExitCode;

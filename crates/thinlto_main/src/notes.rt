@@ -1,9 +1,10 @@
 //! What is said of a refusal.
 ghost use Rattle.std.specs.Prelude.{OnOk, ◌≡◌, ◌≤◌, [], ◌∷◌, map};
-ghost use Rattle.thinlto_main.specs.Notes.{Pushes, Says, joined, kind_text, note_parts, note_of};
+ghost use Rattle.thinlto_main.specs.Notes.{Pushes, Says, joined, kind_word, kind_words, note_parts, note_of};
 
-use crate::refusal::{Kind, Refusal, Status};
+use crate::refusal::{Refusal, Status};
 use itoa::Buffer;
+use lto_fault::Kind;
 use lto_outside::ByteOut;
 
 /// Pushes all the bytes, or a front of them up to a fault. It says whether it pushed all.
@@ -33,12 +34,37 @@ fn push_parts<N: ByteOut>(notes: &mut N, parts: &[&[u8]]) -> bool
     true
 }
 
-fn kind_bytes(kind: Kind) -> &'static [u8]
-    ensures { result.now ≡ kind_text kind }
+fn kind_words(kind: &Kind) -> &'static [u8]
+    ensures { result.now ≡ kind_words kind.now }
 {
     match kind {
+        Kind::Lex => b"bad token",
         Kind::Syntax => b"syntax",
+        Kind::Profile { .. } => b"not in the profile: ",
+        Kind::Number => b"number out of range",
         Kind::Limit => b"limit passed",
+        Kind::Twice => b"name defined twice",
+        Kind::Unknown => b"unknown name",
+        Kind::Layout => b"layout not supported",
+        Kind::Index => b"bad index",
+        Kind::TypeMismatch => b"type mismatch",
+        Kind::NotAvailable => b"name not available",
+        Kind::PhiEdges => b"phi edges",
+        Kind::PhiPlace => b"phi place",
+        Kind::EntryBranch => b"branch to entry",
+        Kind::Cast => b"bad cast",
+        Kind::CaseTwice => b"case twice",
+        Kind::Batch => b"bad list line",
+    }
+}
+
+/// The word that isn't covered, if there is one.
+fn kind_word(kind: &Kind) -> &[u8]
+    ensures { result.now ≡ kind_word kind.now }
+{
+    match kind {
+        Kind::Profile { word } => word.as_slice(),
+        _ => b"",
     }
 }
 
@@ -70,13 +96,14 @@ fn push_place<'a, N: ByteOut>(
     line: &'a [u8],
     blank: &'a [u8],
     kind: &'a [u8],
+    word: &'a [u8],
     end: &'a [u8],
 ) -> bool
     ensures pushed { Pushes (N.sent notes.old) (N.sent notes.new) (N.faults notes.old) (N.faults notes.new)
-        (joined (start.now ∷ file.now ∷ colon.now ∷ line.now ∷ blank.now ∷ kind.now ∷ end.now ∷ [])) result }
+        (joined (start.now ∷ file.now ∷ colon.now ∷ line.now ∷ blank.now ∷ kind.now ∷ word.now ∷ end.now ∷ [])) result }
     ensures later { N.faults notes.old ≤ N.faults notes.new }
 {
-    push_parts(notes, &[start, file, colon, line, blank, kind, end])
+    push_parts(notes, &[start, file, colon, line, blank, kind, word, end])
 }
 
 fn push_refusal<N: ByteOut>(notes: &mut N, refusal: &Refusal) -> bool
@@ -98,7 +125,8 @@ fn push_refusal<N: ByteOut>(notes: &mut N, refusal: &Refusal) -> bool
                 b":",
                 number,
                 b": ",
-                kind_bytes(*kind),
+                kind_words(kind),
+                kind_word(kind),
                 b"\n",
             )
         }

@@ -1,15 +1,7 @@
 //! Why a command wasn't done.
 
 use ir_tree::Text;
-
-/// What is wrong with a file.
-#[derive(Clone, Copy, Debug, PartialEq, Eq)]
-pub enum Kind {
-    /// It isn't of the form that is read.
-    Syntax,
-    /// It is longer than 16 MiB.
-    Limit,
-}
+use lto_fault::Kind;
 
 /// Any answer of a command but Ok.
 #[derive(Drop)]
@@ -18,7 +10,7 @@ pub enum Refusal {
     Usage,
     /// The file couldn't be fetched.
     ReadFault { name: Text },
-    /// The file was fetched and isn't accepted. Lines count from 1; line 0 is the whole file.
+    /// The file is longer than 16 MiB, which is told of line 0, or it was fetched and isn't accepted. Lines count from 1.
     Refused { file: Text, line: u64, kind: Kind },
     /// The file couldn't be put.
     WriteFault { name: Text },

@@ -58,8 +58,6 @@ const LINK: [&str; 4] = ["link", "-o", "o", "a.ll"];
 
 const USAGE: &[u8] = b"thinlto: usage\n";
 
-const SYNTAX: &[u8] = b"thinlto: a.ll:0: syntax\n";
-
 const BEFORE: &[u8] = b"-";
 
 const SUM: &[u8] = b"define i32 @main() {\n  %x = add i32 2, 3\n  ret i32 %x\n}\n";
@@ -81,15 +79,15 @@ fn a_link_and_its_faults(rt: HostRuntime) -> Result<(), Fail> {
             bytes: SUM,
             failing: NONE,
             status: 0,
-            held: b"define i32 @main() {\n  %1 = add i32 2, 3\n  ret i32 %1\n}\n",
+            held: b"define i32 @main() {\n  ret i32 5\n}\n",
             notes: b"",
         },
         Case {
-            bytes: b"",
+            bytes: b"define",
             failing: NONE,
             status: 3,
             held: b"-",
-            notes: b"thinlto: a.ll:0: syntax\n",
+            notes: b"thinlto: a.ll:1: syntax\n",
         },
         Case {
             bytes: SUM,
@@ -133,105 +131,101 @@ fn words_that_are_no_command(rt: HostRuntime) -> Result<(), Fail> {
     Ok(())
 }
 
-const START: &[u8] = b"define i32 @main() {\n";
-
-/// A text that is a `main` with these lines: what it links to, or nothing where it isn't read.
+/// A text, and what it links to.
 #[derive(Drop)]
-struct Text {
-    lines: &'static [u8],
+struct Linked {
+    text: &'static [u8],
     linked: &'static [u8],
 }
 
 #[test]
-fn texts_that_are_read_and_texts_that_are_not(rt: HostRuntime) -> Result<(), Fail> {
+fn modules_and_what_they_link_to(rt: HostRuntime) -> Result<(), Fail> {
+    let alloc = rt.alloc();
+    let modules = [
+        // comments, blanks, names in quotes and by number
+        Linked {
+            text: b"; c\ndefine i32 @main(i32 %\"x\"){%5=mul i32 %x,%\"x\" ret\ti32 %5 }",
+            linked: b"define i32 @main(i32 %0) {\n  %2 = mul i32 %0, %0\n  ret i32 %2\n}\n",
+        },
+        // a signed division that overflows isn't folded
+        Linked {
+            text: b"define i32 @main() {\n  %q = sdiv i32 -2147483648, -1\n  ret i32 %q\n}\n",
+            linked: b"define i32 @main() {\n  %1 = sdiv i32 -2147483648, -1\n  ret i32 %1\n}\n",
+        },
+        // a frozen poison becomes a number once for all its uses
+        Linked {
+            text: b"declare i32 @putchar(i32)\ndefine i32 @main() {\n  %a = shl i8 1, 8\n  %b = freeze i8 %a\n  %c = zext i8 %b to i32\n  %d = call i32 @putchar(i32 %c)\n  ret i32 0\n}\n",
+            linked: b"declare i32 @putchar(i32)\ndefine i32 @main() {\n  %1 = call i32 @putchar(i32 0)\n  ret i32 0\n}\n",
+        },
+        // two phis that take each other's values are no copies of one another
+        Linked {
+            text: b"define i32 @main() {\ne:\n  br label %l\nl:\n  %v = phi i32 [ 0, %e ], [ %n, %l ]\n  %y = phi i32 [ 9, %e ], [ %x, %l ]\n  %x = add i32 %v, 0\n  %n = add i32 %v, 1\n  %c = icmp eq i32 %n, 3\n  br i1 %c, label %o, label %l\no:\n  ret i32 %y\n}\n",
+            linked: b"define i32 @main() {\n  br label %1\n1:\n  %2 = phi i32 [ 0, %0 ], [ %4, %1 ]\n  %3 = phi i32 [ 9, %0 ], [ %2, %1 ]\n  %4 = add i32 %2, 1\n  %5 = icmp eq i32 %4, 3\n  br i1 %5, label %6, label %1\n6:\n  ret i32 %3\n}\n",
+        },
+        // variables, attributes, metadata, target lines and an `optnone` function
+        Linked {
+            text: b"source_filename = \"t.c\"\ntarget triple = \"x86_64-pc-linux-gnu\"\n@g = internal global { i32, i8 } { i32 5, i8 7 }\ndefine dso_local noundef i32 @main() local_unnamed_addr #0 {\n  %1 = load i32, ptr @g, align 4, !tbaa !5\n  %2 = add i32 %1, 0\n  ret i32 %2\n}\ndefine void @f() noinline optnone { %x = add i32 1, 2 ret void }\nattributes #0 = { nounwind \"frame-pointer\"=\"all\" }\n!0 = !{i32 1}\n",
+            linked: b"target triple = \"x86_64-pc-linux-gnu\"\n@g = internal global { i32, i8 } { i32 5, i8 7 }, align 4\ndefine i32 @main() {\n  %1 = load i32, ptr @g, align 4\n  ret i32 %1\n}\ndefine void @f() noinline optnone {\n  %1 = add i32 1, 2\n  ret void\n}\n",
+        },
+    ];
+    for module in &modules {
+        let ended = run(&rt, alloc, &LINK, module.text, NONE)?;
+        assert_eq!(rt; ended.status, 0);
+        assert_eq!(rt; ended.held.as_slice(), module.linked);
+    }
+    Ok(())
+}
+
+/// A text, and the line that its refusal ends with.
+#[derive(Drop)]
+struct Refused {
+    text: &'static [u8],
+    note: &'static [u8],
+}
+
+#[test]
+fn texts_that_are_refused(rt: HostRuntime) -> Result<(), Fail> {
     let alloc = rt.alloc();
     let texts = [
-        // comments, blanks, and names in quotes
-        Text {
-            lines: b"; c\n%\"x\"=add i32 1,2 ret\ti32 %x }",
-            linked: b"  %1 = add i32 1, 2\n  ret i32 %1\n}\n",
+        Refused {
+            text: b"define i32 @main() {\n  ret i32 0\n",
+            note: b"thinlto: a.ll:3: syntax\n",
         },
-        // `%5` and `%"5"` are two names, and written numbers rise
-        Text {
-            lines: b"%5 = add i32 1, 2 %\"5\" = add i32 3, 4 %007 = add i32 %5, %\"5\" ret i32 %7 }",
-            linked: b"  %1 = add i32 1, 2\n  %2 = add i32 3, 4\n  %3 = add i32 %1, %2\n  ret i32 %3\n}\n",
+        Refused {
+            text: b"\n\n\x01",
+            note: b"thinlto: a.ll:3: bad token\n",
         },
-        // literals of 32 bits are printed as signed
-        Text {
-            lines: b"%a = add i32 -2147483648, 4294967295 ret i32 2147483648 }",
-            linked: b"  %1 = add i32 -2147483648, -1\n  ret i32 -2147483648\n}\n",
+        Refused {
+            text: b"define i8 @main() {\n  ret i8 256\n}\n",
+            note: b"thinlto: a.ll:2: number out of range\n",
         },
-        Text {
-            lines: b"ret i32 4294967296 }",
-            linked: b"",
+        Refused {
+            text: b"define void @f() {\n  fence seq_cst\n  ret void\n}\n",
+            note: b"thinlto: a.ll:2: not in the profile: fence\n",
         },
-        Text {
-            lines: b"ret i32 -2147483649 }",
-            linked: b"",
+        Refused {
+            text: b"define i32 @main() {\n  ret i32 %x\n}\n",
+            note: b"thinlto: a.ll:2: unknown name\n",
         },
-        Text {
-            lines: b"ret i32 1",
-            linked: b"",
+        Refused {
+            text: b"define void @f() {\n  ret void\n}\ndeclare void @f()\n",
+            note: b"thinlto: a.ll:4: name defined twice\n",
         },
-        Text {
-            lines: b"ret i32 1 } ;\n}",
-            linked: b"",
+        Refused {
+            text: b"define i64 @main(i32 %x) {\n  ret i64 %x\n}\n",
+            note: b"thinlto: a.ll:2: type mismatch\n",
         },
-        Text {
-            lines: b"ret i32 %x }",
-            linked: b"",
-        },
-        Text {
-            lines: b"%x = add i32 %x, 1 ret i32 %x }",
-            linked: b"",
-        },
-        Text {
-            lines: b"%x = add i32 1, 1 %x = add i32 1, 1 ret i32 %x }",
-            linked: b"",
-        },
-        Text {
-            lines: b"%0 = add i32 1, 1 ret i32 %0 }",
-            linked: b"",
-        },
-        Text {
-            lines: b"%2 = add i32 1, 1 %1 = add i32 1, 1 ret i32 %2 }",
-            linked: b"",
-        },
-        Text {
-            lines: b"%x = add i64 1, 1 ret i32 %x }",
-            linked: b"",
-        },
-        Text {
-            lines: b"%x = add nsw i32 1, 1 ret i32 %x }",
-            linked: b"",
-        },
-        Text {
-            lines: b"%x add i32 1, 1 ret i32 %x }",
-            linked: b"",
-        },
-        Text {
-            lines: b"%x = add i32 1 1 ret i32 %x }",
-            linked: b"",
-        },
-        Text {
-            lines: b"ret i32 \"1\" }",
-            linked: b"",
+        // a use that is defined on one path alone
+        Refused {
+            text: b"define i32 @main(i1 %c) {\nentry:\n  br i1 %c, label %a, label %j\na:\n  %x = add i32 1, 2\n  br label %j\nj:\n  ret i32 %x\n}\n",
+            note: b"thinlto: a.ll:8: name not available\n",
         },
     ];
     for text in &texts {
-        let mut bytes = Vec::from_slice(alloc, START)?;
-        bytes.extend_from_slice(text.lines)?;
-        let ended = run(&rt, alloc, &LINK, &bytes, NONE)?;
-        if text.linked.is_empty() {
-            assert_eq!(rt; ended.status, 3);
-            assert_eq!(rt; ended.notes.as_slice(), SYNTAX);
-            assert_eq!(rt; ended.held.as_slice(), BEFORE);
-        } else {
-            let mut linked = Vec::from_slice(alloc, START)?;
-            linked.extend_from_slice(text.linked)?;
-            assert_eq!(rt; ended.status, 0);
-            assert_eq!(rt; ended.held.as_slice(), linked.as_slice());
-        }
+        let ended = run(&rt, alloc, &LINK, text.text, NONE)?;
+        assert_eq!(rt; ended.status, 3);
+        assert_eq!(rt; ended.notes.as_slice(), text.note);
+        assert_eq!(rt; ended.held.as_slice(), BEFORE);
     }
     Ok(())
 }

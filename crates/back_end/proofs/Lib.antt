@@ -1,0 +1,4 @@
+pub mod Bettering
+pub mod Interface
+pub mod Once
+pub mod Turning

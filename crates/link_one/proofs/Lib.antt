@@ -1,0 +1,6 @@
+pub mod Apart
+pub mod Bounded
+pub mod Once
+pub mod Refining
+pub mod Refusals
+pub mod Zipping

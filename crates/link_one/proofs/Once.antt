@@ -1,0 +1,40 @@
+-- No bytes are linked to two texts.
+use Rattle.std.proofs.Common.{◌≡◌, ◌∙◌, ℕ, List, [], ◌∷◌, refl, ap, ap₂, subst, sym}
+use Rattle.std.specs.List.{AllZip}
+use Rattle.ir_tree.specs.declared.module.GlobalValue.{GlobalValue}
+use Rattle.ir_tree.specs.declared.module.GlobalValue.TheVariants as global
+use Rattle.ir_tree.specs.declared.module.Module.{Module}
+use Rattle.ir_print.specs.Modules.{module_text}
+use Rattle.back_end.specs.Laws.{MadeIsOne}
+use Rattle.link_one.specs.Laws.{AcceptedIsOne}
+use Rattle.link_one.specs.Linked.{IsLinked, IsLinkedGlobal}
+use Rattle.link_one.specs.Linking.{IsLinkOf}
+
+module _ (made : MadeIsOne) where
+  global_is_one : (g h k : GlobalValue) → IsLinkedGlobal g h → IsLinkedGlobal g k → h ≡ k
+  global_is_one (global.Variable v) (global.Variable w) (global.Variable u) a b = ap global.Variable (a ∙ sym b)
+  global_is_one (global.Function f) (global.Function g) (global.Function h) a b = ap global.Function (made f g h a b)
+  global_is_one (global.Variable v) (global.Function g) k a b = absurd a
+  global_is_one (global.Function f) (global.Variable w) k a b = absurd a
+  global_is_one (global.Variable v) (global.Variable w) (global.Function h) a b = absurd b
+  global_is_one (global.Function f) (global.Function g) (global.Variable u) a b = absurd b
+
+  globals_are_one : (gs hs ks : List GlobalValue) → AllZip IsLinkedGlobal gs hs → AllZip IsLinkedGlobal gs ks → hs ≡ ks
+  globals_are_one [] [] [] a b = refl
+  globals_are_one [] (h ∷ hs) ks a b = absurd a
+  globals_are_one [] [] (k ∷ ks) a b = absurd b
+  globals_are_one (g ∷ gs) [] ks a b = absurd a
+  globals_are_one (g ∷ gs) (h ∷ hs) [] a b = absurd b
+  globals_are_one (g ∷ gs) (h ∷ hs) (k ∷ ks) a b = ap₂ (λ (x : GlobalValue). λ (xs : List GlobalValue). x ∷ xs) (global_is_one g h k a.0 b.0) (globals_are_one gs hs ks a.1 b.1)
+
+  module_is_one : (m l k : Module) → IsLinked m l → IsLinked m k → l ≡ k
+  module_is_one m l k a b = parts (a.datalayout ∙ sym b.datalayout) (a.triple ∙ sym b.triple) (globals_are_one m.globals l.globals k.globals a.globals b.globals)
+    where
+      parts : l.datalayout ≡ k.datalayout → l.triple ≡ k.triple → l.globals ≡ k.globals → l ≡ k
+      parts layout triple globals = λ i. record { datalayout = layout i; triple = triple i; globals = globals i }
+
+  pub linked_once : AcceptedIsOne → (bytes text other : List ℕ) → IsLinkOf bytes text → IsLinkOf bytes other → text ≡ other
+  linked_once accepted bytes text other a b =
+      a.is
+      ∙ ap module_text (module_is_one a.m a.l b.l a.linked (subst (λ (m : Module). IsLinked m b.l) (accepted bytes b.m a.m b.accepted a.accepted) b.linked))
+      ∙ sym b.is

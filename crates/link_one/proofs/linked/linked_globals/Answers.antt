@@ -1,0 +1,11 @@
+use Rattle.std.proofs.Common.{arith}
+use Rattle.link_one.specs.Bettered.{GlobalBetter}
+use Rattle.link_one.specs.Linked.{IsLinkedGlobal}
+use Rattle.link_one.proofs.Zipping.{zip_next}
+use Rattle.link_one.proofs.linked.linked_globals.Goals as goal
+
+pub each-preserved : goal.each-preserved
+each-preserved c = record {
+  made = zip_next IsLinkedGlobal c.args.globals.now c.each.global-index c.global-item.result (omega arith) c.global-item.is c.each.rows c.push.new.self c.in_ok-linked_global.field-0 c.each.invariant.made c.in_ok-linked_global.ensures.made c.in_ok-push.ensures.ok;
+  better = zip_next GlobalBetter c.args.globals.now c.each.global-index c.global-item.result (omega arith) c.global-item.is c.each.rows c.push.new.self c.in_ok-linked_global.field-0 c.each.invariant.better c.in_ok-linked_global.ensures.better c.in_ok-push.ensures.ok;
+}

@@ -1,0 +1,6 @@
+pub mod Linked
+pub mod Bettered
+pub mod Accepted
+pub mod Linking
+pub mod Answers
+pub mod Laws

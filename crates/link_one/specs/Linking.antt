@@ -1,0 +1,28 @@
+-- What a link makes of a file: both halves of the headline.
+use Rattle.std.specs.Prelude.{◌≡◌, ℕ, Bool, IsTrue, List, None, codes}
+use Rattle.ir_tree.specs.declared.module.Module.{Module}
+use Rattle.ir_tree.specs.declared.operand.Symbol.{Symbol}
+use Rattle.ir_meaning.specs.Refine.{Refines}
+use Rattle.ir_meaning.specs.Symbols.{symbol_eq}
+use Rattle.ir_print.specs.Modules.{module_text}
+use Rattle.ir_program.specs.Programs.{program_of}
+use Rattle.link_one.specs.Accepted.{Accepts}
+use Rattle.link_one.specs.Linked.{IsLinked}
+
+-- the exported name is `main`
+abbrev pub is_export : Symbol → Bool
+is_export s = symbol_eq (record { home = None; name = codes "main" }) s
+
+-- Preserved behaviour: the text is that of the linked module of what the bytes are read as, and each run of the linked program from
+-- an exported function, for all arguments, inputs, free choices and numbers of steps, is matched by a run of the module.
+pub record IsLinkOf (bytes text : List ℕ) : Type 0 where
+  pub m : Module
+  pub accepted : Accepts bytes m
+  pub l : Module
+  pub linked : IsLinked m l
+  pub is : text ≡ module_text l
+  pub refines : Refines (program_of l.globals) (program_of m.globals) (λ s. IsTrue (is_export s))
+
+-- Reproducible bytes: every link of the bytes has this text.
+abbrev pub IsOnlyLinkOf : List ℕ → List ℕ → Type 0
+IsOnlyLinkOf bytes text = (other : List ℕ) → IsLinkOf bytes other → other ≡ text

@@ -1,0 +1,75 @@
+//! From bytes to text.
+ghost use Rattle.std.specs.Prelude.{◌≡◌, IfOk, IfErr};
+ghost use Rattle.ir_tree.specs.declared.module.Module.{Module};
+ghost use Rattle.link_one.specs.Accepted.{Accepts, Refuses};
+ghost use Rattle.link_one.specs.Answers.{IfRefused};
+ghost use Rattle.link_one.specs.Linking.{IsLinkOf, IsOnlyLinkOf};
+ghost use Rattle.link_one.specs.declared.link.LinkError.TheVariants.{NoMemory};
+
+use crate::kind::{fault_kind, rule_kind};
+use crate::laws::linked_is_one;
+use crate::linked::linked;
+use ir_parse::{ReadError, parse};
+use ir_print::print;
+use ir_tree::{Text, Verified};
+use ir_verify::{VerifyError, verify};
+use lto_fault::Kind;
+use std::alloc::{AllocError, Global};
+
+/// Why a file isn't linked.
+#[derive(Drop)]
+pub enum LinkError {
+    /// Memory ran out.
+    NoMemory,
+    /// The file is read as no sound module within the limits: on which line, counted from 1, and why.
+    Refused { line: u32, kind: Kind },
+}
+
+impl From<AllocError> for LinkError {
+    ghost from_gives = { λ _ e. e ≡ NoMemory };
+
+    fn from(_e: AllocError) -> LinkError {
+        LinkError::NoMemory
+    }
+}
+
+/// The sound module that the bytes are read as.
+fn accepted(alloc: Global, bytes: &[u8]) -> Result<Verified, LinkError>
+    ensures found { IfOk result (λ m. Accepts bytes.now m) }
+    ensures refused { IfErr result (λ e. IfRefused e (λ line kind. Refuses bytes.now line kind)) }
+{
+    let parsed = match parse(alloc, bytes) {
+        Ok(parsed) => parsed,
+        Err(ReadError::NoMemory) => return Err(LinkError::NoMemory),
+        Err(ReadError::Fault(fault)) => {
+            return Err(LinkError::Refused {
+                line: fault.line,
+                kind: fault_kind(fault.kind),
+            });
+        }
+    };
+    match verify(alloc, parsed) {
+        Ok(verified) => Ok(verified),
+        Err(VerifyError::NoMemory) => Err(LinkError::NoMemory),
+        Err(VerifyError::Fault(fault)) => Err(LinkError::Refused {
+            line: fault.line,
+            kind: rule_kind(fault.kind),
+        }),
+    }
+}
+
+/// The text of the linked module of the one module that the bytes are read as. Every link of the same bytes has this text.
+///
+/// Refused exactly where the bytes are read as no sound module within the limits, with the line and the kind of the first
+/// fault. Beside want of memory, a number past 32 bits in a linked function is answered as such.
+pub fn link_text(alloc: Global, bytes: &[u8]) -> Result<Text, LinkError>
+    ensures linked { IfOk result (λ text. IsLinkOf bytes.now text) }
+    ensures only { IfOk result (λ text. IsOnlyLinkOf bytes.now text) }
+    ensures refused { IfErr result (λ e. IfRefused e (λ line kind. Refuses bytes.now line kind)) }
+{
+    linked_is_one();
+    let m = accepted(alloc, bytes)?;
+    let l = linked(alloc, &m)?;
+    let text = print(alloc, &l)?;
+    Ok(text)
+}
