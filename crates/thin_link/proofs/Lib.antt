@@ -1,0 +1,6 @@
+pub mod Counted
+pub mod Determined
+pub mod Indices
+pub mod Clashing
+pub mod Lacking
+pub mod Reports

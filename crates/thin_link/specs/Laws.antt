@@ -1,0 +1,21 @@
+-- Modules have one answer.
+use Rattle.std.specs.Prelude.{◌≡◌, ℕ, List}
+use Rattle.ir_tree.specs.declared.module.Module.{Module}
+use Rattle.lto_fault.specs.declared.refusal.Refusal.{Refusal}
+use Rattle.thin_link.specs.Linking.{IsIndexReport}
+use Rattle.thin_link.specs.Refusing.{IsRefused}
+
+-- what has a report isn't refused
+abbrev pub ReportedIsNotRefused : Type 0
+ReportedIsNotRefused =
+    (files exports : List (List ℕ)) (ms : List Module) (limit : ℕ) (text : List ℕ) (why : Refusal) → IsIndexReport files ms exports limit text → IsRefused files ms exports why → ⊥
+
+-- no modules have two reports
+abbrev pub ReportIsOne : Type 0
+ReportIsOne =
+    (files exports : List (List ℕ)) (ms : List Module) (limit : ℕ) (text other : List ℕ) → IsIndexReport files ms exports limit text → IsIndexReport files ms exports limit other → text ≡ other
+
+-- nor two refusals
+abbrev pub RefusalIsOne : Type 0
+RefusalIsOne =
+    (files exports : List (List ℕ)) (ms : List Module) (why other : Refusal) → IsRefused files ms exports why → IsRefused files ms exports other → why ≡ other

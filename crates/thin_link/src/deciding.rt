@@ -1,0 +1,107 @@
+//! The decisions of the thin link, or why there are none.
+ghost use Rattle.std.specs.Prelude.{◌≡◌, ◌≢◌, length, IfOk, IfErr};
+ghost use Rattle.symbol_resolve.specs.Clashes.{NoClash};
+ghost use Rattle.symbol_resolve.specs.Resolved.{symbols};
+ghost use Rattle.import_plan.specs.Views.{rows};
+ghost use Rattle.liveness.specs.Liveness.{AllExported, AreLive, NoneUndefined};
+ghost use Rattle.lto_fault.specs.declared.refusal.Refusal.TheVariants.{NoMemory};
+ghost use Rattle.thin_link.specs.Linking.{IsIndex, IsThinLink};
+ghost use Rattle.thin_link.specs.Refusing.{IsClash, IsLack, IsRefused};
+
+use crate::refusing::{clash_refusal, lack_refusal};
+use crate::summing::indexed;
+use combined_index::{Index, Live};
+use import_plan::plan;
+use ir_tree::{Text, Verified};
+use liveness::{LiveError, live};
+use lto_fault::Refusal;
+use std::alloc::Global;
+use symbol_resolve::{Resolution, ResolveError, resolve};
+
+/// What the thin link of modules decides.
+#[derive(Drop)]
+pub struct ThinLink {
+    /// The combined index, in which symbols have numbers.
+    pub index: Index,
+    /// The symbols that are kept.
+    pub live: Live,
+    /// For each module, by number, the symbols of the functions that it imports, rising.
+    pub imports: Vec<Vec<u32>>,
+}
+
+/// The symbols of modules that can be linked with one another.
+fn resolved<'a>(
+    alloc: Global,
+    files: &[Text],
+    modules: &'a [Verified],
+) -> Result<Resolution<'a>, Refusal>
+    ensures done { IfOk result (λ r. NoClash modules.entry.now × (r ≡ symbols modules.entry.now)) }
+    ensures refused { IfErr result (λ why. why ≢ NoMemory → IsClash files.now modules.entry.now why) }
+{
+    match resolve(alloc, modules) {
+        Ok(resolution) => Ok(resolution),
+        Err(ResolveError::NoMemory) => Err(Refusal::NoMemory),
+        Err(ResolveError::Clash(clash)) => match clash_refusal(alloc, files, clash) {
+            Ok(why) => Err(why),
+            Err(_) => Err(Refusal::NoMemory),
+        },
+    }
+}
+
+/// The live symbols of modules of this index, whose link lacks no definition.
+fn kept(
+    alloc: Global,
+    files: &[Text],
+    modules: &[Verified],
+    index: &Index,
+    exports: &[Text],
+) -> Result<Live, Refusal>
+    requires resolved { NoClash modules.now }
+    requires indexed { IsIndex modules.now index.now }
+    ensures done { IfOk result (λ marks. AreLive index.now exports.now marks × NoneUndefined index.now exports.now × AllExported index.now exports.now) }
+    ensures refused { IfErr result (λ why. why ≢ NoMemory → IsLack files.now modules.now exports.now why) }
+{
+    match live(alloc, index, exports) {
+        Ok(live) => Ok(live),
+        Err(LiveError::NoMemory) => Err(Refusal::NoMemory),
+        Err(LiveError::Refused(lack)) => match lack_refusal(alloc, files, lack) {
+            Ok(why) => Err(why),
+            Err(_) => Err(Refusal::NoMemory),
+        },
+    }
+}
+
+/// What the thin link of these modules decides, where these names are exported and a module imports
+/// functions of at most `import_limit` instructions that it calls, and smaller ones that those call.
+/// There is a file for each module, in command order.
+///
+/// Refused, in this order: two files whose data layouts differ, or whose triples; a name that two
+/// files define externally; a name that is a function in one file and a variable in another; a name
+/// that a live definition refers to and no file defines; an exported name that no file defines. Of
+/// several names the one with the least bytes is told. Beside want of memory, more than 32 bits can
+/// count is refused as too much for it.
+pub fn thin_link(
+    alloc: Global,
+    files: &[Text],
+    modules: &[Verified],
+    exports: &[Text],
+    import_limit: u32,
+) -> Result<ThinLink, Refusal>
+    requires { length files.now ≡ length modules.now }
+    ensures done { IfOk result (λ link. IsThinLink modules.now exports.now import_limit link.index link.live (rows link.imports.items)) }
+    ensures refused { IfErr result (λ why. why ≢ NoMemory → IsRefused files.now modules.now exports.now why) }
+{
+    let resolution = resolved(alloc, files, modules)?;
+    let Ok(index) = indexed(alloc, modules, &resolution) else {
+        return Err(Refusal::NoMemory);
+    };
+    let live = kept(alloc, files, modules, &index, exports)?;
+    let Ok(imports) = plan(alloc, &index, &live, import_limit) else {
+        return Err(Refusal::NoMemory);
+    };
+    Ok(ThinLink {
+        index,
+        live,
+        imports,
+    })
+}

@@ -1,0 +1,84 @@
+//! Refusals, which tell modules by the names of their files.
+ghost use Rattle.std.specs.Prelude.{◌≡◌, IfOk};
+ghost use Rattle.thin_link.specs.Refusing.{clash_refusal, file, lack_refusal, target};
+
+use ir_tree::{Duplicate, Text};
+use liveness::Refused;
+use lto_fault::{Refusal, TargetLine};
+use std::alloc::{AllocError, Global};
+use symbol_resolve::Clash;
+
+/// The name of a module's file.
+fn file(alloc: Global, files: &[Text], number: u32) -> Result<Text, AllocError>
+    ensures { IfOk result (λ name. name ≡ file files.now number) }
+{
+    match files.get(number as usize) {
+        Some(name) => name.duplicate(alloc),
+        None => Ok(Text::new(alloc)),
+    }
+}
+
+fn target(line: symbol_resolve::TargetLine) -> TargetLine
+    ensures { result ≡ target line }
+{
+    match line {
+        symbol_resolve::TargetLine::Datalayout => TargetLine::Datalayout,
+        symbol_resolve::TargetLine::Triple => TargetLine::Triple,
+    }
+}
+
+/// How it is told that two modules can't be linked.
+pub(crate) fn clash_refusal(
+    alloc: Global,
+    files: &[Text],
+    clash: Clash,
+) -> Result<Refusal, AllocError>
+    ensures { IfOk result (λ why. why ≡ clash_refusal files.now clash) }
+{
+    match clash {
+        Clash::TargetClash {
+            line,
+            first,
+            second,
+        } => Ok(Refusal::TargetClash {
+            target: target(line),
+            first: file(alloc, files, first)?,
+            second: file(alloc, files, second)?,
+        }),
+        Clash::DuplicateSymbol {
+            name,
+            first,
+            second,
+        } => Ok(Refusal::DuplicateSymbol {
+            name,
+            first: file(alloc, files, first)?,
+            second: file(alloc, files, second)?,
+        }),
+        Clash::KindClash {
+            name,
+            function,
+            variable,
+        } => Ok(Refusal::KindClash {
+            name,
+            function: file(alloc, files, function)?,
+            variable: file(alloc, files, variable)?,
+        }),
+    }
+}
+
+/// How it is told that a link lacks a definition.
+pub(crate) fn lack_refusal(
+    alloc: Global,
+    files: &[Text],
+    lack: Refused,
+) -> Result<Refusal, AllocError>
+    ensures { IfOk result (λ why. why ≡ lack_refusal files.now lack) }
+{
+    match lack {
+        Refused::Undefined { name, module } => Ok(Refusal::UndefinedSymbol {
+            name,
+            file: file(alloc, files, module)?,
+        }),
+        Refused::NoExport { name } => Ok(Refusal::NoExport { name }),
+    }
+}

@@ -1,0 +1,31 @@
+//! The report of a thin link.
+ghost use Rattle.std.specs.Prelude.{◌≡◌, ◌≢◌, length, IfOk, IfErr};
+ghost use Rattle.lto_fault.specs.declared.refusal.Refusal.TheVariants.{NoMemory};
+ghost use Rattle.thin_link.specs.Linking.{IsIndexReport};
+ghost use Rattle.thin_link.specs.Refusing.{IsRefused};
+
+use crate::deciding::thin_link;
+use index_report::report;
+use ir_tree::{Text, Verified};
+use lto_fault::Refusal;
+use std::alloc::Global;
+
+/// What the thin link of these modules decides, as text (`index_report`), or why it is refused, as
+/// [`thin_link`] says.
+pub fn index(
+    alloc: Global,
+    files: &[Text],
+    modules: &[Verified],
+    exports: &[Text],
+    import_limit: u32,
+) -> Result<Text, Refusal>
+    requires { length files.now ≡ length modules.now }
+    ensures done { IfOk result (λ text. IsIndexReport files.now modules.now exports.now import_limit text) }
+    ensures refused { IfErr result (λ why. why ≢ NoMemory → IsRefused files.now modules.now exports.now why) }
+{
+    let link = thin_link(alloc, files, modules, exports, import_limit)?;
+    match report(alloc, &link.index, &link.live, &link.imports, files) {
+        Ok(text) => Ok(text),
+        Err(_) => Err(Refusal::NoMemory),
+    }
+}
