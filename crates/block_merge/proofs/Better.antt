@@ -135,7 +135,7 @@ module _ (f : Function) (fits : Fits f) (a y : Block) (can : CanJoin f a y) wher
       lines false = sym (append-nil b.lines)
 
   -- no other block leads to the second
-  only_from : (c : Block) → IsOneOf f.blocks c → 1 ≤ times y.number (targets c.end) → c.number ≡ a.number
+  pub only_from : (c : Block) → IsOneOf f.blocks c → 1 ≤ times y.number (targets c.end) → c.number ≡ a.number
   only_from c (i, at) some =
       let many : times i (edges f y_is.0) ≡ times y.number (targets c.end) = edges_from f y_is.0 y y_is.1 i ∙ ap (out_to y.number) at in
       let first : times can.first.0 (edges f y_is.0) ≡ times y.number (targets a.end) = edges_from f y_is.0 y y_is.1 can.first.0 ∙ ap (out_to y.number) can.first.1 in

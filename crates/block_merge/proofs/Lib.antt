@@ -1,7 +1,11 @@
 mod Better
+mod Defined
 mod Fitting
+mod JoinedPaths
+mod JoinedSound
 mod Left
 mod Loops
+mod Moved
 mod Start
 mod Stepping
 mod Weights

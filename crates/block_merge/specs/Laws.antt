@@ -1,4 +1,4 @@
--- A sound function whose blocks are joined is better.
+-- A sound function whose blocks are joined is better and sound.
 use Rattle.std.specs.Prelude.{◌-◌, ◌^◌, length}
 use Rattle.ir_tree.specs.Rules.{Sound}
 use Rattle.ir_tree.specs.declared.function.Function.{Function}
@@ -11,3 +11,8 @@ use Rattle.block_merge.specs.Merged.{IsMergeOf}
 -- its block has edges
 abbrev pub MergeIsBetter : Type 0
 MergeIsBetter = (f g : Function) → Sound f → IsMergeOf f g → (p : Program) → IsFormed p → BetterThan p (2 ^ (length f.blocks - length g.blocks)) g f
+
+-- and sound: the only edge to a block that goes came from the block that took it, so that what was available in the one is
+-- available behind the other's lines
+abbrev pub MergeIsSound : Type 0
+MergeIsSound = (f g : Function) → Sound f → IsMergeOf f g → Sound g

@@ -53,6 +53,7 @@ fn each(alloc: Global, blocks: &[Block]) -> Result<Vec<u32>, AllocError>
 pub fn merge(alloc: Global, f: &Function) -> Result<Function, AllocError>
     ensures merged { IfOk result (λ g. Distinct (numbers f.now) → IsMergeOf f.now g) }
     ensures better { IfOk result (λ g. Sound f.now → (p : Program) → IsFormed p → BetterThan p (2 ^ (length f.now.blocks - length g.blocks)) g f.now) }
+    ensures sound { IfOk result (λ g. Sound f.now → Sound g) }
 {
     let old = f.blocks.as_slice();
     let mut joining = Joining::of(alloc, old)?;

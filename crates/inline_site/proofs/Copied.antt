@@ -1,10 +1,9 @@
 -- The callee's blocks numbered, shifted and with arguments for parameters are its copy.
-use Rattle.std.proofs.Common.{◌≡◌, ℕ, zero, suc, ◌+◌, ◌<◌, ◌≤◌, ◌⊎◌, inl, inr, ◌==◌, nat_eq, Bool, true, false, List, [], ◌∷◌, ◌++◌, Option, Some, None, map, option_map, length, refl, sym, ◌∙◌, ap, subst, arith, append_assoc, length-append, if◌then◌else◌}
+use Rattle.std.proofs.Common.{◌≡◌, ℕ, ◌+◌, ◌<◌, ◌≤◌, ◌⊎◌, inl, inr, ◌==◌, nat_eq, Bool, true, false, List, [], ◌∷◌, ◌++◌, Option, Some, None, map, length, refl, sym, ◌∙◌, ap, arith, append_assoc, length-append, if◌then◌else◌}
 use Rattle.std.proofs.lemmas.Bool.{cases_eq, eq-eqb, eqb-true, ne_eqb}
 use Rattle.std.proofs.lemmas.List.{map-append}
 use Rattle.ir_tree.specs.Flow.{room}
 use Rattle.ir_tree.specs.Formed.{Formed}
-use Rattle.ir_tree.specs.Rules.{Sound}
 use Rattle.ir_tree.specs.declared.block.Block.{Block}
 use Rattle.ir_tree.specs.declared.function.Function.{Function}
 use Rattle.ir_tree.specs.declared.function.Param.{Param}
@@ -12,7 +11,7 @@ use Rattle.ir_tree.specs.declared.operand.Argument.{Argument}
 use Rattle.ir_tree.specs.declared.operand.Operand.{Operand}
 use Rattle.ir_tree.specs.declared.operand.Operand.TheVariants.{Local, Null, Number, Poison, Symbol as Named}
 use Rattle.ir_edit.specs.Edited.{block_edited, operand_renamed, shifted}
-use Rattle.ir_edit.specs.Numbered.{block_numbers, blocks_numbers, in_text_order, later_or, new_number, numbers_of, or_behind, param_numbers, place_from}
+use Rattle.ir_edit.specs.Numbered.{block_numbers, blocks_numbers, in_text_order, later_or, new_number, numbers_of, or_behind, param_numbers}
 use Rattle.ir_edit.specs.OneToOne.{IsOneToOne}
 use Rattle.ir_edit.specs.Substituted.{operand_replaced, or_local, replacement, substituted}
 use Rattle.ir_edit.proofs.Apart.{is_one_to_one}

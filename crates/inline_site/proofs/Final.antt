@@ -9,13 +9,13 @@ use Rattle.inline_site.proofs.Copied.{copied_apart}
 abbrev pub final_number : ℕ → Function → ℕ → ℕ
 final_number free callee n = if nat_lt n free then n else copied_number free callee (n - free)
 
-less : (n free : ℕ) → n < free → nat_lt n free ≡ true
+pub less : (n free : ℕ) → n < free → nat_lt n free ≡ true
 less n free h = grind (arith, nat_tests)
 
-not_less : (n free : ℕ) → free ≤ n → nat_lt n free ≡ false
+pub not_less : (n free : ℕ) → free ≤ n → nat_lt n free ≡ false
 not_less n free h = grind (arith, nat_tests)
 
-sides : (n free : ℕ) → (n < free) ⊎ (free ≤ n)
+pub sides : (n free : ℕ) → (n < free) ⊎ (free ≤ n)
 sides n free = by (nat_lt n free) refl
   where
     yes' : (n free : ℕ) → nat_lt n free ≡ true → n < free

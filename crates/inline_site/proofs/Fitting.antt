@@ -1,15 +1,14 @@
 -- What a sound function names is its own: each number is below the first free one, and no phi stands among lines.
-use Rattle.std.proofs.Common.{◌≡◌, ℕ, zero, suc, ◌+◌, ◌<◌, ◌≤◌, nat_eq, nat_lt, ◌⊎◌, inl, inr, ◌||◌, Bool, true, false, List, [], ◌∷◌, ◌++◌, Option, Some, None, map, option_map, length, refl, sym, ◌∙◌, ap, subst, arith, get_or, append-nil, length-append, if◌then◌else◌}
+use Rattle.std.proofs.Common.{◌≡◌, ℕ, suc, ◌+◌, ◌<◌, ◌≤◌, nat_eq, ◌||◌, Bool, true, false, List, [], ◌∷◌, ◌++◌, Option, Some, None, map, length, refl, ap, subst, arith, get_or, length-append, if◌then◌else◌}
 use Rattle.std.specs.Prelude.{All, flat_map}
 use Rattle.std.proofs.lemmas.Bool.Decides.{nat_tests}
 use Rattle.std.proofs.lemmas.List.{get_or_append_left, get_or-append-add}
 use Rattle.std.proofs.lemmas.List.Elements.{All-head, All-tail}
-use Rattle.ir_tree.specs.Flow.{definitions, holds, locals, parameters, results, room, targets}
-use Rattle.ir_tree.specs.Formed.{ArgumentFormed, Formed, IsBlock, IsLocal, ItemFormed, KindFormed, OperandFormed, numbers}
-use Rattle.ir_tree.specs.Items.{Item, phi_item, line_item, end_item, block_items, end_reads, entries, items, items_from, lines_from, phi_reads, reads, taken_as, typed}
-use Rattle.ir_tree.specs.Rules.{IsNoPhi, Keeps, Sound, StandsRight}
+use Rattle.ir_tree.specs.Flow.{definitions, holds, locals, parameters, targets}
+use Rattle.ir_tree.specs.Formed.{ArgumentFormed, IsBlock, IsLocal, ItemFormed, OperandFormed, numbers}
+use Rattle.ir_tree.specs.Items.{Item, phi_item, line_item, end_item, block_items, end_reads, items_from, lines_from, phi_reads, reads, taken_as, typed}
+use Rattle.ir_tree.specs.Rules.{IsNoPhi, Sound, StandsRight}
 use Rattle.ir_tree.specs.declared.block.Block.{Block}
-use Rattle.ir_tree.specs.declared.block.Case.{Case}
 use Rattle.ir_tree.specs.declared.block.Terminator.{Terminator}
 use Rattle.ir_tree.specs.declared.block.Terminator.TheVariants.{Branch, Jump, Return, Switch, Unreachable}
 use Rattle.ir_tree.specs.declared.function.Function.{Function}
@@ -26,7 +25,7 @@ use Rattle.ir_tree.specs.declared.operand.Reg.TheVariants.{Int, Ptr}
 use Rattle.ir_tree.specs.declared.rule.Rule.TheVariants.{PhiPlace}
 use Rattle.ir_edit.specs.Numbered.{block_numbers, blocks_numbers, line_numbers, local_number, numbers_of, param_numbers, phi_numbers}
 use Rattle.ir_edit.proofs.Tally.{tally, tally_both, tally_same}
-use Rattle.ir_better.specs.Inline.{BlockBelow, BlocksBelow, EdgesBelow, LinesBelow, PhisBelow, below}
+use Rattle.ir_better.specs.Inline.{BlocksBelow, EdgesBelow, LinesBelow, PhisBelow, below}
 use Rattle.ir_better.specs.Needed.{AllKept, EndReads, IsKept, Reads}
 use Rattle.inline_site.specs.Copies.{first_free}
 use Rattle.inline_site.proofs.Once.{below_room, blocks_tally, params_are}

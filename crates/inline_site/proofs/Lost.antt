@@ -1,11 +1,9 @@
 -- Where no block of the callee returns, the result is poison at each use, and that is better too.
-use Rattle.std.proofs.Common.{◌≡◌, ◌≢◌, ℕ, zero, suc, ◌+◌, ◌<◌, ◌≤◌, ◌⊎◌, inl, inr, ◌==◌, nat_eq, Bool, true, false, List, [], ◌∷◌, ◌++◌, Option, Some, None, map, option_map, length, refl, sym, ◌∙◌, ap, subst, arith, append_assoc, if◌then◌else◌}
-use Rattle.std.specs.Prelude.{All, flat_map}
+use Rattle.std.proofs.Common.{◌≡◌, ◌≢◌, ℕ, suc, ◌+◌, ◌<◌, ◌≤◌, inl, inr, ◌==◌, nat_eq, Bool, true, false, List, [], ◌∷◌, ◌++◌, Option, Some, None, map, option_map, refl, sym, ◌∙◌, ap, subst, arith, append_assoc, if◌then◌else◌}
+use Rattle.std.specs.Prelude.{All}
 use Rattle.std.proofs.lemmas.Bool.{eqb-true}
-use Rattle.std.proofs.lemmas.List.Elements.{All-head}
-use Rattle.ir_tree.specs.Flow.{definitions, targets}
-use Rattle.ir_tree.specs.Formed.{numbers}
-use Rattle.ir_tree.specs.Items.{Item, block_items, items_from}
+use Rattle.ir_tree.specs.Flow.{targets}
+use Rattle.ir_tree.specs.Items.{block_items, items_from}
 use Rattle.ir_tree.specs.Rules.{EndTypes, Keeps, Sound}
 use Rattle.ir_tree.specs.declared.block.Block.{Block}
 use Rattle.ir_tree.specs.declared.block.Case.{Case}
@@ -24,20 +22,20 @@ use Rattle.ir_tree.specs.declared.rule.Rule.TheVariants.{TypeMismatch}
 use Rattle.ir_meaning.specs.Act.{find_block}
 use Rattle.ir_meaning.specs.Near.{BetterThan}
 use Rattle.ir_edit.specs.Edited.{block_edited, case_edited, end_edited, line_edited, param_edited, phi_edited}
-use Rattle.ir_edit.specs.Numbered.{block_numbers, blocks_numbers, line_numbers, local_number, numbers_of, param_numbers, phi_numbers}
+use Rattle.ir_edit.specs.Numbered.{block_numbers, blocks_numbers, line_numbers, local_number, param_numbers, phi_numbers}
 use Rattle.ir_edit.specs.Substituted.{substituted}
 use Rattle.ir_edit.proofs.Tally.{tally, tally_both, tally_same}
 use Rattle.ir_better.specs.Facts.{InCases, IsTarget}
 use Rattle.inline_site.specs.Copies.{behind_call, copied, copied_number, copied_operand, first_free}
-use Rattle.inline_site.specs.Inlined.{after_call, before_call, end_leading, entry_of, inlined, leading_to, named, phi_named, result_given, result_phis, return_entries, return_entry, spliced}
+use Rattle.inline_site.specs.Inlined.{before_call, end_leading, entry_of, inlined, leading_to, named, phi_named, result_given, result_phis, return_entries, return_entry}
 use Rattle.inline_site.specs.Laws.{IsBetter}
 use Rattle.inline_site.specs.Sites.{IsCallOf, Site, StandsAt}
 use Rattle.inline_site.proofs.Copied.{copied_apart}
-use Rattle.inline_site.proofs.Fitting.{AreBelow, BlockFits, BlocksFit, LocalBelow, all_back, all_front, fit_back, fit_front, fits}
+use Rattle.inline_site.proofs.Fitting.{AreBelow, BlocksFit, LocalBelow, all_back, all_front, fit_back, fit_front, fits}
 use Rattle.inline_site.proofs.Moved.{differs}
 use Rattle.inline_site.proofs.Once.{blocks_tally, once_each}
 use Rattle.inline_site.proofs.Sparing.{end_of}
-use Rattle.inline_site.proofs.Spliced.{all_fit, better_if, block_fits, call_fits, phi_is, phi_of, with_phi_better, with_phis}
+use Rattle.inline_site.proofs.Spliced.{all_fit, better_if, call_fits, phi_is, phi_of, with_phi_better, with_phis}
 use Rattle.inline_site.proofs.Unset.{BeginsToo, BlockSpares, FoundToo, IsLost, LinesSpare, ParamsSpare, PhisSpare, lost, lost_better}
 
 -- ---- two lists of blocks that differ in one block alone

@@ -1,5 +1,5 @@
 -- The copy of the law of inlining, under its final numbers, is the copy of the definition.
-use Rattle.std.proofs.Common.{◌≡◌, ℕ, ◌+◌, ◌<◌, ◌≤◌, ◌==◌, ◌⊎◌, inl, inr, nat_eq, Bool, true, false, List, [], ◌∷◌, ◌++◌, Option, Some, None, map, option_map, refl, sym, ◌∙◌, ap, subst, arith, if◌then◌else◌}
+use Rattle.std.proofs.Common.{◌≡◌, ℕ, ◌+◌, ◌≤◌, ◌==◌, ◌⊎◌, inl, inr, nat_eq, Bool, true, false, List, [], ◌∷◌, Option, Some, None, map, option_map, refl, sym, ◌∙◌, ap, arith, if◌then◌else◌}
 use Rattle.std.proofs.lemmas.Bool.{cases_eq, eq-eqb, ne_eqb}
 use Rattle.ir_tree.specs.Rules.{IsNoPhi}
 use Rattle.ir_tree.specs.declared.block.Block.{Block}
@@ -14,12 +14,12 @@ use Rattle.ir_tree.specs.declared.instr.Line.{Line}
 use Rattle.ir_tree.specs.declared.instr.Phi.{Phi}
 use Rattle.ir_tree.specs.declared.operand.Argument.{Argument}
 use Rattle.ir_tree.specs.declared.operand.Operand.{Operand}
-use Rattle.ir_tree.specs.declared.operand.Operand.TheVariants.{Local, Null, Number, Poison, Symbol as Named}
+use Rattle.ir_tree.specs.declared.operand.Operand.TheVariants.{Local}
 use Rattle.ir_edit.specs.Edited.{argument_edited, block_edited, case_edited, end_edited, incoming_edited, instr_edited, line_edited, phi_edited}
 use Rattle.ir_edit.specs.Numbered.{later_or, param_numbers}
 use Rattle.ir_edit.specs.Substituted.{or_local, replacement}
 use Rattle.ir_edit.proofs.Tally.{tally, tally_same}
-use Rattle.ir_better.specs.Inline.{Site, argument_of, argument_with, block_moved, blocks_moved, below, cases_moved, each_moved, edges_moved, end_moved, line_moved, lines_moved, local_moved, moved, or_moved, phis_moved, return_edge, return_edges, with_operands}
+use Rattle.ir_better.specs.Inline.{Site, argument_of, blocks_moved, below, cases_moved, each_moved, edges_moved, end_moved, lines_moved, local_moved, moved, or_moved, phis_moved, return_edge, return_edges, with_operands}
 use Rattle.ir_better.specs.Needed.{AllKept, IsKept}
 use Rattle.ir_better.specs.Renumber.{block_renumbered, case_renumbered, end_renumbered, incoming_renumbered, instr_renumbered, line_renumbered, operand_renumbered, phi_renumbered}
 use Rattle.inline_site.specs.Copies.{bound}

@@ -1,5 +1,5 @@
 -- In a formed function each number stands once, and below the first free one.
-use Rattle.std.proofs.Common.{◌≡◌, ℕ, zero, suc, ◌+◌, ◌<◌, ◌≤◌, max, ◌==◌, nat_eq, Bool, true, false, List, [], ◌∷◌, ◌++◌, Option, Some, None, map, length, refl, sym, ◌∙◌, ap, arith, if◌then◌else◌}
+use Rattle.std.proofs.Common.{◌≡◌, ℕ, suc, ◌+◌, ◌<◌, ◌≤◌, max, ◌==◌, nat_eq, Bool, true, false, List, [], ◌∷◌, ◌++◌, Option, Some, None, map, length, refl, ◌∙◌, ap, arith, if◌then◌else◌}
 use Rattle.std.specs.Prelude.{flat_map}
 use Rattle.std.specs.List.{cons_option}
 use Rattle.std.proofs.lemmas.Bool.Decides.{nat_tests}
@@ -10,7 +10,7 @@ use Rattle.ir_tree.specs.declared.function.Function.{Function}
 use Rattle.ir_tree.specs.declared.function.Param.{Param}
 use Rattle.ir_tree.specs.declared.instr.Line.{Line}
 use Rattle.ir_tree.specs.declared.instr.Phi.{Phi}
-use Rattle.ir_edit.specs.Numbered.{block_numbers, blocks_numbers, later_or, line_numbers, local_number, numbers_of, param_numbers, phi_numbers, place_from}
+use Rattle.ir_edit.specs.Numbered.{block_numbers, blocks_numbers, later_or, line_numbers, local_number, param_numbers, phi_numbers, place_from}
 use Rattle.ir_edit.proofs.Tally.{tally, tally_both, tally_once, tally_same}
 
 -- ---- the numbers are the locals and the numbers of the blocks

@@ -1,20 +1,18 @@
 -- The first free number of a function, part by part.
-use Rattle.std.proofs.Common.{◌≡◌, ℕ, suc, ◌+◌, ◌<◌, ◌≤◌, max, List, [], ◌∷◌, ◌++◌, drop, length, get_or, refl, sym, ◌∙◌, ap, arith}
+use Rattle.std.proofs.Common.{◌≡◌, ℕ, suc, ◌+◌, ◌<◌, max, List, [], ◌∷◌, ◌++◌, drop, length, get_or, sym, ◌∙◌, ap, arith}
 use Rattle.std.proofs.lemmas.List.{drop_more}
 use Rattle.ir_tree.specs.Flow.{room}
 use Rattle.ir_tree.specs.declared.block.Block.{Block}
-use Rattle.ir_tree.specs.declared.function.Function.{Function}
 use Rattle.ir_tree.specs.declared.function.Param.{Param}
 use Rattle.ir_tree.specs.declared.instr.Line.{Line}
 use Rattle.ir_tree.specs.declared.instr.Phi.{Phi}
 use Rattle.ir_edit.specs.Numbered.{block_numbers, blocks_numbers, line_numbers, param_numbers, phi_numbers}
-use Rattle.inline_site.specs.Copies.{first_free}
 
-room_both : (xs ys : List ℕ) → room (xs ++ ys) ≡ max (room xs) (room ys)
+pub room_both : (xs ys : List ℕ) → room (xs ++ ys) ≡ max (room xs) (room ys)
 room_both [] ys = omega arith
 room_both (x ∷ xs) ys = let more : room (xs ++ ys) ≡ max (room xs) (room ys) = room_both xs ys in omega (arith, more)
 
-block_room : (b : Block) → room (block_numbers b) ≡ max (suc b.number) (max (room (phi_numbers b.phis)) (room (line_numbers b.lines)))
+pub block_room : (b : Block) → room (block_numbers b) ≡ max (suc b.number) (max (room (phi_numbers b.phis)) (room (line_numbers b.lines)))
 unfolding block_numbers
 block_room b = ap (max (suc b.number)) (room_both (phi_numbers b.phis) (line_numbers b.lines))
 
@@ -34,10 +32,7 @@ past_more bs i b free next total lt is next_is total_is =
     ∙ ap (λ (x : Block). max (room (block_numbers x)) (room (blocks_numbers (drop (i + 1) bs)))) (sym is) in
     omega (arith, next_is, total_is, parts)
 
-pub past_all : (f : Function) (params : List Param) (blocks : List Block) (a b : ℕ) → params ≡ f.params → a ≡ max 0 (room (param_numbers params)) → blocks ≡ f.blocks
-    → b ≡ max a (room (blocks_numbers blocks)) → b ≡ first_free f
-past_all f params blocks a b params_are a_is blocks_are b_is =
-    let both : first_free f ≡ max (room (param_numbers f.params)) (room (blocks_numbers f.blocks)) = room_both (param_numbers f.params) (blocks_numbers f.blocks) in
-    let first : room (param_numbers params) ≡ room (param_numbers f.params) = ap (λ (l : List Param). room (param_numbers l)) params_are in
-    let second : room (blocks_numbers blocks) ≡ room (blocks_numbers f.blocks) = ap (λ (l : List Block). room (blocks_numbers l)) blocks_are in
-    omega (arith, a_is, b_is, both, first, second)
+pub past_all : (ps : List Param) (bs : List Block) (a b : ℕ) → a ≡ max 0 (room (param_numbers ps)) → b ≡ max a (room (blocks_numbers bs)) → b ≡ room (param_numbers ps ++ blocks_numbers bs)
+past_all ps bs a b a_is b_is =
+    let both : room (param_numbers ps ++ blocks_numbers bs) ≡ max (room (param_numbers ps)) (room (blocks_numbers bs)) = room_both (param_numbers ps) (blocks_numbers bs) in
+    omega (arith, a_is, b_is, both)

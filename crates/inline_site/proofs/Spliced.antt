@@ -1,17 +1,14 @@
 -- What the law of inlining gives, under its final numbers, is the definition's function.
-use Rattle.std.proofs.Common.{◌≡◌, ◌≢◌, ℕ, zero, suc, ◌+◌, ◌<◌, ◌≤◌, ◌⊎◌, inl, inr, ◌==◌, ◌&&◌, nat_eq, Bool, true, false, List, [], ◌∷◌, ◌++◌, Option, Some, None, map, length, refl, sym, ◌∙◌, ap, subst, arith, if◌then◌else◌}
-use Rattle.std.proofs.lemmas.Bool.{cases_eq, eq-eqb, ne_eqb}
+use Rattle.std.proofs.Common.{◌≡◌, ℕ, ◌+◌, ◌<◌, ◌≤◌, ◌==◌, ◌&&◌, nat_eq, Bool, true, false, List, [], ◌∷◌, ◌++◌, Option, Some, None, map, refl, sym, ◌∙◌, ap, subst, arith, if◌then◌else◌}
+use Rattle.std.proofs.lemmas.Bool.{eq-eqb, ne_eqb}
 use Rattle.std.proofs.lemmas.List.{map-append}
-use Rattle.ir_tree.specs.Flow.{definitions, room}
 use Rattle.ir_tree.specs.Formed.{numbers}
 use Rattle.ir_tree.specs.Rules.{LineTypes, Sound}
 use Rattle.ir_tree.specs.declared.block.Block.{Block}
 use Rattle.ir_tree.specs.declared.function.Function.{Function}
 use Rattle.ir_tree.specs.declared.function.Param.{Param}
 use Rattle.ir_tree.specs.declared.instr.Incoming.{Incoming}
-use Rattle.ir_tree.specs.declared.instr.Instr.{Instr}
 use Rattle.ir_tree.specs.declared.instr.Instr.TheVariants.{Call}
-use Rattle.ir_tree.specs.declared.instr.Line.{Line}
 use Rattle.ir_tree.specs.declared.instr.Phi.{Phi}
 use Rattle.ir_tree.specs.declared.block.Terminator.TheVariants.{Jump}
 use Rattle.ir_tree.specs.declared.operand.Argument.{Argument}
@@ -26,22 +23,22 @@ use Rattle.ir_meaning.specs.Near.{BetterThan}
 use Rattle.ir_meaning.specs.Program.{Program}
 use Rattle.ir_edit.specs.Edited.{block_edited}
 use Rattle.ir_edit.specs.Numbered.{blocks_numbers, numbers_of, param_numbers}
-use Rattle.ir_edit.specs.Substituted.{or_local, replacement}
+use Rattle.ir_edit.specs.Substituted.{or_local}
 use Rattle.ir_edit.proofs.Tally.{tally, tally_both, tally_same}
 use Rattle.ir_better.specs.Formed.{IsFormed}
 use Rattle.ir_better.specs.Inline as law
 use Rattle.ir_better.specs.Inline.{CanInline, EdgesBelow, argument_of, below, block_renamed, blocks_moved, blocks_renamed, edges_renamed, first_part, inlined_blocks, join_phis, moved, or_moved, phis_renamed, return_edges, second_part}
-use Rattle.ir_better.specs.Needed.{AllKept, EndReads, Reads}
+use Rattle.ir_better.specs.Needed.{AllKept, Reads}
 use Rattle.ir_better.specs.Renumber.{block_renumbered, incoming_renumbered, operand_renumbered, param_renumbered, phi_renumbered, renumbered}
 use Rattle.ir_better.proofs.Between.InARow.{in_a_row}
 use Rattle.ir_better.proofs.Inlining.Inlined.{inlined_is_better}
 use Rattle.ir_better.proofs.Numbers.Renumbered.{renumbered_better}
-use Rattle.inline_site.specs.Copies.{behind_call, bound, copied, copied_number, copied_operand, first_free}
-use Rattle.inline_site.specs.Inlined.{after_call, before_call, entry_named, entry_of, inlined, leading_to, named, phi_named, result_given, result_phis, return_entries, spliced}
+use Rattle.inline_site.specs.Copies.{behind_call, copied, copied_number, copied_operand, first_free}
+use Rattle.inline_site.specs.Inlined.{before_call, entry_named, entry_of, inlined, leading_to, named, phi_named, result_given, result_phis, return_entries}
 use Rattle.inline_site.specs.Laws.{IsBetter, IsOwn}
 use Rattle.inline_site.specs.Sites.{IsCallOf, Site, StandsAt, argument_types, param_types}
 use Rattle.inline_site.proofs.Final.{final_apart, final_number, shifts, stays}
-use Rattle.inline_site.proofs.Fitting.{AreBelow, BlockFits, BlocksFit, LinesFit, LocalBelow, PhisFit, blocks_below, fit_back, fit_front, fits, lines_back, lines_front}
+use Rattle.inline_site.proofs.Fitting.{BlockFits, BlocksFit, LinesFit, LocalBelow, PhisFit, blocks_below, fit_back, fit_front, fits, lines_back, lines_front}
 use Rattle.inline_site.proofs.Fixed.{end_fixed, lines_fixed, operand_fixed}
 use Rattle.inline_site.proofs.Moved.{argument_moved, blocks_same, returns_same, same_argument}
 use Rattle.inline_site.proofs.Once.{below_room, once_each}

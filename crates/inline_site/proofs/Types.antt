@@ -1,9 +1,8 @@
 -- Types of arguments and of parameters, one by one.
-use Rattle.std.proofs.Common.{◌≡◌, ℕ, zero, suc, ◌+◌, ◌<◌, List, [], ◌∷◌, ◌++◌, map, take, length, get_or, refl, sym, ◌∙◌, ap, arith}
+use Rattle.std.proofs.Common.{◌≡◌, ℕ, zero, suc, ◌+◌, ◌<◌, List, [], ◌∷◌, ◌++◌, take, length, get_or, sym, ◌∙◌, ap, arith}
 use Rattle.std.proofs.lemmas.List.{map-append, take_more}
 use Rattle.ir_tree.specs.declared.function.Param.{Param}
 use Rattle.ir_tree.specs.declared.operand.Argument.{Argument}
-use Rattle.ir_tree.specs.declared.operand.Reg.{Reg}
 use Rattle.inline_site.specs.Sites.{argument_types, param_types}
 
 pub types_more : (as' : List Argument) (ps : List Param) (i : ℕ) (a : Argument) (p : Param) → i < length as' → i < length ps → (get_or as' i a).reg ≡ (get_or ps i p).reg

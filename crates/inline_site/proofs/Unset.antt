@@ -1,5 +1,5 @@
 -- A local that no block that can be entered gives a value is poison, so that each use of it may become poison.
-use Rattle.std.proofs.Common.{◌≡◌, ◌≢◌, ℕ, zero, suc, ◌+◌, ◌<◌, ◌≤◌, ◌⊎◌, inl, inr, ◌==◌, nat_eq, Bool, true, false, List, [], ◌∷◌, ◌++◌, Option, Some, None, map, option_map, refl, sym, ◌∙◌, ap, subst, arith, if◌then◌else◌}
+use Rattle.std.proofs.Common.{◌≡◌, ℕ, zero, suc, ◌⊎◌, inl, inr, ◌==◌, Bool, true, false, List, [], ◌∷◌, Option, Some, None, map, option_map, refl, sym, ◌∙◌, ap, subst, if◌then◌else◌}
 use Rattle.std.proofs.lemmas.Bool.{eqb-true, ne_eqb}
 use Rattle.ir_tree.specs.declared.block.Block.{Block}
 use Rattle.ir_tree.specs.declared.block.Case.{Case}
@@ -16,15 +16,15 @@ use Rattle.ir_tree.specs.declared.operand.Argument.{Argument}
 use Rattle.ir_tree.specs.declared.operand.Operand.{Operand}
 use Rattle.ir_tree.specs.declared.operand.Operand.TheVariants.{Local, Null, Number as Constant, Poison as PoisonOf, Symbol as Named}
 use Rattle.ir_tree.specs.declared.operand.Reg.{Reg}
-use Rattle.ir_meaning.specs.Act.{Act, Breaks, Calls, Exit, Gives, Goes, Leads', Leaves, Stuck, act, apply, by_value, case_target, enter, enter_at, enters_block, exit_of, exits, find_block, incoming_value, params_bound, phis_bound, resume, side, with_slot}
-use Rattle.ir_meaning.specs.Execute.{Asked, Broke, Effect, Task, ToAddress, ToBinary, ToCall, ToCast, ToCompare, ToFreeze, ToLoad, ToPoison, ToReserve, ToSelect, ToStore, Went, evaluate, execute}
+use Rattle.ir_meaning.specs.Act.{Exit, Leads', Leaves, Stuck, act, apply, by_value, case_target, enter, enter_at, enters_block, exit_of, exits, find_block, incoming_value, params_bound, phis_bound, resume, side, with_slot}
+use Rattle.ir_meaning.specs.Execute.{Asked, Broke, Effect, ToAddress, ToBinary, ToCall, ToCast, ToCompare, ToFreeze, ToLoad, ToSelect, ToStore, Went, evaluate, execute}
 use Rattle.ir_meaning.specs.Frame.{Frame, Locals, Signature, bind, cons_index, index_of, indices_of, look_up, regs_of, value_of, values_of}
 use Rattle.ir_meaning.specs.Memory.{Memory, kill}
 use Rattle.ir_meaning.specs.Near.{Against, BetterThan, Fails, GivesToo, IsAnswered, Near, Setting}
 use Rattle.ir_meaning.specs.Program.{Program, State}
 use Rattle.ir_meaning.specs.Relate.{Point}
 use Rattle.ir_meaning.specs.declared.value.Value.{Value}
-use Rattle.ir_meaning.specs.declared.value.Value.TheVariants.{Number, Pointer, Poison}
+use Rattle.ir_meaning.specs.declared.value.Value.TheVariants.{Poison}
 use Rattle.ir_edit.specs.Edited.{argument_edited, block_edited, case_edited, end_edited, incoming_edited, instr_edited, line_edited, phi_edited}
 use Rattle.ir_edit.specs.Substituted.{operand_replaced, or_local, replacement}
 use Rattle.ir_better.specs.Facts.{IsTarget}

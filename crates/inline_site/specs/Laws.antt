@@ -1,11 +1,15 @@
--- What inlining keeps: the function is better in every program whose body of the callee is the one that is inlined.
-use Rattle.std.specs.Prelude.{◌≡◌, Option, Some, None}
+-- What inlining keeps: the function is better in every program whose body of the callee is the one that is inlined, and sound.
+use Rattle.std.specs.Prelude.{◌≡◌, ℕ, List, All, Option, Some, None}
+use Rattle.ir_tree.specs.Items.{items}
 use Rattle.ir_tree.specs.Rules.{Sound}
+use Rattle.ir_tree.specs.Wholes.{ItemKnown}
 use Rattle.ir_tree.specs.declared.function.Function.{Function}
+use Rattle.ir_tree.specs.declared.operand.Symbol.{Symbol}
 use Rattle.ir_meaning.specs.Frame.{AFunction}
 use Rattle.ir_meaning.specs.Near.{BetterThan}
 use Rattle.ir_meaning.specs.Program.{Program}
 use Rattle.ir_better.specs.Formed.{IsFormed}
+use Rattle.inline_site.specs.Inlined.{IsInlined}
 use Rattle.inline_site.specs.Sites.{param_types}
 
 -- the program's function of the callee's name is the callee, and of its type
@@ -21,3 +25,13 @@ IsBetter g f callee = (p : Program) → IsFormed p → IsOwn p callee → Better
 abbrev pub IsBetterIfGiven : Option Function → Function → Function → Type 0
 IsBetterIfGiven None f callee = Unit {0}
 IsBetterIfGiven (Some g) f callee = IsBetter g f callee
+
+-- a sound function with a sound callee's body in the place of a call is sound
+abbrev pub InlinedIsSound : Type 0
+InlinedIsSound = (f callee g : Function) (place : ℕ) → IsInlined f place callee (Some g) → Sound f → Sound callee → Sound g
+
+-- and it uses no other symbols than these two do
+abbrev pub InlinedIsKnown : Type 0
+InlinedIsKnown =
+    (f callee g : Function) (place : ℕ) (known : List Symbol) → IsInlined f place callee (Some g) → Sound f → Sound callee
+    → All (ItemKnown known) (items f) → All (ItemKnown known) (items callee) → All (ItemKnown known) (items g)

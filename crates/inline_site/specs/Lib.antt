@@ -1,3 +1,4 @@
+pub mod Callers
 pub mod Copies
 pub mod Copying
 pub mod Inlined

@@ -1,5 +1,5 @@
 //! The first number that is free in a function.
-ghost use Rattle.std.specs.Prelude.{◌≡◌, suc, max, IfOk};
+ghost use Rattle.std.specs.Prelude.{◌≡◌, suc, ◌++◌, max, IfOk};
 ghost use Rattle.ir_tree.specs.Flow.{room};
 ghost use Rattle.ir_edit.specs.Numbered.{block_numbers, blocks_numbers, line_numbers, numbers_of, param_numbers, phi_numbers};
 ghost use Rattle.inline_site.specs.Copies.{first_free};
@@ -64,14 +64,21 @@ fn past_blocks(free: u64, blocks: &[Block]) -> u64
     free
 }
 
+/// One past the greatest number of these parameters and blocks.
+pub(crate) fn past_all(params: &[Param], blocks: &[Block]) -> u64
+    ensures { result ≡ room (param_numbers params.now ++ blocks_numbers blocks.now) }
+{
+    let free = past_params(0, params);
+    past_blocks(free, blocks)
+}
+
 /// One past the greatest number of the function's locals and blocks.
 ///
 /// Refused where it passes 32 bits.
 pub(crate) fn first_free(f: &Function) -> Result<u32, AllocError>
     ensures { IfOk result (λ n. n ≡ first_free f.now) }
 {
-    let free = past_params(0, f.params.as_slice());
-    let free = past_blocks(free, f.blocks.as_slice());
+    let free = past_all(f.params.as_slice(), f.blocks.as_slice());
     if free > u32::MAX as u64 {
         return Err(AllocError);
     }

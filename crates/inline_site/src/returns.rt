@@ -32,11 +32,11 @@ fn leading_to(alloc: Global, behind: u32, block: &Block) -> Result<Block, AllocE
 /// Adds these blocks with their returns leading to the block behind the call.
 pub(crate) fn push_leading(
     alloc: Global,
-    blocks: &mut Rows<Block>,
+    blocks: &mut Vec<Block>,
     copy: &[Block],
     behind: u32,
 ) -> Result<(), AllocError>
-    ensures { OnOk result (blocks.new ≡ blocks.old ++ map (leading_to behind) copy.now) }
+    ensures { OnOk result (blocks.new.items ≡ blocks.old.items ++ map (leading_to behind) copy.now) }
 {
     for block in copy {
         let block = leading_to(alloc, behind, block)?;

@@ -1,5 +1,5 @@
 //! The caller's blocks with a copy between the two halves of one.
-ghost use Rattle.std.specs.Prelude.{◌≡◌, ◌++◌, map, IfOk, OnOk};
+ghost use Rattle.std.specs.Prelude.{◌≡◌, map, IfOk, IsFalse, OnOk};
 ghost use Rattle.inline_site.specs.Inlined.{block_named, entry_named, named, phi_named};
 
 use ir_tree::{Block, Duplicate, Incoming, Phi, Rows};
@@ -52,32 +52,39 @@ impl Halves {
         Ok(rows)
     }
 
-    fn named(self, alloc: Global, block: &Block) -> Result<Block, AllocError>
-        ensures { IfOk result (λ b. b ≡ named self.block self.behind block.now) }
+    /// Whether an entry names the block of the call.
+    fn is_named(self, incoming: &[Incoming]) -> bool
+        ensures { IsFalse result → map (entry_named self.block self.behind) incoming.now ≡ incoming.now }
     {
-        let phis = self.phis(alloc, block.phis.as_slice())?;
-        let lines = block.lines.duplicate(alloc)?;
-        let end = block.end.duplicate(alloc)?;
-        Ok(Block {
-            number: block.number,
-            phis,
-            lines,
-            end,
-        })
+        for entry in incoming {
+            if entry.from == self.block {
+                return true;
+            }
+        }
+        false
     }
 
-    /// Adds these blocks with phi entries of the block of the call naming the one behind it.
-    pub(crate) fn push_named(
-        self,
-        alloc: Global,
-        blocks: &mut Rows<Block>,
-        more: &[Block],
-    ) -> Result<(), AllocError>
-        ensures { OnOk result (blocks.new ≡ blocks.old ++ map (named self.block self.behind) more.now) }
+    /// Whether an entry of one of the phis names the block of the call.
+    fn is_named_in(self, phis: &[Phi]) -> bool
+        ensures { IsFalse result → map (phi_named self.block self.behind) phis.now ≡ phis.now }
     {
-        for block in more {
-            let block = self.named(alloc, block)?;
-            blocks.push(block)?;
+        for phi in phis {
+            if self.is_named(phi.incoming.as_slice()) {
+                return true;
+            }
+        }
+        false
+    }
+
+    /// Lets phi entries of the block of the call name the one behind it. Only phis with such entries are built anew.
+    pub(crate) fn rename(self, alloc: Global, blocks: &mut Vec<Block>) -> Result<(), AllocError>
+        ensures { OnOk result (blocks.new.items ≡ map (named self.block self.behind) blocks.old.items) }
+    {
+        for place in 0..blocks.len() {
+            if self.is_named_in(blocks[place].phis.as_slice()) {
+                let phis = self.phis(alloc, blocks[place].phis.as_slice())?;
+                blocks[place].phis = phis;
+            }
         }
         Ok(())
     }

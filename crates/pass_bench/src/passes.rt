@@ -2,6 +2,7 @@
 ghost use Rattle.std.specs.Prelude.{IfOk, IsTrue};
 ghost use Rattle.ir_tree.specs.Rules.{Sound};
 
+use block_merge::merge;
 use block_trim::trim;
 use branch_simplify::branches;
 use dead_code::needed;
@@ -9,6 +10,7 @@ use function_plans::{is_formed, lines_of};
 use ir_facts::apply;
 use ir_tree::Function;
 use ir_verify::function_fault;
+use slot_promote::promote;
 use std::alloc::{AllocError, Global};
 use std::io;
 use std::time::Instant;
@@ -16,18 +18,22 @@ use std::time::Instant;
 /// How long each pass took, in microseconds.
 #[derive(Clone, Copy, Debug)]
 pub(crate) struct Spent {
+    pub slots: u128,
     pub facts: u128,
     pub branches: u128,
     pub trim: u128,
+    pub merge: u128,
     pub needed: u128,
 }
 
 impl Spent {
     pub(crate) fn none() -> Spent {
         Spent {
+            slots: 0,
             facts: 0,
             branches: 0,
             trim: 0,
+            merge: 0,
             needed: 0,
         }
     }
@@ -77,7 +83,10 @@ pub(crate) fn passed(
     requires { Sound function.now }
 {
     let start = Instant::now(rt)?;
-    let f = apply(alloc, function)?;
+    let f = promote(alloc, function)?;
+    spent.slots = micros_since(rt, &start)?;
+    let start = Instant::now(rt)?;
+    let f = apply(alloc, &f)?;
     spent.facts = micros_since(rt, &start)?;
     let start = Instant::now(rt)?;
     let f = branches(alloc, &f)?;
@@ -85,6 +94,9 @@ pub(crate) fn passed(
     let start = Instant::now(rt)?;
     let f = trim(alloc, &f)?;
     spent.trim = micros_since(rt, &start)?;
+    let start = Instant::now(rt)?;
+    let f = merge(alloc, &f)?;
+    spent.merge = micros_since(rt, &start)?;
     let start = Instant::now(rt)?;
     let f = needed(alloc, &f)?;
     spent.needed = micros_since(rt, &start)?;

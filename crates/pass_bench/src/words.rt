@@ -5,10 +5,11 @@ use std::alloc::Global;
 use std::env;
 use std::rt::Env;
 
-/// The function that is asked for, and whether times are.
+/// The function that is asked for, how many stack slots it gets, and whether times are asked for.
 #[derive(Clone, Copy, Debug)]
 pub(crate) struct Request {
     pub plan: Plan,
+    pub slots: u32,
     pub times: bool,
 }
 
@@ -41,10 +42,10 @@ fn sums_of(word: &str) -> Option<Sums> {
 }
 
 fn request_by(words: &[String]) -> Option<Request> {
-    let (layout, sums, blocks, lines, times) = match words {
-        [layout, sums, blocks, lines] => (layout, sums, blocks, lines, false),
-        [layout, sums, blocks, lines, times] if times.as_str() == "times" => {
-            (layout, sums, blocks, lines, true)
+    let (layout, sums, blocks, lines, slots, times) = match words {
+        [layout, sums, blocks, lines, slots] => (layout, sums, blocks, lines, slots, false),
+        [layout, sums, blocks, lines, slots, times] if times.as_str() == "times" => {
+            (layout, sums, blocks, lines, slots, true)
         }
         _ => return None,
     };
@@ -54,7 +55,8 @@ fn request_by(words: &[String]) -> Option<Request> {
         blocks: blocks.as_str().parse().ok()?,
         lines: lines.as_str().parse().ok()?,
     };
-    Some(Request { plan, times })
+    let slots = slots.as_str().parse().ok()?;
+    Some(Request { plan, slots, times })
 }
 
 /// What the words of the process ask for; `None` where they are none of the program's.

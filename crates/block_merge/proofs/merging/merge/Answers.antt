@@ -6,6 +6,7 @@ use Rattle.edge_counts.proofs.Entries.{apart}
 use Rattle.block_merge.specs.Merged.{IsMergeOf}
 use Rattle.block_merge.specs.Working.{blocks_taken, left, naming}
 use Rattle.block_merge.proofs.Better.{is_better}
+use Rattle.block_merge.proofs.JoinedSound.{is_sound}
 use Rattle.block_merge.proofs.Loops.{is_merge}
 use Rattle.block_merge.proofs.merging.merge.Goals as goal
 
@@ -13,6 +14,7 @@ pub returns : goal.returns
 returns c = record {
   merged = merged;
   better = λ sound p formed. is_better c.args.f.now _ sound (merged (apart c.args.f.now sound.formed)) p formed;
+  sound = λ sound. is_sound c.args.f.now _ sound (merged (apart c.args.f.now sound.formed));
 }
   where
     merged : Distinct (numbers c.args.f.now) → IsMergeOf c.args.f.now (record {

@@ -1,0 +1,150 @@
+//! The uses of locals in a function, in the order of its text.
+ghost use Rattle.std.specs.Prelude.{◌≡◌, ◌++◌, IfOk, OnOk, Some, None};
+ghost use Rattle.slot_promote.specs.Uses.{operand_uses, argument_uses, entry_uses, instr_uses, phi_uses, line_uses, end_uses, block_uses, uses};
+
+use ir_tree::{Argument, Block, Incoming, Instr, Line, Operand, Phi, Reg, Terminator};
+use std::alloc::{AllocError, Global};
+
+/// A use of a local: as the address of a load or a store of the type `access`, or in any other way where that is
+/// `None`.
+#[derive(Clone, Copy, Debug, PartialEq, Eq)]
+pub(crate) struct Use {
+    pub local: u32,
+    pub access: Option<Reg>,
+}
+
+fn push_operand(
+    uses: &mut Vec<Use>,
+    access: Option<Reg>,
+    operand: &Operand,
+) -> Result<(), AllocError>
+    ensures { OnOk result (uses.new.items ≡ uses.old.items ++ operand_uses access operand.now) }
+{
+    match operand {
+        Operand::Local(local) => {
+            let local = *local;
+            uses.push(Use { local, access })?;
+            Ok(())
+        }
+        _ => Ok(()),
+    }
+}
+
+fn push_arguments(uses: &mut Vec<Use>, arguments: &[Argument]) -> Result<(), AllocError>
+    ensures { OnOk result (uses.new.items ≡ uses.old.items ++ argument_uses arguments.now) }
+{
+    for argument in arguments {
+        push_operand(uses, None, &argument.operand)?;
+    }
+    Ok(())
+}
+
+fn push_entries(uses: &mut Vec<Use>, entries: &[Incoming]) -> Result<(), AllocError>
+    ensures { OnOk result (uses.new.items ≡ uses.old.items ++ entry_uses entries.now) }
+{
+    for entry in entries {
+        push_operand(uses, None, &entry.value)?;
+    }
+    Ok(())
+}
+
+fn push_instr(uses: &mut Vec<Use>, instr: &Instr) -> Result<(), AllocError>
+    ensures { OnOk result (uses.new.items ≡ uses.old.items ++ instr_uses instr.now) }
+{
+    match instr {
+        Instr::Load { reg, address, .. } => push_operand(uses, Some(*reg), address),
+        Instr::Store {
+            reg,
+            value,
+            address,
+            ..
+        } => {
+            push_operand(uses, None, value)?;
+            push_operand(uses, Some(*reg), address)
+        }
+        Instr::Binary { left, right, .. } => {
+            push_operand(uses, None, left)?;
+            push_operand(uses, None, right)
+        }
+        Instr::Icmp { left, right, .. } => {
+            push_operand(uses, None, left)?;
+            push_operand(uses, None, right)
+        }
+        Instr::Cast { value, .. } => push_operand(uses, None, value),
+        Instr::Select {
+            condition,
+            if_true,
+            if_false,
+        } => {
+            push_operand(uses, None, condition)?;
+            push_operand(uses, None, &if_true.operand)?;
+            push_operand(uses, None, &if_false.operand)
+        }
+        Instr::Freeze { value, .. } => push_operand(uses, None, value),
+        Instr::Alloca { .. } => Ok(()),
+        Instr::Address { base, indices, .. } => {
+            push_operand(uses, None, base)?;
+            push_arguments(uses, indices.as_slice())
+        }
+        Instr::Call {
+            callee,
+            arguments,
+            ..
+        } => {
+            push_operand(uses, None, callee)?;
+            push_arguments(uses, arguments.as_slice())
+        }
+        Instr::Phi { incoming, .. } => push_entries(uses, incoming.as_slice()),
+    }
+}
+
+fn push_phis(uses: &mut Vec<Use>, phis: &[Phi]) -> Result<(), AllocError>
+    ensures { OnOk result (uses.new.items ≡ uses.old.items ++ phi_uses phis.now) }
+{
+    for phi in phis {
+        push_entries(uses, phi.incoming.as_slice())?;
+    }
+    Ok(())
+}
+
+fn push_lines(uses: &mut Vec<Use>, lines: &[Line]) -> Result<(), AllocError>
+    ensures { OnOk result (uses.new.items ≡ uses.old.items ++ line_uses lines.now) }
+{
+    for line in lines {
+        push_instr(uses, &line.instr)?;
+    }
+    Ok(())
+}
+
+fn push_end(uses: &mut Vec<Use>, end: &Terminator) -> Result<(), AllocError>
+    ensures { OnOk result (uses.new.items ≡ uses.old.items ++ end_uses end.now) }
+{
+    match end {
+        Terminator::Return(Some(value)) => push_operand(uses, None, &value.operand),
+        Terminator::Return(None) => Ok(()),
+        Terminator::Jump(_) => Ok(()),
+        Terminator::Branch { condition, .. } => push_operand(uses, None, condition),
+        Terminator::Switch { value, .. } => push_operand(uses, None, value),
+        Terminator::Unreachable => Ok(()),
+    }
+}
+
+#[tactic(auto, unfolding(crate::specs::Uses::block_uses))]
+fn push_block(uses: &mut Vec<Use>, block: &Block) -> Result<(), AllocError>
+    ensures { OnOk result (uses.new.items ≡ uses.old.items ++ block_uses block.now) }
+{
+    push_phis(uses, block.phis.as_slice())?;
+    push_lines(uses, block.lines.as_slice())?;
+    push_end(uses, &block.end)
+}
+
+/// The uses in these blocks.
+pub(crate) fn uses_in(alloc: Global, blocks: &[Block]) -> Result<Vec<Use>, AllocError>
+    ensures { IfOk result (λ us. us.items ≡ uses blocks.now) }
+{
+    let mut uses = Vec::new(alloc);
+    for block in blocks {
+        push_block(&mut uses, block)?;
+    }
+    Ok(uses)
+}
