@@ -1,10 +1,6 @@
 pub mod Numbering
 pub mod Verified
 pub mod Resolved
-pub mod Contents
-pub mod Cut
-pub mod Means
-pub mod Strings
 pub mod ReadStrings
 pub mod ReadKnown
 pub mod Small
@@ -12,3 +8,4 @@ pub mod Functions
 pub mod Variables
 pub mod Within
 pub mod Together
+pub mod Trips

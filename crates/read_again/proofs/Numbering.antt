@@ -1,24 +1,18 @@
 -- The functions of a module that was read are numbered along their text.
-use Rattle.std.proofs.Common.{◌≡◌, ℕ, ◌+◌, Bool, true, false, cond, Option, Some, None, Result, Ok, Err, List, [], ◌∷◌, ◌++◌, map, length, refl, sym, ap, subst, ◌∙◌, arith}
+use Rattle.std.proofs.Common.{◌≡◌, ℕ, ◌+◌, Bool, true, false, cond, Option, Some, None, Result, Ok, List, [], ◌∷◌, length, refl, sym, ap, subst, ◌∙◌, arith}
 use Rattle.std.specs.List.{AllByRecursion as Each}
-use Rattle.ir_names.specs.Blocks.{as_phi, phi_of, phi_before, lines_behind, phis_of, rest_of, body_of, body_in, block_of, block_in, behind_block, blocks_in, params_from, blocks_of, function_in}
+use Rattle.ir_names.specs.Blocks.{as_phi, lines_behind, rest_of, body_of, body_in, block_of, block_in, behind_block, blocks_in, params_from, blocks_of, function_in}
 use Rattle.ir_names.specs.Bodies.{local_at, behind_line, lines_in, behind_lines, instr_in, end_in}
 use Rattle.ir_names.specs.Groups.{groups_of, is_noinline, is_optnone}
 use Rattle.ir_names.specs.Locals.{Known}
-use Rattle.ir_names.specs.Marks.{marks_of}
 use Rattle.ir_names.specs.Numbering.{is_defined, locals_of}
 use Rattle.ir_names.specs.Settled.{◌>>=◌}
-use Rattle.ir_names.specs.Stages.{marks_within, globals_named}
-use Rattle.ir_names.specs.Symbols.{symbol_of}
-use Rattle.ir_names.specs.TypeNames.{type_names}
 use Rattle.ir_names.specs.Types.{Types}
 use Rattle.ir_names.specs.Variables.{variable_in}
 use Rattle.ir_names.specs.declared.block.Body.{Body}
 use Rattle.ir_names.specs.declared.fault.Fault.{Fault}
 use Rattle.ir_names.specs.declared.groups.Groups.{Groups}
 use Rattle.ir_parse.specs.Reading.{Reads}
-use Rattle.ir_parse.specs.Stages.{module_in, module_with}
-use Rattle.ir_parse.specs.Targets.{datalayout_of, triple_of}
 use Rattle.ir_parse.specs.Values.{put, value_in, values_in}
 use Rattle.ir_read.specs.declared.raw.Block as raw_block
 use Rattle.ir_read.specs.declared.raw.Head.{Head}
@@ -30,26 +24,16 @@ use Rattle.ir_tree.specs.declared.block.Block.{Block}
 use Rattle.ir_tree.specs.declared.block.Terminator.{Terminator}
 use Rattle.ir_tree.specs.declared.function.Function.{Function}
 use Rattle.ir_tree.specs.declared.instr.Instr.{Instr}
-use Rattle.ir_tree.specs.declared.instr.Instr.TheVariants as ti
 use Rattle.ir_tree.specs.declared.instr.Line.{Line}
 use Rattle.ir_tree.specs.declared.instr.Phi.{Phi}
 use Rattle.ir_tree.specs.declared.module.GlobalValue.{GlobalValue}
 use Rattle.ir_tree.specs.declared.module.GlobalValue.TheVariants as globals
 use Rattle.ir_tree.specs.declared.module.Module.{Module}
 use Rattle.read_again.specs.Numbered.{LocalsNumbered}
-use Rattle.printed_modules.specs.Bodies.{phi_as_line, stated}
+use Rattle.printed_modules.specs.Bodies.{stated}
 use Rattle.printed_resolves.specs.Known.{FirstIsNoPhi}
+use Rattle.read_within.proofs.Stages.{IfThere, one, parted, put_each, read_function, staged, took}
 use Rattle.printed_resolves.specs.Sorts.{ParamsFollow, ResultFollows, LinesFollow, BlocksFollow, past, past_lines, past_params, IsNumbered}
-
--- ---- results
-
-pub one : {A E : Type 0} {x y : A} → ◌≡◌ {A = Result A E} (Ok x) (Ok y) → x ≡ y
-one e = cc
-
--- what is given behind another result
-pub took : {A B E : Type 0} (r : Result A E) (f : A → Result B E) (y : B) → r >>= f ≡ Ok y → (x : A) × (r ≡ Ok x) × (f x ≡ Ok y)
-took (Ok x) f y e = (x, refl, e)
-took (Err d) f y e = absurd cc
 
 -- ---- parameters
 
@@ -63,22 +47,13 @@ behind_params n (p ∷ ps) = behind_params (n + 1) ps ∙ omega arith
 
 -- ---- phis stand first
 
-a_phi : (local : Option ℕ) (i : Instr) (p : Phi) → phi_of local i ≡ Some p → phi_as_line p ≡ record { local = local; instr = i }
-a_phi (Some n) (ti.Phi reg incoming) p e = let same : record { local = n; reg = reg; incoming = incoming } ≡ p = cc in ap phi_as_line (sym same)
-a_phi local i p e = absurd cc
-
--- the phis and the lines behind them are the lines of the text
-abbrev pub Parted : List Line → Type 0
-Parted ls = (map phi_as_line (phis_of ls) ++ rest_of ls ≡ ls) × FirstIsNoPhi (rest_of ls)
-
-pub parted : (ls : List Line) → Parted ls
-parted [] = (refl, tt)
-parted (l ∷ ls) = by (parted ls) (as_phi l) refl
+no_phi_first : (ls : List Line) → FirstIsNoPhi (rest_of ls)
+no_phi_first [] = tt
+no_phi_first (l ∷ ls) = by (no_phi_first ls) (as_phi l) refl
   where
-    by : Parted ls → (o : Option Phi) → as_phi l ≡ o
-        → (map phi_as_line (phi_before o (phis_of ls)) ++ lines_behind o (l ∷ ls) (rest_of ls) ≡ l ∷ ls) × FirstIsNoPhi (lines_behind o (l ∷ ls) (rest_of ls))
-    by more None e = (refl, e)
-    by more (Some p) e = (ap (λ (k : Line). k ∷ (map phi_as_line (phis_of ls) ++ rest_of ls)) (a_phi l.local l.instr p e) ∙ ap (λ (ks : List Line). l ∷ ks) more.0, more.1)
+    by : FirstIsNoPhi (rest_of ls) → (o : Option Phi) → as_phi l ≡ o → FirstIsNoPhi (lines_behind o (l ∷ ls) (rest_of ls))
+    by more None e = e
+    by more (Some p) e = more
 
 -- ---- lines
 
@@ -121,11 +96,10 @@ module _ (types : Types) (known : Known) where
       let body = took (body_in types known (n + 1) b.lines) (λ body. end_in types known b.end >>= λ end. Ok (read_block n body end)) t e in
       let end = took (end_in types known b.end) (λ end. Ok (read_block n body.0 end)) t body.2 in
       let ls = took (lines_in types known (n + 1) b.lines) (λ ls. Ok (body_of ls)) body.0 body.1 in
-      let parts = parted ls.0 in
       let right : BlockRight n b (read_block n (body_of ls.0) end.0) = record {
         number = refl;
-        lines = subst (LinesRight (n + 1) b.lines) (sym parts.0) (lines_follow (n + 1) b.lines ls.0 ls.1);
-        first = parts.1;
+        lines = subst (LinesRight (n + 1) b.lines) (sym (parted ls.0)) (lines_follow (n + 1) b.lines ls.0 ls.1);
+        first = no_phi_first ls.0;
       } in
       subst (BlockRight n b) (one end.2) (subst (λ (x : Body). BlockRight n b (read_block n x end.0)) (one ls.2) right)
 
@@ -147,10 +121,6 @@ module _ (types : Types) (known : Known) where
 abbrev pub FunctionRight : Function → Type 0
 FunctionRight f = IsNumbered f × Each (λ (t : Block). FirstIsNoPhi t.lines) f.blocks
 
-abbrev pub read_function : Head → Bool → Bool → List Block → Function
-read_function head noinline optnone bs =
-    record { symbol = symbol_of head.name; linkage = head.linkage; result = head.result; params = params_from 0 head.params; noinline = noinline; optnone = optnone; blocks = bs }
-
 pub function_numbered : (types : Types) (head : Head) (blocks : List raw_block.Block) (noinline optnone : Bool) (f : Function) → function_in types head blocks noinline optnone ≡ Ok f → FunctionRight f
 unfolding function_in
 function_numbered types head blocks noinline optnone f e =
@@ -161,14 +131,6 @@ function_numbered types head blocks noinline optnone f e =
     subst FunctionRight (one bs.2) ((params_follow 0 head.params, subst (λ (m : ℕ). BlocksFollow m bs.0) behind right.0), right.1)
 
 -- ---- modules
-
-abbrev pub IfThere : (GlobalValue → Type 0) → Option GlobalValue → Type 0
-IfThere P None = Unit {0}
-IfThere P (Some g) = P g
-
-pub put_each : (P : GlobalValue → Type 0) (o : Option GlobalValue) (gs : List GlobalValue) → IfThere P o → Each P gs → Each P (put o gs)
-put_each P None gs h more = more
-put_each P (Some g) gs h more = (h, more)
 
 -- of each function
 abbrev pub ValueRight : GlobalValue → Type 0
@@ -200,27 +162,6 @@ module _ (types : Types) (groups : Groups) where
       let o = took (value_in types groups i) (λ o. values_in types groups is >>= λ more. Ok (put o more)) gs e in
       let more = took (values_in types groups is) (λ more. Ok (put o.0 more)) gs o.2 in
       subst (Each ValueRight) (one more.2) (put_each ValueRight o.0 more.0 (value_right i o.0 o.1) (values_right is more.0 more.1))
-
-abbrev read_module : List Item → List GlobalValue → Module
-read_module is gs = record { datalayout = datalayout_of is; triple = triple_of is; globals = gs }
-
--- the stages of a module, each with what it gives
-pub record Staged (is : List Item) (m : Module) : Type 0 where
-  pub types : Types
-  pub typed : type_names (marks_of is) ≡ Ok types
-  pub values : values_in types (groups_of is) is ≡ Ok m.globals
-  pub layout : datalayout_of is ≡ m.datalayout
-  pub triple : triple_of is ≡ m.triple
-
-pub staged : (is : List Item) (m : Module) → module_in is ≡ Ok m → Staged is m
-unfolding module_in module_with
-staged is m e =
-    let types = took (type_names (marks_of is)) _ m e in
-    let within = took (marks_within types.0 (marks_of is)) _ m types.2 in
-    let named = took (globals_named (marks_of is)) _ m within.2 in
-    let values = took (values_in types.0 (groups_of is) is) (λ gs. Ok (read_module is gs)) m named.2 in
-    let same : read_module is values.0 ≡ m = one values.2 in
-    subst (Staged is) same (record { types = types.0; typed = types.1; values = values.1; layout = refl; triple = refl })
 
 pub read_right : (bytes : List ℕ) (m : Module) (lines : List (List ℕ)) → Reads bytes m lines → Each ValueRight m.globals
 read_right bytes m lines r = let s = staged r.items m r.stand in values_right s.types (groups_of r.items) r.items m.globals s.values

@@ -4,11 +4,10 @@ use Rattle.std.specs.List.{AllByRecursion as Each}
 use Rattle.std.specs.Prelude.{filter_map, IfSome}
 use Rattle.ir_lex.specs.Tok.{Tok}
 use Rattle.ir_names.specs.Blocks.{function_in}
-use Rattle.ir_names.specs.Bodies.{operand_in, align_or}
+use Rattle.ir_names.specs.Bodies.{operand_in}
 use Rattle.ir_names.specs.Groups.{groups_of, is_noinline, is_optnone}
 use Rattle.ir_names.specs.Locals.{Known, none_known}
 use Rattle.ir_names.specs.Settled.{◌>>=◌, each}
-use Rattle.ir_names.specs.Symbols.{symbol_of}
 use Rattle.ir_names.specs.Types.{Types, expanded}
 use Rattle.ir_names.specs.Variables.{head_in, part_in, init_in, init_if, variable_in}
 use Rattle.ir_names.specs.declared.fault.Fault.{Fault}
@@ -28,7 +27,6 @@ use Rattle.ir_read.specs.declared.raw.Item.TheVariants as items
 use Rattle.ir_read.specs.declared.raw.Variable as raw_variable
 use Rattle.ir_tree.specs.Forms.{Form}
 use Rattle.ir_tree.specs.Initials.{Initial, Initials, Levels, around, begun, headed, levels, tree_of}
-use Rattle.ir_tree.specs.Layout.{align}
 use Rattle.ir_tree.specs.Names.{AllBytes}
 use Rattle.ir_tree.specs.declared.function.Variable.{Variable}
 use Rattle.ir_tree.specs.declared.init_node.InitHead.{InitHead}
@@ -38,10 +36,12 @@ use Rattle.ir_tree.specs.declared.init_node.InitPart.TheVariants as tp
 use Rattle.ir_tree.specs.declared.module.GlobalValue.{GlobalValue}
 use Rattle.ir_tree.specs.declared.module.GlobalValue.TheVariants as globals
 use Rattle.ir_tree.specs.declared.module.Module.{Module}
-use Rattle.read_again.proofs.Contents.{content_bytes}
-use Rattle.read_again.proofs.Cut.{OfBytes, tokens_bytes}
-use Rattle.read_again.proofs.Numbering.{IfThere, one, put_each, staged, took}
-use Rattle.read_again.proofs.Strings.{HeadStrings, InitStrings, ItemStrings, PartStrings, module_strings}
+use Rattle.read_within.proofs.Stages.{IfThere, one, put_each, read_variable, staged, took}
+use Rattle.spelled_within.proofs.Contents.{content_bytes}
+use Rattle.spelled_within.proofs.Cut.{tokens_cut}
+use Rattle.spelled_within.proofs.Items.{module_spelled}
+use Rattle.spelled_within.specs.Spelled.{HeadStrings, InitStrings, ItemSpelled, PartStrings}
+use Rattle.spelled_within.specs.Tokens.{OfBytes}
 use Rattle.read_again.specs.Numbered.{InitialBytes, InitialsBytes, InitBytes, StringsAreBytes}
 
 -- ---- the parts of an initialiser
@@ -81,9 +81,6 @@ headed_bytes th.Array vs b h = h
 headed_bytes (th.Struct packed) vs b h = h
 
 -- ---- as they resolve
-
-abbrev pub read_variable : raw_variable.Variable → Form → Option Initial → Variable
-read_variable r f i = record { symbol = symbol_of r.name; linkage = r.linkage; constant = r.constant; shape = f; init = i; align = align_or (align f) r.align }
 
 module _ (types : Types) where
   head_bytes : (known : Known) (r : raw_head.InitHead) (h : InitHead) → HeadStrings r → head_in types known r ≡ Ok h → HeadBytes h
@@ -133,9 +130,9 @@ module _ (types : Types) where
     function_strings head blocks noinline optnone o e =
         let f = took (function_in types head blocks noinline optnone) (λ f. Ok (Some (globals.Function f))) o e in subst (IfThere StringsAreBytes) (one f.2) tt
 
-    value_strings : (i : Item) (o : Option GlobalValue) → ItemStrings i → value_in types groups i ≡ Ok o → IfThere StringsAreBytes o
+    value_strings : (i : Item) (o : Option GlobalValue) → ItemSpelled i → value_in types groups i ≡ Ok o → IfThere StringsAreBytes o
     value_strings (items.Variable v) o b e =
-        let x = took (variable_in types v) (λ t. Ok (Some (globals.Variable t))) o e in subst (IfThere StringsAreBytes) (one x.2) (variable_bytes v x.0 b x.1)
+        let x = took (variable_in types v) (λ t. Ok (Some (globals.Variable t))) o e in subst (IfThere StringsAreBytes) (one x.2) (variable_bytes v x.0 b.2 x.1)
     value_strings (items.Declaration head) o b e = function_strings head [] false false o e
     value_strings (items.Definition head blocks) o b e = function_strings head blocks (is_noinline groups head) (is_optnone groups head) o e
     value_strings (items.Datalayout string) o b e = no_strings o e
@@ -143,7 +140,7 @@ module _ (types : Types) where
     value_strings (items.Attributes group noinline optnone) o b e = no_strings o e
     value_strings (items.Type name typed) o b e = no_strings o e
 
-    values_strings : (is : List Item) (gs : List GlobalValue) → Each ItemStrings is → values_in types groups is ≡ Ok gs → Each StringsAreBytes gs
+    values_strings : (is : List Item) (gs : List GlobalValue) → Each ItemSpelled is → values_in types groups is ≡ Ok gs → Each StringsAreBytes gs
     values_strings [] gs b e = subst (Each StringsAreBytes) (one e) tt
     values_strings (i ∷ is) gs b e =
         let o = took (value_in types groups i) (λ o. values_in types groups is >>= λ more. Ok (put o more)) gs e in
@@ -152,7 +149,7 @@ module _ (types : Types) where
 
 -- ---- the triple
 
-triple_bytes : (before : Option Tok) (is : List Item) → IfSome before OfBytes → Each ItemStrings is → AllBytes (text_of (last_or before (filter_map triple_string is)))
+triple_bytes : (before : Option Tok) (is : List Item) → IfSome before OfBytes → Each ItemSpelled is → AllBytes (text_of (last_or before (filter_map triple_string is)))
 triple_bytes None [] h b = tt
 triple_bytes (Some string) [] h b = content_bytes string.kind string.text h
 triple_bytes before (items.Triple string ∷ is) h b = triple_bytes (Some string) is b.0 b.1
@@ -167,5 +164,5 @@ pub record OfStrings (m : Module) : Type 0 where
 pub read_strings : (bytes : List ℕ) (m : Module) (lines : List (List ℕ)) → AllBytes bytes → Reads bytes m lines → OfStrings m
 read_strings bytes m lines h r =
     let s = staged r.items m r.stand in
-    let b : Each ItemStrings r.items = module_strings r.written r.items (tokens_bytes bytes r.written h r.cut) r.spelled in
+    let b : Each ItemSpelled r.items = (module_spelled r.written r.items (tokens_cut bytes r.written h r.cut) r.spelled).all in
     record { values = values_strings s.types (groups_of r.items) r.items m.globals b s.values; triple = subst AllBytes s.triple (triple_bytes None r.items tt b) }

@@ -17,7 +17,7 @@ use Rattle.ir_tree.specs.declared.operand.Operand.TheVariants as operand
 use Rattle.ir_tree.specs.declared.operand.Reg.TheVariants.{Int}
 use Rattle.ir_tree.specs.declared.operand.Symbol.{Symbol}
 use Rattle.printed_again.proofs.Each.{front, back}
-use Rattle.read_again.specs.Within.{NameWithin, OffsetFits, VariableWithin}
+use Rattle.read_within.specs.Within.{NameWithin, OffsetFits, VariableWithin}
 use Rattle.printed_modules.specs.VariablesReadable.{ConstantReadable, InitialReadable, InitialsReadable, InitReadable, VariableReadable}
 use Rattle.reading_back.specs.Printed.{written_shape}
 use Rattle.reading_back.specs.Readable.{AllCountsReadable, ShapeReadable}

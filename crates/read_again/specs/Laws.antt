@@ -8,7 +8,7 @@ use Rattle.printed_again.specs.Known.{ModuleKnown}
 use Rattle.printed_again.specs.Laws.{IsReadAgain}
 use Rattle.printed_modules.specs.ModulesReadable.{ModuleReadable}
 use Rattle.read_again.specs.Numbered.{ModuleNumbered}
-use Rattle.read_again.specs.Within.{ModuleWithin}
+use Rattle.read_within.specs.Within.{ModuleWithin}
 
 -- what is read of bytes has its locals numbered along its text, and its names are known
 abbrev pub ReadIsKnown : Type 0
@@ -21,3 +21,8 @@ ReadIsReadAgain = (bytes : List ℕ) (m : Module) (lines : List (List ℕ)) → 
 -- so is that of a verified module within the grammar's limits whose locals are numbered along its text
 abbrev pub VerifiedIsRead : Type 0
 VerifiedIsRead = (m : Module) → IsVerified m → ModuleNumbered m → ModuleWithin m → IsReadAgain m
+
+-- so is that of what was read of bytes and is verified, whatever its size: reading numbers locals along the text, and reads what
+-- is within the limits alone
+abbrev pub ReadAndVerifiedIsRead : Type 0
+ReadAndVerifiedIsRead = (bytes : List ℕ) (m : Module) (lines : List (List ℕ)) → AllBytes bytes → Reads bytes m lines → IsVerified m → IsReadAgain m

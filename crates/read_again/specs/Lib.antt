@@ -1,3 +1,3 @@
 pub mod Numbered
-pub mod Within
 pub mod Laws
+pub mod Trips

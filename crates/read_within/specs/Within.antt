@@ -20,8 +20,7 @@ use Rattle.ir_tree.specs.declared.operand.Symbol.{Symbol}
 use Rattle.printed_modules.specs.Bodies.{instructions}
 use Rattle.printed_modules.specs.ModulesReadable.{LayoutReadable}
 use Rattle.reading_back.specs.Readable.{CountsReadable}
-use Rattle.round_trip.specs.Classes.{IsOrdinary}
-use Rattle.round_trip.specs.Printable.{IsName}
+use Rattle.spelled_within.specs.Tokens.{IsWritable}
 
 -- ---- items
 
@@ -64,9 +63,8 @@ abbrev pub ValueWithin : GlobalValue → Type 0
 ValueWithin (globals.Variable v) = VariableWithin v
 ValueWithin (globals.Function f) = FunctionWithin f
 
--- bytes, none of them zero, and not kept for LLVM itself
 abbrev pub NameWithin : Symbol → Type 0
-NameWithin s = IsName s.name × IsOrdinary s.name
+NameWithin s = IsWritable s.name
 
 pub record ModuleWithin (m : Module) : Type 0 where
   pub layout : LayoutReadable m.datalayout

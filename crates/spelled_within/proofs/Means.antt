@@ -10,22 +10,12 @@ use Rattle.lto_forms.specs.Forms as form
 use Rattle.lto_forms.specs.Forms.{Form}
 use Rattle.lto_forms.specs.Rules.{in_range, is_among, is_valued}
 use Rattle.lto_forms.specs.declared.fault.FaultKind.{FaultKind}
-use Rattle.ir_bodies.specs.Successive.{Successive}
 use Rattle.ir_read.specs.Classes.{tokens}
-use Rattle.read_again.proofs.Cut.{OfBytes}
+use Rattle.round_trip.proofs.Instructions.{each_left, each_right}
+use Rattle.spelled_within.specs.Tokens.{IsCut}
 
 pub record Means {A : Type 0} (g : Form Tok A) (P : A → Type 0) : Type 0 where
-  pub of : (ts : List Tok) (a : A) → Each OfBytes ts → g ts a → P a
-
--- ---- lists of tokens
-
-front_bytes : (xs ys : List Tok) → Each OfBytes (xs ++ ys) → Each OfBytes xs
-front_bytes [] ys h = tt
-front_bytes (x ∷ xs) ys h = (h.0, front_bytes xs ys h.1)
-
-back_bytes : (xs ys : List Tok) → Each OfBytes (xs ++ ys) → Each OfBytes ys
-back_bytes [] ys h = h
-back_bytes (x ∷ xs) ys h = back_bytes xs ys h.1
+  pub of : (ts : List Tok) (a : A) → Each IsCut ts → g ts a → P a
 
 -- ---- forms behind one another
 
@@ -36,8 +26,8 @@ pub follow : {A B : Type 0} {g : Form Tok A} {k : A → Form Tok B} {P : A → T
 unfolding form.◌>>=◌
 follow p q = record {
   of = λ ts b s h.
-      let all : Each OfBytes (h.0 ++ h.1) = subst (Each OfBytes) h.3 s in
-      (q h.2 (p.of h.0 h.2 (front_bytes h.0 h.1 all) h.4)).of h.1 b (back_bytes h.0 h.1 all) h.5;
+      let all : Each IsCut (h.0 ++ h.1) = subst (Each IsCut) h.3 s in
+      (q h.2 (p.of h.0 h.2 (each_left IsCut h.0 h.1 all) h.4)).of h.1 b (each_right IsCut h.0 h.1 all) h.5;
 }
 
 -- the same where nothing is asked of the first
@@ -48,16 +38,16 @@ pub either_means : {A : Type 0} {one other : Form Tok A} {P : A → Type 0} → 
 unfolding form.either
 either_means {A} {one} {other} {P} p q = record { of = λ ts a s h. by ts a s h }
   where
-    by : (ts : List Tok) (a : A) → Each OfBytes ts → one ts a ⊎ other ts a → P a
+    by : (ts : List Tok) (a : A) → Each IsCut ts → one ts a ⊎ other ts a → P a
     by ts a s (inl h) = p.of ts a s h
     by ts a s (inr h) = q.of ts a s h
 
 -- ---- tokens
 
-pub token_means : {A E : Type 0} {meaning : Tok → Result A E} {P : A → Type 0} → ((t : Tok) (a : A) → OfBytes t → meaning t ≡ Ok a → P a) → Means (form.token meaning) P
+pub token_means : {A E : Type 0} {meaning : Tok → Result A E} {P : A → Type 0} → ((t : Tok) (a : A) → IsCut t → meaning t ≡ Ok a → P a) → Means (form.token meaning) P
 token_means {A} {E} {meaning} {P} f = record { of = of }
   where
-    of : (ts : List Tok) (a : A) → Each OfBytes ts → form.token meaning ts a → P a
+    of : (ts : List Tok) (a : A) → Each IsCut ts → form.token meaning ts a → P a
     of [] a s h = absurd h
     of (t ∷ []) a s h = f t a s.0 h
     of (t ∷ u ∷ ts) a s h = absurd h
@@ -71,7 +61,7 @@ valued None a e = absurd cc
 valued (Some b) a e = let same : b ≡ a = cc in ap (λ x. Some x) same
 
 pub among_means : {A : Type 0} (refuse : ℕ → FaultKind) (classes : List ℕ) (value : Tok → A) {P : A → Type 0}
-    → ((t : Tok) → OfBytes t → contains classes (number t.head) ≡ true → P (value t)) → Means (form.token (is_among tokens refuse classes value)) P
+    → ((t : Tok) → IsCut t → contains classes (number t.head) ≡ true → P (value t)) → Means (form.token (is_among tokens refuse classes value)) P
 unfolding is_among
 among_means {A} refuse classes value {P} f =
     token_means (λ t a s h.
@@ -79,7 +69,7 @@ among_means {A} refuse classes value {P} f =
     let same : value t ≡ a = cc (yes.1) in subst P same (f t s yes.0))
 
 pub valued_means : {A : Type 0} (refuse : ℕ → FaultKind) (classes : List ℕ) {value : Tok → Option A} {P : A → Type 0}
-    → ((t : Tok) (a : A) → OfBytes t → value t ≡ Some a → P a) → Means (form.token (is_valued tokens refuse classes value)) P
+    → ((t : Tok) (a : A) → IsCut t → value t ≡ Some a → P a) → Means (form.token (is_valued tokens refuse classes value)) P
 unfolding is_valued
 valued_means {A} refuse classes {value} {P} f =
     token_means (λ t a s h.
@@ -87,39 +77,22 @@ valued_means {A} refuse classes {value} {P} f =
 
 -- ---- lists
 
-pub star_means : {A : Type 0} {one : Form Tok A} {P : A → Type 0} → Means one P → Means (form.Star one) (Each P)
-star_means {A} {one} {P} p = record { of = of }
-  where
-    of : (ts : List Tok) (as' : List A) → Each OfBytes ts → form.Star one ts as' → Each P as'
-    of ts [] s h = tt
-    of ts (a ∷ more) s h =
-        let all : Each OfBytes (h.0 ++ h.1) = subst (Each OfBytes) h.2 s in (p.of h.0 a (front_bytes h.0 h.1 all) h.3, of h.1 more (back_bytes h.0 h.1 all) h.4)
-
 pub many_means : {A : Type 0} {one : Form Tok A} {P : A → Type 0} (room : ℕ) → Means one P → Means (form.Many one room) (Each P)
 many_means {A} {one} {P} room p = record { of = of room }
   where
-    of : (room : ℕ) (ts : List Tok) (as' : List A) → Each OfBytes ts → form.Many one room ts as' → Each P as'
+    of : (room : ℕ) (ts : List Tok) (as' : List A) → Each IsCut ts → form.Many one room ts as' → Each P as'
     of room ts [] s h = tt
     of zero ts (a ∷ more) s h = absurd h
     of (suc room) ts (a ∷ more) s h =
-        let all : Each OfBytes (h.0 ++ h.1) = subst (Each OfBytes) h.2 s in (p.of h.0 a (front_bytes h.0 h.1 all) h.3, of room h.1 more (back_bytes h.0 h.1 all) h.4)
+        let all : Each IsCut (h.0 ++ h.1) = subst (Each IsCut) h.2 s in (p.of h.0 a (each_left IsCut h.0 h.1 all) h.3, of room h.1 more (each_right IsCut h.0 h.1 all) h.4)
 
 pub chain_means : {A S : Type 0} {final : S → Bool} {piece : S → Form Tok (A × S)} {P : A → Type 0} (s : S) → ((s : S) → Means (piece s) (λ x. P x.0)) → Means (Chain final piece s) (Each P)
 chain_means {A} {S} {final} {piece} {P} start p = record { of = of start }
   where
-    of : (state : S) (ts : List Tok) (as' : List A) → Each OfBytes ts → Chain final piece state ts as' → Each P as'
+    of : (state : S) (ts : List Tok) (as' : List A) → Each IsCut ts → Chain final piece state ts as' → Each P as'
     of state ts [] s h = tt
     of state ts (a ∷ more) s h =
-        let all : Each OfBytes (h.0 ++ h.1) = subst (Each OfBytes) h.3 s in ((p state).of h.0 (a, h.2) (front_bytes h.0 h.1 all) h.4, of h.2 h.1 more (back_bytes h.0 h.1 all) h.5)
-
-pub successive_means : {A S : Type 0} {piece : S → Form Tok (A × S)} {P : A → Type 0} (room : ℕ) (s : S) → ((s : S) → Means (piece s) (λ x. P x.0)) → Means (Successive piece room s) (Each P)
-successive_means {A} {S} {piece} {P} room start p = record { of = of room start }
-  where
-    of : (room : ℕ) (state : S) (ts : List Tok) (as' : List A) → Each OfBytes ts → Successive piece room state ts as' → Each P as'
-    of room state ts [] s h = tt
-    of zero state ts (a ∷ more) s h = absurd h
-    of (suc room) state ts (a ∷ more) s h =
-        let all : Each OfBytes (h.0 ++ h.1) = subst (Each OfBytes) h.3 s in ((p state).of h.0 (a, h.2) (front_bytes h.0 h.1 all) h.4, of room h.2 h.1 more (back_bytes h.0 h.1 all) h.5)
+        let all : Each IsCut (h.0 ++ h.1) = subst (Each IsCut) h.3 s in ((p state).of h.0 (a, h.2) (each_left IsCut h.0 h.1 all) h.4, of h.2 h.1 more (each_right IsCut h.0 h.1 all) h.5)
 
 -- ---- values of lists
 

@@ -1,13 +1,13 @@
--- The tokens of a text of bytes are bytes.
+-- The tokens of a text of bytes are bytes, and those of a global's class stand for names that can be printed.
 use Rattle.std.proofs.Common.{ℕ, Bool, Option, Some, None, List, [], ◌∷◌, ◌++◌, false, subst}
 use Rattle.std.specs.List.{AllByRecursion as Each}
 use Rattle.ir_lex.specs.Blanks.{Place, place, skip, pass, line_after}
-use Rattle.ir_lex.specs.Lexing.{AreTokens, Lead}
+use Rattle.ir_lex.specs.Lexing.{Lead}
 use Rattle.ir_lex.specs.Tok.{Tok}
 use Rattle.ir_tree.specs.Names.{AllBytes}
-
-abbrev pub OfBytes : Tok → Type 0
-OfBytes t = AllBytes t.text
+use Rattle.spelled_within.specs.Laws.{TokensAreCut}
+use Rattle.spelled_within.specs.Tokens.{IsCut, OfBytes}
+use Rattle.spelled_within.proofs.Names.{name_fits}
 
 front_bytes : (xs ys : List ℕ) → AllBytes (xs ++ ys) → AllBytes xs
 front_bytes [] ys h = tt
@@ -25,11 +25,12 @@ skip_bytes comment line (b ∷ bs) h = by (pass comment b) (λ o. skip_bytes o (
     by None more = h
     by (Some inside) more = more inside
 
-all_bytes : (at after : Place) (ts : List Tok) → Lead at ts after → AllBytes at.bytes → Each OfBytes ts
-all_bytes at after [] l h = tt
-all_bytes at after (t ∷ ts) (mid, n, l) h =
+all_cut : (at after : Place) (ts : List Tok) → Lead at ts after → AllBytes at.bytes → Each IsCut ts
+all_cut at after [] l h = tt
+all_cut at after (t ∷ ts) (mid, n, l) h =
     let there : AllBytes (t.text ++ mid.bytes) = subst (λ (p : Place). AllBytes p.bytes) n.starts (skip_bytes false at.line at.bytes h) in
-    (front_bytes t.text mid.bytes there, all_bytes mid after ts l (back_bytes t.text mid.bytes there))
+    let own : OfBytes t = front_bytes t.text mid.bytes there in
+    (record { bytes = own; named = name_fits t mid.bytes own n.good n.fits n.head }, all_cut mid after ts l (back_bytes t.text mid.bytes there))
 
-pub tokens_bytes : (bytes : List ℕ) (ts : List Tok) → AllBytes bytes → AreTokens bytes ts → Each OfBytes ts
-tokens_bytes bytes ts h (line, s) = all_bytes (place 1 bytes) s.after ts s.lead h
+pub tokens_cut : TokensAreCut
+tokens_cut bytes ts h (line, s) = all_cut (place 1 bytes) s.after ts s.lead h

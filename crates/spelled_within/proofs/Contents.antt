@@ -7,6 +7,7 @@ use Rattle.ir_lex.specs.declared.quotes.Escape.{Escape}
 use Rattle.ir_lex.specs.declared.token.Kind.{Kind}
 use Rattle.ir_lex.specs.declared.token.Kind.TheVariants as kinds
 use Rattle.ir_tree.specs.Names.{AllBytes}
+use Rattle.spelled_within.specs.Laws.{ContentsAreBytes}
 
 drop_bytes : (n : ℕ) (bs : List ℕ) → AllBytes bs → AllBytes (drop n bs)
 drop_bytes zero [] h = tt
@@ -78,7 +79,7 @@ inside_bytes (b ∷ c ∷ bs) text h e = by (nat_eq b 34) e
     by true e = let same : take (length bs) (c ∷ bs) ≡ text = cc in subst AllBytes same (take_bytes (length bs) (c ∷ bs) h.1)
     by false e = absurd cc
 
-pub content_bytes : (kind : Kind) (text : List ℕ) → AllBytes text → AllBytes (content kind text)
+pub content_bytes : ContentsAreBytes
 unfolding content unescaped
 content_bytes kind text h = by (inside (stripped kind text)) refl
   where

@@ -1,0 +1,5 @@
+pub mod Stages
+pub mod Counts
+pub mod TypesCounted
+pub mod Resolving
+pub mod ReadWithin

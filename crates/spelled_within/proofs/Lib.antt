@@ -1,0 +1,11 @@
+pub mod Contents
+pub mod Classes
+pub mod Names
+pub mod Cut
+pub mod Means
+pub mod Shapes
+pub mod Lines
+pub mod Strings
+pub mod Bodies
+pub mod Heads
+pub mod Items

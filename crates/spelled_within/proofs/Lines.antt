@@ -1,0 +1,133 @@
+-- Lines that the grammar spells: an `alloca` reserves fewer than 2^64 shapes, and a phi has an entry.
+use Rattle.std.proofs.Common.{ℕ, ◌≤◌, max, min, Bool, true, false, List, [], ◌∷◌, ◌++◌, drop, Option, Some, None, arith}
+use Rattle.std.specs.List.{fold}
+use Rattle.std.specs.Prelude.{IfSome}
+use Rattle.ir_bodies.specs.Calls.{called, calling, tail_calling}
+use Rattle.ir_bodies.specs.Lines.{attended, behind, kept, line, line_behind, lined, named_line, operation, plain_line}
+use Rattle.ir_bodies.specs.declared.opcodes.Opcode.{Opcode}
+use Rattle.ir_bodies.specs.declared.opcodes.Opcode.TheVariants as opcodes
+use Rattle.ir_bodies.specs.declared.opcodes.Operation.{Operation}
+use Rattle.ir_bodies.specs.declared.opcodes.Operation.TheVariants as operations
+use Rattle.ir_lex.specs.Heads.{width_of}
+use Rattle.ir_lex.specs.Tok.{Tok}
+use Rattle.ir_read.specs.Addressing.{addressing, many_slots, one_slot, reserving, slots_behind}
+use Rattle.ir_read.specs.Instructions as instr
+use Rattle.ir_read.specs.Operands.{width}
+use Rattle.ir_read.specs.Phis.{entries, keep, phi, phi_of}
+use Rattle.ir_read.specs.ShapeForms.{memory_shape}
+use Rattle.ir_read.specs.declared.addressing.Slots.{Slots}
+use Rattle.ir_read.specs.declared.raw.Argument.{Argument}
+use Rattle.ir_read.specs.declared.raw.Incoming.{Incoming}
+use Rattle.ir_read.specs.declared.raw.Instr.{Instr}
+use Rattle.ir_read.specs.declared.raw.Operand.{Operand}
+use Rattle.ir_tree.specs.declared.instr.BinaryOp.{BinaryOp}
+use Rattle.ir_tree.specs.declared.instr.BinaryOp.TheVariants as ops
+use Rattle.ir_tree.specs.declared.instr.CastOp.{CastOp}
+use Rattle.ir_tree.specs.declared.instr.CastOp.TheVariants as casts
+use Rattle.ir_tree.specs.declared.instr.Flags.{Flags}
+use Rattle.ir_tree.specs.declared.operand.Reg.{Reg}
+use Rattle.lto_forms.specs.Forms.{Form}
+use Rattle.spelled_within.specs.Spelled.{HasIncoming, InstrSpelled, IsCount, LineSpelled}
+use Rattle.spelled_within.proofs.Means.{Means, among_means, either_means, follow, nothing, skip, valued_means}
+use Rattle.spelled_within.proofs.Shapes.{counted_fits, shape_counted}
+
+-- ---- instructions
+
+-- so many shapes
+abbrev SlotsCounted : Slots → Type 0
+SlotsCounted s = IsCount s.count
+
+one_count : IsCount 1
+one_count = omega arith
+
+width_narrow : (t : Tok) → width t ≤ 64
+width_narrow t = by (width_of (drop 1 t.text))
+  where
+    by : (n : ℕ) → min 64 (max 1 n) ≤ 64
+    by n = omega arith
+
+slots_counted : Means slots_behind SlotsCounted
+unfolding slots_behind many_slots one_slot
+slots_counted =
+    either_means
+    (skip _ (λ _.
+    either_means (follow {P = λ w. w ≤ 64} (among_means _ _ _ (λ t s c. width_narrow t)) (λ w le. follow {P = IsCount} (valued_means _ _ (λ t n s e. counted_fits w le t.text n e)) (λ n c. skip _ (λ a. nothing c))))
+    (skip _ (λ a. nothing one_count))))
+    (nothing one_count)
+
+reserving_spelled : Means (reserving memory_shape) InstrSpelled
+unfolding reserving
+reserving_spelled = follow shape_counted (λ typed h. follow slots_counted (λ s g. nothing (h, g)))
+
+addressing_spelled : Means (addressing memory_shape) InstrSpelled
+unfolding addressing
+addressing_spelled = skip _ (λ inbounds. follow shape_counted (λ typed h. skip _ (λ _. skip _ (λ _. skip _ (λ base. skip _ (λ is. nothing h))))))
+
+kept_some : (front : List Incoming) (all : List (Option Incoming)) → HasIncoming front → HasIncoming (fold keep front all)
+kept_some front [] h = h
+kept_some front (None ∷ all) h = kept_some front all h
+kept_some (i ∷ front) (Some j ∷ all) h = kept_some (i ∷ (front ++ j ∷ [])) all tt
+kept_some [] (Some j ∷ all) h = absurd h
+
+phi_spelled : Means (phi memory_shape) InstrSpelled
+unfolding phi phi_of entries
+phi_spelled = skip _ (λ r. skip _ (λ first. follow {P = HasIncoming} (skip _ (λ more. nothing (kept_some (first ∷ []) more tt))) (λ is h. nothing h)))
+
+on_two_spelled : (op : BinaryOp) (f : Flags) → Means (instr.on_two memory_shape op f) InstrSpelled
+unfolding instr.on_two
+on_two_spelled op f = skip _ (λ w. skip _ (λ left. skip _ (λ _. skip _ (λ right. nothing tt))))
+
+casting_spelled : (op : CastOp) → Means (instr.casting memory_shape op) InstrSpelled
+unfolding instr.casting
+casting_spelled op = skip _ (λ from. skip _ (λ value. skip _ (λ _. skip _ (λ to. nothing tt))))
+
+operation_spelled : (o : Operation) → Means (operation memory_shape o) InstrSpelled
+unfolding instr.wrapping instr.dividing instr.joining instr.comparing instr.extending instr.narrowing instr.selecting instr.freezing
+operation_spelled (operations.Wrapping op) = skip _ (λ f. on_two_spelled op f)
+operation_spelled (operations.Dividing op) = skip _ (λ exact. on_two_spelled op (instr.flags false false exact))
+operation_spelled (operations.Plain op) = on_two_spelled op instr.no_flags
+operation_spelled operations.Or = skip _ (λ _. on_two_spelled ops.Or instr.no_flags)
+operation_spelled operations.Icmp = skip _ (λ _. skip _ (λ p. skip _ (λ r. skip _ (λ left. skip _ (λ _. skip _ (λ right. nothing tt))))))
+operation_spelled operations.Zext = skip _ (λ _. casting_spelled casts.Zext)
+operation_spelled operations.Sext = casting_spelled casts.Sext
+operation_spelled operations.Trunc = skip _ (λ _. casting_spelled casts.Trunc)
+operation_spelled operations.Select = skip _ (λ w. skip _ (λ condition. skip _ (λ _. skip _ (λ one. skip _ (λ _. skip _ (λ other. nothing tt))))))
+operation_spelled operations.Freeze = skip _ (λ r. skip _ (λ value. nothing tt))
+
+abbrev IfSpelled : Option Instr → Type 0
+IfSpelled i = IfSome i InstrSpelled
+
+called_spelled : (r : Option Reg) (f : Option Operand) (as' : List Argument) → IfSpelled (called r f as')
+called_spelled r None as' = tt
+called_spelled r (Some f) as' = tt
+
+calling_spelled : (named : Bool) → Means (calling memory_shape named) IfSpelled
+unfolding calling
+calling_spelled named = skip _ (λ _. skip _ (λ r. skip _ (λ ws. skip _ (λ f. skip _ (λ _. skip _ (λ as'. skip _ (λ _. skip _ (λ _. nothing (called_spelled r f as')))))))))
+
+kept_spelled : {g : Form Tok Instr} → Means g InstrSpelled → Means (kept g) IfSpelled
+unfolding kept
+kept_spelled h = follow h (λ i k. nothing k)
+
+behind_spelled : (named : Bool) (o : Opcode) → Means (behind memory_shape named o) IfSpelled
+unfolding attended tail_calling instr.loading instr.storing
+behind_spelled named (opcodes.Value o) = follow (operation_spelled o) (λ i k. skip _ (λ _. nothing k))
+behind_spelled named opcodes.Phi = kept_spelled phi_spelled
+behind_spelled named opcodes.Alloca = kept_spelled reserving_spelled
+behind_spelled named opcodes.Load = kept_spelled (skip _ (λ r. skip _ (λ _. skip _ (λ _. skip _ (λ address. skip _ (λ n. nothing tt))))))
+behind_spelled named opcodes.GetElementPtr = kept_spelled addressing_spelled
+behind_spelled named opcodes.Store = kept_spelled (skip _ (λ r. skip _ (λ value. skip _ (λ _. skip _ (λ _. skip _ (λ address. skip _ (λ n. nothing tt)))))))
+behind_spelled named opcodes.Tail = skip _ (λ _. calling_spelled named)
+behind_spelled named opcodes.Call = calling_spelled named
+
+-- ---- lines
+
+lined_spelled : (name : Option Tok) (line : ℕ) (i : Option Instr) → IfSpelled i → IfSome (lined name line i) LineSpelled
+lined_spelled name line None h = tt
+lined_spelled name line (Some i) h = h
+
+pub line_spelled : (name : Form Tok Tok) → Means (line name memory_shape) (λ l. IfSome l LineSpelled)
+unfolding line named_line line_behind plain_line
+line_spelled name =
+    either_means (skip _ (λ n. skip _ (λ _. skip _ (λ o. follow (behind_spelled true o) (λ i g. nothing (lined_spelled (Some n) n.line i g))))))
+    (skip _ (λ b. follow (behind_spelled false b.opcode) (λ i g. nothing (lined_spelled None b.line i g))))
