@@ -33,8 +33,8 @@ module _ (made : MadeIsOne) where
       parts : l.datalayout ≡ k.datalayout → l.triple ≡ k.triple → l.globals ≡ k.globals → l ≡ k
       parts layout triple globals = λ i. record { datalayout = layout i; triple = triple i; globals = globals i }
 
-  pub linked_once : AcceptedIsOne → (bytes text other : List ℕ) → IsLinkOf bytes text → IsLinkOf bytes other → text ≡ other
-  linked_once accepted bytes text other a b =
+  pub linked_once : AcceptedIsOne → (exports : List (List ℕ)) (bytes text other : List ℕ) → IsLinkOf exports bytes text → IsLinkOf exports bytes other → text ≡ other
+  linked_once accepted exports bytes text other a b =
       a.is
       ∙ ap module_text (module_is_one a.m a.l b.l a.linked (subst (λ (m : Module). IsLinked m b.l) (accepted bytes b.m a.m b.accepted a.accepted) b.linked))
       ∙ sym b.is

@@ -161,15 +161,15 @@ opening_follows bound value (g ∷ gs) (h ∷ hs) made better =
 
 -- ---- the programs
 
-pub linked_refines : (gs hs : List GlobalValue) → AllZip IsLinkedGlobal gs hs → AllZip GlobalBetter gs hs
-    → Refines (program_of hs) (program_of gs) (λ s. IsTrue (is_export s))
-linked_refines gs hs made better = within (bounded gs hs better)
+pub linked_refines : (exports : List (List ℕ)) (gs hs : List GlobalValue) → AllZip IsLinkedGlobal gs hs → AllZip GlobalBetter gs hs
+    → Refines (program_of hs) (program_of gs) (λ s. IsTrue (is_export exports s))
+linked_refines exports gs hs made better = within (bounded gs hs better)
   where
-    within : ((bound : ℕ) × AllZip (Within bound) gs hs) → Refines (program_of hs) (program_of gs) (λ s. IsTrue (is_export s))
+    within : ((bound : ℕ) × AllZip (Within bound) gs hs) → Refines (program_of hs) (program_of gs) (λ s. IsTrue (is_export exports s))
     within (bound, better) =
         congruent (program_of hs) (program_of gs) bound (programs_inside gs)
         (record { signature = same; opening = opens; code = λ s. code_follows bound (program_of gs) (programs_formed gs) (definition_of gs s) (definition_of hs s) (follows bound 0 gs hs made better s) })
-        is_export
+        (is_export exports)
       where
         same : signature_of hs ≡ signature_of gs
         same = λ i. record { kind = λ s. kind_follows bound s (definition_of gs s) (definition_of hs s) (follows bound 0 gs hs made better s) i }
@@ -178,12 +178,13 @@ linked_refines gs hs made better = within (bounded gs hs better)
         opens = ap (λ (sig : Signature). opening_from (value_of sig []) hs) same ∙ opening_follows bound (value_of (signature_of gs) []) gs hs made better
 
 -- the text of a linked module whose functions are better is a link
-pub link_of : (bytes text : List ℕ) (m l : Module) → Accepts bytes m → IsLinked m l → AllZip GlobalBetter m.globals l.globals → text ≡ module_text l → IsLinkOf bytes text
-link_of bytes text m l accepts linked better is = record {
+pub link_of : (exports : List (List ℕ)) (bytes text : List ℕ) (m l : Module) → Accepts bytes m → IsLinked m l → AllZip GlobalBetter m.globals l.globals → text ≡ module_text l
+    → IsLinkOf exports bytes text
+link_of exports bytes text m l accepts linked better is = record {
   m = m;
   accepted = accepts;
   l = l;
   linked = linked;
   is = is;
-  refines = linked_refines m.globals l.globals linked.globals better;
+  refines = linked_refines exports m.globals l.globals linked.globals better;
 }

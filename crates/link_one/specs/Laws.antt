@@ -19,4 +19,4 @@ RefusedIsOne = (bytes : List ℕ) (line other : ℕ) (kind another : Kind) → R
 
 -- no bytes are linked to two texts
 abbrev pub LinkedIsOne : Type 0
-LinkedIsOne = (bytes text other : List ℕ) → IsLinkOf bytes text → IsLinkOf bytes other → text ≡ other
+LinkedIsOne = (exports : List (List ℕ)) (bytes text other : List ℕ) → IsLinkOf exports bytes text → IsLinkOf exports bytes other → text ≡ other

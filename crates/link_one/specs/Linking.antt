@@ -1,5 +1,6 @@
 -- What a link makes of a file: both halves of the headline.
-use Rattle.std.specs.Prelude.{◌≡◌, ℕ, Bool, IsTrue, List, None, codes}
+use Rattle.std.specs.Prelude.{◌≡◌, ℕ, Bool, IsTrue, List, None}
+use Rattle.std.specs.List.{list_any}
 use Rattle.ir_tree.specs.declared.module.Module.{Module}
 use Rattle.ir_tree.specs.declared.operand.Symbol.{Symbol}
 use Rattle.ir_meaning.specs.Refine.{Refines}
@@ -9,20 +10,20 @@ use Rattle.ir_program.specs.Programs.{program_of}
 use Rattle.link_one.specs.Accepted.{Accepts}
 use Rattle.link_one.specs.Linked.{IsLinked}
 
--- the exported name is `main`
-abbrev pub is_export : Symbol → Bool
-is_export s = symbol_eq (record { home = None; name = codes "main" }) s
+-- the symbol has one of the exported names
+abbrev pub is_export : List (List ℕ) → Symbol → Bool
+is_export exports s = list_any (λ name. symbol_eq (record { home = None; name = name }) s) exports
 
 -- Preserved behaviour: the text is that of the linked module of what the bytes are read as, and each run of the linked program from
 -- an exported function, for all arguments, inputs, free choices and numbers of steps, is matched by a run of the module.
-pub record IsLinkOf (bytes text : List ℕ) : Type 0 where
+pub record IsLinkOf (exports : List (List ℕ)) (bytes text : List ℕ) : Type 0 where
   pub m : Module
   pub accepted : Accepts bytes m
   pub l : Module
   pub linked : IsLinked m l
   pub is : text ≡ module_text l
-  pub refines : Refines (program_of l.globals) (program_of m.globals) (λ s. IsTrue (is_export s))
+  pub refines : Refines (program_of l.globals) (program_of m.globals) (λ s. IsTrue (is_export exports s))
 
 -- Reproducible bytes: every link of the bytes has this text.
-abbrev pub IsOnlyLinkOf : List ℕ → List ℕ → Type 0
-IsOnlyLinkOf bytes text = (other : List ℕ) → IsLinkOf bytes other → other ≡ text
+abbrev pub IsOnlyLinkOf : List (List ℕ) → List ℕ → List ℕ → Type 0
+IsOnlyLinkOf exports bytes text = (other : List ℕ) → IsLinkOf exports bytes other → other ≡ text

@@ -1,6 +1,5 @@
 //! From bytes to text.
-ghost use Rattle.std.specs.Prelude.{◌≡◌, IfOk, IfErr};
-ghost use Rattle.ir_tree.specs.declared.module.Module.{Module};
+ghost use Rattle.std.specs.Prelude.{◌≡◌, ℕ, List, IfOk, IfErr};
 ghost use Rattle.link_one.specs.Accepted.{Accepts, Refuses};
 ghost use Rattle.link_one.specs.Answers.{IfRefused};
 ghost use Rattle.link_one.specs.Linking.{IsLinkOf, IsOnlyLinkOf};
@@ -16,7 +15,7 @@ use ir_verify::{VerifyError, verify};
 use lto_fault::Kind;
 use std::alloc::{AllocError, Global};
 
-/// Why a file isn't linked.
+/// Why a file isn't accepted.
 #[derive(Drop)]
 pub enum LinkError {
     /// Memory ran out.
@@ -34,7 +33,10 @@ impl From<AllocError> for LinkError {
 }
 
 /// The sound module that the bytes are read as.
-fn accepted(alloc: Global, bytes: &[u8]) -> Result<Verified, LinkError>
+///
+/// Refused exactly where the bytes are read as no sound module within the limits, with the line and the kind of the first
+/// fault. Beside it memory can be what is lacking.
+pub fn accepted(alloc: Global, bytes: &[u8]) -> Result<Verified, LinkError>
     ensures found { IfOk result (λ m. Accepts bytes.now m) }
     ensures refused { IfErr result (λ e. IfRefused e (λ line kind. Refuses bytes.now line kind)) }
 {
@@ -58,18 +60,14 @@ fn accepted(alloc: Global, bytes: &[u8]) -> Result<Verified, LinkError>
     }
 }
 
-/// The text of the linked module of the one module that the bytes are read as. Every link of the same bytes has this text.
-///
-/// Refused exactly where the bytes are read as no sound module within the limits, with the line and the kind of the first
-/// fault. Beside want of memory, a number past 32 bits in a linked function is answered as such.
-pub fn link_text(alloc: Global, bytes: &[u8]) -> Result<Text, LinkError>
-    ensures linked { IfOk result (λ text. IsLinkOf bytes.now text) }
-    ensures only { IfOk result (λ text. IsOnlyLinkOf bytes.now text) }
-    ensures refused { IfErr result (λ e. IfRefused e (λ line kind. Refuses bytes.now line kind)) }
+/// The text of the linked module of this one. Every link of bytes that are accepted as it has this text, whatever is
+/// exported. A number past 32 bits in a linked function is answered as want of memory.
+pub fn link_text(alloc: Global, m: &Verified) -> Result<Text, AllocError>
+    ensures linked { IfOk result (λ text. (exports : List (List ℕ)) (bytes : List ℕ) → Accepts bytes m.now → IsLinkOf exports bytes text) }
+    ensures only { IfOk result (λ text. (exports : List (List ℕ)) (bytes : List ℕ) → Accepts bytes m.now → IsOnlyLinkOf exports bytes text) }
 {
     linked_is_one();
-    let m = accepted(alloc, bytes)?;
-    let l = linked(alloc, &m)?;
+    let l = linked(alloc, m)?;
     let text = print(alloc, &l)?;
     Ok(text)
 }

@@ -1,3 +1,9 @@
-mod Pushing
-mod Composing
-mod Told
+mod Causes
+mod Reading
+mod Unlinked
+mod Linking
+mod Reporting
+mod Held
+mod Telling
+mod Completing
+mod Asking

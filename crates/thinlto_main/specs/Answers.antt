@@ -1,103 +1,71 @@
--- The answers of a command, and when each comes.
-use Rattle.std.specs.Prelude.{◌≡◌, ◌⊎◌, ◌≤◌, ◌^◌, ℕ, Bool, true, false, List, [], ◌∷◌, length, Option, Some, None, Result, Ok, Err, ⊤}
-use Rattle.lto_outside.specs.Cause.{Rose}
-use Rattle.lto_outside.specs.Calls.{Fetched, Put}
-use Rattle.lto_outside.specs.Seen.{FilesSeen}
-use Rattle.lto_outside.specs.declared.fault.FetchFault.TheVariants.{Fault, TooLong}
+-- When each answer of the program comes.
+use Rattle.std.specs.Prelude.{◌≡◌, ℕ, true, false, List, Result}
 use Rattle.lto_fault.specs.declared.kind.Kind.{Kind}
-use Rattle.lto_fault.specs.declared.kind.Kind.TheVariants.{Limit}
-use Rattle.thinlto_main.specs.declared.refusal.Refusal.{Refusal}
-use Rattle.thinlto_main.specs.declared.refusal.Refusal.TheVariants.{NoMemory, ReadFault, Refused, Usage, WriteFault}
-use Rattle.thinlto_main.specs.declared.words.Command.{Command}
-use Rattle.thinlto_main.specs.declared.words.Command.TheVariants.{DoLink}
-use Rattle.thinlto_main.specs.declared.words.Link.{Link}
-use Rattle.link_one.specs.Accepted.{Refuses}
-use Rattle.link_one.specs.Linking.{IsLinkOf, IsOnlyLinkOf}
+use Rattle.lto_fault.specs.declared.refusal.Refusal.{Refusal}
+use Rattle.lto_words.specs.declared.request.Command.{Command}
+use Rattle.lto_words.specs.declared.request.Command.TheVariants.{Link, Batch, Index, Run, Gen}
+use Rattle.thinlto_main.specs.Asking.{AskNothing, Asked, is_offered}
+use Rattle.thinlto_main.specs.Causes.{Causes, Comes, never}
+use Rattle.thinlto_main.specs.Linking.{linking}
+use Rattle.thinlto_main.specs.Modules.{deciding}
+use Rattle.thinlto_main.specs.Reporting.{DidReport, ReportCannotWrite}
+use Rattle.thinlto_main.specs.Seen.{Seen, Untouched, Unwritten}
 
--- ---- a fact for one answer
+-- beside the fact of each answer this one
+abbrev pub with_fact : Type 0 → Causes → Causes
+with_fact P k = record {
+  done = k.done × P;
+  usage = k.usage × P;
+  unread = λ name. k.unread name × P;
+  refused = λ file line kind. k.refused file line kind × P;
+  unlinked = λ why. k.unlinked why × P;
+  unwritten = λ name. k.unwritten name × P;
+  memory = k.memory × P;
+  other = k.other × P;
+}
 
-abbrev pub OnUsage : {A : Type 0} → Result A Refusal → Type 0 → Type 0
-OnUsage (Err Usage) P = P
-OnUsage _ P = ⊤
+abbrev pub reporting : List (List ℕ) → ℕ → List (List ℕ) → Seen → Causes
+reporting exports limit names s = record (with_fact s.unprinted (deciding exports names s.files)) {
+  done = DidReport exports names limit s true;
+  unwritten = ReportCannotWrite exports names limit s;
+}
 
-abbrev pub OnReadFault : {A : Type 0} → Result A Refusal → (List ℕ → Type 0) → Type 0
-OnReadFault (Err (ReadFault name)) P = P name
-OnReadFault _ P = ⊤
+-- the cause of each answer: a case for each command
+abbrev pub causes : Command → Seen → Causes
+causes (Link options out names) s = with_fact s.unprinted (linking options.exports options.import_limit out names s.files)
+causes (Index exports limit names) s = reporting exports limit names s
+causes (Batch options list) s = never
+causes (Run root args steps names) s = never
+causes (Gen seed modules jobs) s = never
 
-abbrev pub OnRefused : {A : Type 0} → Result A Refusal → (List ℕ → ℕ → Kind → Type 0) → Type 0
-OnRefused (Err (Refused file line kind)) P = P file line kind
-OnRefused _ P = ⊤
+-- of a command that is done, or is none of those that the program does
+abbrev pub obeyed : Command → Seen → Causes
+obeyed c s = record (with_fact (is_offered c ≡ true) (causes c s)) {
+  usage = (is_offered c ≡ false) × Untouched s;
+  memory = Unwritten s;
+  other = ⊥;
+}
 
-abbrev pub OnWriteFault : {A : Type 0} → Result A Refusal → (List ℕ → Type 0) → Type 0
-OnWriteFault (Err (WriteFault name)) P = P name
-OnWriteFault _ P = ⊤
+-- of words
+abbrev pub causes_of : List (List ℕ) → Seen → Causes
+causes_of words s = record {
+  done = Asked words (λ c. (causes c s).done);
+  usage = AskNothing words × Untouched s;
+  unread = λ name. Asked words (λ c. (causes c s).unread name);
+  refused = λ file line kind. Asked words (λ c. (causes c s).refused file line kind);
+  unlinked = λ why. Asked words (λ c. (causes c s).unlinked why);
+  unwritten = λ name. Asked words (λ c. (causes c s).unwritten name);
+  memory = Unwritten s;
+  other = ⊥;
+}
 
--- for each answer that comes before the first put
-abbrev pub OnUnwritten : {A : Type 0} → Result A Refusal → Type 0 → Type 0
-OnUnwritten (Ok _) P = ⊤
-OnUnwritten (Err (WriteFault name)) P = ⊤
-OnUnwritten (Err _) P = P
+-- ---- what has to come, unless memory runs out
 
--- it is a refusal on this line and of this kind, unless memory ran out
-abbrev pub IsRefusal : {A : Type 0} → Result A Refusal → ℕ → Kind → Type 0
-IsRefusal (Err (Refused file at why)) line kind = (at ≡ line) × (why ≡ kind)
-IsRefusal (Err NoMemory) line kind = ⊤
-IsRefusal _ line kind = ⊥
+abbrev pub Succeeds : {A : Type 0} → Result A Refusal → Type 0
+Succeeds r = Comes (record never { done = Unit {0}; memory = Unit {0} }) r
 
--- ---- a link
+abbrev pub IsRefusal : {A : Type 0} → Result A Refusal → List ℕ → ℕ → Kind → Type 0
+IsRefusal r file line kind = Comes (record never { refused = λ f l k. (f ≡ file) × (l ≡ line) × (k ≡ kind); memory = Unit {0} }) r
 
--- the fetch of the file failed, which was the only call
-pub record LinkCannotRead (link : Link) (files : FilesSeen) (name : List ℕ) : Type 0 where
-  pub named : name ≡ link.file
-  pub calls : files.did (Fetched link.file (Err Fault) ∷ [])
-  pub rose : Rose files.faults files.faults_now
-
--- the file is too long, which is told of line 0
-pub record IsTooLong (file : List ℕ) (files : FilesSeen) (line : ℕ) (kind : Kind) : Type 0 where
-  pub calls : files.did (Fetched file (Err TooLong) ∷ [])
-  pub whole_file : line ≡ 0
-  pub told : kind ≡ Limit
-
--- the file was fetched, and is read as no sound module within the limits: this is its first fault
-pub record IsBad (file : List ℕ) (files : FilesSeen) (line : ℕ) (kind : Kind) : Type 0 where
-  pub bytes : List ℕ
-  pub short : length bytes ≤ 2 ^ 24
-  pub calls : files.did (Fetched file (Ok bytes) ∷ [])
-  pub fault : Refuses bytes line kind
-
-pub record LinkRefused (link : Link) (files : FilesSeen) (file : List ℕ) (line : ℕ) (kind : Kind) : Type 0 where
-  pub named : file ≡ link.file
-  pub cause : IsTooLong link.file files line kind ⊎ IsBad link.file files line kind
-
--- The file was fetched, and what a link makes of it was put, or its put failed; there were no other calls. Both halves of the
--- headline: the linked program does what the program read does, and no other text is a link of these bytes.
-pub record DidLink (link : Link) (files : FilesSeen) (done : Bool) : Type 0 where
-  pub bytes : List ℕ
-  pub text : List ℕ
-  pub short : length bytes ≤ 2 ^ 24
-  pub is_link : IsLinkOf bytes text
-  pub only : IsOnlyLinkOf bytes text
-  pub calls : files.did (Fetched link.file (Ok bytes) ∷ Put link.out text done ∷ [])
-
-pub record LinkCannotWrite (link : Link) (files : FilesSeen) (name : List ℕ) : Type 0 where
-  pub named : name ≡ link.out
-  pub did_link : DidLink link files false
-  pub rose : Rose files.faults files.faults_now
-
--- ---- each answer's cause: a case for each command
-
-abbrev pub CannotRead : Option Command → FilesSeen → List ℕ → Type 0
-CannotRead None files name = ⊥
-CannotRead (Some (DoLink link)) files name = LinkCannotRead link files name
-
-abbrev pub IsRefused : Option Command → FilesSeen → List ℕ → ℕ → Kind → Type 0
-IsRefused None files file line kind = ⊥
-IsRefused (Some (DoLink link)) files file line kind = LinkRefused link files file line kind
-
-abbrev pub CannotWrite : Option Command → FilesSeen → List ℕ → Type 0
-CannotWrite None files name = ⊥
-CannotWrite (Some (DoLink link)) files name = LinkCannotWrite link files name
-
-abbrev pub IsDone : Option Command → FilesSeen → Type 0
-IsDone None files = ⊥
-IsDone (Some (DoLink link)) files = DidLink link files true
+abbrev pub IsUnlinked : {A : Type 0} → Result A Refusal → Refusal → Type 0
+IsUnlinked r why = Comes (record never { unlinked = λ told. told ≡ why; memory = Unit {0} }) r

@@ -1,6 +1,10 @@
-pub mod Words
 pub mod Exit
 pub mod Honest
-pub mod Notes
+pub mod Causes
+pub mod Seen
+pub mod Modules
+pub mod Linking
+pub mod Reporting
+pub mod Asking
 pub mod Answers
 pub mod Telling

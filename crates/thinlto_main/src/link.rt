@@ -1,53 +1,78 @@
-//! The link: one file is fetched, linked, and its text is put.
-ghost use Rattle.std.specs.Prelude.{◌≡◌, ◌≤◌, true, OnOk};
-ghost use Rattle.lto_outside.specs.Calls.{DidNoPut};
+//! The link: one file is fetched, read and linked, and its text is put.
+ghost use Rattle.std.specs.Prelude.{◌≡◌, ◌≤◌, ◌<◌, IfErr, OnOk, length, slice_index_or};
 ghost use Rattle.lto_outside.specs.Seen.{files_seen};
-ghost use Rattle.thinlto_main.specs.Answers.{OnUsage, OnReadFault, OnRefused, OnWriteFault, OnUnwritten, LinkCannotRead, LinkRefused, LinkCannotWrite, DidLink};
+ghost use Rattle.thin_link.specs.Refusing.{IsRefused};
+ghost use Rattle.thinlto_main.specs.Causes.{Because, Comes, never};
+ghost use Rattle.thinlto_main.specs.Linking.{HasThinLink, linking};
 
-use crate::refusal::Refusal;
-use crate::words::Link;
-use link_one::{LinkError, link_text};
-use lto_fault::Kind;
-use lto_outside::{FetchFault, Files};
+use crate::modules::{modules, texts};
+use ir_tree::Verified;
+use link_one::{accepted_is_not_refused, link_text};
+use lto_fault::Refusal;
+use lto_outside::Files;
+use lto_words::{FileName, LinkOptions};
 use std::alloc::Global;
+use thin_link::thin_link;
+
+/// That the modules have a thin link, or why they have none.
+fn decided(
+    alloc: Global,
+    names: &[FileName],
+    modules: &[Verified],
+    options: &LinkOptions,
+) -> Result<(), Refusal>
+    requires { length names.now ≡ length modules.now }
+    ensures done { OnOk result (HasThinLink modules.now options.now.exports options.now.import_limit) }
+    ensures because { IfErr result (Because (record never { unlinked = IsRefused names.now modules.now options.now.exports; memory = Unit {0} })) }
+{
+    let Ok(files) = texts(alloc, names) else {
+        return Err(Refusal::NoMemory);
+    };
+    match thin_link(
+        alloc,
+        files.as_slice(),
+        modules,
+        options.exports.as_slice(),
+        options.import_limit,
+    ) {
+        Ok(_link) => {}
+        Err(why) => return Err(why),
+    }
+    Ok(())
+}
+
+/// The first of these modules.
+fn first(modules: &[Verified]) -> &Verified
+    requires { 0 < length modules.now }
+    ensures { result.now ≡ slice_index_or modules.now 0 result.now }
+{
+    &modules[0]
+}
 
 /// Does a link.
-pub(crate) fn link<F: Files>(alloc: Global, files: &mut F, link: Link) -> Result<(), Refusal>
-    ensures usage { OnUsage result ⊥ }
-    ensures cannot_read { OnReadFault result (LinkCannotRead link (files_seen F.did F.held F.faults files.old files.new)) }
-    ensures refused { OnRefused result (LinkRefused link (files_seen F.did F.held F.faults files.old files.new)) }
-    ensures cannot_write { OnWriteFault result (LinkCannotWrite link (files_seen F.did F.held F.faults files.old files.new)) }
-    ensures done { OnOk result (DidLink link (files_seen F.did F.held F.faults files.old files.new) true) }
-    ensures no_put { OnUnwritten result (DidNoPut (λ calls. F.did files.old calls files.new)) }
+pub(crate) fn link<F: Files>(
+    alloc: Global,
+    files: &mut F,
+    options: &LinkOptions,
+    out: FileName,
+    names: &[FileName],
+) -> Result<(), Refusal>
+    requires { length names.now ≡ 1 }
+    ensures answer { Comes (linking options.now.exports options.now.import_limit out names.now (files_seen F.did F.held F.faults files.old files.new)) result }
     ensures later { F.faults files.old ≤ F.faults files.new }
 {
-    let Link { out, file } = link;
-    let bytes = match files.fetch(alloc, file.as_str()) {
-        Ok(bytes) => bytes,
-        Err(FetchFault::Fault) => {
-            return Err(Refusal::ReadFault {
-                name: file.into_text(),
-            });
-        }
-        Err(FetchFault::TooLong) => {
-            return Err(Refusal::Refused {
-                file: file.into_text(),
-                line: 0,
-                kind: Kind::Limit,
-            });
-        }
-        Err(FetchFault::NoMemory) => return Err(Refusal::NoMemory),
+    accepted_is_not_refused();
+    let modules = match modules(alloc, files, names) {
+        Ok(modules) => modules,
+        Err(why) => return Err(why),
     };
-    let text = match link_text(alloc, bytes.as_slice()) {
-        Ok(text) => text,
-        Err(LinkError::NoMemory) => return Err(Refusal::NoMemory),
-        Err(LinkError::Refused { line, kind }) => {
-            return Err(Refusal::Refused {
-                file: file.into_text(),
-                line: u64::from(line),
-                kind,
-            });
-        }
+    let all = modules.as_slice();
+    match decided(alloc, names, all, options) {
+        Ok(()) => {}
+        Err(why) => return Err(why),
+    }
+    let Ok(text) = link_text(alloc, first(all)) else {
+        return Err(Refusal::NoMemory);
     };
     match files.put(out.as_str(), text.as_slice()) {
         Ok(()) => Ok(()),

@@ -1,31 +1,33 @@
-//! The program `thinlto`: one link of one module.
+//! The program `thinlto`: the link of one module, and the index of many.
 //!
 //! `top` is the program's one call: it takes the words of the command line and the outside as five
 //! objects, and its contract says when each answer comes and what was done to each object. `main`
 //! makes the real objects, calls `top`, and ends with the status's number.
 //!
-//! Below stand the link of one module (`link_one`), refusals and their kinds (`lto_fault`), and the outside (`lto_outside`,
-//! and its real objects in `outside_real`). The promise kept here is the headline of the linker for one module of the whole
-//! language: the bytes put are the text of the linked module, and each run of the linked program is a run of the module as
-//! it was read. Beside the link itself, each byte is moved once.
+//! What words ask for is said by `lto_words`; a command fetches its files (`lto_fetch`) and reads each (`link_one`), and by
+//! the modules' summaries it is decided what is kept and imported (`thin_link`). `link` puts the linked module, `index` prints
+//! what was decided, and a refusal (`lto_fault`) is told on the notes (`lto_notes`). Which answer comes when is one definition
+//! by cases on the command (`specs/Answers.antt`), and what files that tell hold is another (`specs/Telling.antt`).
+//!
+//! The promise kept here is the headline of the linker for one module of the whole language: the bytes put are the text of the
+//! linked module, and each run of the linked program is a run of the module as it was read. Beside the link itself, each byte
+//! is moved once.
 #![tactic(auto)]
 
 mod cache;
+mod command;
 mod entry;
+mod index;
 mod link;
-mod name;
-mod notes;
-mod refusal;
+mod modules;
 mod status;
 #[cfg(test)]
 mod tests;
-mod words;
 
 pub use cache::LinkMakes;
 pub use entry::{Ended, top};
 use outside_real::{RealDisk, RealFiles, RealGate, RealIn, RealOut};
-pub use refusal::{Refusal, Status};
-pub use status::status_of;
+pub use status::{Status, status_of};
 use std::alloc::Global;
 use std::process::ExitCode;
 use std::rt::Env;

@@ -1,19 +1,18 @@
-//! The number that the process ends with.
+//! How a command ended, and the number that the process ends with.
 ghost use Rattle.std.specs.Prelude.{◌≡◌};
 ghost use Rattle.thinlto_main.specs.Exit.{exit_of};
 
-use crate::refusal::{Refusal, Status};
+use lto_fault::{Refusal, status};
+
+/// How a command ended.
+pub type Status = Result<(), Refusal>;
 
 /// The exit status of an answer: 0 where the command was done.
-pub fn status_of(status: &Status) -> u8
-    ensures { result ≡ exit_of status.now }
+pub fn status_of(ended: &Status) -> u8
+    ensures { result ≡ exit_of ended.now }
 {
-    match status {
+    match ended {
         Ok(()) => 0,
-        Err(Refusal::Usage) => 1,
-        Err(Refusal::ReadFault { .. }) => 2,
-        Err(Refusal::Refused { .. }) => 3,
-        Err(Refusal::WriteFault { .. }) => 5,
-        Err(Refusal::NoMemory) => 6,
+        Err(why) => status(why),
     }
 }

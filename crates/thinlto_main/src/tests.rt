@@ -2,21 +2,118 @@
 
 use crate::{LinkMakes, status_of, top};
 use outside_memory::{Failure, Leaves, MemoryDisk, MemoryFiles, MemoryGate, MemoryIn, MemoryOut};
-use std::alloc::Global;
+use std::alloc::{AllocError, Global};
 use std::sync::Wait;
 use std::test::Fail;
 use std::thread::Threads;
 
-/// What a run ended with: its status, what `o` holds and what the notes got.
+/// What a run ended with: its status, what `o` holds, what was printed and what the notes got.
 #[derive(Drop)]
 struct Outcome {
     status: u8,
     held: Vec<u8>,
+    printed: Vec<u8>,
     notes: Vec<u8>,
 }
 
-/// A run of the command over two files, `a.ll` with these bytes and `o`, where the call of this
-/// number fails, counted from 0.
+/// What `a.ll` and `b.ll` hold, and the numbers of the call of the files and of the push to the output that fail, counted
+/// from 0.
+#[derive(Clone, Copy)]
+struct Outside<'a> {
+    first: &'a [u8],
+    second: &'a [u8],
+    failing: u64,
+    stuck: u64,
+}
+
+/// What the command is run over: its words, the files, and the streams.
+#[derive(Drop)]
+struct Desk {
+    words: Vec<String>,
+    files: MemoryFiles,
+    input: MemoryIn,
+    out: MemoryOut,
+    notes: MemoryOut,
+}
+
+fn words_of(alloc: Global, given: &[&str]) -> Result<Vec<String>, AllocError> {
+    let mut words = Vec::new(alloc);
+    for word in given {
+        let word = String::from_str(alloc, word)?;
+        words.push(word)?;
+    }
+    Ok(words)
+}
+
+/// The files `a.ll`, `b.ll` and `o`, of which the call of this number fails.
+fn files_of(alloc: Global, outside: Outside<'_>) -> Result<MemoryFiles, AllocError> {
+    let mut failures = Vec::new(alloc);
+    failures.push(Failure {
+        call: outside.failing,
+        leaves: Leaves::Before,
+    })?;
+    let mut files = MemoryFiles::new(alloc, failures);
+    files.with("a.ll", outside.first)?;
+    files.with("b.ll", outside.second)?;
+    files.with("o", BEFORE)?;
+    Ok(files)
+}
+
+fn desk_of(alloc: Global, given: &[&str], outside: Outside<'_>) -> Result<Desk, AllocError> {
+    let words = words_of(alloc, given)?;
+    let files = files_of(alloc, outside)?;
+    let mut stuck = Vec::new(alloc);
+    stuck.push(outside.stuck)?;
+    Ok(Desk {
+        words,
+        files,
+        input: MemoryIn::new(Vec::new(alloc), Vec::new(alloc)),
+        out: MemoryOut::new(alloc, stuck),
+        notes: MemoryOut::new(alloc, Vec::new(alloc)),
+    })
+}
+
+/// The one call; the answer is its exit status.
+fn status_over<R: Threads + Wait + Sync>(rt: &R, alloc: Global, desk: &mut Desk) -> u8 {
+    let disk: MemoryDisk<LinkMakes> = MemoryDisk::new(alloc, Vec::new(alloc));
+    let gate = MemoryGate::new();
+    let ended = top(
+        rt,
+        alloc,
+        &desk.words,
+        &mut desk.files,
+        disk,
+        &gate,
+        &mut desk.input,
+        &mut desk.out,
+        &mut desk.notes,
+    );
+    status_of(&ended.status)
+}
+
+fn outcome_of(alloc: Global, status: u8, desk: &Desk) -> Result<Outcome, Fail> {
+    let held = desk.files.content("o").ok_or("no o")?;
+    Ok(Outcome {
+        status,
+        held: Vec::from_slice(alloc, held.as_slice())?,
+        printed: Vec::from_slice(alloc, desk.out.sent())?,
+        notes: Vec::from_slice(alloc, desk.notes.sent())?,
+    })
+}
+
+/// A run of the command over three files: `a.ll`, `b.ll` and `o`.
+fn run_over<R: Threads + Wait + Sync>(
+    rt: &R,
+    alloc: Global,
+    given: &[&str],
+    outside: Outside<'_>,
+) -> Result<Outcome, Fail> {
+    let mut desk = desk_of(alloc, given, outside)?;
+    let status = status_over(rt, alloc, &mut desk);
+    outcome_of(alloc, status, &desk)
+}
+
+/// A run of the command over `a.ll` with these bytes, where the call of this number fails.
 fn run<R: Threads + Wait + Sync>(
     rt: &R,
     alloc: Global,
@@ -24,35 +121,16 @@ fn run<R: Threads + Wait + Sync>(
     bytes: &[u8],
     failing: u64,
 ) -> Result<Outcome, Fail> {
-    let mut words = Vec::new(alloc);
-    for word in given {
-        words.push(String::from_str(alloc, word)?)?;
-    }
-    let mut failures = Vec::new(alloc);
-    failures.push(Failure {
-        call: failing,
-        leaves: Leaves::Before,
-    })?;
-    let mut files = MemoryFiles::new(alloc, failures);
-    files.with("a.ll", bytes)?;
-    files.with("o", b"-")?;
-    let disk: MemoryDisk<LinkMakes> = MemoryDisk::new(alloc, Vec::new(alloc));
-    let mut input = MemoryIn::new(Vec::new(alloc), Vec::new(alloc));
-    let mut out = MemoryOut::new(alloc, Vec::new(alloc));
-    let mut notes = MemoryOut::new(alloc, Vec::new(alloc));
-    let gate = MemoryGate::new();
-    let ended = top(
-        rt, alloc, &words, &mut files, disk, &gate, &mut input, &mut out, &mut notes,
-    );
-    let held = files.content("o").ok_or("no o")?;
-    Ok(Outcome {
-        status: status_of(&ended.status),
-        held: Vec::from_slice(alloc, held.as_slice())?,
-        notes: Vec::from_slice(alloc, notes.sent())?,
-    })
+    let outside = Outside {
+        first: bytes,
+        second: b"",
+        failing,
+        stuck: NONE,
+    };
+    run_over(rt, alloc, given, outside)
 }
 
-const NONE: u64 = 9;
+const NONE: u64 = 9_999;
 
 const LINK: [&str; 4] = ["link", "-o", "o", "a.ll"];
 
@@ -79,8 +157,22 @@ fn a_link_and_its_faults(rt: HostRuntime) -> Result<(), Fail> {
             bytes: SUM,
             failing: NONE,
             status: 0,
-            held: b"define i32 @main() {\n  ret i32 5\n}\n",
+            held: FIVE,
             notes: b"",
+        },
+        Case {
+            bytes: b"",
+            failing: NONE,
+            status: 4,
+            held: b"-",
+            notes: b"thinlto: no definition of exported @main\n",
+        },
+        Case {
+            bytes: b"declare i32 @g()\ndefine i32 @main() {\n  %x = call i32 @g()\n  ret i32 %x\n}\n",
+            failing: NONE,
+            status: 4,
+            held: b"-",
+            notes: b"thinlto: undefined symbol @g in a.ll\n",
         },
         Case {
             bytes: b"define",
@@ -116,13 +208,19 @@ fn a_link_and_its_faults(rt: HostRuntime) -> Result<(), Fail> {
 #[test]
 fn words_that_are_no_command(rt: HostRuntime) -> Result<(), Fail> {
     let alloc = rt.alloc();
-    let five: [&str; 5] = ["link", "-o", "o", "a.ll", "b.ll"];
-    let three: [&str; 3] = ["link", "-o", "o"];
+    let two_files: [&str; 5] = ["link", "-o", "o", "a.ll", "b.ll"];
+    let no_file: [&str; 3] = ["link", "-o", "o"];
     let dash: [&str; 4] = ["link", "-o", "-x", "a.ll"];
     let empty: [&str; 4] = ["link", "-o", "o", ""];
-    let other: [&str; 4] = ["run", "-o", "o", "a.ll"];
+    let jobs: [&str; 6] = ["link", "--jobs", "2", "-o", "o", "a.ll"];
+    let cache: [&str; 6] = ["link", "--cache", "d", "-o", "o", "a.ll"];
+    let inlining: [&str; 5] = ["link", "--inline-limit=9", "-o", "o", "a.ll"];
+    let twice: [&str; 4] = ["index", "--import-limit=1", "--import-limit=2", "a.ll"];
+    let other: [&str; 2] = ["run", "a.ll"];
     let one: [&str; 1] = [""];
-    let all: [&[&str]; 6] = [&five, &three, &dash, &empty, &other, &one];
+    let all: [&[&str]; 10] = [
+        &two_files, &no_file, &dash, &empty, &jobs, &cache, &inlining, &twice, &other, &one,
+    ];
     for words in &all {
         let ended = run(&rt, alloc, words, SUM, NONE)?;
         assert_eq!(rt; ended.status, 1);
@@ -227,5 +325,172 @@ fn texts_that_are_refused(rt: HostRuntime) -> Result<(), Fail> {
         assert_eq!(rt; ended.notes.as_slice(), text.note);
         assert_eq!(rt; ended.held.as_slice(), BEFORE);
     }
+    Ok(())
+}
+
+/// A module that calls a function of another one, and this one.
+const CALLER: &[u8] =
+    b"define i32 @main() {\n  %r = call i32 @f(i32 4)\n  ret i32 %r\n}\ndeclare i32 @f(i32)\n";
+
+const CALLEE: &[u8] =
+    b"define i32 @f(i32 %x) {\n  %y = call i32 @h(i32 %x)\n  %z = add i32 %y, 1\n  ret i32 %z\n}\ndefine internal i32 @h(i32 %x) noinline {\n  %y = mul i32 %x, 3\n  ret i32 %y\n}\n";
+
+/// The index of two modules: their bytes, how often which call fails, and what comes of it.
+#[derive(Drop)]
+struct IndexCase {
+    first: &'static [u8],
+    second: &'static [u8],
+    failing: u64,
+    stuck: u64,
+    status: u8,
+    printed: &'static [u8],
+    notes: &'static [u8],
+}
+
+const REPORT: &[u8] =
+    b"module 0 a.ll\n  define @main 2 live\n  import @f from 1 3\nmodule 1 b.ll\n  define @f 3 live\n  define @h 2 live\n";
+
+#[test]
+fn an_index_and_its_faults(rt: HostRuntime) -> Result<(), Fail> {
+    let alloc = rt.alloc();
+    let words: [&str; 3] = ["index", "a.ll", "b.ll"];
+    let cases = [
+        IndexCase {
+            first: CALLER,
+            second: CALLEE,
+            failing: NONE,
+            stuck: NONE,
+            status: 0,
+            printed: REPORT,
+            notes: b"",
+        },
+        // the second file can't be fetched
+        IndexCase {
+            first: b"define",
+            second: CALLEE,
+            failing: 1,
+            stuck: NONE,
+            status: 2,
+            printed: b"",
+            notes: b"thinlto: cannot read b.ll\n",
+        },
+        // both are no modules: the first is told
+        IndexCase {
+            first: b"\ndefine",
+            second: b"define",
+            failing: NONE,
+            stuck: NONE,
+            status: 3,
+            printed: b"",
+            notes: b"thinlto: a.ll:2: syntax\n",
+        },
+        IndexCase {
+            first: CALLER,
+            second: b"\x01",
+            failing: NONE,
+            stuck: NONE,
+            status: 3,
+            printed: b"",
+            notes: b"thinlto: b.ll:1: bad token\n",
+        },
+        // what a link of several files is refused for
+        IndexCase {
+            first: SUM,
+            second: SUM,
+            failing: NONE,
+            stuck: NONE,
+            status: 4,
+            printed: b"",
+            notes: b"thinlto: duplicate symbol @main in a.ll and b.ll\n",
+        },
+        IndexCase {
+            first: CALLER,
+            second: b"",
+            failing: NONE,
+            stuck: NONE,
+            status: 4,
+            printed: b"",
+            notes: b"thinlto: undefined symbol @f in a.ll\n",
+        },
+        IndexCase {
+            first: b"target triple = \"x\"\n",
+            second: b"target triple = \"y\"\n",
+            failing: NONE,
+            stuck: NONE,
+            status: 4,
+            printed: b"",
+            notes: b"thinlto: target triple differs in a.ll and b.ll\n",
+        },
+        IndexCase {
+            first: b"@g = external global i32\n",
+            second: b"define void @g() {\n  ret void\n}\n",
+            failing: NONE,
+            stuck: NONE,
+            status: 4,
+            printed: b"",
+            notes: b"thinlto: @g is a function in b.ll and a variable in a.ll\n",
+        },
+        // a push fails behind the first bytes
+        IndexCase {
+            first: CALLER,
+            second: CALLEE,
+            failing: NONE,
+            stuck: 6,
+            status: 5,
+            printed: b"module",
+            notes: b"thinlto: cannot write output\n",
+        },
+    ];
+    for case in &cases {
+        let outside = Outside {
+            first: case.first,
+            second: case.second,
+            failing: case.failing,
+            stuck: case.stuck,
+        };
+        let ended = run_over(&rt, alloc, &words, outside)?;
+        assert_eq!(rt; ended.notes.as_slice(), case.notes);
+        assert_eq!(rt; ended.printed.as_slice(), case.printed);
+        assert_eq!(rt; ended.status, case.status);
+        assert_eq!(rt; ended.held.as_slice(), BEFORE);
+    }
+    Ok(())
+}
+
+const WITHOUT_IMPORT: &[u8] =
+    b"module 0 a.ll\n  define @main 2 live\nmodule 1 b.ll\n  define @f 3 live\n  define @h 2 live\n";
+
+const WITHOUT_MAIN: &[u8] =
+    b"module 0 a.ll\n  define @main 2 dead\nmodule 1 b.ll\n  define @f 3 live\n  define @h 2 live\n";
+
+const NO_EXPORT: &[u8] = b"thinlto: no definition of exported @g\n";
+
+const FIVE: &[u8] = b"define i32 @main() {\n  ret i32 5\n}\n";
+
+#[test]
+fn exports_and_limits(rt: HostRuntime) -> Result<(), Fail> {
+    let alloc = rt.alloc();
+    let outside = Outside {
+        first: CALLER,
+        second: CALLEE,
+        failing: NONE,
+        stuck: NONE,
+    };
+    let limited: [&str; 4] = ["index", "a.ll", "--import-limit=2", "b.ll"];
+    let ended = run_over(&rt, alloc, &limited, outside)?;
+    assert_eq!(rt; ended.status, 0);
+    assert_eq!(rt; ended.printed.as_slice(), WITHOUT_IMPORT);
+    let exported: [&str; 4] = ["index", "--export=f", "a.ll", "b.ll"];
+    let ended = run_over(&rt, alloc, &exported, outside)?;
+    assert_eq!(rt; ended.status, 0);
+    assert_eq!(rt; ended.printed.as_slice(), WITHOUT_MAIN);
+    let lacking: [&str; 6] = ["link", "--export", "main,g", "-o", "o", "a.ll"];
+    let ended = run(&rt, alloc, &lacking, SUM, NONE)?;
+    assert_eq!(rt; ended.status, 4);
+    assert_eq!(rt; ended.notes.as_slice(), NO_EXPORT);
+    let named: [&str; 6] = ["link", "a.ll", "--jobs=1", "--import-limit", "7", "-oo"];
+    let ended = run(&rt, alloc, &named, SUM, NONE)?;
+    assert_eq!(rt; ended.status, 0);
+    assert_eq!(rt; ended.held.as_slice(), FIVE);
     Ok(())
 }

@@ -1,24 +1,48 @@
-use Rattle.std.proofs.Common.{arith}
+use Rattle.std.proofs.Common.{◌≡◌, ◌∙◌, List, ap, arith, length, subst, sym, true, false}
+use Rattle.ir_tree.specs.declared.module.Module.{Module}
+use Rattle.lto_outside.specs.Calls.{Call}
 use Rattle.lto_outside.specs.Cause.{Rose}
-use Rattle.thinlto_main.proofs.Composing.{did_link, did_refuse}
+use Rattle.lto_outside.specs.Seen.{files_seen}
+use Rattle.thinlto_main.specs.Modules.{AreRead}
+use Rattle.thinlto_main.proofs.Causes.{because_map}
+use Rattle.thinlto_main.proofs.Linking.{did_link, reading_links, unlinked_links}
+use Rattle.thinlto_main.proofs.Reading.{as_many, fetched_no_put}
 use Rattle.thinlto_main.proofs.link.link.Goals as goal
 
-pub returns-in-Ok-put-clause-done : goal.returns-in-Ok-put-clause-done
-returns-in-Ok-put-clause-done g c =
-    did_link g.F.Files.did g.met.F.Files.did_more _ _ _ c.args.link _ _ _ _ _ _ _ c.in-Ok.ensures.call c.in-Ok-put.ensures.call c.as_str.ensures c.as_str-2.ensures c.as_slice.ensures c.as_slice-2.ensures
-    c.in-Ok.ensures.short c.in-Ok-link_text.ensures.linked c.in-Ok-link_text.ensures.only _ (λ calls did. did)
+pub returns-in-Err-clause-answer : goal.returns-in-Err-clause-answer
+returns-in-Err-clause-answer g c = because_map (reading_links c.args.options.now.exports c.args.options.now.import_limit c.args.out c.args.names.now (files_seen g.F.Files.did g.F.Files.held g.F.Files.faults c.args.files.now c.modules.new.files)) c.in-Err.why c.in-Err.ensures.because
 
-pub returns-in-Err-clause-cannot_write : goal.returns-in-Err-clause-cannot_write
-returns-in-Err-clause-cannot_write g c =
-    let rose : Rose (g.F.Files.faults c.args.files.now) (g.F.Files.faults c.put.new.self) = omega (arith, c.fetch.ensures.later, c.in-Err.ensures.cause) in
+pub decided-requires : goal.decided-requires
+decided-requires g c = as_many c.args.names.now (λ (calls : List Call). g.F.Files.did c.args.files.now calls c.modules.new.files) c.as_slice-all.result.now (subst (λ (l : List Module). AreRead c.args.names.now (λ (calls : List Call). g.F.Files.did c.args.files.now calls c.modules.new.files) l) (sym c.as_slice-all.ensures) c.in-Ok.ensures.read)
+
+pub returns-in-Err-decided-clause-answer : goal.returns-in-Err-decided-clause-answer
+returns-in-Err-decided-clause-answer g c =
+    because_map (unlinked_links c.args.options.now.exports c.args.options.now.import_limit c.args.out c.args.names.now (files_seen g.F.Files.did g.F.Files.held g.F.Files.faults c.args.files.now c.modules.new.files) c.as_slice-all.result.now
+    (subst (λ (l : List Module). AreRead c.args.names.now (λ (calls : List Call). g.F.Files.did c.args.files.now calls c.modules.new.files) l) (sym c.as_slice-all.ensures) c.in-Ok.ensures.read))
+    c.in-Err-decided.why c.in-Err-decided.ensures.because
+
+pub first-requires : goal.first-requires
+first-requires g c =
+    let same : length c.args.names.now ≡ length c.as_slice-all.result.now = as_many c.args.names.now (λ (calls : List Call). g.F.Files.did c.args.files.now calls c.modules.new.files) c.as_slice-all.result.now (subst (λ (l : List Module). AreRead c.args.names.now (λ (calls : List Call). g.F.Files.did c.args.files.now calls c.modules.new.files) l) (sym c.as_slice-all.ensures) c.in-Ok.ensures.read) in
+    omega (arith, same, c.requires)
+
+pub returns-in_default-clause-answer : goal.returns-in_default-clause-answer
+returns-in_default-clause-answer g c = fetched_no_put c.args.names.now c.in-Ok.ensures.read.given (λ (calls : List Call). g.F.Files.did c.args.files.now calls c.modules.new.files) c.in-Ok.ensures.read.fetched
+
+pub returns-in-Ok-put-clause-answer : goal.returns-in-Ok-put-clause-answer
+returns-in-Ok-put-clause-answer g c =
+    did_link g.F.Files.did g.met.F.Files.did_more c.args.files.now c.modules.new.files c.put.new.self c.args.options.now.exports c.args.options.now.import_limit c.args.out c.args.names.now c.as_slice-all.result.now c.first.result.now c.as_str.result.now c.as_slice.result.now c.in-Ok-link_text.text true
+    c.accepted_is_not_refused.ensures.one c.requires (subst (λ (l : List Module). AreRead c.args.names.now (λ (calls : List Call). g.F.Files.did c.args.files.now calls c.modules.new.files) l) (sym c.as_slice-all.ensures) c.in-Ok.ensures.read) c.first.ensures c.in-Ok-decided.ensures.done
+    c.in-Ok-link_text.ensures.linked c.in-Ok-link_text.ensures.only c.in-Ok-put.ensures.call c.as_str.ensures c.as_slice.ensures (files_seen g.F.Files.did g.F.Files.held g.F.Files.faults c.args.files.now c.put.new.self) (λ calls did. did)
+
+pub returns-in-Err-put-clause-answer : goal.returns-in-Err-put-clause-answer
+returns-in-Err-put-clause-answer g c =
+    let rose : Rose (g.F.Files.faults c.args.files.now) (g.F.Files.faults c.put.new.self) = omega (arith, c.modules.ensures.later, c.in-Err-put.ensures.cause) in
     record {
-      named = c.into_text-in-Err.ensures;
+      named = c.into_text.ensures;
       did_link =
-          did_link g.F.Files.did g.met.F.Files.did_more _ _ _ c.args.link _ _ _ _ _ _ _ c.in-Ok.ensures.call c.in-Err.ensures.call c.as_str.ensures c.as_str-2.ensures c.as_slice.ensures c.as_slice-2.ensures
-          c.in-Ok.ensures.short c.in-Ok-link_text.ensures.linked c.in-Ok-link_text.ensures.only _ (λ calls did. did);
+          did_link g.F.Files.did g.met.F.Files.did_more c.args.files.now c.modules.new.files c.put.new.self c.args.options.now.exports c.args.options.now.import_limit c.args.out c.args.names.now c.as_slice-all.result.now c.first.result.now c.as_str.result.now c.as_slice.result.now c.in-Ok-link_text.text false
+          c.accepted_is_not_refused.ensures.one c.requires (subst (λ (l : List Module). AreRead c.args.names.now (λ (calls : List Call). g.F.Files.did c.args.files.now calls c.modules.new.files) l) (sym c.as_slice-all.ensures) c.in-Ok.ensures.read) c.first.ensures c.in-Ok-decided.ensures.done
+          c.in-Ok-link_text.ensures.linked c.in-Ok-link_text.ensures.only c.in-Err-put.ensures.call c.as_str.ensures c.as_slice.ensures (files_seen g.F.Files.did g.F.Files.held g.F.Files.faults c.args.files.now c.put.new.self) (λ calls did. did);
       rose = rose;
     }
-
-pub returns-in-Err-Refused-clause-refused : goal.returns-in-Err-Refused-clause-refused
-returns-in-Err-Refused-clause-refused g c =
-    did_refuse g.F.Files.did _ _ c.args.link _ _ _ _ _ _ _ c.in-Ok.ensures.call c.as_str.ensures c.as_slice.ensures c.in-Ok.ensures.short (rw c.in-Err-Refused.field-0-is at c.in-Err-Refused.ensures.refused) c.from.ensures c.into_text-in-Err-Refused.ensures _ (λ calls did. did)

@@ -1,0 +1,13 @@
+use Rattle.std.proofs.Common.{ℕ, List, [], ◌∷◌, Err, ap, subst}
+use Rattle.lto_outside.specs.Calls.{Fetched}
+use Rattle.lto_outside.specs.Cause.{Rose}
+use Rattle.lto_outside.specs.declared.fault.FetchFault.TheVariants.{Fault}
+use Rattle.lto_fetch.proofs.Fetches.{if_fault_map}
+use Rattle.lto_fetch.proofs.fetching.fetch_one.Goals as goal
+
+pub returns-in-Err-Fault-clause-failed : goal.returns-in-Err-Fault-clause-failed
+returns-in-Err-Fault-clause-failed g c =
+    let did : g.F.Files.did c.args.files.now (Fetched c.args.name.now (Err Fault) ∷ []) c.fetch.new.self =
+    subst (λ (n : List ℕ). g.F.Files.did c.args.files.now (Fetched n (Err Fault) ∷ []) c.fetch.new.self) c.as_str.ensures (rw c.in-Err-Fault.field-0-is at c.in-Err-Fault.ensures.call) in
+    let rose : Rose (g.F.Files.faults c.args.files.now) (g.F.Files.faults c.fetch.new.self) = c.in-Err-Fault.ensures.cause (ap Err c.in-Err-Fault.field-0-is) in
+    if_fault_map c.fault.result _ _ (λ told is. (is, did, rose)) c.fault.ensures

@@ -1,0 +1,55 @@
+-- The report of an index.
+use Rattle.std.proofs.Common.{◌≡◌, ◌∙◌, ℕ, Bool, List, Option, Result, Ok, Err, ap, sym, subst, true, false}
+use Rattle.std.specs.List.{AllZip}
+use Rattle.ir_tree.specs.declared.module.Module.{Module}
+use Rattle.link_one.specs.Laws.{AcceptedIsOne}
+use Rattle.lto_fault.specs.declared.refusal.Refusal.{Refusal}
+use Rattle.lto_notes.specs.Pushing.{Pushes}
+use Rattle.lto_outside.specs.Seen.{FilesSeen, StreamSeen}
+use Rattle.thin_link.specs.Laws.{ReportIsOne}
+use Rattle.thin_link.specs.Linking.{IsIndexReport}
+use Rattle.thin_link.specs.Refusing.{IsRefused}
+use Rattle.thinlto_main.specs.Answers.{reporting}
+use Rattle.thinlto_main.specs.Causes.{Causes, Comes, never}
+use Rattle.thinlto_main.specs.Modules.{AreRead, IsRead, reading}
+use Rattle.thinlto_main.specs.Reporting.{DidReport, IsOnlyReportOf, IsReportOf, OUTPUT}
+use Rattle.thinlto_main.specs.Seen.{Seen}
+use Rattle.thinlto_main.proofs.Causes.{Implies, because_map, comes_map}
+use Rattle.thinlto_main.proofs.Reading.{fetched_no_put, one_reading}
+
+-- why modules aren't read is why there is no report
+pub reading_reports : (exports names : List (List ℕ)) (limit : ℕ) (s : Seen) → s.unprinted → Implies (reading names s.files) (reporting exports limit names s)
+reading_reports exports names limit s same = record {
+  done = λ x. absurd x;
+  usage = λ x. absurd x;
+  unread = λ name x. (x, same);
+  refused = λ file line kind x. (x, same);
+  unlinked = λ why x. absurd x;
+  unwritten = λ name x. absurd x;
+  memory = λ x. (x, same);
+  other = λ x. absurd x;
+}
+
+module _ (exports names : List (List ℕ)) (limit : ℕ) (s : Seen) (ms : List Module) (r : AreRead names s.files.did ms) where
+  -- why they aren't linked is, too
+  pub unlinked_reports : s.unprinted → Implies (record never { unlinked = IsRefused names ms exports; memory = Unit {0} }) (reporting exports limit names s)
+  unlinked_reports same = record {
+    done = λ x. absurd x;
+    usage = λ x. absurd x;
+    unread = λ name x. absurd x;
+    refused = λ file line kind x. absurd x;
+    unlinked = λ why x. (record { ms = ms; read = r; refused = x }, same);
+    unwritten = λ name x. absurd x;
+    memory = λ x. (fetched_no_put names r.given s.files.did r.fetched, same);
+    other = λ x. absurd x;
+  }
+
+  pub did_report : AcceptedIsOne → ReportIsOne → (text : List ℕ) → IsIndexReport names ms exports limit text → (done : Bool) → Pushes s.out text done → DidReport exports names limit s done
+  did_report accepted one text report done sent = record {
+    given = r.given;
+    text = text;
+    fetched = r.fetched;
+    is_report = record { ms = ms; read = r.read; is = report };
+    only = λ other q. one names exports ms limit other text (subst (λ (ns : List Module). IsIndexReport names ns exports limit other) (one_reading accepted r.given q.ms ms q.read r.read) q.is) report;
+    sent = sent;
+  }

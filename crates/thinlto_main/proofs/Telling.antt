@@ -1,0 +1,136 @@
+-- The causes of answers, where the files tell what they hold.
+use Rattle.std.proofs.Common.{ℕ, ◌≡◌, ◌∙◌, Bool, true, false, List, [], ◌∷◌, Option, Some, None, Ok, length, refl, sym, subst, inl, inr}
+use Rattle.std.specs.List.{AllZip}
+use Rattle.std.specs.Prelude.{IfSome}
+use Rattle.ir_tree.specs.declared.module.Module.{Module}
+use Rattle.link_one.specs.Laws.{AcceptedIsOne}
+use Rattle.lto_fault.specs.declared.kind.Kind.{Kind}
+use Rattle.lto_fault.specs.declared.refusal.Refusal.{Refusal}
+use Rattle.lto_fetch.specs.Fetching.{fetch_calls}
+use Rattle.lto_outside.specs.Calls.{Call, Fetched, Put}
+use Rattle.lto_outside.specs.Replay.{Follows}
+use Rattle.lto_outside.specs.Seen.{FilesSeen}
+use Rattle.lto_outside.specs.Store.{HasPart, HasPut, IsPart, SameFiles, Stays, Store}
+use Rattle.lto_words.specs.declared.request.Command.{Command}
+use Rattle.lto_words.specs.declared.request.Command.TheVariants.{Link, Batch, Index, Run, Gen}
+use Rattle.thin_link.specs.Laws.{ReportIsOne}
+use Rattle.thin_link.specs.Linking.{IsIndexReport}
+use Rattle.thinlto_main.specs.Answers.{causes}
+use Rattle.thinlto_main.specs.Linking.{DidLink}
+use Rattle.thinlto_main.specs.Modules.{AreFetched, CannotLink, CannotRead, IsRead}
+use Rattle.thinlto_main.specs.Reporting.{DidReport}
+use Rattle.thinlto_main.specs.Seen.{Seen}
+use Rattle.thinlto_main.specs.Telling.{HoldFirstBad, HoldReport, HoldUnlinked, HoldsModule, LinkHeld, told}
+use Rattle.thinlto_main.proofs.Causes.{Implies}
+use Rattle.thinlto_main.proofs.Held.{Gives, fetches_give, follows_same, held_first_bad, held_modules, one_list}
+use Rattle.thinlto_main.proofs.Reading.{no_put_fetches}
+
+if_some_map : {X : Type 0} (P Q : X → Type 0) → ((x : X) → P x → Q x) → (o : Option X) → IfSome o P → IfSome o Q
+if_some_map P Q f None h = tt
+if_some_map P Q f (Some x) h = f x h
+
+-- ---- fetches
+
+given_told : (old new : Option Store) (names : List (List ℕ)) (given : List (Option (List ℕ))) → length given ≡ length names → Follows old (fetch_calls names given) new
+    → IfSome old (λ held. AllZip (Gives held) names given)
+given_told None new names given each f = tt
+given_told (Some old) None names given each f = absurd f
+given_told (Some old) (Some new) names given each f = fetches_give old new names given each f
+
+module _ (files : FilesSeen) (tells : (calls : List Call) → files.did calls → Follows files.held calls files.holds) where
+  fetched_told : (names : List (List ℕ)) (given : List (Option (List ℕ))) → AreFetched names given files.did → IfSome files.held (λ held. AllZip (Gives held) names given)
+  fetched_told names given f = given_told files.held files.holds names given f.each (tells _ f.calls)
+
+  fetched_stay : (names : List (List ℕ)) (given : List (Option (List ℕ))) → AreFetched names given files.did → Stays files.held files.holds
+  fetched_stay names given f = follows_same files.held files.holds _ (no_put_fetches names given) (tells _ f.calls)
+
+  pub bad_told : (names : List (List ℕ)) (file : List ℕ) (line : ℕ) (kind : Kind) → CannotRead names files file line kind → IfSome files.held (λ held. HoldFirstBad held names file line kind)
+  bad_told names file line kind r = if_some_map _ _ (λ held gives. held_first_bad held names r.given file line kind gives r.first) files.held (fetched_told names r.given r.fetched)
+
+  pub unlinked_told : (exports names : List (List ℕ)) (why : Refusal) → CannotLink exports names files why → IfSome files.held (λ held. HoldUnlinked exports names held why)
+  unlinked_told exports names why r =
+      if_some_map _ _ (λ held gives. record { ms = r.ms; modules = held_modules held names r.read.given r.ms gives r.read.read; refused = r.refused }) files.held (fetched_told names r.read.given r.read.fetched)
+
+-- ---- what a link put
+
+module _ (exports : List (List ℕ)) (limit : ℕ) (out : List ℕ) (names : List (List ℕ)) (files : FilesSeen) where
+  held_done : (d : DidLink exports limit out names files true) (old new : Option Store) → Follows old (Fetched d.file (Ok d.bytes) ∷ Put out d.text true ∷ []) new → LinkHeld HasPut exports limit out names old new
+  held_done d None new f = tt
+  held_done d (Some old) None f = f
+  held_done d (Some old) (Some new) f = record {
+    file = d.file;
+    one = d.one;
+    bytes = d.bytes;
+    text = d.text;
+    held = f.0;
+    short = d.short;
+    is_link = d.is_link;
+    only = d.only;
+    thin = d.thin;
+    put_there = record { written = f.1.2 out ∙ f.1.1.written; others = λ other differs. f.1.2 other ∙ f.1.1.others other differs };
+  }
+
+  part_behind : (old next new : Store) (text : List ℕ) → IsPart old next out text → SameFiles next new → IsPart old new out text
+  part_behind old next new text (inl is) same = inl (same out ∙ is)
+  part_behind old next new text (inr (count, is)) same = inr (count, same out ∙ is)
+
+  held_part : (d : DidLink exports limit out names files false) (old new : Option Store) → Follows old (Fetched d.file (Ok d.bytes) ∷ Put out d.text false ∷ []) new → LinkHeld HasPart exports limit out names old new
+  held_part d None new f = tt
+  held_part d (Some old) None f = f
+  held_part d (Some old) (Some new) f = record {
+    file = d.file;
+    one = d.one;
+    bytes = d.bytes;
+    text = d.text;
+    held = f.0;
+    short = d.short;
+    is_link = d.is_link;
+    only = d.only;
+    thin = d.thin;
+    put_there = record { part = part_behind old f.1.0 new d.text f.1.1.part f.1.2; others = λ other differs. f.1.2 other ∙ f.1.1.others other differs };
+  }
+
+-- ---- each command
+
+module _ (accepted : AcceptedIsOne) (one : ReportIsOne) (s : Seen) (tells : (calls : List Call) → s.files.did calls → Follows s.files.held calls s.files.holds) where
+  report_told : (exports names : List (List ℕ)) (limit : ℕ) (done : Bool) → DidReport exports names limit s done → Stays s.files.held s.files.holds × IfSome s.files.held (HoldReport exports names limit s done)
+  report_told exports names limit done d = (fetched_stay s.files tells names d.given d.fetched, if_some_map _ _ by s.files.held (fetched_told s.files tells names d.given d.fetched))
+    where
+      by : (held : Store) → AllZip (Gives held) names d.given → HoldReport exports names limit s done held
+      by held gives = record {
+        ms = d.is_report.ms;
+        text = d.text;
+        modules = held_modules held names d.given d.is_report.ms gives d.is_report.read;
+        report = d.is_report.is;
+        only =
+            λ others other modules is.
+            one names exports d.is_report.ms limit other d.text
+            (subst (λ (ns : List Module). IsIndexReport names ns exports limit other) (one_list held accepted names others d.is_report.ms modules (held_modules held names d.given d.is_report.ms gives d.is_report.read)) is)
+            d.is_report.is;
+        sent = d.sent;
+      }
+
+  pub tell : (c : Command) → Implies (causes c s) (told c s)
+  tell (Link options out names) = record {
+    done = λ x. held_done options.exports options.import_limit out names s.files x.0 s.files.held s.files.holds (tells _ x.0.calls);
+    usage = λ x. absurd x.0;
+    unread = λ name x. x.0.rose;
+    refused = λ file line kind x. bad_told s.files tells names file line kind x.0;
+    unlinked = λ why x. unlinked_told s.files tells options.exports names why x.0;
+    unwritten = λ name x. (held_part options.exports options.import_limit out names s.files x.0.did_link s.files.held s.files.holds (tells _ x.0.did_link.calls), x.0.rose);
+    memory = λ x. tt;
+    other = λ x. absurd x.0;
+  }
+  tell (Index exports limit names) = record {
+    done = λ x. report_told exports names limit true x;
+    usage = λ x. absurd x.0;
+    unread = λ name x. x.0.rose;
+    refused = λ file line kind x. bad_told s.files tells names file line kind x.0;
+    unlinked = λ why x. unlinked_told s.files tells exports names why x.0;
+    unwritten = λ name x. report_told exports names limit false x.did_report;
+    memory = λ x. tt;
+    other = λ x. absurd x.0;
+  }
+  tell (Batch options list) = record { done = λ x. x; usage = λ x. x; unread = λ n x. x; refused = λ f l k x. x; unlinked = λ w x. x; unwritten = λ n x. x; memory = λ x. x; other = λ x. x }
+  tell (Run root args steps names) = record { done = λ x. x; usage = λ x. x; unread = λ n x. x; refused = λ f l k x. x; unlinked = λ w x. x; unwritten = λ n x. x; memory = λ x. x; other = λ x. x }
+  tell (Gen seed modules jobs) = record { done = λ x. x; usage = λ x. x; unread = λ n x. x; refused = λ f l k x. x; unlinked = λ w x. x; unwritten = λ n x. x; memory = λ x. x; other = λ x. x }

@@ -1,0 +1,82 @@
+-- What has to hold for each answer of a command.
+use Rattle.std.specs.Prelude.{ℕ, List, Result, Ok, Err, ⊤}
+use Rattle.lto_fault.specs.declared.kind.Kind.{Kind}
+use Rattle.lto_fault.specs.declared.refusal.Refusal.{Refusal}
+use Rattle.lto_fault.specs.declared.refusal.Refusal.TheVariants.{Usage, ReadFault, Refused, TargetClash, DuplicateSymbol, KindClash, UndefinedSymbol, NoExport, NameTaken, BadArguments, WriteFault, NoMemory, Undefined, Uninit, OutOfSteps}
+
+-- a fact for each answer; `other` is for those that no command has so far
+pub record Causes : Type 1 where
+  pub done : Type 0
+  pub usage : Type 0
+  pub unread : List ℕ → Type 0
+  pub refused : List ℕ → ℕ → Kind → Type 0
+  pub unlinked : Refusal → Type 0
+  pub unwritten : List ℕ → Type 0
+  pub memory : Type 0
+  pub other : Type 0
+
+abbrev pub Because : Causes → Refusal → Type 0
+Because k Usage = k.usage
+Because k (ReadFault name) = k.unread name
+Because k (Refused file line kind) = k.refused file line kind
+Because k (TargetClash target first second) = k.unlinked (TargetClash target first second)
+Because k (DuplicateSymbol name first second) = k.unlinked (DuplicateSymbol name first second)
+Because k (KindClash name function variable) = k.unlinked (KindClash name function variable)
+Because k (UndefinedSymbol name file) = k.unlinked (UndefinedSymbol name file)
+Because k (NoExport name) = k.unlinked (NoExport name)
+Because k (NameTaken name) = k.other
+Because k (BadArguments name) = k.other
+Because k (WriteFault name) = k.unwritten name
+Because k NoMemory = k.memory
+Because k (Undefined function file instruction cause) = k.other
+Because k (Uninit function file instruction) = k.other
+Because k (OutOfSteps steps) = k.other
+
+-- the fact of the answer that came
+abbrev pub Comes : {A : Type 0} → Causes → Result A Refusal → Type 0
+Comes k (Ok _) = k.done
+Comes k (Err why) = Because k why
+
+-- this for every answer
+abbrev pub always : Type 0 → Causes
+always P = record {
+  done = P;
+  usage = P;
+  unread = λ name. P;
+  refused = λ file line kind. P;
+  unlinked = λ why. P;
+  unwritten = λ name. P;
+  memory = P;
+  other = P;
+}
+
+abbrev pub free : Causes
+free = always ⊤
+
+abbrev pub never : Causes
+never = always ⊥
+
+-- ---- a fact for one answer
+
+abbrev pub OnUsage : {A : Type 0} → Result A Refusal → Type 0 → Type 0
+OnUsage r P = Comes (record free { usage = P }) r
+
+abbrev pub OnReadFault : {A : Type 0} → Result A Refusal → (List ℕ → Type 0) → Type 0
+OnReadFault r P = Comes (record free { unread = P }) r
+
+abbrev pub OnRefused : {A : Type 0} → Result A Refusal → (List ℕ → ℕ → Kind → Type 0) → Type 0
+OnRefused r P = Comes (record free { refused = P }) r
+
+abbrev pub OnUnlinked : {A : Type 0} → Result A Refusal → (Refusal → Type 0) → Type 0
+OnUnlinked r P = Comes (record free { unlinked = P }) r
+
+abbrev pub OnWriteFault : {A : Type 0} → Result A Refusal → (List ℕ → Type 0) → Type 0
+OnWriteFault r P = Comes (record free { unwritten = P }) r
+
+-- for each answer that no command has
+abbrev pub OnOther : {A : Type 0} → Result A Refusal → Type 0 → Type 0
+OnOther r P = Comes (record free { other = P }) r
+
+-- for each answer that comes before anything was put or pushed
+abbrev pub OnUnwritten : {A : Type 0} → Result A Refusal → Type 0 → Type 0
+OnUnwritten r P = Comes (record (always P) { done = ⊤; unwritten = λ name. ⊤ }) r

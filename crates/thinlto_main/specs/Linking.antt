@@ -1,0 +1,43 @@
+-- A link of one file.
+use Rattle.std.specs.Prelude.{◌≡◌, ◌≤◌, ◌^◌, ℕ, Bool, true, false, List, [], ◌∷◌, length, Some, Ok}
+use Rattle.ir_tree.specs.declared.module.Module.{Module}
+use Rattle.lto_outside.specs.Calls.{Fetched, Put}
+use Rattle.lto_outside.specs.Cause.{Rose}
+use Rattle.lto_outside.specs.Seen.{FilesSeen}
+use Rattle.combined_index.specs.Combined.{Combined}
+use Rattle.link_one.specs.Linking.{IsLinkOf, IsOnlyLinkOf}
+use Rattle.thin_link.specs.Linking.{IsThinLink}
+use Rattle.thinlto_main.specs.Causes.{Causes}
+use Rattle.thinlto_main.specs.Modules.{deciding}
+
+-- modules have a thin link
+pub record HasThinLink (ms : List Module) (exports : List (List ℕ)) (limit : ℕ) : Type 0 where
+  pub index : Combined
+  pub live : List Bool
+  pub imports : List (List ℕ)
+  pub is : IsThinLink ms exports limit index live imports
+
+-- The one file was fetched, its module has a thin link, and what a link makes of it was put, or its put failed; there were no
+-- other calls. Both halves of the headline: the linked program does what the program read does, and no other text is a link
+-- of these bytes.
+pub record DidLink (exports : List (List ℕ)) (limit : ℕ) (out : List ℕ) (names : List (List ℕ)) (files : FilesSeen) (done : Bool) : Type 0 where
+  pub file : List ℕ
+  pub one : names ≡ file ∷ []
+  pub bytes : List ℕ
+  pub text : List ℕ
+  pub short : length bytes ≤ 2 ^ 24
+  pub is_link : IsLinkOf exports bytes text
+  pub only : IsOnlyLinkOf exports bytes text
+  pub thin : HasThinLink (is_link.m ∷ []) exports limit
+  pub calls : files.did (Fetched file (Ok bytes) ∷ Put out text done ∷ [])
+
+pub record LinkCannotWrite (exports : List (List ℕ)) (limit : ℕ) (out : List ℕ) (names : List (List ℕ)) (files : FilesSeen) (name : List ℕ) : Type 0 where
+  pub named : name ≡ out
+  pub did_link : DidLink exports limit out names files false
+  pub rose : Rose files.faults files.faults_now
+
+abbrev pub linking : List (List ℕ) → ℕ → List ℕ → List (List ℕ) → FilesSeen → Causes
+linking exports limit out names files = record (deciding exports names files) {
+  done = DidLink exports limit out names files true;
+  unwritten = LinkCannotWrite exports limit out names files;
+}

@@ -1,0 +1,106 @@
+//! The modules of a command: all its files are fetched, and then each is read.
+ghost use Rattle.std.specs.Prelude.{◌≡◌, ◌≤◌, ◌<◌, All, IfOk, IfErr, OnErr, length};
+ghost use Rattle.std.specs.List.{AllZip};
+ghost use Rattle.lto_fault.specs.declared.refusal.Refusal.{Refusal};
+ghost use Rattle.lto_fetch.specs.Fetching.{IsShort};
+ghost use Rattle.lto_outside.specs.Seen.{files_seen};
+ghost use Rattle.thinlto_main.specs.Causes.{Because, never};
+ghost use Rattle.thinlto_main.specs.Modules.{AreRead, FirstBad, IsBad, IsRead, reading, unfetched};
+
+use ir_tree::{Rows, Text, Verified};
+use link_one::{LinkError, accepted};
+use lto_fault::{Kind, Refusal};
+use lto_fetch::{FetchError, fetch_all};
+use lto_outside::Files;
+use lto_words::FileName;
+use std::alloc::{AllocError, Global};
+
+/// The names as they are told in refusals.
+pub(crate) fn texts(alloc: Global, names: &[FileName]) -> Result<Rows<Text>, AllocError>
+    ensures { IfOk result (λ texts. texts ≡ names.now) }
+{
+    let mut texts = Rows::new(alloc);
+    for name in names {
+        texts.push(Text::copied(alloc, name.as_str().as_bytes())?)?;
+    }
+    Ok(texts)
+}
+
+/// That this file is refused.
+fn refused(alloc: Global, name: &FileName, line: u64, kind: Kind) -> Refusal
+    ensures { Because (record never { refused = λ file at why. (file ≡ name.now) × (at ≡ line) × (why ≡ kind); memory = Unit {0} }) result }
+{
+    match Text::copied(alloc, name.as_str().as_bytes()) {
+        Ok(file) => Refusal::Refused { file, line, kind },
+        Err(_) => Refusal::NoMemory,
+    }
+}
+
+/// The module of a file.
+fn read_one(alloc: Global, name: &FileName, bytes: &Option<Text>) -> Result<Verified, Refusal>
+    requires short { IsShort bytes.now }
+    ensures read { IfOk result (λ m. IsRead bytes.now m) }
+    ensures because { IfErr result (Because (record never { refused = λ file line kind. (file ≡ name.now) × IsBad bytes.now line kind; memory = Unit {0} })) }
+{
+    match bytes {
+        None => Err(refused(alloc, name, 0, Kind::Limit)),
+        Some(bytes) => match accepted(alloc, bytes.as_slice()) {
+            Ok(module) => Ok(module),
+            Err(LinkError::NoMemory) => Err(Refusal::NoMemory),
+            Err(LinkError::Refused { line, kind }) => {
+                Err(refused(alloc, name, u64::from(line), kind))
+            }
+        },
+    }
+}
+
+/// The module of each file, up to the first that isn't read.
+fn read_all(
+    alloc: Global,
+    names: &[FileName],
+    given: &[Option<Text>],
+) -> Result<Rows<Verified>, Refusal>
+    requires each { length given.now ≡ length names.now }
+    requires short { All IsShort given.now }
+    ensures read { IfOk result (λ ms. AllZip IsRead given.now ms) }
+    ensures because { IfErr result (Because (record never { refused = FirstBad names.now given.now; memory = Unit {0} })) }
+{
+    let mut modules = Rows::new(alloc);
+    for (at, name) in names.iter().enumerate() {
+        let module = match read_one(alloc, name, &given[at]) {
+            Ok(module) => module,
+            Err(why) => return Err(why),
+        };
+        let Ok(()) = modules.push(module) else {
+            return Err(Refusal::NoMemory);
+        };
+    }
+    Ok(modules)
+}
+
+/// How it is told that a file can't be fetched.
+fn unfetched(error: FetchError) -> Refusal
+    ensures { result ≡ unfetched error }
+{
+    match error {
+        FetchError::Fault { name } => Refusal::ReadFault { name },
+        FetchError::NoMemory => Refusal::NoMemory,
+    }
+}
+
+/// The modules of these files: all are fetched, and then each is read.
+pub(crate) fn modules<F: Files>(
+    alloc: Global,
+    files: &mut F,
+    names: &[FileName],
+) -> Result<Rows<Verified>, Refusal>
+    ensures read { IfOk result (AreRead names.now (λ calls. F.did files.old calls files.new)) }
+    ensures because { IfErr result (Because (reading names.now (files_seen F.did F.held F.faults files.old files.new))) }
+    ensures later { F.faults files.old ≤ F.faults files.new }
+{
+    let given = match fetch_all(alloc, files, names) {
+        Ok(given) => given,
+        Err(error) => return Err(unfetched(error)),
+    };
+    read_all(alloc, names, given.as_slice())
+}
