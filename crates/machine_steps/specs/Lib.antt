@@ -1,0 +1,6 @@
+pub mod Lines
+pub mod Code
+pub mod Sound
+pub mod Frames
+pub mod Scenes
+pub mod Steps
