@@ -1,5 +1,5 @@
 -- The readers of items read them.
-use Rattle.std.proofs.Common.{◌≡◌, ℕ, zero, suc, ◌-◌, Bool, true, false, cond, nat_eq, Option, Some, List, [], ◌∷◌, ◌++◌, refl, sym, ap, ◌⊎◌, inl, inr, arith}
+use Rattle.std.proofs.Common.{◌≡◌, ℕ, zero, suc, ◌-◌, Bool, true, false, cond, nat_eq, Some, List, [], ◌∷◌, ◌++◌, refl, sym, ap, inl, inr, arith}
 use Rattle.std.specs.Prelude.{codes}
 use Rattle.ir_lex.specs.Bytes.{has}
 use Rattle.ir_lex.specs.declared.head.Head.TheVariants as heads
@@ -7,7 +7,6 @@ use Rattle.ir_lex.specs.Heads.{number, head_of, word_head, listed_head, words_7}
 use Rattle.ir_lex.specs.Lexing.{is_bad}
 use Rattle.ir_lex.specs.Quotes.{is_zero_name}
 use Rattle.ir_lex.specs.Rows.{best_fit, rest_fit, label_len, number_len, word_len, name_len, meta_len, dots_len, other_len, string_len}
-use Rattle.ir_lex.specs.Tok.{Tok}
 use Rattle.lto_forms.specs.Alphabet.{among, contains}
 use Rattle.lto_forms.specs.Chained.{Chain, chain_at}
 use Rattle.lto_forms.specs.Forms as form
@@ -30,9 +29,8 @@ use Rattle.ir_read.specs.declared.function_heads.Role.TheVariants as roles
 use Rattle.ir_read.specs.declared.places.Before.{Before}
 use Rattle.ir_read.specs.declared.places.Before.TheVariants as befores
 use Rattle.ir_read.specs.declared.places.Position.{Position}
-use Rattle.ir_read.specs.declared.raw.Item.{Item}
-use Rattle.ir_items.specs.Items.{Found, left_out, kept, unnamed, attribute_behind, placed, metadata_there, plainly, beside, attached_before, declaration, any_declaration, naming, any_naming, at_place, other, any_named, named, named_within, piece, any_piece, anywhere, items, any_items}
-use Rattle.ir_items.specs.ItemsAt.{SOURCE, TARGET, COMDAT, DECLARE, UNNAMED, NAMING, ITEM, beginnings, left_out_at, kept_at, unnamed_at, attribute_behind_at, placed_at, metadata_there_at, plainly_at, beside_at, attached_before_at, declaration_at, naming_at, other_at, named_at, named_within_at, piece_at, begins_there, there_at, first_place, items_at}
+use Rattle.ir_items.specs.Items.{left_out, kept, unnamed, attribute_behind, placed, metadata_there, plainly, beside, attached_before, declaration, any_declaration, naming, any_naming, at_place, other, any_named, named, piece, any_piece, anywhere, items, any_items}
+use Rattle.ir_items.specs.ItemsAt.{SOURCE, TARGET, COMDAT, DECLARE, UNNAMED, NAMING, ITEM, beginnings, left_out_at, kept_at, unnamed_at, attribute_behind_at, placed_at, metadata_there_at, plainly_at, beside_at, attached_before_at, declaration_at, naming_at, other_at, named_at, piece_at, begins_there, there_at, first_place, items_at}
 use Rattle.ir_read.specs.Metadata.{META}
 use Rattle.ir_read.specs.MetadataAt.{PAREN}
 use Rattle.ir_read.specs.MetadataBehind.{BRACES}
@@ -40,7 +38,7 @@ use Rattle.ir_read.specs.Operands.{LOCAL}
 use Rattle.ir_read.specs.ShapeForms.{any_shape, memory_shape}
 use Rattle.ir_read.proofs.AttributeRules.{head_attribute_rule, attribute_group_rule}
 use Rattle.ir_read.proofs.Refusing.{barred}
-use Rattle.ir_read.proofs.FunctionHeadRules.{HEADED, head_rule}
+use Rattle.ir_read.proofs.FunctionHeadRules.{head_rule}
 use Rattle.ir_read.proofs.MetadataBehindRules.{metadata_behind_rule, node_yet_rule}
 use Rattle.ir_read.proofs.Nodes.{attached_rule, attached_opens, metadata_line_rule}
 use Rattle.ir_read.proofs.Singles.{word, the_rule, the_opens}

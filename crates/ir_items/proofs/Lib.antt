@@ -1,3 +1,4 @@
 pub mod ItemLoops
 pub mod ItemRules
 pub mod ModuleRules
+pub mod Putting

@@ -1,5 +1,5 @@
 -- What reading a whole module says of its grammar.
-use Rattle.std.proofs.Common.{◌≡◌, ℕ, Bool, true, false, cond, ◌||◌, Result, Ok, Err, List, [], ◌∷◌, length, refl, sym, ap, subst, ◌∙◌}
+use Rattle.std.proofs.Common.{◌≡◌, ℕ, Bool, true, false, cond, Result, Ok, Err, List, [], ◌∷◌, length, refl, sym, ap, subst, ◌∙◌}
 use Rattle.std.specs.Prelude.{IfOk, IfErr}
 use Rattle.ir_lex.specs.declared.token.Token.{Token}
 use Rattle.ir_lex.specs.Heads as class
@@ -12,16 +12,14 @@ use Rattle.lto_forms.specs.declared.fault.ReadError.{ReadError}
 use Rattle.lto_forms.specs.declared.fault.ReadError.TheVariants as errors
 use Rattle.lto_forms.specs.Faults.{StopsAt, FitsKind, LimitGoesOn}
 use Rattle.lto_forms.specs.Lawful.{Lawful}
-use Rattle.lto_forms.specs.Readers.{Reader, Gives, whole_of, ended, next_is}
+use Rattle.lto_forms.specs.Readers.{Reader, Gives, whole_of, ended}
 use Rattle.lto_forms.proofs.Composed.{wrong, wrong_is}
 use Rattle.lto_forms.proofs.Whole as whole
 use Rattle.ir_read.specs.Classes.{tokens}
-use Rattle.ir_items.specs.declared.module.ModuleError.TheVariants as module_errors
-use Rattle.ir_items.specs.declared.module.ModuleFaultKind.{ModuleFaultKind}
 use Rattle.ir_items.specs.declared.module.ModuleFaultKind.TheVariants as kinds
 use Rattle.ir_read.specs.declared.raw.Item.{Item}
 use Rattle.ir_items.specs.ItemsAt.{ITEM, items_at}
-use Rattle.ir_items.specs.Modules.{FURTHER_PARAMETERS, GLOBAL_NAMES, whole_module, any_module, item_refusal, module_of, refused_at, kind_at, last_tokens, answer, AreRead, IfModuleFault, FitsNumber, FitsLimits, FitsString}
+use Rattle.ir_items.specs.Modules.{FURTHER_PARAMETERS, GLOBAL_NAMES, whole_module, any_module, item_refusal, module_of, kind_at, last_tokens, answer, AreRead, IfModuleFault, FitsNumber, FitsLimits, FitsString}
 use Rattle.ir_read.specs.Targets.{STRING}
 use Rattle.ir_read.proofs.FunctionHeadRules.{name_not_number, name_not_limit}
 use Rattle.ir_items.proofs.ItemRules.{ANY, items_rule}

@@ -1,5 +1,5 @@
 -- What the readers of items give.
-use Rattle.std.specs.Prelude.{ℕ, ◌-◌, Bool, true, nat_eq, if◌then◌else◌, Option, Some, None, List, [], ◌∷◌, ◌++◌}
+use Rattle.std.specs.Prelude.{ℕ, ◌-◌, Bool, nat_eq, if◌then◌else◌, Option, Some, None, List, [], ◌∷◌, ◌++◌}
 use Rattle.std.specs.List.{fold}
 use Rattle.ir_lex.specs.declared.head.Head.TheVariants as heads
 use Rattle.ir_lex.specs.Heads.{number}

@@ -1,3 +1,4 @@
 pub mod Items
 pub mod ItemsAt
 pub mod Modules
+pub mod Putting

@@ -1,6 +1,5 @@
 -- Whole modules, and what is wrong with other lists of tokens (LangRef, "Module Structure").
-use Rattle.std.specs.Prelude.{◌≡◌, ℕ, ◌-◌, Bool, true, false, nat_eq, if◌then◌else◌, Result, Ok, Err, List, [], ◌∷◌, length, drop}
-use Rattle.ir_lex.specs.declared.head.Head.TheVariants as heads
+use Rattle.std.specs.Prelude.{◌≡◌, ℕ, ◌-◌, true, false, if◌then◌else◌, Result, Ok, Err, List, [], ◌∷◌, length, drop}
 use Rattle.ir_lex.specs.declared.token.Token.{Token}
 use Rattle.ir_lex.specs.Heads.{number}
 use Rattle.ir_lex.specs.Tok.{Tok, toks}

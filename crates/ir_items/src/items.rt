@@ -1,15 +1,20 @@
 //! Reads the items of a module one behind another (LangRef, "Module Structure").
 
-ghost use Rattle.std.specs.Prelude.{◌≡◌, OnOk, Some, None};
+ghost use Rattle.std.specs.Prelude.{◌≡◌, [], ◌∷◌, ◌++◌, OnOk, IfErr, None};
 ghost use Rattle.ir_lex.specs.Heads.{number};
 ghost use Rattle.lto_forms.specs.Alphabet.{contains, among};
+ghost use Rattle.lto_forms.specs.declared.fault.ReadError.TheVariants.{NoMemory};
 ghost use Rattle.lto_forms.specs.Readers.{Gives, next_is};
-ghost use Rattle.ir_read.specs.AttributesAt.{HEAD};
+ghost use Rattle.ir_read.specs.AttributesAt.{HEAD, attribute_group_at};
+ghost use Rattle.ir_read.specs.TargetsAt.{target_line_at};
 ghost use Rattle.ir_read.specs.Classes.{tokens};
+ghost use Rattle.ir_bodies.specs.BlocksAt.{definition_at};
+ghost use Rattle.ir_globals.specs.TypeDefinitionsAt.{type_line_at};
 ghost use Rattle.ir_globals.specs.Variables.{NAMES};
+ghost use Rattle.ir_globals.specs.VariablesAt.{variable_line_at};
 ghost use Rattle.ir_items.specs.Items.{declared, keep};
-ghost use Rattle.ir_items.specs.ItemsAt.{ITEM, NAMING, beginnings, unnamed_at, attribute_behind_at, metadata_there_at, plainly_at, beside_at, attached_before_at, declaration_at, naming_at, named_within_at, piece_at, items_at};
-ghost use Rattle.ir_read.specs.declared.places.Before.TheVariants as befores;
+ghost use Rattle.ir_items.specs.ItemsAt.{ITEM, NAMING, beginnings, kept_at, unnamed_at, attribute_behind_at, metadata_there_at, plainly_at, beside_at, attached_before_at, declaration_at, naming_at, named_within_at, there_at, items_at};
+ghost use Rattle.ir_items.specs.Putting.{behind_at, Puts};
 
 use ir_bodies::definition_at;
 use ir_globals::{type_line_at, variable_line_at};
@@ -20,81 +25,113 @@ use ir_read::{
     node_yet_at, source_line_at, target_line_at,
 };
 use lto_forms::{Fault, FaultKind, ReadError};
-use std::alloc::{AllocFailed, Global};
+use std::alloc::Global;
 
-/// An item, where it is kept, and what stands before the next one.
-#[derive(Drop)]
-struct Found<'a> {
-    item: Option<Item<'a>>,
-    before: Before,
+/// Adds a value, or says that memory ran out.
+fn push<T: Drop>(list: &mut Vec<T>, value: T) -> Result<(), ReadError>
+    ensures pushed { OnOk result (list.new.items ≡ list.old.items ++ value ∷ []) }
+    ensures memory { IfErr result (λ e. e ≡ NoMemory) }
+{
+    list.push(value)?;
+    Ok(())
 }
 
-/// An item, where it is kept, and where the next one may stand.
-#[derive(Drop)]
-struct Piece<'a> {
-    item: Option<Item<'a>>,
-    next: Position,
+/// Adds what was read, where it was. Behind it another item may stand.
+fn put<T: Drop>(list: &mut Vec<T>, read: Result<T, ReadError>) -> Result<Before, ReadError>
+    ensures { Puts list.old.items read list.new.items result }
+{
+    let value = read?;
+    push(list, value)?;
+    Ok(Before::Item)
 }
 
-impl<'a> Found<'a> {
-    /// An item that isn't kept.
-    fn left_out() -> Self
-        ensures item { result.item ≡ None }
-        ensures before { result.before ≡ befores.Item }
-    {
-        Found {
-            item: None,
-            before: Before::Item,
-        }
-    }
-
-    /// An item that is kept.
-    fn kept(item: Item<'a>) -> Self
-        ensures item { result.item ≡ Some item.entry }
-        ensures before { result.before ≡ befores.Item }
-    {
-        Found {
-            item: Some(item),
-            before: Before::Item,
-        }
-    }
+/// Reads a line on the target, and adds it.
+fn target_into<'a>(
+    alloc: Global,
+    items: &mut Vec<Item<'a>>,
+    tokens: &mut Tokens<'_, 'a>,
+) -> Result<Before, ReadError>
+    ensures { Gives (λ b. ((items.new.items, b), tokens.new)) result (behind_at items.old.items (kept_at target_line_at) tokens.old) }
+{
+    put(items, target_line_at(alloc, tokens))
 }
 
-/// Reads an item that defines and declares no global name, and is no metadata.
-#[tactic(auto, unfolding(crate::specs::ItemsAt::unnamed_at, crate::specs::ItemsAt::left_out_at, crate::specs::ItemsAt::kept_at))]
-fn unnamed_at<'a>(alloc: Global, tokens: &mut Tokens<'_, 'a>) -> Result<Found<'a>, ReadError>
-    ensures { Gives (λ x. ((x.item, x.before), tokens.new)) result (unnamed_at tokens.old) }
+/// Reads the definition of a type, and adds it.
+fn type_into<'a>(
+    alloc: Global,
+    items: &mut Vec<Item<'a>>,
+    tokens: &mut Tokens<'_, 'a>,
+) -> Result<Before, ReadError>
+    ensures { Gives (λ b. ((items.new.items, b), tokens.new)) result (behind_at items.old.items (kept_at type_line_at) tokens.old) }
+{
+    put(items, type_line_at(alloc, tokens))
+}
+
+/// Reads a group of attributes, and adds it.
+fn group_into<'a>(
+    alloc: Global,
+    items: &mut Vec<Item<'a>>,
+    tokens: &mut Tokens<'_, 'a>,
+) -> Result<Before, ReadError>
+    ensures { Gives (λ b. ((items.new.items, b), tokens.new)) result (behind_at items.old.items (kept_at attribute_group_at) tokens.old) }
+{
+    put(items, attribute_group_at(alloc, tokens))
+}
+
+/// Reads a variable, and adds it.
+fn variable_into<'a>(
+    alloc: Global,
+    items: &mut Vec<Item<'a>>,
+    tokens: &mut Tokens<'_, 'a>,
+) -> Result<Before, ReadError>
+    ensures { Gives (λ b. ((items.new.items, b), tokens.new)) result (behind_at items.old.items (kept_at variable_line_at) tokens.old) }
+{
+    put(items, variable_line_at(alloc, tokens))
+}
+
+/// Reads the definition of a function, and adds it.
+fn definition_into<'a>(
+    alloc: Global,
+    room: usize,
+    items: &mut Vec<Item<'a>>,
+    tokens: &mut Tokens<'_, 'a>,
+) -> Result<Before, ReadError>
+    ensures { Gives (λ b. ((items.new.items, b), tokens.new)) result (behind_at items.old.items (kept_at (definition_at room)) tokens.old) }
+{
+    put(items, definition_at(alloc, room, tokens))
+}
+
+/// Reads an item that defines and declares no global name, and is no metadata; it is added, where it
+/// is kept.
+#[tactic(auto, unfolding(crate::specs::Putting::behind_at, crate::specs::ItemsAt::unnamed_at, crate::specs::ItemsAt::left_out_at))]
+fn unnamed_at<'a>(
+    alloc: Global,
+    items: &mut Vec<Item<'a>>,
+    tokens: &mut Tokens<'_, 'a>,
+) -> Result<Before, ReadError>
+    ensures { Gives (λ b. ((items.new.items, b), tokens.new)) result (behind_at items.old.items unnamed_at tokens.old) }
 {
     if tokens.comes(Head::SourceFilename) {
         source_line_at(tokens)?;
-        Ok(Found::left_out())
+        Ok(Before::Item)
     } else if tokens.comes(Head::Target) {
-        let item = target_line_at(alloc, tokens)?;
-        Ok(Found::kept(item))
+        target_into(alloc, items, tokens)
     } else if tokens.comes(Head::ComdatName) {
         comdat_line_at(tokens)?;
-        Ok(Found::left_out())
+        Ok(Before::Item)
     } else if tokens.comes(Head::Local) {
-        let item = type_line_at(alloc, tokens)?;
-        Ok(Found::kept(item))
+        type_into(alloc, items, tokens)
     } else {
-        let item = attribute_group_at(alloc, tokens)?;
-        Ok(Found::kept(item))
+        group_into(alloc, items, tokens)
     }
 }
 
 #[tactic(auto, unfolding(crate::specs::ItemsAt::attribute_behind_at))]
-fn attribute_behind_at<'a>(
-    alloc: Global,
-    tokens: &mut Tokens<'_, 'a>,
-) -> Result<Found<'a>, ReadError>
-    ensures { Gives (λ x. ((x.item, x.before), tokens.new)) result (attribute_behind_at tokens.old) }
+fn attribute_behind_at(alloc: Global, tokens: &mut Tokens) -> Result<Before, ReadError>
+    ensures { Gives (λ b. ((None, b), tokens.new)) result (attribute_behind_at tokens.old) }
 {
     head_attribute_at(alloc, tokens)?;
-    Ok(Found {
-        item: None,
-        before: Before::Declaration,
-    })
+    Ok(Before::Declaration)
 }
 
 /// Whether a token of this class begins an attribute behind the head of a declaration.
@@ -116,64 +153,61 @@ fn comes_head_attribute(rest: &Tokens) -> bool
 
 /// Reads metadata, by what stands before it.
 #[tactic(auto, unfolding(crate::specs::ItemsAt::left_out_at, crate::specs::ItemsAt::placed_at))]
-fn metadata_there_at<'a>(
+fn metadata_there_at(
     alloc: Global,
     before: Before,
-    tokens: &mut Tokens<'_, 'a>,
-) -> Result<Found<'a>, ReadError>
-    ensures { Gives (λ x. ((x.item, x.before), tokens.new)) result (metadata_there_at before tokens.old) }
+    tokens: &mut Tokens,
+) -> Result<Before, ReadError>
+    ensures { Gives (λ b. ((None, b), tokens.new)) result (metadata_there_at before tokens.old) }
 {
     match before {
         Before::Item => {
             metadata_line_at(alloc, tokens)?;
-            Ok(Found::left_out())
+            Ok(Before::Item)
         }
-        Before::Declaration => {
-            let before = metadata_behind_at(alloc, tokens)?;
-            Ok(Found { item: None, before })
-        }
-        Before::Name => {
-            let before = node_yet_at(alloc, tokens)?;
-            Ok(Found { item: None, before })
-        }
+        Before::Declaration => Ok(metadata_behind_at(alloc, tokens)?),
+        Before::Name => Ok(node_yet_at(alloc, tokens)?),
     }
 }
 
 /// Reads an item that defines and declares no global name and is no metadata, or an attribute behind
 /// the head of a declaration.
+#[tactic(auto, unfolding(crate::specs::Putting::behind_at))]
 fn plainly_at<'a>(
     alloc: Global,
     before: Before,
+    items: &mut Vec<Item<'a>>,
     tokens: &mut Tokens<'_, 'a>,
-) -> Result<Found<'a>, ReadError>
-    ensures { Gives (λ x. ((x.item, x.before), tokens.new)) result (plainly_at before tokens.old) }
+) -> Result<Before, ReadError>
+    ensures { Gives (λ b. ((items.new.items, b), tokens.new)) result (behind_at items.old.items (plainly_at before) tokens.old) }
 {
     match before {
-        Before::Item => unnamed_at(alloc, tokens),
+        Before::Item => unnamed_at(alloc, items, tokens),
         Before::Declaration => {
             if comes_head_attribute(tokens) {
-                attribute_behind_at(alloc, tokens)
+                Ok(attribute_behind_at(alloc, tokens)?)
             } else {
-                unnamed_at(alloc, tokens)
+                unnamed_at(alloc, items, tokens)
             }
         }
-        Before::Name => unnamed_at(alloc, tokens),
+        Before::Name => unnamed_at(alloc, items, tokens),
     }
 }
 
 /// Reads what defines and declares no global name, by what stands before it.
-#[tactic(auto, unfolding(crate::specs::ItemsAt::beside_at))]
+#[tactic(auto, unfolding(crate::specs::Putting::behind_at, crate::specs::ItemsAt::beside_at))]
 fn beside_at<'a>(
     alloc: Global,
     before: Before,
+    items: &mut Vec<Item<'a>>,
     tokens: &mut Tokens<'_, 'a>,
-) -> Result<Found<'a>, ReadError>
-    ensures { Gives (λ x. ((x.item, x.before), tokens.new)) result (beside_at before tokens.old) }
+) -> Result<Before, ReadError>
+    ensures { Gives (λ b. ((items.new.items, b), tokens.new)) result (behind_at items.old.items (beside_at before) tokens.old) }
 {
     if tokens.comes_meta() {
-        metadata_there_at(alloc, before, tokens)
+        Ok(metadata_there_at(alloc, before, tokens)?)
     } else {
-        plainly_at(alloc, before, tokens)
+        plainly_at(alloc, before, items, tokens)
     }
 }
 
@@ -188,33 +222,33 @@ fn attached_before_at(alloc: Global, tokens: &mut Tokens) -> Result<(), ReadErro
     Ok(())
 }
 
-/// What a head declares; a lifetime marker isn't kept.
-fn declared(head: ir_read::Head) -> Option<Item>
-    ensures { result ≡ declared head.entry }
+/// Adds what a head declares; a lifetime marker isn't kept.
+fn push_declared<'a>(items: &mut Vec<Item<'a>>, head: ir_read::Head<'a>) -> Result<(), ReadError>
+    ensures pushed { OnOk result (items.new.items ≡ keep items.old.items (declared head.entry)) }
+    ensures memory { IfErr result (λ e. e ≡ NoMemory) }
 {
     if head.name.token().head.is(Head::LifetimeMarker) {
-        None
+        Ok(())
     } else {
-        Some(Item::Declaration(head))
+        push(items, Item::Declaration(head))
     }
 }
 
 /// Reads a declaration up to the end of its parameters: `declare !dbg !5 i32 @f(ptr)`.
-#[tactic(auto, unfolding(crate::specs::ItemsAt::declaration_at))]
+#[tactic(auto, unfolding(crate::specs::Putting::behind_at, crate::specs::ItemsAt::declaration_at))]
 fn declaration_at<'a>(
     alloc: Global,
     room: usize,
+    items: &mut Vec<Item<'a>>,
     tokens: &mut Tokens<'_, 'a>,
-) -> Result<Found<'a>, ReadError>
-    ensures { Gives (λ x. ((x.item, x.before), tokens.new)) result (declaration_at room tokens.old) }
+) -> Result<Before, ReadError>
+    ensures { Gives (λ b. ((items.new.items, b), tokens.new)) result (behind_at items.old.items (declaration_at room) tokens.old) }
 {
     expect(Head::Declare, tokens)?;
     attached_before_at(alloc, tokens)?;
     let head = head_at(alloc, Role::Declaration, room, tokens)?;
-    Ok(Found {
-        item: declared(head),
-        before: Before::Declaration,
-    })
+    push_declared(items, head)?;
+    Ok(Before::Declaration)
 }
 
 /// Whether a token of this class names a variable.
@@ -255,33 +289,32 @@ fn comes_naming(rest: &Tokens) -> bool
 }
 
 /// Reads an item that defines or declares a global name.
-#[tactic(auto, unfolding(crate::specs::ItemsAt::kept_at))]
+#[tactic(auto, unfolding(crate::specs::Putting::behind_at))]
 fn naming_at<'a>(
     alloc: Global,
     room: usize,
+    items: &mut Vec<Item<'a>>,
     tokens: &mut Tokens<'_, 'a>,
-) -> Result<Found<'a>, ReadError>
-    ensures { Gives (λ x. ((x.item, x.before), tokens.new)) result (naming_at room tokens.old) }
+) -> Result<Before, ReadError>
+    ensures { Gives (λ b. ((items.new.items, b), tokens.new)) result (behind_at items.old.items (naming_at room) tokens.old) }
 {
     if comes_variable(tokens) {
-        let item = variable_line_at(alloc, tokens)?;
-        Ok(Found::kept(item))
+        variable_into(alloc, items, tokens)
     } else if tokens.comes(Head::Declare) {
-        declaration_at(alloc, room, tokens)
+        declaration_at(alloc, room, items, tokens)
     } else {
-        let item = definition_at(alloc, room, tokens)?;
-        Ok(Found::kept(item))
+        definition_into(alloc, room, items, tokens)
     }
 }
 
-#[tactic(auto, unfolding(crate::specs::ItemsAt::named_at))]
 fn named_at<'a>(
     alloc: Global,
     room: usize,
     names: usize,
+    items: &mut Vec<Item<'a>>,
     tokens: &mut Tokens<'_, 'a>,
-) -> Result<Piece<'a>, ReadError>
-    ensures { Gives (λ x. ((x.item, x.next), tokens.new)) result (named_within_at room names tokens.old) }
+) -> Result<Position, ReadError>
+    ensures { Gives (λ at. ((items.new.items, at), tokens.new)) result (behind_at items.old.items (named_within_at room names) tokens.old) }
 {
     if names == 0 {
         return Err(ReadError::Fault(Fault {
@@ -289,37 +322,30 @@ fn named_at<'a>(
             kind: FaultKind::Limit,
         }));
     }
-    let found = naming_at(alloc, room, tokens)?;
-    Ok(Piece {
-        item: found.item,
-        next: Position {
-            before: found.before,
-            names: names - 1,
-        },
+    let before = naming_at(alloc, room, items, tokens)?;
+    Ok(Position {
+        before,
+        names: names - 1,
     })
 }
 
 /// Reads an item at its place. Behind the first parameter of a function `room` others may stand.
-#[tactic(auto, unfolding(crate::specs::ItemsAt::piece_at, crate::specs::ItemsAt::other_at))]
 fn piece_at<'a>(
     alloc: Global,
     room: usize,
-    before: Before,
-    names: usize,
+    at: Position,
+    items: &mut Vec<Item<'a>>,
     tokens: &mut Tokens<'_, 'a>,
-) -> Result<Piece<'a>, ReadError>
-    ensures { Gives (λ x. ((x.item, x.next), tokens.new)) result (piece_at room before names tokens.old) }
+) -> Result<Position, ReadError>
+    ensures { Gives (λ next. ((items.new.items, next), tokens.new)) result (behind_at items.old.items (there_at room at) tokens.old) }
 {
     if comes_naming(tokens) {
-        named_at(alloc, room, names, tokens)
+        named_at(alloc, room, at.names, items, tokens)
     } else {
-        let found = beside_at(alloc, before, tokens)?;
-        Ok(Piece {
-            item: found.item,
-            next: Position {
-                before: found.before,
-                names,
-            },
+        let before = beside_at(alloc, at.before, items, tokens)?;
+        Ok(Position {
+            before,
+            names: at.names,
         })
     }
 }
@@ -364,19 +390,8 @@ fn comes_there(before: Before, rest: &Tokens) -> bool
     }
 }
 
-/// Adds an item, where there is one.
-fn keep<'a>(items: &mut Vec<Item<'a>>, kept: Option<Item<'a>>) -> Result<(), AllocFailed<Item<'a>>>
-    ensures { OnOk result (items.new.items ≡ keep items.old.items kept.entry) }
-{
-    match kept {
-        None => Ok(()),
-        Some(item) => items.push(item),
-    }
-}
-
 /// Reads items one behind another: of global names `names` at most, and behind the first parameter of
 /// each function `room` at most.
-#[tactic(auto, unfolding(crate::specs::ItemsAt::items_at))]
 pub fn items_at<'a>(
     alloc: Global,
     room: usize,
@@ -391,9 +406,7 @@ pub fn items_at<'a>(
         names,
     };
     'each: while comes_there(at.before, tokens) {
-        let piece = piece_at(alloc, room, at.before, at.names, tokens)?;
-        at = piece.next;
-        keep(&mut items, piece.item)?;
+        at = piece_at(alloc, room, at, &mut items, tokens)?;
     }
     Ok(items)
 }

@@ -1,6 +1,7 @@
 //! What a token is to a grammar: the class that a reader chooses by.
 
-ghost use Rattle.std.specs.Prelude.{◌≡◌, ◌<◌, ◌≤◌, ◌^◌, nat_eq, drop, length};
+ghost use Rattle.std.specs.Prelude.{◌≡◌, ◌<◌, ◌≤◌, ◌^◌, nat_eq, [], ◌∷◌, drop, length};
+ghost use Rattle.std.specs.Str.{bytes_eq};
 ghost use Rattle.ir_lex.specs.Heads.{integer_head, is_plain_number, width_of, width_head, begins_word, mark_head, head_of, listed_head, words_1, words_2, words_3, words_4, words_5, words_6, words_7, words_8, words_9, words_10, words_11, words_12, words_13, words_14, words_15, words_18, words_20, words_21, words_22, words_23, word_head, number};
 
 use crate::bytes::{Set, run, starts_word};
@@ -255,606 +256,784 @@ pub enum Head {
     NumberedDefinition,
 }
 
+/// Whether a text is this word.
+fn is_word<const N: usize>(text: &[u8], word: &[u8; N]) -> bool
+    ensures { result ≡ bytes_eq text.now word.now }
+{
+    text == word.as_slice()
+}
+
 #[tactic(auto, unfolding(crate::specs::Heads::words_1))]
 fn words_1(text: &[u8]) -> Head
     ensures { result ≡ words_1 text.now }
 {
-    if text == b"x".as_slice() {
-        Head::Times
-    } else {
-        Head::Word
+    if is_word(text, b"x") {
+        return Head::Times;
     }
+    Head::Word
 }
 
 #[tactic(auto, unfolding(crate::specs::Heads::words_2))]
 fn words_2(text: &[u8]) -> Head
     ensures { result ≡ words_2 text.now }
 {
-    if text == b"i8".as_slice() {
-        Head::MemoryInteger
-    } else if text == b"gc".as_slice() {
-        Head::RefusedWord
-    } else if text == b"or".as_slice() {
-        Head::Or
-    } else if text == b"eq".as_slice() {
-        Head::Eq
-    } else if text == b"ne".as_slice() {
-        Head::Ne
-    } else if text == b"to".as_slice() {
-        Head::To
-    } else if text == b"br".as_slice() {
-        Head::Br
-    } else {
-        Head::Word
+    if is_word(text, b"i8") {
+        return Head::MemoryInteger;
     }
+    if is_word(text, b"gc") {
+        return Head::RefusedWord;
+    }
+    if is_word(text, b"or") {
+        return Head::Or;
+    }
+    if is_word(text, b"eq") {
+        return Head::Eq;
+    }
+    if is_word(text, b"ne") {
+        return Head::Ne;
+    }
+    if is_word(text, b"to") {
+        return Head::To;
+    }
+    if is_word(text, b"br") {
+        return Head::Br;
+    }
+    Head::Word
 }
 
 #[tactic(auto, unfolding(crate::specs::Heads::words_3))]
 fn words_3(text: &[u8]) -> Head
     ensures { result ≡ words_3 text.now }
 {
-    if text == b"i16".as_slice() {
-        Head::MemoryInteger
-    } else if text == b"i32".as_slice() {
-        Head::MemoryInteger
-    } else if text == b"i64".as_slice() {
-        Head::MemoryInteger
-    } else if text == b"ptr".as_slice() {
-        Head::Ptr
-    } else if text == b"asm".as_slice() {
-        Head::RefusedWord
-    } else if text == b"any".as_slice() {
-        Head::Any
-    } else if text == b"ccc".as_slice() {
-        Head::CallingConvention
-    } else if text == b"nuw".as_slice() {
-        Head::Nuw
-    } else if text == b"nsw".as_slice() {
-        Head::Nsw
-    } else if text == b"add".as_slice() {
-        Head::Add
-    } else if text == b"sub".as_slice() {
-        Head::Sub
-    } else if text == b"mul".as_slice() {
-        Head::Mul
-    } else if text == b"shl".as_slice() {
-        Head::Shl
-    } else if text == b"and".as_slice() {
-        Head::And
-    } else if text == b"xor".as_slice() {
-        Head::Xor
-    } else if text == b"ugt".as_slice() {
-        Head::Ugt
-    } else if text == b"uge".as_slice() {
-        Head::Uge
-    } else if text == b"ult".as_slice() {
-        Head::Ult
-    } else if text == b"ule".as_slice() {
-        Head::Ule
-    } else if text == b"sgt".as_slice() {
-        Head::Sgt
-    } else if text == b"sge".as_slice() {
-        Head::Sge
-    } else if text == b"slt".as_slice() {
-        Head::Slt
-    } else if text == b"sle".as_slice() {
-        Head::Sle
-    } else if text == b"phi".as_slice() {
-        Head::Phi
-    } else if text == b"ret".as_slice() {
-        Head::Ret
-    } else {
-        Head::Word
+    if is_word(text, b"i16") {
+        return Head::MemoryInteger;
     }
+    if is_word(text, b"i32") {
+        return Head::MemoryInteger;
+    }
+    if is_word(text, b"i64") {
+        return Head::MemoryInteger;
+    }
+    if is_word(text, b"ptr") {
+        return Head::Ptr;
+    }
+    if is_word(text, b"asm") {
+        return Head::RefusedWord;
+    }
+    if is_word(text, b"any") {
+        return Head::Any;
+    }
+    if is_word(text, b"ccc") {
+        return Head::CallingConvention;
+    }
+    if is_word(text, b"nuw") {
+        return Head::Nuw;
+    }
+    if is_word(text, b"nsw") {
+        return Head::Nsw;
+    }
+    if is_word(text, b"add") {
+        return Head::Add;
+    }
+    if is_word(text, b"sub") {
+        return Head::Sub;
+    }
+    if is_word(text, b"mul") {
+        return Head::Mul;
+    }
+    if is_word(text, b"shl") {
+        return Head::Shl;
+    }
+    if is_word(text, b"and") {
+        return Head::And;
+    }
+    if is_word(text, b"xor") {
+        return Head::Xor;
+    }
+    if is_word(text, b"ugt") {
+        return Head::Ugt;
+    }
+    if is_word(text, b"uge") {
+        return Head::Uge;
+    }
+    if is_word(text, b"ult") {
+        return Head::Ult;
+    }
+    if is_word(text, b"ule") {
+        return Head::Ule;
+    }
+    if is_word(text, b"sgt") {
+        return Head::Sgt;
+    }
+    if is_word(text, b"sge") {
+        return Head::Sge;
+    }
+    if is_word(text, b"slt") {
+        return Head::Slt;
+    }
+    if is_word(text, b"sle") {
+        return Head::Sle;
+    }
+    if is_word(text, b"phi") {
+        return Head::Phi;
+    }
+    if is_word(text, b"ret") {
+        return Head::Ret;
+    }
+    Head::Word
 }
 
 #[tactic(auto, unfolding(crate::specs::Heads::words_4))]
 fn words_4(text: &[u8]) -> Head
     ensures { result ≡ words_4 text.now }
 {
-    if text == b"void".as_slice() {
-        Head::Void
-    } else if text == b"half".as_slice() {
-        Head::RefusedWord
-    } else if text == b"nest".as_slice() {
-        Head::RefusedWord
-    } else if text == b"fadd".as_slice() {
-        Head::RefusedWord
-    } else if text == b"fsub".as_slice() {
-        Head::RefusedWord
-    } else if text == b"fmul".as_slice() {
-        Head::RefusedWord
-    } else if text == b"fdiv".as_slice() {
-        Head::RefusedWord
-    } else if text == b"frem".as_slice() {
-        Head::RefusedWord
-    } else if text == b"fneg".as_slice() {
-        Head::RefusedWord
-    } else if text == b"fcmp".as_slice() {
-        Head::RefusedWord
-    } else if text == b"type".as_slice() {
-        Head::Type
-    } else if text == b"weak".as_slice() {
-        Head::Weak
-    } else if text == b"true".as_slice() {
-        Head::True
-    } else if text == b"null".as_slice() {
-        Head::Null
-    } else if text == b"nusw".as_slice() {
-        Head::Nusw
-    } else if text == b"nneg".as_slice() {
-        Head::Nneg
-    } else if text == b"udiv".as_slice() {
-        Head::Udiv
-    } else if text == b"sdiv".as_slice() {
-        Head::Sdiv
-    } else if text == b"lshr".as_slice() {
-        Head::Lshr
-    } else if text == b"ashr".as_slice() {
-        Head::Ashr
-    } else if text == b"urem".as_slice() {
-        Head::Urem
-    } else if text == b"srem".as_slice() {
-        Head::Srem
-    } else if text == b"icmp".as_slice() {
-        Head::Icmp
-    } else if text == b"zext".as_slice() {
-        Head::Zext
-    } else if text == b"sext".as_slice() {
-        Head::Sext
-    } else if text == b"load".as_slice() {
-        Head::Load
-    } else if text == b"tail".as_slice() {
-        Head::TailMark
-    } else if text == b"call".as_slice() {
-        Head::Call
-    } else if text == b"sret".as_slice() {
-        Head::ParameterGroup
-    } else {
-        Head::Word
+    if is_word(text, b"void") {
+        return Head::Void;
     }
+    if is_word(text, b"half") {
+        return Head::RefusedWord;
+    }
+    if is_word(text, b"nest") {
+        return Head::RefusedWord;
+    }
+    if is_word(text, b"fadd") {
+        return Head::RefusedWord;
+    }
+    if is_word(text, b"fsub") {
+        return Head::RefusedWord;
+    }
+    if is_word(text, b"fmul") {
+        return Head::RefusedWord;
+    }
+    if is_word(text, b"fdiv") {
+        return Head::RefusedWord;
+    }
+    if is_word(text, b"frem") {
+        return Head::RefusedWord;
+    }
+    if is_word(text, b"fneg") {
+        return Head::RefusedWord;
+    }
+    if is_word(text, b"fcmp") {
+        return Head::RefusedWord;
+    }
+    if is_word(text, b"type") {
+        return Head::Type;
+    }
+    if is_word(text, b"weak") {
+        return Head::Weak;
+    }
+    if is_word(text, b"true") {
+        return Head::True;
+    }
+    if is_word(text, b"null") {
+        return Head::Null;
+    }
+    if is_word(text, b"nusw") {
+        return Head::Nusw;
+    }
+    if is_word(text, b"nneg") {
+        return Head::Nneg;
+    }
+    if is_word(text, b"udiv") {
+        return Head::Udiv;
+    }
+    if is_word(text, b"sdiv") {
+        return Head::Sdiv;
+    }
+    if is_word(text, b"lshr") {
+        return Head::Lshr;
+    }
+    if is_word(text, b"ashr") {
+        return Head::Ashr;
+    }
+    if is_word(text, b"urem") {
+        return Head::Urem;
+    }
+    if is_word(text, b"srem") {
+        return Head::Srem;
+    }
+    if is_word(text, b"icmp") {
+        return Head::Icmp;
+    }
+    if is_word(text, b"zext") {
+        return Head::Zext;
+    }
+    if is_word(text, b"sext") {
+        return Head::Sext;
+    }
+    if is_word(text, b"load") {
+        return Head::Load;
+    }
+    if is_word(text, b"tail") {
+        return Head::TailMark;
+    }
+    if is_word(text, b"call") {
+        return Head::Call;
+    }
+    if is_word(text, b"sret") {
+        return Head::ParameterGroup;
+    }
+    Head::Word
 }
 
 #[tactic(auto, unfolding(crate::specs::Heads::words_5))]
 fn words_5(text: &[u8]) -> Head
     ensures { result ≡ words_5 text.now }
 {
-    if text == b"token".as_slice() {
-        Head::RefusedType
-    } else if text == b"naked".as_slice() {
-        Head::RefusedAttribute
-    } else if text == b"float".as_slice() {
-        Head::RefusedWord
-    } else if text == b"fp128".as_slice() {
-        Head::RefusedWord
-    } else if text == b"undef".as_slice() {
-        Head::RefusedWord
-    } else if text == b"fence".as_slice() {
-        Head::RefusedWord
-    } else if text == b"byval".as_slice() {
-        Head::RefusedWord
-    } else if text == b"byref".as_slice() {
-        Head::RefusedWord
-    } else if text == b"alias".as_slice() {
-        Head::RefusedWord
-    } else if text == b"ifunc".as_slice() {
-        Head::RefusedWord
-    } else if text == b"fpext".as_slice() {
-        Head::RefusedWord
-    } else if text == b"ghccc".as_slice() {
-        Head::RefusedWord
-    } else if text == b"false".as_slice() {
-        Head::False
-    } else if text == b"exact".as_slice() {
-        Head::Exact
-    } else if text == b"trunc".as_slice() {
-        Head::Trunc
-    } else if text == b"store".as_slice() {
-        Head::Store
-    } else if text == b"label".as_slice() {
-        Head::LabelType
-    } else if text == b"align".as_slice() {
-        Head::Align
-    } else if text == b"noext".as_slice() {
-        Head::ParameterWord
-    } else if text == b"inreg".as_slice() {
-        Head::ParameterWord
-    } else if text == b"range".as_slice() {
-        Head::ParameterGroup
-    } else {
-        Head::Word
+    if is_word(text, b"token") {
+        return Head::RefusedType;
     }
+    if is_word(text, b"naked") {
+        return Head::RefusedAttribute;
+    }
+    if is_word(text, b"float") {
+        return Head::RefusedWord;
+    }
+    if is_word(text, b"fp128") {
+        return Head::RefusedWord;
+    }
+    if is_word(text, b"undef") {
+        return Head::RefusedWord;
+    }
+    if is_word(text, b"fence") {
+        return Head::RefusedWord;
+    }
+    if is_word(text, b"byval") {
+        return Head::RefusedWord;
+    }
+    if is_word(text, b"byref") {
+        return Head::RefusedWord;
+    }
+    if is_word(text, b"alias") {
+        return Head::RefusedWord;
+    }
+    if is_word(text, b"ifunc") {
+        return Head::RefusedWord;
+    }
+    if is_word(text, b"fpext") {
+        return Head::RefusedWord;
+    }
+    if is_word(text, b"ghccc") {
+        return Head::RefusedWord;
+    }
+    if is_word(text, b"false") {
+        return Head::False;
+    }
+    if is_word(text, b"exact") {
+        return Head::Exact;
+    }
+    if is_word(text, b"trunc") {
+        return Head::Trunc;
+    }
+    if is_word(text, b"store") {
+        return Head::Store;
+    }
+    if is_word(text, b"label") {
+        return Head::LabelType;
+    }
+    if is_word(text, b"align") {
+        return Head::Align;
+    }
+    if is_word(text, b"noext") {
+        return Head::ParameterWord;
+    }
+    if is_word(text, b"inreg") {
+        return Head::ParameterWord;
+    }
+    if is_word(text, b"range") {
+        return Head::ParameterGroup;
+    }
+    Head::Word
 }
 
 #[tactic(auto, unfolding(crate::specs::Heads::words_6))]
 fn words_6(text: &[u8]) -> Head
     ensures { result ≡ words_6 text.now }
 {
-    if text == b"bfloat".as_slice() {
-        Head::RefusedWord
-    } else if text == b"double".as_slice() {
-        Head::RefusedWord
-    } else if text == b"atomic".as_slice() {
-        Head::RefusedWord
-    } else if text == b"invoke".as_slice() {
-        Head::RefusedWord
-    } else if text == b"resume".as_slice() {
-        Head::RefusedWord
-    } else if text == b"callbr".as_slice() {
-        Head::RefusedWord
-    } else if text == b"module".as_slice() {
-        Head::RefusedWord
-    } else if text == b"common".as_slice() {
-        Head::RefusedWord
-    } else if text == b"prefix".as_slice() {
-        Head::RefusedWord
-    } else if text == b"va_arg".as_slice() {
-        Head::RefusedWord
-    } else if text == b"fptoui".as_slice() {
-        Head::RefusedWord
-    } else if text == b"fptosi".as_slice() {
-        Head::RefusedWord
-    } else if text == b"uitofp".as_slice() {
-        Head::RefusedWord
-    } else if text == b"sitofp".as_slice() {
-        Head::RefusedWord
-    } else if text == b"coldcc".as_slice() {
-        Head::RefusedWord
-    } else if text == b"tailcc".as_slice() {
-        Head::RefusedWord
-    } else if text == b"target".as_slice() {
-        Head::Target
-    } else if text == b"triple".as_slice() {
-        Head::Triple
-    } else if text == b"opaque".as_slice() {
-        Head::Opaque
-    } else if text == b"comdat".as_slice() {
-        Head::Comdat
-    } else if text == b"define".as_slice() {
-        Head::Define
-    } else if text == b"global".as_slice() {
-        Head::GlobalVariable
-    } else if text == b"hidden".as_slice() {
-        Head::Visibility
-    } else if text == b"fastcc".as_slice() {
-        Head::CallingConvention
-    } else if text == b"poison".as_slice() {
-        Head::Poison
-    } else if text == b"select".as_slice() {
-        Head::Select
-    } else if text == b"freeze".as_slice() {
-        Head::Freeze
-    } else if text == b"alloca".as_slice() {
-        Head::Alloca
-    } else if text == b"notail".as_slice() {
-        Head::TailMark
-    } else if text == b"switch".as_slice() {
-        Head::Switch
-    } else if text == b"nofree".as_slice() {
-        Head::ParameterWord
-    } else if text == b"immarg".as_slice() {
-        Head::ParameterWord
-    } else {
-        Head::Word
+    if is_word(text, b"bfloat") {
+        return Head::RefusedWord;
     }
+    if is_word(text, b"double") {
+        return Head::RefusedWord;
+    }
+    if is_word(text, b"atomic") {
+        return Head::RefusedWord;
+    }
+    if is_word(text, b"invoke") {
+        return Head::RefusedWord;
+    }
+    if is_word(text, b"resume") {
+        return Head::RefusedWord;
+    }
+    if is_word(text, b"callbr") {
+        return Head::RefusedWord;
+    }
+    if is_word(text, b"module") {
+        return Head::RefusedWord;
+    }
+    if is_word(text, b"common") {
+        return Head::RefusedWord;
+    }
+    if is_word(text, b"prefix") {
+        return Head::RefusedWord;
+    }
+    if is_word(text, b"va_arg") {
+        return Head::RefusedWord;
+    }
+    if is_word(text, b"fptoui") {
+        return Head::RefusedWord;
+    }
+    if is_word(text, b"fptosi") {
+        return Head::RefusedWord;
+    }
+    if is_word(text, b"uitofp") {
+        return Head::RefusedWord;
+    }
+    if is_word(text, b"sitofp") {
+        return Head::RefusedWord;
+    }
+    if is_word(text, b"coldcc") {
+        return Head::RefusedWord;
+    }
+    if is_word(text, b"tailcc") {
+        return Head::RefusedWord;
+    }
+    if is_word(text, b"target") {
+        return Head::Target;
+    }
+    if is_word(text, b"triple") {
+        return Head::Triple;
+    }
+    if is_word(text, b"opaque") {
+        return Head::Opaque;
+    }
+    if is_word(text, b"comdat") {
+        return Head::Comdat;
+    }
+    if is_word(text, b"define") {
+        return Head::Define;
+    }
+    if is_word(text, b"global") {
+        return Head::GlobalVariable;
+    }
+    if is_word(text, b"hidden") {
+        return Head::Visibility;
+    }
+    if is_word(text, b"fastcc") {
+        return Head::CallingConvention;
+    }
+    if is_word(text, b"poison") {
+        return Head::Poison;
+    }
+    if is_word(text, b"select") {
+        return Head::Select;
+    }
+    if is_word(text, b"freeze") {
+        return Head::Freeze;
+    }
+    if is_word(text, b"alloca") {
+        return Head::Alloca;
+    }
+    if is_word(text, b"notail") {
+        return Head::TailMark;
+    }
+    if is_word(text, b"switch") {
+        return Head::Switch;
+    }
+    if is_word(text, b"nofree") {
+        return Head::ParameterWord;
+    }
+    if is_word(text, b"immarg") {
+        return Head::ParameterWord;
+    }
+    Head::Word
 }
 
 #[tactic(auto, unfolding(crate::specs::Heads::words_7))]
 fn words_7(text: &[u8]) -> Head
     ensures { result ≡ words_7 text.now }
 {
-    if text == b"x86_amx".as_slice() {
-        Head::RefusedWord
-    } else if text == b"cmpxchg".as_slice() {
-        Head::RefusedWord
-    } else if text == b"section".as_slice() {
-        Head::RefusedWord
-    } else if text == b"fptrunc".as_slice() {
-        Head::RefusedWord
-    } else if text == b"bitcast".as_slice() {
-        Head::RefusedWord
-    } else if text == b"swiftcc".as_slice() {
-        Head::RefusedWord
-    } else if text == b"largest".as_slice() {
-        Head::RefusedWord
-    } else if text == b"declare".as_slice() {
-        Head::Declare
-    } else if text == b"private".as_slice() {
-        Head::Private
-    } else if text == b"default".as_slice() {
-        Head::Visibility
-    } else if text == b"noundef".as_slice() {
-        Head::ParameterWord
-    } else if text == b"zeroext".as_slice() {
-        Head::ParameterWord
-    } else if text == b"signext".as_slice() {
-        Head::ParameterWord
-    } else if text == b"nonnull".as_slice() {
-        Head::ParameterWord
-    } else if text == b"noalias".as_slice() {
-        Head::ParameterWord
-    } else if text == b"optnone".as_slice() {
-        Head::Optnone
-    } else {
-        Head::Word
+    if is_word(text, b"x86_amx") {
+        return Head::RefusedWord;
     }
+    if is_word(text, b"cmpxchg") {
+        return Head::RefusedWord;
+    }
+    if is_word(text, b"section") {
+        return Head::RefusedWord;
+    }
+    if is_word(text, b"fptrunc") {
+        return Head::RefusedWord;
+    }
+    if is_word(text, b"bitcast") {
+        return Head::RefusedWord;
+    }
+    if is_word(text, b"swiftcc") {
+        return Head::RefusedWord;
+    }
+    if is_word(text, b"largest") {
+        return Head::RefusedWord;
+    }
+    if is_word(text, b"declare") {
+        return Head::Declare;
+    }
+    if is_word(text, b"private") {
+        return Head::Private;
+    }
+    if is_word(text, b"default") {
+        return Head::Visibility;
+    }
+    if is_word(text, b"noundef") {
+        return Head::ParameterWord;
+    }
+    if is_word(text, b"zeroext") {
+        return Head::ParameterWord;
+    }
+    if is_word(text, b"signext") {
+        return Head::ParameterWord;
+    }
+    if is_word(text, b"nonnull") {
+        return Head::ParameterWord;
+    }
+    if is_word(text, b"noalias") {
+        return Head::ParameterWord;
+    }
+    if is_word(text, b"optnone") {
+        return Head::Optnone;
+    }
+    Head::Word
 }
 
 #[tactic(auto, unfolding(crate::specs::Heads::words_8))]
 fn words_8(text: &[u8]) -> Head
     ensures { result ≡ words_8 text.now }
 {
-    if text == b"metadata".as_slice() {
-        Head::RefusedType
-    } else if text == b"x86_fp80".as_slice() {
-        Head::RefusedWord
-    } else if text == b"volatile".as_slice() {
-        Head::RefusedWord
-    } else if text == b"catchpad".as_slice() {
-        Head::RefusedWord
-    } else if text == b"catchret".as_slice() {
-        Head::RefusedWord
-    } else if text == b"musttail".as_slice() {
-        Head::RefusedWord
-    } else if text == b"inalloca".as_slice() {
-        Head::RefusedWord
-    } else if text == b"prologue".as_slice() {
-        Head::RefusedWord
-    } else if text == b"ptrtoint".as_slice() {
-        Head::RefusedWord
-    } else if text == b"inttoptr".as_slice() {
-        Head::RefusedWord
-    } else if text == b"samesize".as_slice() {
-        Head::RefusedWord
-    } else if text == b"constant".as_slice() {
-        Head::Constant
-    } else if text == b"internal".as_slice() {
-        Head::Internal
-    } else if text == b"external".as_slice() {
-        Head::External
-    } else if text == b"linkonce".as_slice() {
-        Head::Linkonce
-    } else if text == b"weak_odr".as_slice() {
-        Head::WeakOdr
-    } else if text == b"inbounds".as_slice() {
-        Head::Inbounds
-    } else if text == b"disjoint".as_slice() {
-        Head::Disjoint
-    } else if text == b"samesign".as_slice() {
-        Head::Samesign
-    } else if text == b"readonly".as_slice() {
-        Head::ParameterWord
-    } else if text == b"readnone".as_slice() {
-        Head::ParameterWord
-    } else if text == b"returned".as_slice() {
-        Head::ParameterWord
-    } else if text == b"allocptr".as_slice() {
-        Head::ParameterWord
-    } else if text == b"writable".as_slice() {
-        Head::ParameterWord
-    } else if text == b"captures".as_slice() {
-        Head::ParameterGroup
-    } else if text == b"noinline".as_slice() {
-        Head::Noinline
-    } else {
-        Head::Word
+    if is_word(text, b"metadata") {
+        return Head::RefusedType;
     }
+    if is_word(text, b"x86_fp80") {
+        return Head::RefusedWord;
+    }
+    if is_word(text, b"volatile") {
+        return Head::RefusedWord;
+    }
+    if is_word(text, b"catchpad") {
+        return Head::RefusedWord;
+    }
+    if is_word(text, b"catchret") {
+        return Head::RefusedWord;
+    }
+    if is_word(text, b"musttail") {
+        return Head::RefusedWord;
+    }
+    if is_word(text, b"inalloca") {
+        return Head::RefusedWord;
+    }
+    if is_word(text, b"prologue") {
+        return Head::RefusedWord;
+    }
+    if is_word(text, b"ptrtoint") {
+        return Head::RefusedWord;
+    }
+    if is_word(text, b"inttoptr") {
+        return Head::RefusedWord;
+    }
+    if is_word(text, b"samesize") {
+        return Head::RefusedWord;
+    }
+    if is_word(text, b"constant") {
+        return Head::Constant;
+    }
+    if is_word(text, b"internal") {
+        return Head::Internal;
+    }
+    if is_word(text, b"external") {
+        return Head::External;
+    }
+    if is_word(text, b"linkonce") {
+        return Head::Linkonce;
+    }
+    if is_word(text, b"weak_odr") {
+        return Head::WeakOdr;
+    }
+    if is_word(text, b"inbounds") {
+        return Head::Inbounds;
+    }
+    if is_word(text, b"disjoint") {
+        return Head::Disjoint;
+    }
+    if is_word(text, b"samesign") {
+        return Head::Samesign;
+    }
+    if is_word(text, b"readonly") {
+        return Head::ParameterWord;
+    }
+    if is_word(text, b"readnone") {
+        return Head::ParameterWord;
+    }
+    if is_word(text, b"returned") {
+        return Head::ParameterWord;
+    }
+    if is_word(text, b"allocptr") {
+        return Head::ParameterWord;
+    }
+    if is_word(text, b"writable") {
+        return Head::ParameterWord;
+    }
+    if is_word(text, b"captures") {
+        return Head::ParameterGroup;
+    }
+    if is_word(text, b"noinline") {
+        return Head::Noinline;
+    }
+    Head::Word
 }
 
 #[tactic(auto, unfolding(crate::specs::Heads::words_9))]
 fn words_9(text: &[u8]) -> Head
     ensures { result ≡ words_9 text.now }
 {
-    if text == b"ppc_fp128".as_slice() {
-        Head::RefusedWord
-    } else if text == b"addrspace".as_slice() {
-        Head::RefusedWord
-    } else if text == b"atomicrmw".as_slice() {
-        Head::RefusedWord
-    } else if text == b"swiftself".as_slice() {
-        Head::RefusedWord
-    } else if text == b"partition".as_slice() {
-        Head::RefusedWord
-    } else if text == b"appending".as_slice() {
-        Head::RefusedWord
-    } else if text == b"dllimport".as_slice() {
-        Head::RefusedWord
-    } else if text == b"dllexport".as_slice() {
-        Head::RefusedWord
-    } else if text == b"dso_local".as_slice() {
-        Head::Visibility
-    } else if text == b"protected".as_slice() {
-        Head::Visibility
-    } else if text == b"nocapture".as_slice() {
-        Head::ParameterWord
-    } else if text == b"writeonly".as_slice() {
-        Head::ParameterWord
-    } else {
-        Head::Word
+    if is_word(text, b"ppc_fp128") {
+        return Head::RefusedWord;
     }
+    if is_word(text, b"addrspace") {
+        return Head::RefusedWord;
+    }
+    if is_word(text, b"atomicrmw") {
+        return Head::RefusedWord;
+    }
+    if is_word(text, b"swiftself") {
+        return Head::RefusedWord;
+    }
+    if is_word(text, b"partition") {
+        return Head::RefusedWord;
+    }
+    if is_word(text, b"appending") {
+        return Head::RefusedWord;
+    }
+    if is_word(text, b"dllimport") {
+        return Head::RefusedWord;
+    }
+    if is_word(text, b"dllexport") {
+        return Head::RefusedWord;
+    }
+    if is_word(text, b"dso_local") {
+        return Head::Visibility;
+    }
+    if is_word(text, b"protected") {
+        return Head::Visibility;
+    }
+    if is_word(text, b"nocapture") {
+        return Head::ParameterWord;
+    }
+    if is_word(text, b"writeonly") {
+        return Head::ParameterWord;
+    }
+    Head::Word
 }
 
 #[tactic(auto, unfolding(crate::specs::Heads::words_10))]
 fn words_10(text: &[u8]) -> Head
     ensures { result ≡ words_10 text.now }
 {
-    if text == b"landingpad".as_slice() {
-        Head::RefusedWord
-    } else if text == b"cleanuppad".as_slice() {
-        Head::RefusedWord
-    } else if text == b"cleanupret".as_slice() {
-        Head::RefusedWord
-    } else if text == b"indirectbr".as_slice() {
-        Head::RefusedWord
-    } else if text == b"swifterror".as_slice() {
-        Head::RefusedWord
-    } else if text == b"swiftasync".as_slice() {
-        Head::RefusedWord
-    } else if text == b"exactmatch".as_slice() {
-        Head::RefusedWord
-    } else if text == b"datalayout".as_slice() {
-        Head::Datalayout
-    } else if text == b"attributes".as_slice() {
-        Head::Attributes
-    } else if text == b"allocalign".as_slice() {
-        Head::ParameterWord
-    } else {
-        Head::Word
+    if is_word(text, b"landingpad") {
+        return Head::RefusedWord;
     }
+    if is_word(text, b"cleanuppad") {
+        return Head::RefusedWord;
+    }
+    if is_word(text, b"cleanupret") {
+        return Head::RefusedWord;
+    }
+    if is_word(text, b"indirectbr") {
+        return Head::RefusedWord;
+    }
+    if is_word(text, b"swifterror") {
+        return Head::RefusedWord;
+    }
+    if is_word(text, b"swiftasync") {
+        return Head::RefusedWord;
+    }
+    if is_word(text, b"exactmatch") {
+        return Head::RefusedWord;
+    }
+    if is_word(text, b"datalayout") {
+        return Head::Datalayout;
+    }
+    if is_word(text, b"attributes") {
+        return Head::Attributes;
+    }
+    if is_word(text, b"allocalign") {
+        return Head::ParameterWord;
+    }
+    Head::Word
 }
 
 #[tactic(auto, unfolding(crate::specs::Heads::words_11))]
 fn words_11(text: &[u8]) -> Head
     ensures { result ≡ words_11 text.now }
 {
-    if text == b"catchswitch".as_slice() {
-        Head::RefusedWord
-    } else if text == b"elementtype".as_slice() {
-        Head::RefusedWord
-    } else if text == b"extern_weak".as_slice() {
-        Head::RefusedWord
-    } else if text == b"personality".as_slice() {
-        Head::RefusedWord
-    } else if text == b"insertvalue".as_slice() {
-        Head::RefusedWord
-    } else if text == b"unreachable".as_slice() {
-        Head::Unreachable
-    } else if text == b"initializes".as_slice() {
-        Head::ParameterGroup
-    } else {
-        Head::Word
+    if is_word(text, b"catchswitch") {
+        return Head::RefusedWord;
     }
+    if is_word(text, b"elementtype") {
+        return Head::RefusedWord;
+    }
+    if is_word(text, b"extern_weak") {
+        return Head::RefusedWord;
+    }
+    if is_word(text, b"personality") {
+        return Head::RefusedWord;
+    }
+    if is_word(text, b"insertvalue") {
+        return Head::RefusedWord;
+    }
+    if is_word(text, b"unreachable") {
+        return Head::Unreachable;
+    }
+    if is_word(text, b"initializes") {
+        return Head::ParameterGroup;
+    }
+    Head::Word
 }
 
 #[tactic(auto, unfolding(crate::specs::Heads::words_12))]
 fn words_12(text: &[u8]) -> Head
     ensures { result ≡ words_12 text.now }
 {
-    if text == b"blockaddress".as_slice() {
-        Head::RefusedWord
-    } else if text == b"preallocated".as_slice() {
-        Head::RefusedWord
-    } else if text == b"thread_local".as_slice() {
-        Head::RefusedWord
-    } else if text == b"extractvalue".as_slice() {
-        Head::RefusedWord
-    } else if text == b"uselistorder".as_slice() {
-        Head::RefusedWord
-    } else if text == b"noduplicates".as_slice() {
-        Head::RefusedWord
-    } else if text == b"linkonce_odr".as_slice() {
-        Head::LinkonceOdr
-    } else if text == b"unnamed_addr".as_slice() {
-        Head::UnnamedAddr
-    } else {
-        Head::Word
+    if is_word(text, b"blockaddress") {
+        return Head::RefusedWord;
     }
+    if is_word(text, b"preallocated") {
+        return Head::RefusedWord;
+    }
+    if is_word(text, b"thread_local") {
+        return Head::RefusedWord;
+    }
+    if is_word(text, b"extractvalue") {
+        return Head::RefusedWord;
+    }
+    if is_word(text, b"uselistorder") {
+        return Head::RefusedWord;
+    }
+    if is_word(text, b"noduplicates") {
+        return Head::RefusedWord;
+    }
+    if is_word(text, b"linkonce_odr") {
+        return Head::LinkonceOdr;
+    }
+    if is_word(text, b"unnamed_addr") {
+        return Head::UnnamedAddr;
+    }
+    Head::Word
 }
 
 #[tactic(auto, unfolding(crate::specs::Heads::words_13))]
 fn words_13(text: &[u8]) -> Head
     ensures { result ≡ words_13 text.now }
 {
-    if text == b"insertelement".as_slice() {
-        Head::RefusedWord
-    } else if text == b"shufflevector".as_slice() {
-        Head::RefusedWord
-    } else if text == b"addrspacecast".as_slice() {
-        Head::RefusedWord
-    } else if text == b"nodeduplicate".as_slice() {
-        Head::RefusedWord
-    } else if text == b"getelementptr".as_slice() {
-        Head::GetElementPtr
-    } else {
-        Head::Word
+    if is_word(text, b"insertelement") {
+        return Head::RefusedWord;
     }
+    if is_word(text, b"shufflevector") {
+        return Head::RefusedWord;
+    }
+    if is_word(text, b"addrspacecast") {
+        return Head::RefusedWord;
+    }
+    if is_word(text, b"nodeduplicate") {
+        return Head::RefusedWord;
+    }
+    if is_word(text, b"getelementptr") {
+        return Head::GetElementPtr;
+    }
+    Head::Word
 }
 
 #[tactic(auto, unfolding(crate::specs::Heads::words_14))]
 fn words_14(text: &[u8]) -> Head
     ensures { result ≡ words_14 text.now }
 {
-    if text == b"extractelement".as_slice() {
-        Head::RefusedWord
-    } else if text == b"dead_on_unwind".as_slice() {
-        Head::ParameterWord
-    } else {
-        Head::Word
+    if is_word(text, b"extractelement") {
+        return Head::RefusedWord;
     }
+    if is_word(text, b"dead_on_unwind") {
+        return Head::ParameterWord;
+    }
+    Head::Word
 }
 
 #[tactic(auto, unfolding(crate::specs::Heads::words_15))]
 fn words_15(text: &[u8]) -> Head
     ensures { result ≡ words_15 text.now }
 {
-    if text == b"uselistorder_bb".as_slice() {
-        Head::RefusedWord
-    } else if text == b"source_filename".as_slice() {
-        Head::SourceFilename
-    } else if text == b"dso_preemptable".as_slice() {
-        Head::Visibility
-    } else if text == b"zeroinitializer".as_slice() {
-        Head::ZeroInitializer
-    } else if text == b"dereferenceable".as_slice() {
-        Head::ParameterGroup
-    } else {
-        Head::Word
+    if is_word(text, b"uselistorder_bb") {
+        return Head::RefusedWord;
     }
+    if is_word(text, b"source_filename") {
+        return Head::SourceFilename;
+    }
+    if is_word(text, b"dso_preemptable") {
+        return Head::Visibility;
+    }
+    if is_word(text, b"zeroinitializer") {
+        return Head::ZeroInitializer;
+    }
+    if is_word(text, b"dereferenceable") {
+        return Head::ParameterGroup;
+    }
+    Head::Word
 }
 
 #[tactic(auto, unfolding(crate::specs::Heads::words_18))]
 fn words_18(text: &[u8]) -> Head
     ensures { result ≡ words_18 text.now }
 {
-    if text == b"local_unnamed_addr".as_slice() {
-        Head::UnnamedAddr
-    } else {
-        Head::Word
+    if is_word(text, b"local_unnamed_addr") {
+        return Head::UnnamedAddr;
     }
+    Head::Word
 }
 
 #[tactic(auto, unfolding(crate::specs::Heads::words_20))]
 fn words_20(text: &[u8]) -> Head
     ensures { result ≡ words_20 text.now }
 {
-    if text == b"available_externally".as_slice() {
-        Head::AvailableExternally
-    } else {
-        Head::Word
+    if is_word(text, b"available_externally") {
+        return Head::AvailableExternally;
     }
+    Head::Word
 }
 
 #[tactic(auto, unfolding(crate::specs::Heads::words_21))]
 fn words_21(text: &[u8]) -> Head
     ensures { result ≡ words_21 text.now }
 {
-    if text == b"null_pointer_is_valid".as_slice() {
-        Head::RefusedAttribute
-    } else {
-        Head::Word
+    if is_word(text, b"null_pointer_is_valid") {
+        return Head::RefusedAttribute;
     }
+    Head::Word
 }
 
 #[tactic(auto, unfolding(crate::specs::Heads::words_22))]
 fn words_22(text: &[u8]) -> Head
     ensures { result ≡ words_22 text.now }
 {
-    if text == b"externally_initialized".as_slice() {
-        Head::RefusedWord
-    } else {
-        Head::Word
+    if is_word(text, b"externally_initialized") {
+        return Head::RefusedWord;
     }
+    Head::Word
 }
 
 #[tactic(auto, unfolding(crate::specs::Heads::words_23))]
 fn words_23(text: &[u8]) -> Head
     ensures { result ≡ words_23 text.now }
 {
-    if text == b"dereferenceable_or_null".as_slice() {
-        Head::ParameterGroup
-    } else {
-        Head::Word
+    if is_word(text, b"dereferenceable_or_null") {
+        return Head::ParameterGroup;
     }
+    Head::Word
 }
 
 /// The class of a word but for integer types: its entry in the list of words.
@@ -965,30 +1144,41 @@ fn begins_word(bytes: &[u8]) -> bool
     }
 }
 
-/// The class of a single byte before others.
+/// The class of this byte alone before others.
 #[tactic(auto, unfolding(crate::specs::Heads::mark_head))]
-fn mark_head(text: &[u8], behind: &[u8]) -> Head
-    ensures { result ≡ mark_head text.now behind.now }
+fn single_head(mark: u8, behind: &[u8]) -> Head
+    ensures { result ≡ mark_head (mark ∷ []) behind.now }
 {
-    match text {
-        b"(" => Head::OpenParen,
-        b")" => Head::CloseParen,
-        b"[" => Head::OpenBracket,
-        b"]" => Head::CloseBracket,
-        b"{" => Head::OpenBrace,
-        b"}" => Head::CloseBrace,
-        b"<" => Head::OpenAngle,
-        b">" => Head::CloseAngle,
-        b"," => Head::Comma,
-        b"=" => Head::Equals,
-        b"^" => Head::RefusedMark,
-        b"#" => {
+    match mark {
+        b'(' => Head::OpenParen,
+        b')' => Head::CloseParen,
+        b'[' => Head::OpenBracket,
+        b']' => Head::CloseBracket,
+        b'{' => Head::OpenBrace,
+        b'}' => Head::CloseBrace,
+        b'<' => Head::OpenAngle,
+        b'>' => Head::CloseAngle,
+        b',' => Head::Comma,
+        b'=' => Head::Equals,
+        b'^' => Head::RefusedMark,
+        b'#' => {
             if begins_word(behind) {
                 Head::RefusedMark
             } else {
                 Head::Mark
             }
         }
+        _ => Head::Mark,
+    }
+}
+
+/// The class of a single byte before others.
+#[tactic(auto, unfolding(crate::specs::Heads::mark_head))]
+fn mark_head(text: &[u8], behind: &[u8]) -> Head
+    ensures { result ≡ mark_head text.now behind.now }
+{
+    match text {
+        [mark] => single_head(*mark, behind),
         _ => Head::Mark,
     }
 }

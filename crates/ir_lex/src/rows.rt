@@ -1,7 +1,7 @@
 //! The rows of the table of tokens: the longest that fits at a place.
 
 ghost use Rattle.std.specs.Prelude.{◌≡◌, ◌+◌, ◌≤◌, ◌∷◌, ◌<◌, ◌^◌, nat_lt, if◌then◌else◌, length};
-ghost use Rattle.ir_lex.specs.Rows.{string_len, name_len, before_colon, label_len, fit, better, rest_fit, best_fit, dots_len, behind, Plain};
+ghost use Rattle.ir_lex.specs.Rows.{string_len, bare_len, name_len, before_colon, label_len, fit, better, rest_fit, best_fit, dots_len, behind, Plain};
 ghost use Rattle.ir_lex.specs.declared.token.Kind.TheVariants as kinds;
 
 use crate::bytes::{Set, run, starts_name, starts_word};
@@ -36,24 +36,32 @@ pub fn string_len(bytes: &[u8]) -> usize
     }
 }
 
+/// How many bytes a bare name takes.
+fn bare_len(bytes: &[u8]) -> usize
+    ensures exact { result ≡ bare_len bytes.now }
+    ensures within { result ≤ length bytes.now }
+{
+    match bytes {
+        [] => 0,
+        [first, rest @ ..] => {
+            if starts_name(*first) {
+                run(Set::LabelBytes, rest) + 1
+            } else {
+                0
+            }
+        }
+    }
+}
+
 /// What may follow the sigil of a name: a bare name, digits or a string.
 #[tactic(auto, unfolding(crate::specs::Rows::name_len))]
 fn name_len(bytes: &[u8]) -> usize
     ensures exact { result ≡ name_len bytes.now }
     ensures within { result ≤ length bytes.now }
 {
-    let quoted = string_len(bytes);
-    match bytes {
-        [] => quoted,
-        [first, rest @ ..] => {
-            let bare = if starts_name(*first) {
-                run(Set::LabelBytes, rest) + 1
-            } else {
-                0
-            };
-            bare.max(run(Set::Digits, bytes).max(quoted))
-        }
-    }
+    let bare = bare_len(bytes);
+    let digits = run(Set::Digits, bytes);
+    bare.max(digits.max(string_len(bytes)))
 }
 
 /// So many bytes and a colon, where one follows them.

@@ -1,13 +1,19 @@
 -- Bodies of blocks, a line at a time.
-use Rattle.std.proofs.Common.{◌≡◌, refl, sym, ap, List, [], ◌∷◌, ◌++◌, Option, None, Some, Result, Ok, append_assoc}
+use Rattle.std.proofs.Common.{◌≡◌, refl, sym, ap, ◌∙◌, ℕ, ◌+◌, ◌<◌, List, [], ◌∷◌, ◌++◌, Option, None, Some, Result, Ok, Err, append_assoc, length, drop, get_or}
 use Rattle.std.proofs.lemmas.List.{append-nil}
+use Rattle.ir_read.specs.declared.raw.Line as raw_line
+use Rattle.ir_tree.specs.declared.instr.Instr.{Instr}
 use Rattle.ir_tree.specs.declared.instr.Line.{Line}
 use Rattle.ir_tree.specs.declared.instr.Phi.{Phi}
 use Rattle.ir_names.specs.declared.block.Body.{Body}
 use Rattle.ir_names.specs.declared.fault.Fault.{Fault}
+use Rattle.ir_names.specs.Bodies.{instr_in, local_at, behind_line, lines_in}
 use Rattle.ir_names.specs.Blocks.{as_phi, phis_of, rest_of, phi_before, lines_behind}
 use Rattle.ir_names.specs.BodyLaws.{placed, placed_first, placed_in, followed, followed_in}
+use Rattle.ir_names.specs.Locals.{Known}
 use Rattle.ir_names.specs.Settled.{◌>>=◌}
+use Rattle.ir_names.specs.Types.{Types}
+use Rattle.ir_names.proofs.Each.{here}
 
 abbrev pub onto : Body → Result (List Line) Fault → Result Body Fault
 onto b r = r >>= λ more. Ok (followed b more)
@@ -23,3 +29,31 @@ in_more phis (k ∷ ks) l more = ap (λ (ls : List Line). record { phis = phis; 
 -- a line is placed before the others
 pub placed_more : (b : Body) (l : Line) (more : List Line) → followed (placed b l) more ≡ followed b (l ∷ more)
 placed_more b l more = in_more b.phis b.lines l more
+
+regroup : (b : Body) (l : Line) (r : Result (List Line) Fault) → onto b (r >>= λ more. Ok (l ∷ more)) ≡ onto (placed b l) r
+regroup b l (Ok more) = ap (λ (z : Body). Ok z) (sym (placed_more b l more))
+regroup b l (Err e) = refl
+
+abbrev ok : {A : Type 0} → A → Result A Fault
+ok a = Ok a
+
+abbrev or_else : {A : Type 0} → A → Result A Fault → A
+or_else a (Ok b) = b
+or_else a (Err e) = a
+
+module _ (types : Types) (locals : Known) where
+  makes : (b : Body) (next : ℕ) (x : raw_line.Line) (xs : List raw_line.Line) (i : Instr) → instr_in types locals x.instr ≡ Ok i
+      → onto b (lines_in types locals next (x ∷ xs)) ≡ onto (placed b (record { local = local_at next x; instr = i })) (lines_in types locals (behind_line next x) xs)
+  makes b next x xs i h =
+      ap (λ (r : Result Instr Fault). onto b (r >>= λ j. lines_in types locals (behind_line next x) xs >>= λ more. Ok (record { local = local_at next x; instr = j } ∷ more))) h
+      ∙ regroup b (record { local = local_at next x; instr = i }) (lines_in types locals (behind_line next x) xs)
+
+  -- one more line is placed, and the others follow
+  pub goes_on : (b b2 : Body) (next next2 : ℕ) (lines : List raw_line.Line) (k : ℕ) (x : raw_line.Line) (i : Instr) (n : Option ℕ) → k < length lines → x ≡ get_or lines k x → instr_in types locals x.instr ≡ Ok i
+      → n ≡ local_at next x → ok (placed b (record { local = n; instr = i })) ≡ ok b2 → ok (behind_line next x) ≡ ok next2
+      → onto b (lines_in types locals next (drop k lines)) ≡ onto b2 (lines_in types locals next2 (drop (k + 1) lines))
+  goes_on b b2 next next2 lines k x i n at is h named put behind =
+      ap (λ ls. onto b (lines_in types locals next ls)) (here lines k x at is)
+      ∙ makes b next x (drop (k + 1) lines) i h
+      ∙ ap (λ (c : Body). onto c (lines_in types locals (behind_line next x) (drop (k + 1) lines))) (ap (λ m. placed b (record { local = m; instr = i })) (sym named) ∙ ap (or_else b2) put)
+      ∙ ap (λ m. onto b2 (lines_in types locals m (drop (k + 1) lines))) (ap (or_else next2) behind)

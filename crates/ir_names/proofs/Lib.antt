@@ -9,4 +9,5 @@ mod Powers
 mod Trimming
 mod Bodies
 mod Names
+mod Circles
 mod Searched

@@ -73,7 +73,6 @@ fn place(body: &mut Body, local: Option<u32>, instr: Instr) -> Result<(), Resolv
 }
 
 /// The phis and the lines of a block whose first line takes this number, where it takes one.
-#[tactic(auto, using(crate::proofs::Bodies::placed_more))]
 pub fn body_in<'t, 'a>(
     alloc: Global,
     types: &Types<'t, 'a>,

@@ -30,8 +30,6 @@ mod numbering;
 mod operand;
 mod symbol;
 mod terminator;
-#[cfg(test)]
-mod tests;
 mod types;
 
 pub use address::address_offset;

@@ -1,4 +1,4 @@
-use Rattle.std.proofs.Common.{◌≡◌, Result, List, subst, sym}
+use Rattle.std.proofs.Common.{Result, List, subst, sym}
 use Rattle.std.specs.Prelude.{IfOk, IfErr}
 use Rattle.ir_lex.specs.Tok.{toks}
 use Rattle.lto_forms.specs.Faults.{StopsAt}

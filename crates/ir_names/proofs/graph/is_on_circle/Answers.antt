@@ -1,4 +1,4 @@
-use Rattle.std.proofs.Common.{rules, ◌≡◌, ◌<◌, ◌≤◌, ◌+◌, ℕ, List, length, sym, ap, ◌∙◌, subst}
+use Rattle.std.proofs.Common.{rules, ◌≡◌, ◌<◌, ◌≤◌, ◌+◌, ℕ, List, length, sym, ap, ◌∙◌, subst, arith}
 use Rattle.ir_names.specs.Searching.{Among, IsPassing}
 use Rattle.ir_names.specs.Walks.{next}
 use Rattle.ir_names.proofs.Searched.{pass_start, passed_all, leads_back, leads_nowhere}
@@ -23,3 +23,11 @@ pub returns : goal.returns
 returns c =
     let all : length c.each.search.found.items ≤ c.each.head = search rules in
     sym (leads_nowhere c.args.graph.now c.args.start c.each.search.found.items c.each.search.seen.items c.each.head c.each.invariant all)
+
+pub each-init : goal.each-init
+each-init c = c.in_ok-search.ensures c.args.graph.now (sym c.len.ensures)
+
+pub each-smaller : goal.each-smaller
+each-smaller c =
+    let within : c.each.head < length c.each.search.found.items = search rules in
+    omega (arith, within, c.each.invariant.counted)
