@@ -12,8 +12,6 @@
 
 mod entry;
 mod naming;
-#[cfg(test)]
-mod tests;
 
 pub use entry::{decode, encode, has_no_proper_prefix, reads_one_way};
 pub use naming::file_name;

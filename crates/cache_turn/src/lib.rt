@@ -19,8 +19,6 @@ mod lock;
 mod place;
 mod rule;
 mod sight;
-#[cfg(test)]
-mod tests;
 
 pub use lock::TicketLock;
 pub use place::Place;

@@ -22,8 +22,6 @@
 
 mod claims;
 mod rule;
-#[cfg(test)]
-mod tests;
 mod view;
 
 pub use claims::{ClaimPass, Claims, Full};

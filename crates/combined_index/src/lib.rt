@@ -21,8 +21,6 @@ mod numbering;
 mod places;
 mod plain;
 mod scope;
-#[cfg(test)]
-mod tests;
 
 pub use combining::combine;
 pub use definition::Definition;

@@ -18,8 +18,6 @@ mod entry;
 mod exit;
 mod host;
 mod slots;
-#[cfg(test)]
-mod tests;
 
 pub use call::{Entity, Resolved, arguments, resolve};
 pub use entry::enter;

@@ -12,8 +12,6 @@
 
 mod laws;
 mod line;
-#[cfg(test)]
-mod tests;
 
 pub use laws::lines_act;
 pub use line::{Line, Reached, run_line};

@@ -16,8 +16,6 @@ mod initials;
 mod names;
 mod summaries;
 mod summary;
-#[cfg(test)]
-mod tests;
 
 pub use summaries::summarise;
 pub use summary::Summary;

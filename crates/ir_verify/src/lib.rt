@@ -27,8 +27,6 @@ mod known;
 mod phis;
 mod reads;
 mod table;
-#[cfg(test)]
-mod tests;
 mod types;
 mod verifier;
 

@@ -19,8 +19,6 @@ mod laws;
 mod link;
 mod lookup;
 mod machine;
-#[cfg(test)]
-mod tests;
 
 pub use event::{Act, CoreLink, DiskPair, Event, Phase, StepError};
 pub use laws::{MadeOf, over_every_run};

@@ -18,8 +18,6 @@ mod least;
 mod reach;
 mod referring;
 mod refused;
-#[cfg(test)]
-mod tests;
 mod walk;
 
 pub use decision::live;

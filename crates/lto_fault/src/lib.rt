@@ -9,8 +9,6 @@ mod cause;
 mod kind;
 mod message;
 mod refusal;
-#[cfg(test)]
-mod tests;
 
 pub use cause::Cause;
 pub use kind::Kind;

@@ -16,8 +16,6 @@ mod fault;
 mod files;
 mod gate;
 mod laws;
-#[cfg(test)]
-mod tests;
 
 pub use bytes::{ByteIn, ByteOut};
 pub use disk::{CacheDisk, Meaning};

@@ -18,8 +18,6 @@ mod number;
 mod options;
 mod request;
 mod table;
-#[cfg(test)]
-mod tests;
 mod words;
 
 pub use fault::WordsError;

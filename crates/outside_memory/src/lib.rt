@@ -12,8 +12,6 @@ mod disk;
 mod failure;
 mod files;
 mod gate;
-#[cfg(test)]
-mod tests;
 
 pub use bytes::{MemoryIn, MemoryOut};
 pub use calls::Calls;

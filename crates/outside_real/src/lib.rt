@@ -13,8 +13,6 @@ mod faults;
 mod files;
 mod gate;
 mod reading;
-#[cfg(test)]
-mod tests;
 
 pub use bytes::{RealIn, RealOut};
 pub use disk::RealDisk;

@@ -19,8 +19,6 @@ mod module_suffix;
 mod naming;
 mod promotion;
 mod taken;
-#[cfg(test)]
-mod tests;
 
 pub use error::NamesError;
 pub use module_suffix::suffix;

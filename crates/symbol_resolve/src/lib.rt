@@ -18,8 +18,6 @@ mod mention;
 mod resolution;
 mod table;
 mod target;
-#[cfg(test)]
-mod tests;
 
 pub use clash::{Clash, ResolveError, TargetLine};
 pub use linked::resolve;

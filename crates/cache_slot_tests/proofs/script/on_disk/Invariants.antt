@@ -1,8 +1,0 @@
-use Rattle.std.proofs.Common.{Some}
-use Rattle.cache_slot.specs.Directory.{dir_of}
-use Rattle.outside_memory.specs.Disk.{disk_held, disk_calls}
-use Rattle.cache_slot_tests.specs.Keys.{test_keys}
-use Rattle.cache_slot_tests.proofs.script.on_disk.Given as goal
-
-abbrev pub ghosts-run : goal.ghosts-run
-ghosts-run g a = record { keys = test_keys; dir = dir_of a.dir; faults = (disk_calls a.disk).failed; files = Some (disk_held a.disk) }

@@ -1,5 +1,0 @@
-use Rattle.cache_turn.specs.Places.{IsAt}
-use Rattle.cache_slot_tests.proofs.script.run.Given as goal
-
-abbrev pub invariant-loop-step : goal.invariant-loop-step
-invariant-loop-step g l = IsAt l.cache.lock.table.shared.table_id l.pass.place.seat

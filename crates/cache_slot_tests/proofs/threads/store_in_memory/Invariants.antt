@@ -1,7 +1,0 @@
-use Rattle.std.proofs.Common.{None, Some}
-use Rattle.outside_memory.specs.Disk.{disk_held, disk_calls}
-use Rattle.cache_slot_tests.specs.Keys.{test_keys}
-use Rattle.cache_slot_tests.proofs.threads.store_in_memory.Given as goal
-
-abbrev pub ghosts-store_beside : goal.ghosts-store_beside
-ghosts-store_beside g a = record { keys = test_keys; dir = None; faults = (disk_calls a.disk).failed; files = Some (disk_held a.disk) }

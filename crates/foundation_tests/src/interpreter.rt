@@ -1,0 +1,6 @@
+//! The interpreter's memory, addresses, registers, calls and lines.
+mod calls;
+mod frames;
+mod lines;
+mod memory;
+mod walks;

@@ -1,0 +1,3 @@
+//! Operations on numbers and sets, over vectors worked out outside.
+mod sets;
+mod words;

@@ -1,0 +1,6 @@
+//! Trees, tokens, printed forms, edits and data flow.
+mod cutting;
+mod edits;
+mod flow;
+mod printed;
+mod shapes;

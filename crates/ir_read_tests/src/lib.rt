@@ -1,8 +1,0 @@
-//! Tests of the reader's calls over small texts, worked out by hand.
-//!
-//! What the clauses of `ir_read` say is not tried again here. The tests stand above the crate, so that its own proofs
-//! are not done twice.
-#![tactic(auto)]
-
-#[cfg(test)]
-mod decimals;

@@ -1,0 +1,30 @@
+//! Tests of the linker's outside, of its cache, and of what workers share: the traits of the outside (`lto_outside`) and
+//! the objects that meet them, in memory (`outside_memory`) and over real files (`outside_real`); entries of the cache
+//! (`cache_entry`), turns (`cache_turn`) and the shared cache over a disk in memory (`cache_slot`); numbers that workers
+//! draw (`claim_word`) and the core's events (`link_core`); and the lines of refusals (`lto_fault`).
+//!
+//! What the clauses of these crates say is not tried again here. These tests show that the calls succeed with ample
+//! memory, what real files hold, and what threads beside each other get. The tests stand above the crates, so that their
+//! own proofs are not done twice, and in one crate, so that one program runs them all.
+#![tactic(auto)]
+
+#[cfg(test)]
+mod cache;
+#[cfg(test)]
+mod claims;
+#[cfg(test)]
+mod entries;
+#[cfg(test)]
+mod events;
+#[cfg(test)]
+mod meaning;
+#[cfg(test)]
+mod memory;
+#[cfg(test)]
+mod real;
+#[cfg(test)]
+mod refusals;
+#[cfg(test)]
+mod traits;
+#[cfg(test)]
+mod turns;

@@ -1,0 +1,64 @@
+//! Examples of the LLVM Language Reference, and operands that count as poison.
+
+use crate::trees::UNMARKED;
+use ir_meaning::{Answer, DivisionCause, Value, binary, bits_of, cast, compare, operations_agree};
+use ir_tree::{BinaryOp, CastOp, Predicate};
+
+/// An operation at 8 bits, its operands, and what it gives.
+type Row = (BinaryOp, Option<u64>, Option<u64>, Answer);
+
+const ROWS: [Row; 8] = [
+    (BinaryOp::Add, Some(200), Some(100), Answer::Value(44)),
+    (BinaryOp::Lshr, Some(254), Some(1), Answer::Value(127)),
+    (BinaryOp::Ashr, Some(254), Some(1), Answer::Value(255)),
+    (BinaryOp::Add, None, Some(1), Answer::Poison),
+    (BinaryOp::Sdiv, None, Some(2), Answer::Poison),
+    (
+        BinaryOp::Sdiv,
+        None,
+        Some(255),
+        Answer::Undefined(DivisionCause::DivisionOverflow),
+    ),
+    (
+        BinaryOp::Urem,
+        None,
+        Some(0),
+        Answer::Undefined(DivisionCause::DivisionByZero),
+    ),
+    (
+        BinaryOp::Udiv,
+        Some(1),
+        None,
+        Answer::Undefined(DivisionCause::PoisonDivisor),
+    ),
+];
+
+#[test]
+fn operations_give_their_answers(rt: HostRuntime) {
+    for (op, left, right, answer) in ROWS {
+        assert!(rt; left.is_none_or(|a| a < 256) && right.is_none_or(|b| b < 256));
+        assert!(rt; binary(op, UNMARKED, 8, left, right) == answer, "{op:?}");
+    }
+}
+
+#[test]
+fn comparisons_and_casts_give_their_answers(rt: HostRuntime) {
+    operations_agree();
+    assert!(rt; compare(Predicate::Slt, 8, Some(200), Some(100)) == Some(true));
+    assert!(rt; compare(Predicate::Ult, 8, Some(200), Some(100)) == Some(false));
+    assert!(rt; compare(Predicate::Eq, 8, None, Some(1)) == None);
+    assert!(rt; cast(CastOp::Sext, 8, 16, Some(255)) == Some(65535));
+    assert!(rt; cast(CastOp::Zext, 8, 16, Some(255)) == Some(255));
+    assert!(rt; cast(CastOp::Trunc, 32, 8, Some(257)) == Some(1));
+    assert!(rt; cast(CastOp::Trunc, 32, 8, None) == None);
+}
+
+#[test]
+fn numbers_past_the_width_count_as_poison(rt: HostRuntime) {
+    let greatest = Value::Number(255);
+    let past = Value::Number(256);
+    assert!(rt; bits_of(8, &greatest) == Some(255));
+    assert!(rt; bits_of(8, &past) == None);
+    assert!(rt; bits_of(64, &past) == Some(256));
+    assert!(rt; bits_of(8, &Value::Poison) == None);
+}

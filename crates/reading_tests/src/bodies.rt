@@ -1,0 +1,2 @@
+//! The reader of definitions, over small texts.
+mod definitions;

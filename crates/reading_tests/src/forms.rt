@@ -1,0 +1,2 @@
+//! The readers of forms.
+mod decimals;

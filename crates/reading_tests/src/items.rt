@@ -1,0 +1,3 @@
+//! First faults of the items of a module, over small texts.
+mod definitions;
+mod faults;

@@ -1,0 +1,7 @@
+//! Whole modules: what a text is printed as, or where it is refused and why.
+mod circles;
+mod faults;
+mod names;
+mod shown;
+mod sizes;
+mod whole;

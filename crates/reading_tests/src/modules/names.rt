@@ -1,0 +1,93 @@
+//! Names and numbers of types, globals and locals.
+
+use crate::modules::shown::shown;
+use std::alloc::AllocError;
+
+#[test]
+fn globals_stand_once(rt: HostRuntime) -> Result<(), AllocError> {
+    for (text, want) in [
+        ("@g = global i8 0\n@g = global i8 1", "2: twice"),
+        ("@g = global i8 0\ndeclare void @g()", "2: twice"),
+        ("@g = global i8 0\n@\"g\" = global i8 1", "2: twice"),
+        (
+            "@5 = internal global i8 0\n@\"5\" = internal global i8 0",
+            "2: twice",
+        ),
+        (
+            "@5 = internal global i8 0\n@4 = internal global i8 0",
+            "2: twice",
+        ),
+        ("@g = global ptr @h", "1: unknown"),
+        ("define ptr @f() {\n  ret ptr @g\n}", "2: unknown"),
+        // One that is dropped neither defines its name nor uses another.
+        ("declare void @llvm.lifetime.start.p0(i64, ptr)", ""),
+        ("@\"5\" = global i8 0", "@\"5\" = global i8 0, align 1\n"),
+        (
+            "@5 = internal global i8 0\n@6 = internal global ptr @5",
+            "@\"5\" = internal global i8 0, align 1\n@\"6\" = internal global ptr @\"5\", align 8\n",
+        ),
+    ] {
+        assert!(rt; shown(rt.alloc(), text)?.as_str() == want);
+    }
+    Ok(())
+}
+
+#[test]
+fn types_expand(rt: HostRuntime) -> Result<(), AllocError> {
+    for (text, want) in [
+        ("%t = type opaque", ""),
+        (
+            "%t = type opaque\n@g = global %t zeroinitializer",
+            "2: unknown",
+        ),
+        ("@g = global %t zeroinitializer", "1: unknown"),
+        ("%t = type { i8, %t }", "1: unknown"),
+        ("%t = type i8\n%t = type i8", "2: twice"),
+        (
+            "%t = type { i8, %u }\n%u = type [2 x i32]\n@g = global %t zeroinitializer",
+            "@g = global { i8, [2 x i32] } zeroinitializer, align 4\n",
+        ),
+        (
+            "@a = global [4 x i8] zeroinitializer\n@p = global ptr getelementptr ([4 x i8], ptr @a, i64 0, i64 3)",
+            "@a = global [4 x i8] zeroinitializer, align 1\n@p = global ptr getelementptr (i8, ptr @a, i64 3), align 8\n",
+        ),
+    ] {
+        assert!(rt; shown(rt.alloc(), text)?.as_str() == want);
+    }
+    Ok(())
+}
+
+#[test]
+fn locals_are_numbered_anew(rt: HostRuntime) -> Result<(), AllocError> {
+    for (text, want) in [
+        // A name in quotes is no number.
+        ("define i32 @f(i32 %\"0\") {\n  ret i32 %0\n}", "2: unknown"),
+        (
+            "define i32 @f(i32 %0) {\n  ret i32 %0\n}",
+            "define i32 @f(i32 %0) {\n  ret i32 %0\n}\n",
+        ),
+        (
+            "define i32 @f(i32 %\"0\") {\n  ret i32 %\"0\"\n}",
+            "define i32 @f(i32 %0) {\n  ret i32 %0\n}\n",
+        ),
+        (
+            "define i32 @f(i32 %x) {\n  %x = add i32 1, 2\n  ret i32 %x\n}",
+            "2: twice",
+        ),
+        (
+            "define i32 @f() {\n  %1 = add i32 1, 2\n  %1 = add i32 1, 2\n  ret i32 %1\n}",
+            "3: twice",
+        ),
+        ("define i32 @f() {\n  ret i32 %x\n}", "2: unknown"),
+        ("define i32 @f() {\nb:\n  ret i32 %b\n}", "3: unknown"),
+        ("define void @f(i32 %x) {\n  br label %x\n}", "2: unknown"),
+        // A value may be used before the text defines it.
+        (
+            "define i32 @f() {\n  br label %b\na:\n  ret i32 %x\nb:\n  %x = add i32 1, 2\n  br label %a\n}",
+            "define i32 @f() {\n  br label %2\n1:\n  ret i32 %3\n2:\n  %3 = add i32 1, 2\n  br label %1\n}\n",
+        ),
+    ] {
+        assert!(rt; shown(rt.alloc(), text)?.as_str() == want);
+    }
+    Ok(())
+}
