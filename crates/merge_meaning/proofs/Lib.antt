@@ -1,0 +1,13 @@
+pub mod Names
+pub mod Looked
+pub mod Constants
+pub mod Unnamed
+pub mod Improved
+pub mod Emitted
+pub mod Table
+pub mod OneModule
+pub mod Emission
+pub mod Prevailing
+pub mod Reordered
+pub mod Own
+pub mod Kept

@@ -1,0 +1,26 @@
+//! The merged program of modules, and when a linked program refines it.
+//!
+//! The merged program has each symbol with its prevailing definition, and each reference taken to its symbol: a local of
+//! a module is a symbol of that module, every other name one symbol of all (`specs/Merged.antt`). It is said of lists of
+//! global values, as `ir_program` says which program one module means. A link puts better functions in the places of its
+//! functions, keeps of these definitions the live ones, and gives each its final name (`specs/Linked.antt`). Laws, as
+//! functions with empty bodies: the definition that prevails is the one that a resolution names
+//! (`table_names_prevailing`), and what is linked refines the merged program (`linked_refines_merged`).
+//!
+//! Below stand the trees (`ir_tree`), their meaning (`ir_meaning`), the laws of refinement (`ir_better`), the programs of
+//! global values (`ir_program`), and `symbol_resolve`, whose definition of what prevails is used. [`program`] makes the
+//! merged program's list of global values; it copies each once (`ir_edit`), and looks each name up once (`indexmap`).
+#![tactic(auto)]
+
+mod examples;
+mod laws;
+mod merging;
+mod scope;
+mod taken;
+
+pub use examples::merged_example;
+pub use laws::{
+    emission_is_emitted, emitted_refines, final_names_lead_back, improved_is_better,
+    linked_refines_merged, merged_prevails, one_module, table_names_prevailing,
+};
+pub use merging::program;
