@@ -1,4 +1,4 @@
-; A constant goes through copies and a phi of a loop to the call; what nobody needs goes.
+; A constant goes through copies and a phi of a loop to the call; what nobody needs goes. Returns 3.
 target triple = "x86_64-pc-linux-gnu"
 
 @count = internal global { i32, i8 } { i32 3, i8 7 }
