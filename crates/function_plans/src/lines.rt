@@ -1,14 +1,13 @@
-//! Phis and lines that the grammar allows. Instructions on memory aren't taken, nor shapes but scalars, and arrays and packed structures
-//! of these.
+//! Phis and lines that the grammar allows. Of shapes only scalars are taken, and arrays and packed structures of these.
 ghost use Rattle.std.specs.Prelude.{◌≡◌, ℕ, true, IsTrue, All};
 ghost use Rattle.ir_tree.specs.Forms.{array, structure, forms_of};
-ghost use Rattle.ir_tree.specs.Formed.{FlagsFormed, InstrFormed, IsShape, ItemFormed, ResultFormed};
+ghost use Rattle.ir_tree.specs.Formed.{FlagsFormed, InstrFormed, IsAlignment, IsScalar, IsShape, ItemFormed, ResultFormed};
 ghost use Rattle.ir_tree.specs.Items.{line_item, phi_item};
 ghost use Rattle.ir_verify.specs.Known.{IsKnown};
 ghost use Rattle.function_plans.specs.Small.{IsSmall};
 
 use crate::operands::{entries_formed, is_reg, is_result, reads_formed, taken_formed};
-use ir_tree::{BinaryOp, Flags, Function, Instr, Line, Phi, Shape, ShapeNode};
+use ir_tree::{BinaryOp, Flags, Function, Instr, Line, Phi, Reg, Shape, ShapeNode};
 use ir_verify::Known;
 
 fn are_flags(op: BinaryOp, flags: Flags) -> bool
@@ -74,6 +73,51 @@ fn is_shape(shape: &Shape) -> bool
     }
 }
 
+/// Whether memory may hold what a register of the type does.
+fn is_scalar(reg: Reg) -> bool
+    ensures { IsTrue result → IsScalar reg }
+{
+    match reg {
+        Reg::Int(width) => matches!(width, 8 | 16 | 32 | 64),
+        Reg::Ptr => true,
+    }
+}
+
+/// Whether a number of bytes is a power of two up to 2^30.
+fn is_alignment(align: u64) -> bool
+    ensures { IsTrue result → IsAlignment align }
+{
+    if align == 0 {
+        return false;
+    }
+    let power = align.ilog2();
+    if power > 30 {
+        return false;
+    }
+    let least = 2u64.pow(power);
+    align == least
+}
+
+/// Whether an `alloca` may make room for the shape, at this alignment.
+fn is_slot(shape: &Shape, align: u64) -> bool
+    ensures { IsTrue result → IsShape shape.now × IsAlignment align }
+{
+    if !is_shape(shape) {
+        return false;
+    }
+    is_alignment(align)
+}
+
+/// Whether a load or a store may be one of the type, at this alignment.
+fn is_access(reg: Reg, align: u64) -> bool
+    ensures { IsTrue result → IsScalar reg × IsAlignment align }
+{
+    if !is_scalar(reg) {
+        return false;
+    }
+    is_alignment(align)
+}
+
 fn is_instr(instr: &Instr) -> bool
     ensures { IsTrue result → InstrFormed instr.now }
 {
@@ -83,8 +127,10 @@ fn is_instr(instr: &Instr) -> bool
         Instr::Address { shape, .. } => is_shape(shape),
         Instr::Call { result, .. } => is_result(*result),
         Instr::Phi { reg, .. } => is_reg(*reg),
+        Instr::Alloca { shape, align } => is_slot(shape, *align),
+        Instr::Load { reg, align, .. } => is_access(*reg, *align),
+        Instr::Store { reg, align, .. } => is_access(*reg, *align),
         Instr::Icmp { .. } | Instr::Select { .. } | Instr::Freeze { .. } => true,
-        Instr::Alloca { .. } | Instr::Load { .. } | Instr::Store { .. } => false,
     }
 }
 

@@ -26,7 +26,7 @@ pub enum Sums {
     Ones,
     /// Nothing, so that each line is a copy.
     Copies,
-    /// One, beginning with a constant, so that each line is a constant.
+    /// One, beginning with a constant, so that each line is a constant; a fan's switch is on this constant.
     Constants,
 }
 
@@ -42,10 +42,18 @@ pub struct Plan {
 /// The condition of all branches.
 const CONDITION: u32 = 0;
 
-/// What the first block reads.
+/// What the first block reads, unless lines are constants.
 const START: u32 = 1;
 
 impl Plan {
+    /// What the first block reads.
+    fn start(&self) -> Operand {
+        match self.sums {
+            Sums::Constants => Operand::Number { width: 32, bits: 7 },
+            Sums::Copies | Sums::Ones => Operand::Local(START),
+        }
+    }
+
     /// The number of a block; its phi has the next one, and its lines those behind.
     fn number(&self, place: u32) -> u32 {
         place
@@ -146,7 +154,7 @@ impl Plan {
         }
         Ok(Terminator::Switch {
             width: 32,
-            value: Operand::Local(START),
+            value: self.start(),
             default: self.number(1),
             cases,
         })
@@ -245,8 +253,7 @@ impl Plan {
         }
         match self.above(place) {
             Some(above) => Operand::Local(self.last(above)),
-            None if self.sums == Sums::Constants => Operand::Number { width: 32, bits: 7 },
-            None => Operand::Local(START),
+            None => self.start(),
         }
     }
 

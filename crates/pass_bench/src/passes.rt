@@ -1,5 +1,5 @@
 //! The passes, one behind another, with the time that each takes.
-ghost use Rattle.std.specs.Prelude.{IfOk, IsTrue};
+ghost use Rattle.std.specs.Prelude.{IfOk, IfSome, IsTrue};
 ghost use Rattle.ir_tree.specs.Rules.{Sound};
 
 use block_merge::merge;
@@ -7,6 +7,7 @@ use block_trim::trim;
 use branch_simplify::branches;
 use dead_code::needed;
 use function_plans::{is_formed, lines_of};
+use inline_site::{Caller, Tried};
 use ir_facts::apply;
 use ir_tree::Function;
 use ir_verify::function_fault;
@@ -18,6 +19,7 @@ use std::time::Instant;
 /// How long each pass took, in microseconds.
 #[derive(Clone, Copy, Debug)]
 pub(crate) struct Spent {
+    pub inline: u128,
     pub slots: u128,
     pub facts: u128,
     pub branches: u128,
@@ -29,6 +31,7 @@ pub(crate) struct Spent {
 impl Spent {
     pub(crate) fn none() -> Spent {
         Spent {
+            inline: 0,
             slots: 0,
             facts: 0,
             branches: 0,
@@ -73,7 +76,30 @@ fn micros_since(rt: &HostRuntime, start: &Instant) -> io::Result<u128> {
     Ok(start.elapsed(rt)?.as_micros())
 }
 
-/// The function behind all passes.
+/// The caller with the callee's body in the place of the call that it begins with; none where no call of the callee stands there.
+/// The time is that of inlining alone: the copy of the caller into which calls are inlined is made before.
+pub(crate) fn inlined(
+    rt: &HostRuntime,
+    alloc: Global,
+    caller: &Function,
+    callee: &Function,
+    spent: &mut Spent,
+) -> io::Result<Option<Function>>
+    requires caller_sound { Sound caller.now }
+    requires callee_sound { Sound callee.now }
+    ensures { IfOk result (λ f. IfSome f Sound) }
+{
+    let ready = Caller::of(alloc, caller)?;
+    let start = Instant::now(rt)?;
+    let tried = ready.inline_at(alloc, 1, callee)?;
+    spent.inline = micros_since(rt, &start)?;
+    match tried {
+        Tried::Inlined(caller) => Ok(Some(caller.into_function())),
+        Tried::NoCall(_) => Ok(None),
+    }
+}
+
+/// The function behind all other passes.
 pub(crate) fn passed(
     rt: &HostRuntime,
     alloc: Global,

@@ -5,11 +5,13 @@ use std::alloc::Global;
 use std::env;
 use std::rt::Env;
 
-/// The function that is asked for, how many stack slots it gets, and whether times are asked for.
+/// The function that is asked for, how many stack slots it gets, how many lines stand behind the call of it, and whether times are
+/// asked for.
 #[derive(Clone, Copy, Debug)]
 pub(crate) struct Request {
     pub plan: Plan,
     pub slots: u32,
+    pub rest: u32,
     pub times: bool,
 }
 
@@ -42,10 +44,12 @@ fn sums_of(word: &str) -> Option<Sums> {
 }
 
 fn request_by(words: &[String]) -> Option<Request> {
-    let (layout, sums, blocks, lines, slots, times) = match words {
-        [layout, sums, blocks, lines, slots] => (layout, sums, blocks, lines, slots, false),
-        [layout, sums, blocks, lines, slots, times] if times.as_str() == "times" => {
-            (layout, sums, blocks, lines, slots, true)
+    let (layout, sums, blocks, lines, slots, rest, times) = match words {
+        [layout, sums, blocks, lines, slots, rest] => {
+            (layout, sums, blocks, lines, slots, rest, false)
+        }
+        [layout, sums, blocks, lines, slots, rest, times] if times.as_str() == "times" => {
+            (layout, sums, blocks, lines, slots, rest, true)
         }
         _ => return None,
     };
@@ -55,8 +59,12 @@ fn request_by(words: &[String]) -> Option<Request> {
         blocks: blocks.as_str().parse().ok()?,
         lines: lines.as_str().parse().ok()?,
     };
-    let slots = slots.as_str().parse().ok()?;
-    Some(Request { plan, slots, times })
+    Some(Request {
+        plan,
+        slots: slots.as_str().parse().ok()?,
+        rest: rest.as_str().parse().ok()?,
+        times,
+    })
 }
 
 /// What the words of the process ask for; `None` where they are none of the program's.
