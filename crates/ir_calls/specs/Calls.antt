@@ -1,5 +1,5 @@
 -- Calls: what symbols are, and what a call of each asks for.
-use Rattle.std.specs.Prelude.{◌≡◌, ℕ, ◌⊎◌, List, [], ◌∷◌, length, slice_get, Option, Some, None}
+use Rattle.std.specs.Prelude.{◌≡◌, ℕ, ◌<◌, ◌⊎◌, List, [], ◌∷◌, length, slice_get, Option, Some, None}
 use Rattle.ir_tree.specs.declared.operand.Reg.{Reg}
 use Rattle.ir_tree.specs.declared.operand.Symbol.{Symbol}
 use Rattle.ir_meaning.specs.Execute.{Asked, Broke, Effect, Went, calls_host, calls_kind}
@@ -47,6 +47,12 @@ call_effect names input memory place values (resolved.Undefined cause) = Broke (
 abbrev pub IsResolved : ℕ → Entity → Option Reg → List Reg → Resolved → Type 0
 IsResolved i e result regs r = (names : List Symbol) (kind : Kind) (input : List ℕ) (memory : MeantMemory) (place : ℕ) (values : List MeantValue) → IsKind e kind →
     calls_kind kind (symbol_at names i) input memory place result regs values ≡ call_effect names input memory place values r
+
+-- a function that is asked for is one of so many
+abbrev pub IsAmong : ℕ → Resolved → Type 0
+IsAmong n (resolved.Function i) = i < n
+IsAmong n (resolved.Host h) = Unit {0}
+IsAmong n (resolved.Undefined cause) = Unit {0}
 
 abbrev pub all_meant : List Symbol → List Scalar → List MeantValue
 all_meant names [] = []

@@ -1,5 +1,5 @@
 //! What calls ask for (LangRef, "`call` Instruction").
-ghost use Rattle.std.specs.Prelude.{◌≡◌, ℕ, List, IfOk};
+ghost use Rattle.std.specs.Prelude.{◌≡◌, ◌<◌, ℕ, List, length, IfOk};
 ghost use Rattle.ir_tree.specs.declared.operand.Symbol.{Symbol};
 ghost use Rattle.ir_meaning.specs.Execute.{calls_value, host_params, reg_eq, regs_eq, result_eq};
 ghost use Rattle.ir_meaning.specs.Frame.{Locals, Signature};
@@ -8,7 +8,7 @@ ghost use Rattle.ir_meaning.specs.declared.value.Value.{Value as MeantValue};
 ghost use Rattle.ir_machine.specs.declared.memory.Memory.{Memory};
 ghost use Rattle.ir_frames.specs.Locals.{AreKnown, AreLocals, IsKnown, source_meant};
 ghost use Rattle.ir_frames.specs.Tasks.{regs_of, values_meant};
-ghost use Rattle.ir_calls.specs.Calls.{AreKinds, AreValid, IsResolved, all_meant, call_effect, host_meant};
+ghost use Rattle.ir_calls.specs.Calls.{AreKinds, AreValid, IsAmong, IsResolved, all_meant, call_effect, host_meant};
 
 use crate::host::Host;
 use ir_frames::{Registers, Source, Typed};
@@ -97,7 +97,8 @@ fn resolve_entity(
     result_type: Option<Reg>,
     arguments: &[Typed],
 ) -> Resolved
-    ensures { IsResolved index entity.now result_type (regs_of arguments.now) result }
+    ensures effect { IsResolved index entity.now result_type (regs_of arguments.now) result }
+    ensures among { (n : ℕ) → index < n → IsAmong n result }
 {
     match entity {
         Entity::Function { params, result } => {
@@ -126,7 +127,8 @@ pub fn resolve(
     callee: Source,
     arguments: &[Typed],
 ) -> Resolved
-    ensures { (names : List Symbol) (m : Memory) (memory : MeantMemory) (locals : Locals) (sig : Signature) (input : List ℕ) (place : ℕ) (values : List MeantValue) → AreKinds names sig entities.now → AreLocals names m memory registers.now locals → IsKnown names m memory callee → calls_value sig input memory place result_type (regs_of arguments.now) values (source_meant names locals callee) ≡ call_effect names input memory place values result }
+    ensures effect { (names : List Symbol) (m : Memory) (memory : MeantMemory) (locals : Locals) (sig : Signature) (input : List ℕ) (place : ℕ) (values : List MeantValue) → AreKinds names sig entities.now → AreLocals names m memory registers.now locals → IsKnown names m memory callee → calls_value sig input memory place result_type (regs_of arguments.now) values (source_meant names locals callee) ≡ call_effect names input memory place values result }
+    ensures among { IsAmong (length entities.now) result }
 {
     let Scalar::Pointer(pointer) = registers.value(callee) else {
         return Resolved::Undefined(Cause::CallOfNoFunction);

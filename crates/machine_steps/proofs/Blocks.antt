@@ -4,7 +4,7 @@ use Rattle.ir_tree.specs.declared.block.Block.{Block as MeantBlock}
 use Rattle.ir_tree.specs.declared.function.Function.{Function as MeantFunction}
 use Rattle.ir_tree.specs.declared.operand.Symbol.{Symbol}
 use Rattle.ir_meaning.specs.Program.{Program}
-use Rattle.ir_machine.specs.Meant.{symbol_at, symbol_or_none}
+use Rattle.ir_machine.specs.Meant.{symbol_at}
 use Rattle.machine_steps.specs.Code.{IsBlock, IsBody, IsCode, IsFunction, block_in, block_of, function_in, function_of}
 use Rattle.machine_steps.specs.declared.code.Block.{Block}
 use Rattle.machine_steps.specs.declared.code.Code.{Code}
@@ -36,15 +36,11 @@ program_function names p code i g c e = by (p.code (symbol_at names i)) refl (su
   by (Some f) h b = (f, (within, h, b))
 
 -- where there is no code the program has no function
-pub no_function : (names : List Symbol) (p : Program) (code : Code) (i : ℕ) → IsCode names p code → function_of code i ≡ None → p.code (symbol_at names i) ≡ None
-no_function names p code i c e = at (slice_get names i) refl where
+pub no_function : (names : List Symbol) (p : Program) (code : Code) (i : ℕ) → IsCode names p code → i < length names → function_of code i ≡ None → p.code (symbol_at names i) ≡ None
+no_function names p code i c l e = by (p.code (symbol_at names i)) refl (subst (λ (o : Option Function). IsBody names p.signature code i (p.code (symbol_at names i)) o) e (c.bodies i l)) where
   by : (o : Option MeantFunction) → p.code (symbol_at names i) ≡ o → IsBody names p.signature code i o None → p.code (symbol_at names i) ≡ None
   by None h b = h
   by (Some f) h b = absurd b
-
-  at : (o : Option Symbol) → slice_get names i ≡ o → p.code (symbol_at names i) ≡ None
-  at None h = ap (λ (x : Option Symbol). p.code (symbol_or_none x)) h ∙ c.nameless
-  at (Some s) h = by (p.code (symbol_at names i)) refl (subst (λ (o : Option Function). IsBody names p.signature code i (p.code (symbol_at names i)) o) e (c.bodies i (below_length names i s h)))
 
 -- the block of the code at the position of a block
 pub code_block : (names : List Symbol) (p : Program) (code : Code) (i q : ℕ) (f : MeantFunction) (b : MeantBlock) → IsCode names p code → i < length names → p.code (symbol_at names i) ≡ Some f →
@@ -61,10 +57,3 @@ no_block names p code i q f is l e h =
     let g = code_function names p code i f is l e in
     let past = past_length f.blocks q h in
     ap (λ (o : Option Function). block_in o q) g.1.0 ∙ none_past g.0.blocks.items q (omega (arith, past, g.1.1.long))
-
--- a symbol that has a function is one of the table
-pub named_function : (names : List Symbol) (p : Program) (code : Code) (i : ℕ) (f : MeantFunction) → IsCode names p code → p.code (symbol_at names i) ≡ Some f → i < length names
-named_function names p code i f c e = by (slice_get names i) refl where
-  by : (o : Option Symbol) → slice_get names i ≡ o → i < length names
-  by (Some s) h = below_length names i s h
-  by None h = absurd (cc (sym c.nameless ∙ sym (ap (λ (x : Option Symbol). p.code (symbol_or_none x)) h) ∙ e))

@@ -95,7 +95,7 @@ opened names p m memory code i base r g values c e a =
 
 pub opened_nowhere : (names : List Symbol) (p : Program) (m : Memory) (memory : MeantMemory) (code : Code) (i base : ℕ) (values : List MeantValue) → IsCode names p code → function_of code i ≡ None →
     IsOpened names p m memory i values base None
-opened_nowhere names p m memory code i base values c e = λ f is. absurd (cc (sym (no_function names p code i c e) ∙ is))
+opened_nowhere names p m memory code i base values c e = λ f l is. absurd (cc (sym (no_function names p code i c l e) ∙ is))
 
 pub values_long : (names : List Symbol) (vs : List Scalar) → length (all_meant names vs) ≡ length vs
 values_long names [] = refl
@@ -103,7 +103,7 @@ values_long names (v ∷ vs) = omega (arith, values_long names vs)
 
 pub opened_otherwise : (names : List Symbol) (p : Program) (m : Memory) (memory : MeantMemory) (code : Code) (i base : ℕ) (g : Function) (vs : List Scalar) → IsCode names p code → function_of code i ≡ Some g →
     length vs ≢ length g.params.items → IsOpened names p m memory i (all_meant names vs) base None
-opened_otherwise names p m memory code i base g vs c e other = λ f is same.
+opened_otherwise names p m memory code i base g vs c e other = λ f l is same.
     let got = program_function names p code i g c e in
     let one : got.0 ≡ f = cc (sym got.1.1 ∙ is) in
     let long : length f.params ≡ length got.0.params = ap (λ (x : MeantFunction). length x.params) (sym one) in

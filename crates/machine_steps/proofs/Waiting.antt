@@ -1,5 +1,5 @@
 -- Frames behind a line that gave a number, and behind a call.
-use Rattle.std.proofs.Common.{◌≡◌, ℕ, ◌+◌, List, ◌∷◌, length, Option, Some, None, refl, sym, subst, ◌∙◌, arith}
+use Rattle.std.proofs.Common.{◌≡◌, ℕ, ◌+◌, ◌<◌, List, ◌∷◌, length, Option, Some, None, refl, sym, subst, ◌∙◌, arith}
 use Rattle.ir_tree.specs.declared.function.Function.{Function as MeantFunction}
 use Rattle.ir_tree.specs.declared.instr.Line.{Line as MeantLine}
 use Rattle.ir_meaning.specs.Execute.{Asked}
@@ -20,7 +20,7 @@ use Rattle.machine_steps.specs.declared.code.Code.{Code}
 use Rattle.machine_steps.specs.declared.frame.Did.TheVariants as did
 use Rattle.machine_steps.specs.declared.frame.Frame.{Frame}
 use Rattle.machine_steps.proofs.Acting.{next_standing, same_stacked}
-use Rattle.machine_steps.proofs.Blocks.{code_function, named_function}
+use Rattle.machine_steps.proofs.Blocks.{code_function}
 use Rattle.machine_steps.proofs.Calling.{call_fails}
 
 -- a line gave a number
@@ -75,16 +75,15 @@ call_entered z code m choice given f callee l rest local n i base r' values more
     }
 
 -- no function was there
-pub call_missing : (z : Scene) (code : Code) (m : Memory) (choice : ℕ) (given : Option (Option ℕ)) (f : Frame) (rest : List MeantLine) (local : Option ℕ) (i base count : ℕ) (values : List MeantValue) → Plays z code m f →
+pub call_missing : (z : Scene) (code : Code) (m : Memory) (choice : ℕ) (given : Option (Option ℕ)) (f : Frame) (rest : List MeantLine) (local : Option ℕ) (i base count : ℕ) (values : List MeantValue) → Plays z code m f → i < length z.names →
     TakesSo z.program (symbol_at z.names i) count → length values ≡ count → Works z choice given local rest (λ place. Asked (symbol_at z.names i) values) →
     IsOpened z.names z.program m z.memory i values base None → Fails z choice given (fault.Undefined CallOfNoFunction)
-call_missing z code m choice given f rest local i base count values s (params, (result, (kind, many))) long w none =
+call_missing z code m choice given f rest local i base count values s inside (params, (result, (kind, many))) long w none =
     call_fails z choice given local rest (symbol_at z.names i) values w (by (z.program.code (symbol_at z.names i)) refl)
   where
     by : (o : Option MeantFunction) → z.program.code (symbol_at z.names i) ≡ o → z.program.code (symbol_at z.names i) ≡ None
     by None h = h
     by (Some g) h =
-        let at = named_function z.names z.program code i g s.code h in
-        let got = code_function z.names z.program code i g s.code at h in
+        let got = code_function z.names z.program code i g s.code inside h in
         let same = got.1.1.typed params result kind in
-        absurd (none g h (omega (arith, same, many, long)))
+        absurd (none g inside h (omega (arith, same, many, long)))

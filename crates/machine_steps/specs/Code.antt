@@ -11,7 +11,7 @@ use Rattle.ir_meaning.specs.Act.{Leads', Leaves, Stuck, exit_of, phis_bound}
 use Rattle.ir_meaning.specs.Frame.{AFunction, Locals, Signature, value_of}
 use Rattle.ir_meaning.specs.Memory.{Memory as MeantMemory}
 use Rattle.ir_meaning.specs.Program.{Program, counted}
-use Rattle.ir_machine.specs.Meant.{nameless, symbol_at}
+use Rattle.ir_machine.specs.Meant.{symbol_at}
 use Rattle.ir_machine.specs.Memories.{KeepsHandles}
 use Rattle.ir_machine.specs.declared.memory.Memory.{Memory}
 use Rattle.ir_frames.specs.Phis.{ArePhisKnown, phis_meant}
@@ -95,7 +95,6 @@ pub record IsCode (names : List Symbol) (p : Program) (code : Code) : Type 0 whe
   pub kinds : AreKinds names p.signature code.entities.items
   pub long : length code.functions.items ≡ length names
   pub bodies : (i : ℕ) → i < length names → IsBody names p.signature code i (p.code (symbol_at names i)) (function_of code i)
-  pub nameless : p.code nameless ≡ None
 
 -- ---- what is known before the run
 

@@ -51,8 +51,8 @@ Wait names p m memory numbers fs [] = fs ≡ []
 Wait names p m memory numbers fs (d ∷ ds) =
     (f : Frame) × ((rest : List Frame) × ((front : List ℕ) × ((fs ≡ rest ++ f ∷ []) × IsWaiting names p m memory numbers f d front × Wait names p m memory front rest ds)))
 
--- the frame of a call: none where the program has no function of this symbol that takes so many arguments
+-- the frame of a call: none where the program has no function of this symbol of the table that takes so many arguments
 abbrev pub IsOpened : List Symbol → Program → Memory → MeantMemory → ℕ → List MeantValue → ℕ → Option Frame → Type 0
-IsOpened names p m memory i values base None = (f : MeantFunction) → p.code (symbol_at names i) ≡ Some f → length f.params ≢ length values
+IsOpened names p m memory i values base None = (f : MeantFunction) → i < length names → p.code (symbol_at names i) ≡ Some f → length f.params ≢ length values
 IsOpened names p m memory i values base (Some frame) =
     (f : MeantFunction) × ((p.code (symbol_at names i) ≡ Some f) × IsFrame names p m memory frame (enter f values) × (frame.base ≡ base))

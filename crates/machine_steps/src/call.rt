@@ -43,7 +43,7 @@ fn call_function(
     passed: &[Typed],
 ) -> Result<Did, AllocError>
     requires { frame.old.line < usize.MAX }
-    ensures ok { IfOk result (λ did. (z : Scene) (choice : ℕ) (given : Option (Option ℕ)) (l : MeantLine) (rest : List MeantLine) → Plays z code.now memory.now frame.old → z.frame.rest ≡ l ∷ rest → AreKnown z.names memory.now z.memory passed.now → TakesSo z.program (symbol_at z.names index) (length passed.now) → Works z choice given local rest (λ place. Asked (symbol_at z.names index) (values_meant z.names z.frame.locals passed.now)) → HasDone z choice given memory.now memory.now frame.old frame.new did) }
+    ensures ok { IfOk result (λ did. (z : Scene) (choice : ℕ) (given : Option (Option ℕ)) (l : MeantLine) (rest : List MeantLine) → Plays z code.now memory.now frame.old → index < length z.names → z.frame.rest ≡ l ∷ rest → AreKnown z.names memory.now z.memory passed.now → TakesSo z.program (symbol_at z.names index) (length passed.now) → Works z choice given local rest (λ place. Asked (symbol_at z.names index) (values_meant z.names z.frame.locals passed.now)) → HasDone z choice given memory.now memory.now frame.old frame.new did) }
     ensures err { OnErr result ((z : Scene) → Plays z code.now memory.now frame.old → GoesOn z memory.now memory.now frame.new z.memory z.frame) }
 {
     let now: &Frame = frame;

@@ -16,6 +16,7 @@ use std::alloc::{AllocError, Global};
 
 /// The frame of the function of an index that is entered with arguments where `base` blocks live: None where
 /// no function is defined there, or one of another number of parameters. The arguments may be used up.
+#[tactic(auto, using(crate::proofs::Opening::opened_nowhere))]
 pub(crate) fn open(
     alloc: Global,
     code: &Code,

@@ -29,7 +29,7 @@ returns-in_err-reserve_result-in-Some-clause-err c =
     (untouched z.names c.args.memory.now z.memory c.args.frame.now.registers c.reserve_result.new.self z.frame.locals c.reserve_result.ensures.same s.holds s.frame.reads) refl)
 
 pub returns-in-Some-clause-ok : goal.returns-in-Some-clause-ok
-returns-in-Some-clause-ok c = λ z choice given l rest s next known takes works.
+returns-in-Some-clause-ok c = λ z choice given l rest s inside next known takes works.
     let f = c.args.frame.now in
     let m = c.args.memory.now in
     let i = c.args.index in
@@ -42,7 +42,7 @@ returns-in-Some-clause-ok c = λ z choice given l rest s next known takes works.
     (omega (arith, c.len.ensures, block_count m))
 
 pub returns-clause-ok : goal.returns-clause-ok
-returns-clause-ok c = λ z choice given l rest s next known takes works.
+returns-clause-ok c = λ z choice given l rest s inside next known takes works.
     let f = c.args.frame.now in
     let m = c.args.memory.now in
     let i = c.args.index in
@@ -51,6 +51,6 @@ returns-clause-ok c = λ z choice given l rest s next known takes works.
     let is = subst (λ (o : Option Frame). IsOpened z.names z.program m z.memory i (all_meant z.names c.in_ok-values.values.items) c.len.result o) c.in-None.is opened in
     let w = subst (λ (vs : List MeantValue). Works z choice given c.args.local rest (λ place. Asked (symbol_at z.names i) vs)) (sym passed.0) works in
     let long : length (all_meant z.names c.in_ok-values.values.items) ≡ length c.args.passed.now = ap length passed.0 ∙ meant_long z.names z.frame.locals c.args.passed.now in (
-      call_missing z c.args.code.now m choice given f rest c.args.local i c.len.result (length c.args.passed.now) (all_meant z.names c.in_ok-values.values.items) s takes long w is,
+      call_missing z c.args.code.now m choice given f rest c.args.local i c.len.result (length c.args.passed.now) (all_meant z.names c.in_ok-values.values.items) s inside takes long w is,
       record { function = refl; block = refl; line = refl; base = refl },
     )

@@ -1,10 +1,11 @@
-use Rattle.std.proofs.Common.{List, length, refl, sym, subst}
+use Rattle.std.proofs.Common.{◌<◌, List, length, refl, sym, ap, subst, arith}
 use Rattle.ir_meaning.specs.Execute as execute
 use Rattle.ir_meaning.specs.Fault as fault
 use Rattle.ir_machine.specs.Meant.{symbol_at}
 use Rattle.ir_frames.specs.Locals.{AreKnown}
 use Rattle.ir_frames.specs.Tasks.{values_meant}
 use Rattle.ir_frames.specs.declared.source.Typed.{Typed}
+use Rattle.ir_calls.specs.Calls.{IsAmong}
 use Rattle.ir_calls.specs.declared.call.Entity.{Entity}
 use Rattle.ir_calls.specs.declared.call.Resolved.{Resolved}
 use Rattle.ir_calls.specs.declared.call.Resolved.TheVariants as resolved
@@ -22,7 +23,7 @@ returns-in-Function-clause-ok c = then_ok c.call_function.result c.call_function
     let m = c.args.memory.now in
     let f = c.args.frame.now in
     let line = c.args.line.now in
-    let asked = subst (λ (es : List Entity). IsAnswer es f.registers c.in-Call.result c.in-Call.callee c.deref-2.result.now c.resolve.result) c.deref.ensures.value c.resolve.ensures in
+    let asked = subst (λ (es : List Entity). IsAnswer es f.registers c.in-Call.result c.in-Call.callee c.deref-2.result.now c.resolve.result) c.deref.ensures.value c.resolve.ensures.effect in
     let passed = subst (λ (ts : List Typed). IsAnswer code.entities.items f.registers c.in-Call.result c.in-Call.callee ts c.resolve.result) c.deref-2.ensures.value asked in
     let answer = subst (λ (r : Resolved). IsAnswer code.entities.items f.registers c.in-Call.result c.in-Call.callee c.in-Call.arguments.items r) c.in-Function.is passed in
     let known = call_known z m line l rest _ c.in-Call.is next in
@@ -31,7 +32,9 @@ returns-in-Function-clause-ok c = then_ok c.call_function.result c.call_function
     let works = works_so z m choice c.args.given line l rest values (resolved.Function i) (λ place. execute.Asked (symbol_at z.names i) values) next
     (λ input place. call_works z code m f line l rest _ (resolved.Function i) c.in-Call.result c.in-Call.callee c.in-Call.arguments.items c.in-Call.is (λ locals. refl) s next known.0 answer input place choice) (λ input place. refl) in
     let same = sym c.deref-in-Function.ensures.value in
-    done z choice c.args.given l rest s next.next (subst (λ (ts : List Typed). AreKnown z.names m z.memory ts) same known.1)
+    let among : i < length c.deref.result.now = subst (λ (r : Resolved). IsAmong (length c.deref.result.now) r) c.in-Function.is c.resolve.ensures.among in
+    let inside : i < length z.names = omega (arith, among, ap length c.deref.ensures.value, s.code.kinds.long) in
+    done z choice c.args.given l rest s inside next.next (subst (λ (ts : List Typed). AreKnown z.names m z.memory ts) same known.1)
     (subst (λ (ts : List Typed). TakesSo z.program (symbol_at z.names i) (length ts)) same (takes_so z code m f c.in-Call.result c.in-Call.callee c.in-Call.arguments.items i s known.0 answer))
     (subst (λ (ts : List Typed). Works z choice c.args.given line.local rest (λ place. execute.Asked (symbol_at z.names i) (values_meant z.names z.frame.locals ts))) same works))
 
@@ -41,7 +44,7 @@ returns-in-Host-PutChar-clause-ok c = then_ok c.call_putchar.result c.call_putch
     let m = c.args.memory.now in
     let f = c.args.frame.now in
     let line = c.args.line.now in
-    let asked = subst (λ (es : List Entity). IsAnswer es f.registers c.in-Call.result c.in-Call.callee c.deref-2.result.now c.resolve.result) c.deref.ensures.value c.resolve.ensures in
+    let asked = subst (λ (es : List Entity). IsAnswer es f.registers c.in-Call.result c.in-Call.callee c.deref-2.result.now c.resolve.result) c.deref.ensures.value c.resolve.ensures.effect in
     let passed = subst (λ (ts : List Typed). IsAnswer code.entities.items f.registers c.in-Call.result c.in-Call.callee ts c.resolve.result) c.deref-2.ensures.value asked in
     let told = subst (λ (r : Resolved). IsAnswer code.entities.items f.registers c.in-Call.result c.in-Call.callee c.in-Call.arguments.items r) c.in-Host-PutChar.is passed in
     let answer = subst (λ (h : Host). IsAnswer code.entities.items f.registers c.in-Call.result c.in-Call.callee c.in-Call.arguments.items (resolved.Host h)) c.in-Host-PutChar.field-0-is told in
@@ -59,7 +62,7 @@ returns-in-Host-GetChar-clause-ok c = then_ok c.call_getchar.result c.call_getch
     let m = c.args.memory.now in
     let f = c.args.frame.now in
     let line = c.args.line.now in
-    let asked = subst (λ (es : List Entity). IsAnswer es f.registers c.in-Call.result c.in-Call.callee c.deref-2.result.now c.resolve.result) c.deref.ensures.value c.resolve.ensures in
+    let asked = subst (λ (es : List Entity). IsAnswer es f.registers c.in-Call.result c.in-Call.callee c.deref-2.result.now c.resolve.result) c.deref.ensures.value c.resolve.ensures.effect in
     let passed = subst (λ (ts : List Typed). IsAnswer code.entities.items f.registers c.in-Call.result c.in-Call.callee ts c.resolve.result) c.deref-2.ensures.value asked in
     let told = subst (λ (r : Resolved). IsAnswer code.entities.items f.registers c.in-Call.result c.in-Call.callee c.in-Call.arguments.items r) c.in-Host-GetChar.is passed in
     let answer = subst (λ (h : Host). IsAnswer code.entities.items f.registers c.in-Call.result c.in-Call.callee c.in-Call.arguments.items (resolved.Host h)) c.in-Host-GetChar.field-0-is told in
@@ -76,7 +79,7 @@ returns-in-Undefined-clause-ok c = λ z choice l rest s next call.
     let f = c.args.frame.now in
     let line = c.args.line.now in
     let cause = c.in-Undefined.cause in
-    let asked = subst (λ (es : List Entity). IsAnswer es f.registers c.in-Call.result c.in-Call.callee c.deref-2.result.now c.resolve.result) c.deref.ensures.value c.resolve.ensures in
+    let asked = subst (λ (es : List Entity). IsAnswer es f.registers c.in-Call.result c.in-Call.callee c.deref-2.result.now c.resolve.result) c.deref.ensures.value c.resolve.ensures.effect in
     let passed = subst (λ (ts : List Typed). IsAnswer code.entities.items f.registers c.in-Call.result c.in-Call.callee ts c.resolve.result) c.deref-2.ensures.value asked in
     let answer = subst (λ (r : Resolved). IsAnswer code.entities.items f.registers c.in-Call.result c.in-Call.callee c.in-Call.arguments.items r) c.in-Undefined.is passed in
     let known = call_known z m line l rest _ c.in-Call.is next in

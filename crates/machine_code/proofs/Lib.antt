@@ -1,0 +1,11 @@
+mod Zips
+mod Standing
+mod Tasking
+mod Placing
+mod Leaving
+mod Blocking
+mod Parts
+mod Sounding
+mod Meaning
+mod Whole
+mod Rooting

@@ -1,0 +1,82 @@
+//! The code of a module.
+ghost use Rattle.std.specs.Prelude.{◌≡◌, All, IfOk};
+ghost use Rattle.std.specs.List.{AllZip};
+ghost use Rattle.machine_code.specs.Lowered.{IsLowered, IsMadeOf};
+ghost use Rattle.machine_code.specs.Programs.{IsBodyFor, IsSoundGlobal};
+
+use crate::addresses::Addresses;
+use crate::symbol::entities;
+use ir_tree::{GlobalValue, Verified};
+use machine_memory::Bases;
+use machine_steps::{Code, Function};
+use std::alloc::{AllocError, Global};
+
+impl<'a> Addresses<'a> {
+    /// The code of a function that is defined.
+    fn body<'t>(
+        &self,
+        alloc: Global,
+        global: &'t GlobalValue,
+    ) -> Result<Option<Function<'t>>, AllocError>
+        requires { IsSoundGlobal global.now }
+        ensures { IfOk result (λ o. IsBodyFor self.now global.entry.now o) }
+    {
+        match global {
+            GlobalValue::Variable(_) => Ok(None),
+            GlobalValue::Function(function) => {
+                let count = function.blocks.len();
+                if count == 0 {
+                    Ok(None)
+                } else {
+                    let made = self.function(alloc, function)?;
+                    Ok(Some(made))
+                }
+            }
+        }
+    }
+
+    /// The code of the functions that are defined, in the order of the global values.
+    fn bodies<'t>(
+        &self,
+        alloc: Global,
+        globals: &'t [GlobalValue],
+    ) -> Result<Vec<Option<Function<'t>>>, AllocError>
+        requires { All IsSoundGlobal globals.now }
+        ensures { IfOk result (λ all. AllZip (IsBodyFor self.now) globals.entry.now all.items) }
+    {
+        let mut all = Vec::with_capacity(alloc, globals.len())?;
+        for global in globals {
+            let made = self.body(alloc, global)?;
+            all.push(made)?;
+        }
+        Ok(all)
+    }
+}
+
+/// A module as the machine runs it: its code, and what the addresses of its symbols are based on.
+#[derive(Drop)]
+pub struct Lowered<'a> {
+    pub code: Code<'a>,
+    pub addresses: Addresses<'a>,
+}
+
+/// The code of a sound module. A symbol is known by the index of its global value, a register is the local of its number.
+///
+/// One pass over the module: time and memory are linear in it. Beside want of memory, `2^32` global values, or blocks in one
+/// function, and functions of `2^64` instructions are refused as too many for it.
+pub fn lower<'a>(alloc: Global, verified: &'a Verified) -> Result<Lowered<'a>, AllocError>
+    ensures code { IfOk result (λ l. IsLowered verified.entry.now.globals l.code) }
+    ensures made { IfOk result (λ l. IsMadeOf verified.entry.now.globals l) }
+{
+    let tree = verified.module();
+    let globals = tree.globals.as_slice();
+    let bases = Bases::of(alloc, globals)?;
+    let addresses = Addresses { bases };
+    let entities = entities(alloc, globals)?;
+    let functions = addresses.bodies(alloc, globals)?;
+    let code = Code {
+        entities,
+        functions,
+    };
+    Ok(Lowered { code, addresses })
+}

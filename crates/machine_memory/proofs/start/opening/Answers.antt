@@ -1,0 +1,37 @@
+use Rattle.std.proofs.Common.{◌≡◌, ◌+◌, ◌≤◌, ℕ, suc, List, length, get_or, sym, ap, subst, ◌∙◌, arith}
+use Rattle.ir_tree.specs.declared.module.GlobalValue.{GlobalValue}
+use Rattle.ir_tree.specs.declared.module.Module.{Module}
+use Rattle.ir_machine.specs.declared.block.Block.{Block}
+use Rattle.ir_machine.specs.declared.memory.Memory.{Memory}
+use Rattle.machine_memory.specs.Openings.{IsGlobalSound}
+use Rattle.machine_memory.proofs.Lists.{read_got}
+use Rattle.machine_memory.proofs.Beginning.{is_opening, sound_globals}
+use Rattle.machine_memory.proofs.Storing.{AreAdded, added_more, none_added}
+use Rattle.machine_memory.proofs.start.opening.Goals as goal
+
+pub loop-global-init : goal.loop-global-init
+loop-global-init c = subst (λ (bs : List Block). AreAdded c.args.bases.now c.as_slice-globals.result.now 0 bs) (sym c.new-blocks.ensures.items) (none_added c.args.bases.now c.as_slice-globals.result.now)
+
+pub add-requires : goal.add-requires
+add-requires c =
+    let same = c.as_slice-globals.ensures ∙ ap (λ (m : Module). m.globals) c.module-tree.ensures.module in
+    let at = c.global-item.is ∙ ap (λ (gs : List GlobalValue). get_or gs c.loop-global.global-index c.global-item.result) same in
+    subst (λ (g : GlobalValue). IsGlobalSound g) (sym at)
+    (sound_globals c.args.verified.now c.module-tree.ensures.sound c.loop-global.global-index c.global-item.result (omega (arith, c.loop-global-test.true, ap length same)))
+
+pub loop-global-preserved : goal.loop-global-preserved
+loop-global-preserved c =
+    let gs = c.as_slice-globals.result.now in
+    let k = c.loop-global.global-index in
+    let g = c.global-item.result in
+    let one : suc k ≡ k + 1 = omega arith in
+    subst (λ (j : ℕ). AreAdded c.args.bases.now gs j c.add.new.blocks.items) one
+    (added_more c.args.bases.now gs k g (read_got gs k g c.loop-global-test.true c.global-item.is) c.loop-global.blocks.items c.loop-global.invariant c.add.new.blocks.items c.in_ok-add.ensures)
+
+pub returns : goal.returns
+returns c =
+    let same = c.as_slice-globals.ensures ∙ ap (λ (m : Module). m.globals) c.module-tree.ensures.module in
+    let all = subst (λ (gs : List GlobalValue). AreAdded c.args.bases.now gs c.loop-global.global-index c.loop-global.blocks.items) same c.loop-global.invariant in
+    let m : Memory = record { blocks = c.loop-global.blocks; made = c.len-made.result } in
+    let made : c.len-made.result ≡ length c.loop-global.blocks.items = omega (arith, c.len-made.ensures, c.loop-global.blocks.ok) in
+    is_opening c.args.verified.now.globals c.module-tree.ensures.sound.whole c.args.bases.now c.requires c.loop-global.global-index (omega (arith, c.loop-global-test.false, ap length same)) m all made

@@ -1,0 +1,4 @@
+pub mod Addresses
+pub mod Tables
+pub mod Images
+pub mod Openings
