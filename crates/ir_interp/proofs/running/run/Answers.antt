@@ -1,0 +1,76 @@
+use Rattle.std.proofs.Common.{◌≡◌, ◌-◌, ℕ, Option, Result, Err, refl, sym, ap, subst, ◌∙◌, arith}
+use Rattle.std.specs.Prelude.{IfErr}
+use Rattle.std.proofs.lemmas.Result.{err_from_is_err_and}
+use Rattle.machine_steps.specs.Code.{IsRunnable}
+use Rattle.machine_steps.specs.declared.code.Code.{Code}
+use Rattle.ir_interp.specs.Runs.{HasTurned, IsBlamed}
+use Rattle.ir_interp.specs.declared.end.RunEnd.{RunEnd}
+use Rattle.ir_interp.specs.declared.end.RunFault.{RunFault}
+use Rattle.ir_interp.proofs.Turns.{Comes, blamed_since, come_first, on_err, out_of_steps, sent_part, turn_ends, turn_further}
+use Rattle.ir_interp.proofs.running.run.Goals as goal
+
+pub loop-left-init : goal.loop-left-init
+loop-left-init g c = record {
+  within = omega arith;
+  runnable = c.requires;
+  code = refl;
+  inputs = omega arith;
+  outputs = omega arith;
+  comes = λ names p s bytes runs left.
+      let sent = g.O.ByteOut.sent c.args.out.now in
+      let none : 0 ≡ c.args.budget - c.args.budget = omega arith in
+      subst (λ (n : ℕ). Comes names p s bytes sent n (g.I.ByteIn.left c.args.input.now) sent c.args.machine.now) none
+      (come_first names p s bytes (g.I.ByteIn.left c.args.input.now) sent c.args.machine.now runs left);
+}
+
+pub returns-clause-ok : goal.returns-clause-ok
+returns-clause-ok g c = λ names p s bytes runs left.
+    let all : c.args.budget - c.loop-left.left ≡ c.args.budget = omega (arith, c.loop-left-test.false) in
+    out_of_steps names p s bytes (g.O.ByteOut.sent c.args.out.now) c.args.budget (c.args.budget - c.loop-left.left) (g.I.ByteIn.left c.loop-left.input) (g.O.ByteOut.sent c.loop-left.out) c.loop-left.machine all
+    (c.loop-left.invariant.comes names p s bytes runs left)
+
+pub turn-requires : goal.turn-requires
+turn-requires g c = c.loop-left.invariant.runnable
+
+pub loop-left-preserved : goal.loop-left-preserved
+loop-left-preserved g c =
+    let i = c.loop-left.invariant in
+    record {
+      within = omega (arith, i.within);
+      runnable = subst (λ (x : Code). IsRunnable x) (sym c.turn.ensures.code) i.runnable;
+      code = c.turn.ensures.code ∙ i.code;
+      inputs = omega (arith, i.inputs, c.turn.ensures.inputs);
+      outputs = omega (arith, i.outputs, c.turn.ensures.outputs);
+      comes = λ names p s bytes runs left.
+          let come = i.comes names p s bytes runs left in
+          let turned = subst (λ (o : Option RunEnd). HasTurned names p come.now bytes (g.I.ByteIn.left c.turn.new.input) (g.O.ByteOut.sent c.loop-left.out) (g.O.ByteOut.sent c.turn.new.out) c.turn.new.machine o) c.in-None.is
+          (c.in_ok-end.ensures.ok names p come.now bytes come.runs come.left) in
+          turn_further names p s bytes (g.O.ByteOut.sent c.args.out.now) (c.args.budget - c.loop-left.left) (c.args.budget - (c.loop-left.left - 1)) (g.I.ByteIn.left c.loop-left.input) (g.I.ByteIn.left c.turn.new.input)
+          (g.O.ByteOut.sent c.loop-left.out) (g.O.ByteOut.sent c.turn.new.out) c.loop-left.machine c.turn.new.machine (omega (arith, i.within, c.loop-left-test.true)) come turned;
+    }
+
+pub returns-in-Some-clause-ok : goal.returns-in-Some-clause-ok
+returns-in-Some-clause-ok g c = λ names p s bytes runs left.
+    let i = c.loop-left.invariant in
+    let come = i.comes names p s bytes runs left in
+    let turned = subst (λ (o : Option RunEnd). HasTurned names p come.now bytes (g.I.ByteIn.left c.turn.new.input) (g.O.ByteOut.sent c.loop-left.out) (g.O.ByteOut.sent c.turn.new.out) c.turn.new.machine o) c.in-Some.is
+    (c.in_ok-end.ensures.ok names p come.now bytes come.runs come.left) in
+    turn_ends names p s bytes (g.O.ByteOut.sent c.args.out.now) c.args.budget (c.args.budget - c.loop-left.left) (c.loop-left.left - 1) (g.I.ByteIn.left c.loop-left.input) (g.I.ByteIn.left c.turn.new.input)
+    (g.O.ByteOut.sent c.loop-left.out) (g.O.ByteOut.sent c.turn.new.out) c.loop-left.machine c.turn.new.machine c.in-Some.end (omega (arith, i.within, c.loop-left-test.true)) come turned
+
+pub returns-in_err-end-clause-cause : goal.returns-in_err-end-clause-cause
+returns-in_err-end-clause-cause g c =
+    let i = c.loop-left.invariant in
+    let e : RunFault = c.in_err-end.field-0.0 in
+    let p = err_from_is_err_and c.from_residual.result c.from_residual.ensures.1 in
+    let same : c.from_residual.result ≡ Err e = p.1 ∙ ap (λ (x : RunFault). Err x) p.2 in
+    subst
+    (λ (r : Result RunEnd RunFault). IfErr r (IsBlamed (g.I.ByteIn.faults c.args.input.now) (g.I.ByteIn.faults c.turn.new.input) (g.O.ByteOut.faults c.args.out.now) (g.O.ByteOut.faults c.turn.new.out)))
+    (sym same)
+    (blamed_since (g.I.ByteIn.faults c.args.input.now) (g.I.ByteIn.faults c.loop-left.input) (g.I.ByteIn.faults c.turn.new.input) (g.O.ByteOut.faults c.args.out.now) (g.O.ByteOut.faults c.loop-left.out) (g.O.ByteOut.faults c.turn.new.out) e i.inputs i.outputs
+    c.in_err-end.ensures.cause)
+
+pub returns-in_err-end-clause-part : goal.returns-in_err-end-clause-part
+returns-in_err-end-clause-part g c = on_err c.from_residual.result (λ names p s bytes runs left.
+    sent_part names p s bytes (g.O.ByteOut.sent c.args.out.now) c.args.budget (c.args.budget - c.loop-left.left) (g.I.ByteIn.left c.loop-left.input) (g.O.ByteOut.sent c.loop-left.out) (g.O.ByteOut.sent c.turn.new.out) c.loop-left.machine (omega arith)
+    (c.loop-left.invariant.comes names p s bytes runs left) c.in_err-end.ensures.kept)

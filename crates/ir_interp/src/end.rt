@@ -1,0 +1,27 @@
+//! How a run ended, and why it was given up.
+
+use ir_machine::Scalar;
+use ir_meaning::Cause;
+use machine_steps::Place;
+
+/// How a run ended.
+#[derive(Clone, Copy, Debug)]
+pub enum RunEnd {
+    /// The function in which it began returned.
+    Returned(Option<Scalar>),
+    /// Undefined behaviour, why and where.
+    Undefined(Cause, Place),
+    /// A read of a byte that was never written, and where.
+    Uninit(Place),
+    /// It was still running behind the last step that was allowed.
+    OutOfSteps,
+}
+
+/// Why a run was given up: the input or the output failed, and its count of faults rose in the call, or
+/// memory was refused.
+#[derive(Clone, Copy, Debug, PartialEq, Eq)]
+pub enum RunFault {
+    In,
+    Out,
+    NoMemory,
+}
