@@ -1,22 +1,21 @@
-//! Tests of passes and of what they stand on: values and operations (`ir_meaning`), the small passes of `ir_better`, the
-//! rule table (`fold_rules`), dead code (`dead_code`), the passes over blocks (`branch_simplify`, `block_trim`,
-//! `block_merge`), slots (`slot_promote`), inlining at a call (`inline_site`) and facts (`ir_facts`), on small functions
-//! made as trees, by printed texts worked out by hand.
+//! Tests of passes and of what they stand on: facts (`ir_facts`), dead code (`dead_code`), slots (`slot_promote`), the passes
+//! over blocks (`branch_simplify`, `block_trim`, `block_merge`) and inlining at a call (`inline_site`), by tables of texts: a
+//! module, and its first function as the pass makes it, worked out by hand. And values and operations (`ir_meaning`), the
+//! small passes of `ir_better` and the rule table (`fold_rules`), whose calls have no texts.
 //!
-//! What the clauses of these crates say is not tried again here. Texts are printed by `ir_print`, on which no pass stands;
-//! facts are asked only of functions that the verifier calls sound (`ir_verify`, `function_plans`). The tests stand above
-//! the crates, so that their own proofs are not done twice, and in one crate, so that their statements are loaded once.
+//! A module is read and verified (`ir_parse`, `ir_verify`), so a row is a sound module, numbered in the order of its text. One
+//! call applies each pass and prints (`rows`); each table has one test, which names the row that fails. What the clauses of these
+//! crates say is not tried again here. The tests stand above the crates, so that their own proofs are not done twice, and in
+//! one crate, so that their statements are loaded once.
 #![tactic(auto)]
 
 #[cfg(test)]
-mod blocks;
-#[cfg(test)]
-mod facts;
-#[cfg(test)]
-mod inlining;
-#[cfg(test)]
 mod meaning;
 #[cfg(test)]
-mod slots;
+mod points;
 #[cfg(test)]
-mod trees;
+mod rows;
+#[cfg(test)]
+mod sizes;
+#[cfg(test)]
+mod tables;

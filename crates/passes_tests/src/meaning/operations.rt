@@ -1,8 +1,16 @@
-//! Examples of the LLVM Language Reference, and operands that count as poison.
+//! Examples of the LLVM Language Reference, operands that count as poison, and rows of the rule table.
 
-use crate::trees::UNMARKED;
+use fold_rules::rule;
 use ir_meaning::{Answer, DivisionCause, Value, binary, bits_of, cast, compare, operations_agree};
-use ir_tree::{BinaryOp, CastOp, Predicate};
+use ir_tree::{BinaryOp, CastOp, Flags, Instr, Operand, Predicate, Reg};
+use std::alloc::AllocError;
+
+/// No flags.
+pub(crate) const UNMARKED: Flags = Flags {
+    nuw: false,
+    nsw: false,
+    exact: false,
+};
 
 /// An operation at 8 bits, its operands, and what it gives.
 type Row = (BinaryOp, Option<u64>, Option<u64>, Answer);
@@ -51,14 +59,24 @@ fn comparisons_and_casts_give_their_answers(rt: HostRuntime) {
     assert!(rt; cast(CastOp::Zext, 8, 16, Some(255)) == Some(255));
     assert!(rt; cast(CastOp::Trunc, 32, 8, Some(257)) == Some(1));
     assert!(rt; cast(CastOp::Trunc, 32, 8, None) == None);
-}
-
-#[test]
-fn numbers_past_the_width_count_as_poison(rt: HostRuntime) {
-    let greatest = Value::Number(255);
+    // Numbers past their width count as poison.
     let past = Value::Number(256);
-    assert!(rt; bits_of(8, &greatest) == Some(255));
+    assert!(rt; bits_of(8, &Value::Number(255)) == Some(255));
     assert!(rt; bits_of(8, &past) == None);
     assert!(rt; bits_of(64, &past) == Some(256));
     assert!(rt; bits_of(8, &Value::Poison) == None);
+}
+
+#[test]
+fn poison_is_frozen_to_zero(rt: HostRuntime) -> Result<(), AllocError> {
+    let instr = Instr::Freeze {
+        reg: Reg::Int(8),
+        value: Operand::Poison(Reg::Int(8)),
+    };
+    let Some(folded) = rule(&instr) else {
+        panic!(rt; "a row");
+    };
+    let operand = folded.operand(rt.alloc())?;
+    assert!(rt; operand == Operand::Number { width: 8, bits: 0 });
+    Ok(())
 }

@@ -1,12 +1,9 @@
-//! That the calls succeed with ample memory, on small blocks written out by hand.
-ghost use Rattle.std.specs.Prelude.{◌≡◌, ◌∷◌, []};
-ghost use Rattle.ir_better.specs.Straight.{IsUnread};
-ghost use Rattle.ir_tree.specs.declared.instr.BinaryOp.TheVariants as op;
-ghost use Rattle.ir_tree.specs.declared.instr.Instr.TheVariants as instr;
-
-use crate::trees::{int, phi, sum, symbol};
-use ir_better::{common_source, copy_forwarded, difference_inlined, slot_promoted, without_local};
-use ir_tree::{Argument, Instr, Line, Operand, Reg, Symbol, Terminator};
+//! That the calls succeed with ample memory, on small blocks.
+use crate::meaning::operations::UNMARKED;
+use crate::meaning::values::symbol;
+use crate::rows::{first, read};
+use ir_better::{common_source, copy_forwarded, difference_inlined, slot_promoted};
+use ir_tree::{Argument, BinaryOp, Instr, Line, Operand, Reg, Terminator};
 use std::alloc::{AllocError, Global};
 
 /// A local of 32 bits with its type.
@@ -29,13 +26,29 @@ fn copy(to: u32, from: u32) -> Line {
     }
 }
 
+/// `%local = add i32 left, right`.
+fn sum(local: u32, left: Operand, right: Operand) -> Line {
+    Line {
+        local: Some(local),
+        instr: Instr::Binary {
+            op: BinaryOp::Add,
+            flags: UNMARKED,
+            width: 32,
+            left,
+            right,
+        },
+    }
+}
+
 /// The copy of `%1` in `%2`, and behind it sums of `%of` until `%1` changes, and of `%2` from there on.
 fn lines_over(alloc: Global, of: u32) -> Result<Vec<Line>, AllocError> {
-    let mut lines = Vec::new(alloc);
-    lines.push(copy(2, 1))?;
-    lines.push(sum(3, Operand::Local(of), int(5)))?;
-    lines.push(sum(1, Operand::Local(3), Operand::Local(of)))?;
-    lines.push(sum(4, Operand::Local(2), Operand::Local(1)))?;
+    let five = Operand::Number { width: 32, bits: 5 };
+    let lines = vec![in alloc;
+        copy(2, 1),
+        sum(3, Operand::Local(of), five),
+        sum(1, Operand::Local(3), Operand::Local(of)),
+        sum(4, Operand::Local(2), Operand::Local(1)),
+    ]?;
     Ok(lines)
 }
 
@@ -51,80 +64,71 @@ fn a_copy_is_forwarded_until_its_source_changes(rt: HostRuntime) -> Result<(), A
     };
     assert!(rt; new.lines.as_slice() == wanted.as_slice());
     assert!(rt; new.end == end);
+    let sum = sum(2, Operand::Local(1), Operand::Null);
+    let made = copy_forwarded(rt.alloc(), &sum, &[], &Terminator::Unreachable)?;
+    assert!(rt; made.is_none());
     Ok(())
 }
 
-#[test]
-fn a_block_without_a_copy_is_left(rt: HostRuntime) {
-    let first = sum(2, Operand::Local(1), int(0));
-    let made = copy_forwarded(rt.alloc(), &first, &[], &Terminator::Unreachable);
-    let is_left = match made {
-        Ok(None) => true,
-        _ => false,
-    };
-    assert!(rt; is_left);
+/// Phis of one local, of two, and of a constant.
+const PHIS: &[u8] = b"define void @f(i1 %0, i32 %1, i32 %2) {
+  br i1 %0, label %4, label %5
+4:
+  br label %5
+5:
+  %6 = phi i32 [ %1, %3 ], [ %1, %4 ]
+  %7 = phi i32 [ %1, %3 ], [ %2, %4 ]
+  %8 = phi i32 [ 4, %3 ], [ 4, %4 ]
+  ret void
 }
+";
 
 #[test]
 fn a_phi_of_one_local_has_a_source(rt: HostRuntime) {
-    let one = phi(
-        rt.alloc(),
-        9,
-        (0, Operand::Local(4)),
-        (7, Operand::Local(4)),
-    )
-    .expect(&rt, "memory");
-    let two = phi(
-        rt.alloc(),
-        9,
-        (0, Operand::Local(4)),
-        (7, Operand::Local(5)),
-    )
-    .expect(&rt, "memory");
-    let constant = phi(rt.alloc(), 9, (0, int(4)), (7, int(4))).expect(&rt, "memory");
-    assert!(rt; common_source(&one) == Some(4));
-    assert!(rt; common_source(&two) == None);
-    assert!(rt; common_source(&constant) == None);
-}
-
-/// `@caller`.
-fn caller(alloc: Global) -> Result<Symbol, AllocError> {
-    symbol(alloc, b"caller")
+    let Some(module) = read(rt.alloc(), PHIS) else {
+        panic!(rt; "a sound module");
+    };
+    let Some(f) = first(&module) else {
+        panic!(rt; "a function");
+    };
+    match f.blocks.as_slice() {
+        [_, _, last] => match last.phis.as_slice() {
+            [one, two, constant] => {
+                assert!(rt; common_source(one) == Some(1));
+                assert!(rt; common_source(two) == None);
+                assert!(rt; common_source(constant) == None);
+            }
+            _ => assert!(rt; false),
+        },
+        _ => assert!(rt; false),
+    }
 }
 
 #[test]
-fn a_slot_is_promoted_unless_it_escapes(rt: HostRuntime) {
-    let symbol = caller(rt.alloc()).expect(&rt, "memory");
-    let made = slot_promoted(rt.alloc(), symbol, 7, &Operand::Null, &Operand::Local(8)).expect(
-        &rt, "memory",
-    );
-    let lines = match &made {
-        Some(function) => match function.blocks.as_slice() {
-            [block] => block.lines.len(),
-            _ => 0,
-        },
-        None => 0,
+fn a_slot_is_promoted_unless_it_escapes(rt: HostRuntime) -> Result<(), AllocError> {
+    let caller = symbol(rt.alloc(), b"caller")?;
+    let made = slot_promoted(rt.alloc(), caller, 7, &Operand::Null, &Operand::Local(8))?;
+    let Some(function) = made else {
+        panic!(rt; "promoted");
     };
-    assert!(rt; lines == 2);
-    let symbol = caller(rt.alloc()).expect(&rt, "memory");
+    match function.blocks.as_slice() {
+        [block] => assert!(rt; block.lines.len() == 2),
+        _ => assert!(rt; false),
+    }
+    let caller = symbol(rt.alloc(), b"caller")?;
     let made = slot_promoted(
         rt.alloc(),
-        symbol,
+        caller,
         7,
         &Operand::Local(1),
         &Operand::Local(8),
-    )
-    .expect(&rt, "memory");
+    )?;
     assert!(rt; made.is_none());
-}
-
-#[test]
-fn a_call_is_inlined(rt: HostRuntime) {
-    let symbol = caller(rt.alloc()).expect(&rt, "memory");
-    let made = difference_inlined(rt.alloc(), symbol, 9, 4).expect(&rt, "memory");
-    let lines = match made.blocks.as_slice() {
-        [_, body, _] => body.lines.len(),
-        _ => 0,
-    };
-    assert!(rt; lines == 1);
+    let caller = symbol(rt.alloc(), b"caller")?;
+    let inlined = difference_inlined(rt.alloc(), caller, 9, 4)?;
+    match inlined.blocks.as_slice() {
+        [_, body, _] => assert!(rt; body.lines.len() == 1),
+        _ => assert!(rt; false),
+    }
+    Ok(())
 }

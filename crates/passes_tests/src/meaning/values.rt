@@ -1,4 +1,4 @@
-//! What no clause says: that the laws can be called, and how causes and events are printed.
+//! What no clause says: that the laws can be called, and how values, places, causes and events are compared and printed.
 
 use ir_meaning::{
     Base, Byte, Cause, Event, Place, Value, example_operations, example_runs, native_runs,
@@ -6,34 +6,24 @@ use ir_meaning::{
 use ir_tree::{Symbol, Text};
 use std::alloc::{AllocError, Global};
 
-#[test]
-fn laws_can_be_called() {
-    example_operations();
-    example_runs();
-    native_runs();
-}
-
 /// A symbol without a home.
-fn named(alloc: Global, name: &[u8]) -> Result<Symbol, AllocError> {
+pub(crate) fn symbol(alloc: Global, name: &[u8]) -> Result<Symbol, AllocError> {
     let name = Text::copied(alloc, name)?;
     Ok(Symbol { home: None, name })
 }
 
 #[test]
-fn values_are_equal_where_they_hold_the_same(rt: HostRuntime) {
-    let f = named(rt.alloc(), b"f").expect(&rt, "memory");
-    let same = named(rt.alloc(), b"f").expect(&rt, "memory");
-    let other = named(rt.alloc(), b"g").expect(&rt, "memory");
+fn values_are_equal_where_they_hold_the_same(rt: HostRuntime) -> Result<(), AllocError> {
     let pointer = Value::Pointer {
-        base: Base::Code(f),
+        base: Base::Code(symbol(rt.alloc(), b"f")?),
         offset: 4,
     };
     let again = Value::Pointer {
-        base: Base::Code(same),
+        base: Base::Code(symbol(rt.alloc(), b"f")?),
         offset: 4,
     };
     let elsewhere = Value::Pointer {
-        base: Base::Code(other),
+        base: Base::Code(symbol(rt.alloc(), b"g")?),
         offset: 4,
     };
     assert!(rt; pointer == again);
@@ -46,34 +36,39 @@ fn values_are_equal_where_they_hold_the_same(rt: HostRuntime) {
     };
     assert!(rt; fragment != Byte::Plain(1));
     assert!(rt; Byte::Unset != Byte::Spoilt);
+    Ok(())
 }
 
 #[test]
-fn places_are_equal_where_function_and_number_are(rt: HostRuntime) {
+fn places_are_equal_where_function_and_number_are(rt: HostRuntime) -> Result<(), AllocError> {
     let first = Place {
-        symbol: named(rt.alloc(), b"f").expect(&rt, "memory"),
+        symbol: symbol(rt.alloc(), b"f")?,
         instruction: 3,
     };
     let same = Place {
-        symbol: named(rt.alloc(), b"f").expect(&rt, "memory"),
+        symbol: symbol(rt.alloc(), b"f")?,
         instruction: 3,
     };
     let next = Place {
-        symbol: named(rt.alloc(), b"f").expect(&rt, "memory"),
+        symbol: symbol(rt.alloc(), b"f")?,
         instruction: 4,
     };
     assert!(rt; first == same);
     assert!(rt; first != next);
+    Ok(())
 }
 
 #[test]
-fn causes_and_events_are_printed(rt: HostRuntime) {
+fn causes_and_events_are_printed(rt: HostRuntime) -> Result<(), AllocError> {
+    example_operations();
+    example_runs();
+    native_runs();
     let shown = format!(in rt.alloc();
         "{:?} {:?} {:?}",
         Cause::OutOfBounds,
         Event::Wrote(65),
         Event::ReadEnd
-    )
-    .expect(&rt, "memory");
+    )?;
     assert!(rt; shown.as_str() == "OutOfBounds Wrote(65) ReadEnd");
+    Ok(())
 }

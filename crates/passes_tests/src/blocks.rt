@@ -1,4 +1,0 @@
-//! The passes over blocks: printed texts before and after.
-mod branches;
-mod merge;
-mod trim;

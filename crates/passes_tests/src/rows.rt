@@ -1,0 +1,160 @@
+//! Rows of the tables: a module before a pass, and what the pass makes of its first function.
+ghost use Rattle.std.specs.Prelude.{IfSome};
+ghost use Rattle.ir_tree.specs.Rules.{Sound};
+
+use block_merge::merge;
+use block_trim::trim;
+use branch_simplify::branches;
+use dead_code::needed;
+use inline_site::{Caller, Tried, inline_at};
+use ir_edit::renumber;
+use ir_facts::apply;
+use ir_parse::parse;
+use ir_print::print_function;
+use ir_tree::{Duplicate, Function, GlobalValue, Text, Verified};
+use ir_verify::verify;
+use slot_promote::promote;
+use std::alloc::{AllocError, Global};
+
+/// What is done to the first function of a module.
+#[derive(Clone, Copy)]
+pub(crate) enum Pass {
+    /// Facts alone.
+    Facts,
+    /// Facts, dead code, and numbers in the order of the text.
+    Optimised,
+    /// Dead code alone.
+    Needed,
+    Slots,
+    Branches,
+    Trim,
+    Merge,
+    /// Blocks merged, and numbers in the order of the text.
+    Joined,
+    /// The module's second function inlined at the place of one call, counted from 1 over phis, instructions and terminators.
+    Inline(u32),
+    /// The module's second function inlined at two places, one after the other.
+    InlineTwice(u32, u32),
+}
+
+/// The name of a row, the pass, the text of a module before it, and the printed text of the module's first function after it.
+pub(crate) type Row = (&'static str, Pass, &'static [u8], &'static [u8]);
+
+/// The sound module that a text is read as; none where it is read as no such module, or memory runs out.
+pub(crate) fn read(alloc: Global, text: &[u8]) -> Option<Verified> {
+    let Ok(parsed) = parse(alloc, text) else {
+        return None;
+    };
+    match verify(alloc, parsed) {
+        Ok(module) => Some(module),
+        Err(_) => None,
+    }
+}
+
+/// The function that a module begins with.
+pub(crate) fn first(module: &Verified) -> Option<&Function>
+    ensures { IfSome result (λ f. Sound f.now) }
+{
+    match module.module().globals.as_slice() {
+        [GlobalValue::Function(f), ..] => Some(f),
+        _ => None,
+    }
+}
+
+/// The function behind the one that a module begins with.
+fn second(module: &Verified) -> Option<&Function> {
+    match module.module().globals.as_slice() {
+        [_, GlobalValue::Function(f), ..] => Some(f),
+        _ => None,
+    }
+}
+
+fn optimised(alloc: Global, f: &Function) -> Result<Function, AllocError>
+    requires sound { Sound f.now }
+{
+    let simplified = apply(alloc, f)?;
+    let needed = needed(alloc, &simplified)?;
+    renumber(alloc, &needed)
+}
+
+fn joined(alloc: Global, f: &Function) -> Result<Function, AllocError> {
+    let merged = merge(alloc, f)?;
+    renumber(alloc, &merged)
+}
+
+/// A function with the callee inlined at this place; as it was where no call of the callee stands there.
+fn inlined(
+    alloc: Global,
+    f: &Function,
+    place: u32,
+    callee: &Function,
+) -> Result<Function, AllocError> {
+    match inline_at(alloc, f, place, callee)? {
+        Some(g) => Ok(g),
+        None => f.duplicate(alloc),
+    }
+}
+
+/// A caller with the callee inlined at these places, one after the other.
+fn inlined_at_each(
+    alloc: Global,
+    f: &Function,
+    places: &[u32],
+    callee: &Function,
+) -> Result<Function, AllocError> {
+    let mut caller = Caller::of(alloc, f)?;
+    for place in places {
+        caller = match caller.inline_at(alloc, *place, callee)? {
+            Tried::Inlined(caller) => caller,
+            Tried::NoCall(caller) => caller,
+        };
+    }
+    Ok(caller.into_function())
+}
+
+/// What a pass makes of a function.
+fn made(alloc: Global, pass: Pass, f: &Function, callee: &Function) -> Result<Function, AllocError>
+    requires sound { Sound f.now }
+{
+    match pass {
+        Pass::Facts => apply(alloc, f),
+        Pass::Optimised => optimised(alloc, f),
+        Pass::Needed => needed(alloc, f),
+        Pass::Slots => promote(alloc, f),
+        Pass::Branches => branches(alloc, f),
+        Pass::Trim => trim(alloc, f),
+        Pass::Merge => merge(alloc, f),
+        Pass::Joined => joined(alloc, f),
+        Pass::Inline(place) => inlined(alloc, f, place, callee),
+        Pass::InlineTwice(one, other) => inlined_at_each(alloc, f, &[one, other], callee),
+    }
+}
+
+/// The printed text of what a pass makes of the first function of a module; none where the text is no sound module that
+/// begins with a function.
+pub(crate) fn after(alloc: Global, pass: Pass, text: &[u8]) -> Result<Option<Text>, AllocError> {
+    let Some(module) = read(alloc, text) else {
+        return Ok(None);
+    };
+    let Some(f) = first(&module) else {
+        return Ok(None);
+    };
+    let callee = second(&module).unwrap_or(f);
+    let g = made(alloc, pass, f, callee)?;
+    let text = print_function(alloc, &g)?;
+    Ok(Some(text))
+}
+
+/// The name of the first row of a table whose module doesn't become what stands in the row.
+pub(crate) fn failing(alloc: Global, rows: &[Row]) -> Result<Option<&'static str>, AllocError> {
+    for (name, pass, before, wanted) in rows {
+        let is_wanted = match after(alloc, *pass, before)? {
+            Some(text) => text.equals(wanted),
+            None => false,
+        };
+        if !is_wanted {
+            return Ok(Some(*name));
+        }
+    }
+    Ok(None)
+}

@@ -1,0 +1,5 @@
+mod blocks;
+mod facts;
+mod inlining;
+mod needed;
+mod slots;
