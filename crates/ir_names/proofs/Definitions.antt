@@ -1,13 +1,13 @@
 -- One more definition.
-use Rattle.std.proofs.Common.{◌≡◌, refl, ap, ◌∙◌, Bool, true, false, ℕ, ◌+◌, ◌≤◌, nat_eq, List, [], ◌∷◌, ◌++◌, Option, None, Some, is_some, arith, ltb-false, eqb-true}
+use Rattle.std.proofs.Common.{◌≡◌, refl, ap, ◌∙◌, Bool, true, false, ℕ, ◌+◌, ◌≤◌, ◌^◌, inl, inr, nat_eq, List, [], ◌∷◌, ◌++◌, Option, None, Some, is_some, arith, ltb-false, eqb-true}
 use Rattle.indexmap.proofs.CallerLemmas.{insert_entry-new}
 use Rattle.indexmap.specs.IndexMap.{IndexMap, insert_entry}
 use Rattle.ir_names.specs.declared.key.Key as code
 use Rattle.ir_names.specs.contracts.key.KeyPartialEq.TheImpl as derived
 use Rattle.ir_names.specs.declared.locals.Sort.{Sort}
-use Rattle.ir_names.specs.Keys.{Key, spelled, written}
+use Rattle.ir_names.specs.Keys.{Key, spelled, written, IsWritten}
 use Rattle.ir_names.specs.KeyViews.{key}
-use Rattle.ir_names.specs.Locals.{sort_of, stands, is_below, counted, IsBelow, AreBelow}
+use Rattle.ir_names.specs.Locals.{sort_of, stands, is_below, counted, IsBelow, AreBelow, MayFollow}
 use Rattle.ir_names.specs.LocalsViews.{definition, definitions}
 use Rattle.ir_names.proofs.SameKeys.{sorts}
 
@@ -36,6 +36,16 @@ pub keeps : (counter : ℕ) (ds : List (Key × Sort)) (k : Key) (s : Sort) → i
 keeps counter ds (spelled name) s above h = all_wider counter counter ds (spelled name) s (omega arith) tt h
 keeps counter ds (written n) s above h =
     let le : counter ≤ n = ltb-false n counter above in all_wider counter (n + 1) ds (written n) s (omega (arith, le)) (omega arith) h
+
+pub follows : (counter : ℕ) (k : Key) → IsWritten k → MayFollow counter k
+follows counter (spelled name) h = tt
+follows counter (written n) h = inl h
+
+-- the counter is past 2 ^ 32 by one for each definition at most
+pub bounded : (counter many : ℕ) (k : Key) → counter ≤ 2 ^ 32 + many → MayFollow counter k → counted counter k ≤ 2 ^ 32 + many + 1
+bounded counter many (spelled name) low h = omega (arith, low)
+bounded counter many (written n) low (inl h) = omega (arith, h)
+bounded counter many (written n) low (inr h) = omega (arith, low, h)
 
 -- no definition stands under the counter
 pub unnamed : (counter : ℕ) (ds : List (Key × Sort)) → AreBelow counter ds → stands ds (written counter) ≡ false

@@ -1,5 +1,5 @@
 -- What a local, a label or a type is known by: the bytes of its name, or a number that is written in its place.
-use Rattle.std.specs.Prelude.{ℕ, ◌+◌, ◌*◌, ◌-◌, ◌^◌, Bool, false, nat_eq, nat_lt, if◌then◌else◌, List, [], ◌∷◌, Option, None, Some}
+use Rattle.std.specs.Prelude.{ℕ, ◌+◌, ◌*◌, ◌-◌, ◌<◌, ◌^◌, Bool, false, nat_eq, nat_lt, if◌then◌else◌, List, [], ◌∷◌, Option, None, Some}
 use Rattle.std.specs.Char.{is_ascii_digit}
 use Rattle.std.specs.List.{list_all}
 use Rattle.std.specs.Str.{bytes_eq}
@@ -31,6 +31,11 @@ number_of t =
 
 unfoldable pub key_of : Tok → Key
 key_of t = elim (number_of t) [ None ↦ spelled (content t.kind t.text) | Some n ↦ written n ]
+
+-- a key that a text can write: its number is below 2 ^ 32
+abbrev pub IsWritten : Key → Type 0
+IsWritten (spelled name) = Unit {0}
+IsWritten (written n) = n < 2 ^ 32
 
 abbrev pub same_key : Key → Key → Bool
 same_key (spelled a) (spelled b) = bytes_eq a b

@@ -1,5 +1,5 @@
 -- The numbers of locals: parameters, blocks and results share one counter (LangRef, "Identifiers").
-use Rattle.std.specs.Prelude.{ℕ, ◌+◌, ◌<◌, Bool, true, false, ◌||◌, nat_lt, is_some, if◌then◌else◌, List, [], ◌∷◌, ◌++◌, map, position, Option, None, Some, Result, Ok, Err}
+use Rattle.std.specs.Prelude.{◌⊎◌, ℕ, ◌+◌, ◌^◌, ◌<◌, ◌≤◌, Bool, true, false, ◌||◌, nat_lt, is_some, if◌then◌else◌, List, [], ◌∷◌, ◌++◌, map, position, Option, None, Some, Result, Ok, Err}
 use Rattle.std.specs.List.{position_or_len}
 use Rattle.ir_lex.specs.Tok.{Tok}
 use Rattle.ir_names.specs.declared.fault.Fault.{Fault}
@@ -90,3 +90,8 @@ IsBelow counter (written n) = n < counter
 abbrev pub AreBelow : ℕ → List (Key × Sort) → Type 0
 AreBelow counter [] = Unit {0}
 AreBelow counter (d ∷ ds) = IsBelow counter d.0 × AreBelow counter ds
+
+-- a key that may be the next: a name, a number that a text can write, or one up to the counter
+abbrev pub MayFollow : ℕ → Key → Type 0
+MayFollow counter (spelled name) = Unit {0}
+MayFollow counter (written n) = (n < 2 ^ 32) ⊎ (n ≤ counter)

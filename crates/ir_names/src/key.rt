@@ -1,6 +1,6 @@
 //! What a local, a label or a type is known by (LangRef, "Identifiers").
 ghost use Rattle.std.specs.Prelude.{◌≡◌, IfOk};
-ghost use Rattle.ir_names.specs.Keys.{key_of, number_of};
+ghost use Rattle.ir_names.specs.Keys.{key_of, number_of, IsWritten};
 ghost use Rattle.ir_names.specs.KeyViews.{key};
 
 use crate::number::{decimal_of, is_numeral};
@@ -8,11 +8,12 @@ use ir_read::Name;
 use std::alloc::{AllocError, Global};
 use std::borrow::CowSlice;
 
-/// A name by its bytes, or a number. Bytes that are written without a backslash are borrowed.
+/// A name by its bytes, or a number. Bytes that are written without a backslash are borrowed. A number
+/// that is written is below `2^32`; one that is counted may be past that.
 #[derive(PartialEq, Eq, Hash, Drop)]
 pub enum Key<'a> {
     Spelled(CowSlice<'a, u8, Global>),
-    Written(u32),
+    Written(u64),
 }
 
 /// The number that stands for a name.
@@ -31,10 +32,11 @@ pub fn number_of(name: &Name) -> Option<u32>
 /// What a name is known by.
 #[tactic(auto, unfolding(crate::specs::Keys::key_of))]
 pub fn key_of<'a>(alloc: Global, name: &Name<'a>) -> Result<Key<'a>, AllocError>
-    ensures { IfOk result (λ k. key k ≡ key_of name.now) }
+    ensures exact { IfOk result (λ k. key k ≡ key_of name.now) }
+    ensures written { IfOk result (λ k. IsWritten (key k)) }
 {
     match number_of(name) {
-        Some(n) => Ok(Key::Written(n)),
+        Some(n) => Ok(Key::Written(u64::from(n))),
         None => {
             let text = name.token().content(alloc)?;
             Ok(Key::Spelled(text))

@@ -1,9 +1,9 @@
 //! The locals of a function and the numbers that they get (LangRef, "Identifiers": unnamed values
 //! are numbered by one counter).
 ghost use Rattle.std.specs.Prelude.{◌≡◌, false, ◌++◌, ◌∷◌, [], ◌+◌, ◌<◌, ◌≤◌, ◌^◌, ◌||◌, Ok, Some, None, option_map, option_copied, length};
-ghost use Rattle.ir_names.specs.Keys.{key_of, written};
+ghost use Rattle.ir_names.specs.Keys.{key_of, written, IsWritten};
 ghost use Rattle.ir_names.specs.KeyViews.{key};
-ghost use Rattle.ir_names.specs.Locals.{Known, none_known, place_of, sort_of, stands, is_below, with_key, counted, with_definition, with_name, number_in};
+ghost use Rattle.ir_names.specs.Locals.{Known, none_known, place_of, sort_of, stands, is_below, with_key, counted, with_definition, with_name, number_in, MayFollow};
 ghost use Rattle.ir_names.specs.Settled.{Settles};
 
 use crate::fault::{Fault, FaultKind, ResolveError};
@@ -22,17 +22,17 @@ pub enum Sort {
 
 /// The counter behind a key.
 fn counted(counter: u64, new_key: &Key) -> u64
-    requires { counter ≤ 2 ^ 32 }
-    ensures next { result ≡ counted counter (key new_key.now) }
-    ensures within { result ≤ 2 ^ 32 }
+    requires { counted counter (key new_key.now) < 2 ^ 64 }
+    ensures { result ≡ counted counter (key new_key.now) }
 {
     match new_key {
         Key::Spelled(_) => counter,
-        Key::Written(n) => u64::from(*n) + 1,
+        Key::Written(n) => *n + 1,
     }
 }
 
-/// The definitions of a function so far, in the order of the text, and the counter.
+/// The definitions of a function so far, in the order of the text, and the counter. A number that is
+/// written raises the counter to `2^32` at most, and a definition without a name by one.
 #[derive(Drop)]
 pub struct Locals<'a> {
     map: IndexMap<Key<'a>, Sort>,
@@ -47,10 +47,10 @@ impl<'a> Model for Locals<'a> {
 
     ghost view = { λ l. record { definitions = definitions l.map.entries; counter = l.counter } };
 
-    ghost use Rattle.std.specs.Prelude.{◌≤◌, ◌^◌};
+    ghost use Rattle.std.specs.Prelude.{◌+◌, ◌≤◌, ◌^◌, length};
     ghost use Rattle.ir_names.specs.Locals.{AreBelow};
 
-    ghost invariant = { λ l. AreBelow l.counter (definitions l.map.entries) × (l.counter ≤ 2 ^ 32) };
+    ghost invariant = { λ l. AreBelow l.counter (definitions l.map.entries) × (l.counter ≤ 2 ^ 32 + length (definitions l.map.entries)) };
 }
 
 impl<'a> Locals<'a> {
@@ -79,8 +79,11 @@ impl<'a> Locals<'a> {
     fn push(&mut self, new_key: Key<'a>, sort: Sort) -> Result<(), ResolveError>
         requires free { stands self.old.definitions (key new_key) ≡ false }
         requires above { is_below self.old.counter (key new_key) ≡ false }
+        requires next { MayFollow self.old.counter (key new_key) }
         ensures { Settles (λ _. self.new) result (Ok (with_key self.old (key new_key.entry) sort)) }
     {
+        // there are fewer than 2^63 definitions, so the counter has room for one more
+        let _known = self.map.len();
         let counter = counted(self.counter, &new_key);
         self.map.insert(new_key, sort)?;
         self.counter = counter;
@@ -103,12 +106,13 @@ impl<'a> Locals<'a> {
     {
         match wanted {
             Key::Spelled(_) => false,
-            Key::Written(n) => u64::from(*n) < self.counter,
+            Key::Written(n) => *n < self.counter,
         }
     }
 
     /// A definition under a name on a line.
     fn define_as(&mut self, line: u32, wanted: Key<'a>, sort: Sort) -> Result<(), ResolveError>
+        requires { IsWritten (key wanted) }
         ensures { Settles (λ _. self.new) result (with_definition self.old line (key wanted.entry) sort) }
     {
         if self.is_below(&wanted) || self.stands(&wanted) {
@@ -124,10 +128,8 @@ impl<'a> Locals<'a> {
     fn define_unnamed(&mut self, sort: Sort) -> Result<(), ResolveError>
         ensures { Settles (λ _. self.new) result (Ok (with_key self.old (written self.old.counter) sort)) }
     {
-        match u32::try_from(self.counter) {
-            Err(_) => Err(ResolveError::NoMemory),
-            Ok(n) => self.push(Key::Written(n), sort),
-        }
+        let counter = self.counter;
+        self.push(Key::Written(counter), sort)
     }
 
     /// One more definition, in the order of the text.

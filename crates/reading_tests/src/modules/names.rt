@@ -91,3 +91,43 @@ fn locals_are_numbered_anew(rt: HostRuntime) -> Result<(), AllocError> {
     }
     Ok(())
 }
+
+#[test]
+fn numbers_go_on_behind_the_greatest_that_is_written(rt: HostRuntime) -> Result<(), AllocError> {
+    for (text, want) in [
+        // 2^32 - 1 may be written, as a label too, and no number past it.
+        (
+            "define void @main(i8 %4294967295) {\n  ret void\n}",
+            "define void @main(i8 %0) {\n  ret void\n}\n",
+        ),
+        (
+            "define void @f() {\n4294967295:\n  ret void\n}",
+            "define void @f() {\n  ret void\n}\n",
+        ),
+        (
+            "define void @main(i8 %4294967296) {\n  ret void\n}",
+            "1: number",
+        ),
+        // What has no name takes the numbers behind it, which nothing can be used by.
+        (
+            "declare void @f(i8 %4294967295, i8)",
+            "declare void @f(i8, i8)\n",
+        ),
+        (
+            "define i8 @f(i8 %4294967295) {\n  add i8 1, 2\n  %x = add i8 3, 4\n  sub i8 %x, %4294967295\n  ret i8 %x\n}",
+            "define i8 @f(i8 %0) {\n  %2 = add i8 1, 2\n  %3 = add i8 3, 4\n  %4 = sub i8 %3, %0\n  ret i8 %3\n}\n",
+        ),
+        // Each number that is written later is below the counter.
+        (
+            "define void @f(i8 %4294967295) {\n  %7 = add i8 1, 2\n  ret void\n}",
+            "2: twice",
+        ),
+        (
+            "define void @f(i8 %4294967295) {\n  %4294967295 = add i8 1, 2\n  ret void\n}",
+            "2: twice",
+        ),
+    ] {
+        assert!(rt; shown(rt.alloc(), text)?.as_str() == want);
+    }
+    Ok(())
+}
