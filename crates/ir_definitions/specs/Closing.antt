@@ -1,6 +1,7 @@
 -- The parts of an initialiser in the order of the text, while some aggregates are open.
 use Rattle.std.specs.Prelude.{ℕ, zero, suc, ◌+◌, ◌-◌, nat_eq, if◌then◌else◌, List, [], ◌∷◌, ◌++◌, replicate, Result, Ok}
 use Rattle.ir_read.specs.declared.raw.Init as raw_init
+use Rattle.ir_tree.specs.Forms.{Form}
 use Rattle.ir_tree.specs.Initials.{Initial, tree_of}
 use Rattle.ir_tree.specs.declared.init_node.InitHead.{InitHead}
 use Rattle.ir_tree.specs.declared.init_node.InitHead.TheVariants.{Plain, Zeros, Bytes, Array, Struct}
@@ -43,6 +44,6 @@ finished c ps = c.parts ++ closed c.depth ps
 abbrev pub tree_in : InitHead → Result (List InitPart) Fault → Result Initial Fault
 tree_in root r = r >>= λ parts. Ok (tree_of (root, parts))
 
--- the tree of an initialiser with these locals known
-abbrev pub initial_in : Types → Known → raw_init.Init → Result Initial Fault
-initial_in types locals i = head_in types locals i.root >>= λ root. tree_in root (each (part_in types locals) i.parts)
+-- the tree of an initialiser for this shape with these locals known
+abbrev pub initial_in : Types → Known → Form → raw_init.Init → Result Initial Fault
+initial_in types locals f i = head_in types locals f i.root >>= λ root. tree_in root (each (part_in types locals) i.parts)

@@ -2,7 +2,7 @@
 ghost use Rattle.std.specs.Prelude.{◌≡◌, IfOk};
 ghost use Rattle.ir_lex.specs.Quotes.{content};
 ghost use Rattle.ir_names.specs.Settled.{Settles, each};
-ghost use Rattle.ir_names.specs.Variables.{head_in, part_in};
+ghost use Rattle.ir_names.specs.Variables.{constant_type, constant_for, head_in, part_in};
 ghost use Rattle.ir_names.specs.Variables as definitions;
 ghost use Rattle.ir_definitions.specs.Closing.{tree_in, initial_in};
 ghost use Rattle.ir_tree.specs.Initials.{tree_of, IsFlat};
@@ -10,7 +10,7 @@ ghost use Rattle.ir_tree.specs.Initials.{tree_of, IsFlat};
 use crate::collected::{behind, finish, push};
 use ir_names::{Locals, ResolveError, Types, expanded, operand_in};
 use ir_read::{Init as Written, InitHead as WrittenHead, InitPart as WrittenPart, Name};
-use ir_tree::{Init, InitHead, InitPart, Rows, Text};
+use ir_tree::{Init, InitHead, InitPart, Operand, Reg, Rows, Shape, ShapeNode, Text};
 use std::alloc::{AllocError, Global};
 
 /// The bytes that a string writes.
@@ -21,19 +21,42 @@ fn bytes_of(alloc: Global, string: &Name) -> Result<Text, AllocError>
     Text::copied(alloc, content.as_slice())
 }
 
-/// What an initialiser without parts stands for, or the beginning of one with parts.
+/// The type of a constant for a shape: `i1`, which no shape in memory has, where that is no scalar.
+fn constant_type(shape: &Shape) -> Reg
+    ensures { result ≡ constant_type shape.now }
+{
+    match shape.node() {
+        ShapeNode::Int(width) => Reg::Int(*width),
+        ShapeNode::Ptr => Reg::Ptr,
+        ShapeNode::Array(..) | ShapeNode::Struct(..) => Reg::Int(1),
+    }
+}
+
+/// A constant for a shape, which may be written as a type name: `poison` is of its type.
+fn constant_for(shape: &Shape, constant: Operand) -> Operand
+    ensures { result ≡ constant_for shape.now constant }
+{
+    match constant {
+        Operand::Poison(_) => Operand::Poison(constant_type(shape)),
+        other => other,
+    }
+}
+
+/// What an initialiser for a shape stands for where it has no parts, or the beginning of one with
+/// parts.
 fn head_in<'t, 'a>(
     alloc: Global,
     types: &Types<'t, 'a>,
     locals: &Locals<'a>,
+    shape: &Shape,
     head: &'t WrittenHead<'a>,
 ) -> Result<InitHead, ResolveError>
-    ensures { Settles (λ h. h) result (head_in types.now locals.now head.now) }
+    ensures { Settles (λ h. h) result (head_in types.now locals.now shape.now head.now) }
 {
     match head {
         WrittenHead::Plain(operand) => {
             let operand = operand_in(alloc, types, locals, operand)?;
-            Ok(InitHead::Plain(operand))
+            Ok(InitHead::Plain(constant_for(shape, operand)))
         }
         WrittenHead::Zeros => Ok(InitHead::Zeros),
         WrittenHead::Bytes(string) => {
@@ -57,7 +80,7 @@ fn part_in<'t, 'a>(
     match part {
         WrittenPart::Typed { typed, head } => {
             let shape = expanded(alloc, types, typed)?;
-            let head = head_in(alloc, types, locals, head)?;
+            let head = head_in(alloc, types, locals, &shape, head)?;
             Ok(InitPart::Typed { shape, head })
         }
         WrittenPart::End => Ok(InitPart::End),
@@ -85,29 +108,31 @@ fn parts_in<'t, 'a>(
     Ok(out)
 }
 
-/// What an initialiser stands for, with these locals known.
+/// What an initialiser for a shape stands for, with these locals known.
 #[tactic(auto, using(crate::proofs::Closings::same_tree))]
 fn initial_in<'t, 'a>(
     alloc: Global,
     types: &Types<'t, 'a>,
     locals: &Locals<'a>,
+    shape: &Shape,
     init: &'t Written<'a>,
 ) -> Result<Init, ResolveError>
-    ensures { Settles (λ v. v) result (initial_in types.now locals.now init.now) }
+    ensures { Settles (λ v. v) result (initial_in types.now locals.now shape.now init.now) }
 {
-    let root = head_in(alloc, types, locals, &init.root)?;
+    let root = head_in(alloc, types, locals, shape, &init.root)?;
     let parts = parts_in(alloc, types, locals, &root, init.parts.as_slice())?;
     Ok(Init::of(root, parts))
 }
 
-/// What an initialiser stands for. No local is known in it.
+/// What an initialiser for a shape stands for. No local is known in it.
 pub fn init_in<'t, 'a>(
     alloc: Global,
     types: &Types<'t, 'a>,
+    shape: &Shape,
     init: &'t Written<'a>,
 ) -> Result<Init, ResolveError>
-    ensures { Settles (λ v. v) result (definitions.init_in types.now init.now) }
+    ensures { Settles (λ v. v) result (definitions.init_in types.now shape.now init.now) }
 {
     let locals = Locals::new(alloc);
-    initial_in(alloc, types, &locals, init)
+    initial_in(alloc, types, &locals, shape, init)
 }

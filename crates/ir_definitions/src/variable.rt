@@ -7,21 +7,22 @@ ghost use Rattle.ir_names.specs.Variables as definitions;
 use crate::initialiser::init_in;
 use ir_names::{ResolveError, Types, align_or, expanded, symbol_of};
 use ir_read::{Init as WrittenInit, Variable as Written};
-use ir_tree::{Init, Variable, align_of};
+use ir_tree::{Init, Shape, Variable, align_of};
 use std::alloc::Global;
 
-/// What an initialiser stands for, where one is written.
+/// What an initialiser for a shape stands for, where one is written.
 fn init_if<'t, 'a>(
     alloc: Global,
     types: &Types<'t, 'a>,
+    shape: &Shape,
     init: &'t Option<WrittenInit<'a>>,
 ) -> Result<Option<Init>, ResolveError>
-    ensures { Settles (λ i. i) result (init_if types.now init.now) }
+    ensures { Settles (λ i. i) result (init_if types.now shape.now init.now) }
 {
     match init {
         None => Ok(None),
         Some(init) => {
-            let made = init_in(alloc, types, init)?;
+            let made = init_in(alloc, types, shape, init)?;
             Ok(Some(made))
         }
     }
@@ -37,7 +38,7 @@ pub fn variable_in<'t, 'a>(
     ensures { Settles (λ v. v) result (definitions.variable_in types.now variable.now) }
 {
     let shape = expanded(alloc, types, &variable.typed)?;
-    let init = init_if(alloc, types, &variable.init)?;
+    let init = init_if(alloc, types, &shape, &variable.init)?;
     let symbol = symbol_of(alloc, &variable.name)?;
     let align = align_or(align_of(&shape), variable.align);
     Ok(Variable {

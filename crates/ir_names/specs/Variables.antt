@@ -12,6 +12,11 @@ use Rattle.ir_tree.specs.declared.init_node.InitHead.{InitHead}
 use Rattle.ir_tree.specs.declared.init_node.InitHead.TheVariants as th
 use Rattle.ir_tree.specs.declared.init_node.InitPart.{InitPart}
 use Rattle.ir_tree.specs.declared.init_node.InitPart.TheVariants as tp
+use Rattle.ir_tree.specs.declared.operand.Operand.{Operand}
+use Rattle.ir_tree.specs.declared.operand.Operand.TheVariants as to
+use Rattle.ir_tree.specs.declared.operand.Reg.{Reg}
+use Rattle.ir_tree.specs.declared.operand.Reg.TheVariants.{Int, Ptr}
+use Rattle.ir_tree.specs.Forms.{Form, int, pointer, array, structure}
 use Rattle.ir_tree.specs.Initials.{Initial, tree_of}
 use Rattle.ir_tree.specs.Layout.{align}
 use Rattle.ir_names.specs.declared.fault.Fault.{Fault}
@@ -21,29 +26,41 @@ use Rattle.ir_names.specs.Settled.{◌>>=◌, each}
 use Rattle.ir_names.specs.Symbols.{symbol_of}
 use Rattle.ir_names.specs.Types.{Types, expanded}
 
--- a string is the bytes that it writes
-abbrev pub head_in : Types → Known → raw_head.InitHead → Result InitHead Fault
-head_in types locals (rh.Plain operand) = operand_in types locals operand >>= λ o. Ok (th.Plain o)
-head_in types locals rh.Zeros = Ok th.Zeros
-head_in types locals (rh.Bytes string) = Ok (th.Bytes (content string.kind string.text))
-head_in types locals rh.Array = Ok th.Array
-head_in types locals (rh.Struct packed) = Ok (th.Struct packed)
+-- the type of a constant for a shape: where that is no scalar, i1, which no shape in memory has
+abbrev pub constant_type : Form → Reg
+constant_type (int w) = Int w
+constant_type pointer = Ptr
+constant_type (array n of) = Int 1
+constant_type (structure packed parts) = Int 1
+
+-- poison takes its type from the shape that a name stands for, where a name is written
+abbrev pub constant_for : Form → Operand → Operand
+constant_for f (to.Poison reg) = to.Poison (constant_type f)
+constant_for f x = x
+
+-- what an initialiser for this shape begins with; a string is the bytes that it writes
+abbrev pub head_in : Types → Known → Form → raw_head.InitHead → Result InitHead Fault
+head_in types locals f (rh.Plain operand) = operand_in types locals operand >>= λ o. Ok (th.Plain (constant_for f o))
+head_in types locals f rh.Zeros = Ok th.Zeros
+head_in types locals f (rh.Bytes string) = Ok (th.Bytes (content string.kind string.text))
+head_in types locals f rh.Array = Ok th.Array
+head_in types locals f (rh.Struct packed) = Ok (th.Struct packed)
 
 abbrev pub part_in : Types → Known → raw_part.InitPart → Result InitPart Fault
-part_in types locals (rp.Typed typed head) = expanded types typed >>= λ f. head_in types locals head >>= λ h. Ok (tp.Typed f h)
+part_in types locals (rp.Typed typed head) = expanded types typed >>= λ f. head_in types locals f head >>= λ h. Ok (tp.Typed f h)
 part_in types locals rp.End = Ok tp.End
 
 -- the tree of the parts, none of which is a local
-unfoldable pub init_in : Types → raw_init.Init → Result Initial Fault
-init_in types i =
-    head_in types none_known i.root >>= λ root. each (part_in types none_known) i.parts >>= λ parts. Ok (tree_of (root, parts))
+unfoldable pub init_in : Types → Form → raw_init.Init → Result Initial Fault
+init_in types f i =
+    head_in types none_known f i.root >>= λ root. each (part_in types none_known) i.parts >>= λ parts. Ok (tree_of (root, parts))
 
-abbrev pub init_if : Types → Option raw_init.Init → Result (Option Initial) Fault
-init_if types None = Ok None
-init_if types (Some i) = init_in types i >>= λ v. Ok (Some v)
+abbrev pub init_if : Types → Form → Option raw_init.Init → Result (Option Initial) Fault
+init_if types f None = Ok None
+init_if types f (Some i) = init_in types f i >>= λ v. Ok (Some v)
 
 -- where no alignment is written it is that of the shape
 unfoldable pub variable_in : Types → raw_variable.Variable → Result Variable Fault
 variable_in types v =
-    expanded types v.typed >>= λ f. init_if types v.init >>= λ i.
+    expanded types v.typed >>= λ f. init_if types f v.init >>= λ i.
     Ok (record { symbol = symbol_of v.name; linkage = v.linkage; constant = v.constant; shape = f; init = i; align = align_or (align f) v.align })

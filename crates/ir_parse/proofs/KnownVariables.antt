@@ -20,6 +20,7 @@ use Rattle.ir_tree.specs.declared.init_node.InitHead.TheVariants as th
 use Rattle.ir_tree.specs.declared.init_node.InitPart.{InitPart}
 use Rattle.ir_tree.specs.declared.init_node.InitPart.TheVariants as tp
 use Rattle.ir_tree.specs.declared.operand.Operand.{Operand}
+use Rattle.ir_tree.specs.declared.operand.Operand.TheVariants as to
 use Rattle.ir_tree.specs.declared.operand.Symbol.{Symbol}
 use Rattle.ir_names.specs.Bodies.{align_or}
 use Rattle.ir_names.specs.Locals.{none_known}
@@ -27,7 +28,7 @@ use Rattle.ir_names.specs.Marks.{all, head_marks, init_marks, part_marks, typed_
 use Rattle.ir_names.specs.Settled.{◌>>=◌}
 use Rattle.ir_names.specs.Symbols.{symbol_of}
 use Rattle.ir_names.specs.Types.{Types, expanded}
-use Rattle.ir_names.specs.Variables.{head_in, init_if, init_in, part_in, variable_in}
+use Rattle.ir_names.specs.Variables.{constant_for, head_in, init_if, init_in, part_in, variable_in}
 use Rattle.ir_parse.proofs.Gives.{Gives, gives, bind, bind_each, whatever}
 use Rattle.ir_parse.proofs.Marked.{MarkKnown, MarksKnown, front_of, back_of, each_of}
 use Rattle.ir_parse.proofs.KnownFunctions.{operand_known}
@@ -43,17 +44,21 @@ module _ (known : List Symbol) where
   PartKnown (tp.Typed shape head) = HeadKnown head
   PartKnown tp.End = Unit {0}
 
-  head_known : (types : Types) (h : raw_head.InitHead) → MarksKnown known (head_marks h) → Gives (head_in types none_known h) HeadKnown
-  head_known types (rh.Plain operand) w = bind (IsKnown known) HeadKnown _ _ (operand_known types none_known known operand w) (λ o g. gives HeadKnown (th.Plain o) g)
-  head_known types rh.Zeros w = gives HeadKnown th.Zeros tt
-  head_known types (rh.Bytes string) w = gives HeadKnown (th.Bytes (content string.kind string.text)) tt
-  head_known types rh.Array w = gives HeadKnown th.Array tt
-  head_known types (rh.Struct packed) w = gives HeadKnown (th.Struct packed) tt
+  for_known : (f : Form) (x : Operand) → IsKnown known x → IsKnown known (constant_for f x)
+  for_known f (to.Poison reg) h = tt
+  for_known f x h = h
+
+  head_known : (types : Types) (f : Form) (h : raw_head.InitHead) → MarksKnown known (head_marks h) → Gives (head_in types none_known f h) HeadKnown
+  head_known types f (rh.Plain operand) w = bind (IsKnown known) HeadKnown _ _ (operand_known types none_known known operand w) (λ o g. gives HeadKnown (th.Plain (constant_for f o)) (for_known f o g))
+  head_known types f rh.Zeros w = gives HeadKnown th.Zeros tt
+  head_known types f (rh.Bytes string) w = gives HeadKnown (th.Bytes (content string.kind string.text)) tt
+  head_known types f rh.Array w = gives HeadKnown th.Array tt
+  head_known types f (rh.Struct packed) w = gives HeadKnown (th.Struct packed) tt
 
   part_known : (types : Types) (p : raw_part.InitPart) → MarksKnown known (part_marks p) → Gives (part_in types none_known p) PartKnown
   part_known types (rp.Typed typed head) w =
       bind _ PartKnown _ _ (whatever (expanded types typed)) (λ f _.
-      bind HeadKnown PartKnown _ _ (head_known types head (back_of (MarkKnown known) (uses typed.shape) (head_marks head) w.1)) (λ h g. gives PartKnown (tp.Typed f h) g))
+      bind HeadKnown PartKnown _ _ (head_known types f head (back_of (MarkKnown known) (uses typed.shape) (head_marks head) w.1)) (λ h g. gives PartKnown (tp.Typed f h) g))
   part_known types rp.End w = gives PartKnown tp.End tt
 
   -- ---- the tree of the parts
@@ -97,10 +102,10 @@ module _ (known : List Symbol) where
   abbrev InitialKnown : Initial → Type 0
   InitialKnown v = Each (IsKnown known) (initial_operands v)
 
-  initial_known : (types : Types) (i : raw_init.Init) → MarksKnown known (init_marks (Some i)) → Gives (init_in types i) InitialKnown
+  initial_known : (types : Types) (f : Form) (i : raw_init.Init) → MarksKnown known (init_marks (Some i)) → Gives (init_in types f i) InitialKnown
   unfolding init_in
-  initial_known types i w =
-      bind HeadKnown InitialKnown _ _ (head_known types i.root (front_of (MarkKnown known) (head_marks i.root) (all part_marks i.parts) w)) (λ root h.
+  initial_known types f i w =
+      bind HeadKnown InitialKnown _ _ (head_known types f i.root (front_of (MarkKnown known) (head_marks i.root) (all part_marks i.parts) w)) (λ root h.
       bind (Each PartKnown) InitialKnown _ _
       (bind_each (λ (p : raw_part.InitPart). MarksKnown known (part_marks p)) PartKnown (part_in types none_known) (part_known types) i.parts (each_of known part_marks i.parts (back_of (MarkKnown known) (head_marks i.root) (all part_marks i.parts) w)))
       (λ parts g. gives InitialKnown (tree_of (root, parts)) (tree_known root (levels parts).0 h (levels_known parts g).0)))
@@ -110,10 +115,10 @@ module _ (known : List Symbol) where
   abbrev InitKnown : Option Initial → Type 0
   InitKnown i = All (IsKnown known) (init_operands i)
 
-  init_known : (types : Types) (written : Option raw_init.Init) → MarksKnown known (init_marks written) → Gives (init_if types written) InitKnown
-  init_known types None w = gives InitKnown None (All-nil (IsKnown known))
-  init_known types (Some i) w =
-      bind InitialKnown InitKnown _ _ (initial_known types i w) (λ v h. gives InitKnown (Some v) (All-from_recursion (IsKnown known) (initial_operands v) h))
+  init_known : (types : Types) (f : Form) (written : Option raw_init.Init) → MarksKnown known (init_marks written) → Gives (init_if types f written) InitKnown
+  init_known types f None w = gives InitKnown None (All-nil (IsKnown known))
+  init_known types f (Some i) w =
+      bind InitialKnown InitKnown _ _ (initial_known types f i w) (λ v h. gives InitKnown (Some v) (All-from_recursion (IsKnown known) (initial_operands v) h))
 
   abbrev pub VariableKnown : Variable → Type 0
   VariableKnown v = All (IsKnown known) (init_operands v.init)
@@ -122,11 +127,11 @@ module _ (known : List Symbol) where
   unfolding variable_in
   variable_known types v w =
       bind _ VariableKnown (expanded types v.typed)
-      (λ f. init_if types v.init >>= λ i. Ok (record { symbol = symbol_of v.name; linkage = v.linkage; constant = v.constant; shape = f; init = i; align = align_or (align f) v.align }))
+      (λ f. init_if types f v.init >>= λ i. Ok (record { symbol = symbol_of v.name; linkage = v.linkage; constant = v.constant; shape = f; init = i; align = align_or (align f) v.align }))
       (whatever (expanded types v.typed)) (λ f _.
-      bind InitKnown VariableKnown (init_if types v.init)
+      bind InitKnown VariableKnown (init_if types f v.init)
       (λ i. Ok (record { symbol = symbol_of v.name; linkage = v.linkage; constant = v.constant; shape = f; init = i; align = align_or (align f) v.align }))
-      (init_known types v.init (back_of (MarkKnown known) (uses v.typed.shape) (init_marks v.init) w.1)) (λ i h.
+      (init_known types f v.init (back_of (MarkKnown known) (uses v.typed.shape) (init_marks v.init) w.1)) (λ i h.
       gives VariableKnown (record { symbol = symbol_of v.name; linkage = v.linkage; constant = v.constant; shape = f; init = i; align = align_or (align f) v.align }) h))
 
 -- its symbol is that of its name
@@ -134,9 +139,9 @@ pub variable_symbol : (types : Types) (v : raw_variable.Variable) → Gives (var
 unfolding variable_in
 variable_symbol types v =
     bind _ (λ (r : Variable). r.symbol ≡ symbol_of v.name) (expanded types v.typed)
-    (λ f. init_if types v.init >>= λ i. Ok (record { symbol = symbol_of v.name; linkage = v.linkage; constant = v.constant; shape = f; init = i; align = align_or (align f) v.align }))
+    (λ f. init_if types f v.init >>= λ i. Ok (record { symbol = symbol_of v.name; linkage = v.linkage; constant = v.constant; shape = f; init = i; align = align_or (align f) v.align }))
     (whatever (expanded types v.typed)) (λ f _.
-    bind _ (λ (r : Variable). r.symbol ≡ symbol_of v.name) (init_if types v.init)
+    bind _ (λ (r : Variable). r.symbol ≡ symbol_of v.name) (init_if types f v.init)
     (λ i. Ok (record { symbol = symbol_of v.name; linkage = v.linkage; constant = v.constant; shape = f; init = i; align = align_or (align f) v.align }))
-    (whatever (init_if types v.init)) (λ i _.
+    (whatever (init_if types f v.init)) (λ i _.
     gives (λ (r : Variable). r.symbol ≡ symbol_of v.name) (record { symbol = symbol_of v.name; linkage = v.linkage; constant = v.constant; shape = f; init = i; align = align_or (align f) v.align }) refl))

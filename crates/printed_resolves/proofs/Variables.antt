@@ -9,14 +9,14 @@ use Rattle.ir_lex.specs.declared.token.Kind.TheVariants as kinds
 use Rattle.ir_names.specs.Bodies.{align_or}
 use Rattle.ir_names.specs.Locals.{none_known}
 use Rattle.ir_names.specs.Types.{Types}
-use Rattle.ir_names.specs.Variables.{head_in, part_in, init_in, init_if, variable_in}
+use Rattle.ir_names.specs.Variables.{constant_for, constant_type, head_in, part_in, init_in, init_if, variable_in}
 use Rattle.ir_read.specs.declared.raw.Init as raw_init
 use Rattle.ir_read.specs.declared.raw.InitHead as raw_head
 use Rattle.ir_read.specs.declared.raw.InitHead.TheVariants as rh
 use Rattle.ir_read.specs.declared.raw.InitPart as raw_part
 use Rattle.ir_read.specs.declared.raw.InitPart.TheVariants as rp
 use Rattle.ir_read.specs.declared.raw.Variable as raw_variable
-use Rattle.ir_tree.specs.Forms.{Form}
+use Rattle.ir_tree.specs.Forms.{Form, int, pointer, array, structure}
 use Rattle.ir_tree.specs.Initials.{Initial, Initials, plain, zeros, bytes, elements, members, no_initials, initial, head_of, parts_of, all_parts, tree_of-flat_of}
 use Rattle.ir_tree.specs.Layout.{align}
 use Rattle.ir_tree.specs.Names.{AllBytes}
@@ -28,7 +28,7 @@ use Rattle.ir_tree.specs.declared.init_node.InitHead.TheVariants.{Plain, Zeros, 
 use Rattle.ir_tree.specs.declared.init_node.InitPart.{InitPart}
 use Rattle.ir_tree.specs.declared.init_node.InitPart.TheVariants.{Typed, End}
 use Rattle.ir_tree.specs.declared.operand.Operand.{Operand}
-use Rattle.ir_tree.specs.declared.operand.Operand.TheVariants.{Local, Symbol}
+use Rattle.ir_tree.specs.declared.operand.Operand.TheVariants.{Local, Poison, Symbol}
 use Rattle.ir_tree.specs.declared.operand.Reg.{Reg}
 use Rattle.ir_tree.specs.declared.operand.Symbol as tree_symbol
 use Rattle.printed_modules.specs.Variables.{IsBytes, IsInitHead, IsInitPart, IsInit, IsInitOf, IsVariable, linkage_of}
@@ -57,8 +57,20 @@ HeadFits f (Plain x) = ConstantReadable (type_of (scalar_of (written_shape f))) 
 HeadFits f (Bytes text) = AllBytes text
 HeadFits f h = Unit {0}
 
-head_again : (types : Types) (f : Form) (h : InitHead) (r : raw_head.InitHead) → HeadFits f h → IsInitHead h r → head_in types none_known r ≡ Ok h
-head_again types f (Plain x) (rh.Plain y) h i = bound _ (operand_again types [] (type_of (scalar_of (written_shape f))) x y (as_operand _ x h.0) h.1 i) refl
+-- the type of a constant for a shape is that of the scalar that is printed before it
+pub type_again : (f : Form) → constant_type f ≡ type_of (scalar_of (written_shape f))
+type_again (int w) = refl
+type_again pointer = refl
+type_again (array n of) = refl
+type_again (structure packed parts) = refl
+
+constant_again : (f : Form) (x : Operand) → ConstantReadable (type_of (scalar_of (written_shape f))) x → constant_for f x ≡ x
+constant_again f (Poison reg) h = ap Poison (type_again f ∙ sym h)
+constant_again f x h = refl
+
+head_again : (types : Types) (f : Form) (h : InitHead) (r : raw_head.InitHead) → HeadFits f h → IsInitHead h r → head_in types none_known f r ≡ Ok h
+head_again types f (Plain x) (rh.Plain y) h i =
+    bound _ (operand_again types [] (type_of (scalar_of (written_shape f))) x y (as_operand _ x h.0) h.1 i) (ap (λ (o : Operand). Ok (Plain o)) (constant_again f x h.0))
 head_again types f Zeros rh.Zeros h i = refl
 head_again types f (Bytes text) (rh.Bytes string) h i = ap (λ (cs : List ℕ). Ok (Bytes cs)) (string_again text string h i)
 head_again types f Array rh.Array h i = refl
@@ -97,13 +109,13 @@ mutual
 
 -- ---- initialisers
 
-initial_again : (types : Types) (f : Form) (v : Initial) (i : raw_init.Init) → InitialReadable f v → InitialKnown v → IsInit v i → init_in types i ≡ Ok v
+initial_again : (types : Types) (f : Form) (v : Initial) (i : raw_init.Init) → InitialReadable f v → InitialKnown v → IsInit v i → init_in types f i ≡ Ok v
 unfolding init_in
 initial_again types f v i h k p =
     bound _ (head_again types f (head_of v) i.root (head_fits f v h k) p.root)
     (bound _ (each_of (part_in types none_known) IsInitPart PartFits (λ a b c d. part_again types a b c d) (parts_of v []) i.parts (parts_fit f v h k [] tt) p.parts) (ap (λ (t : Initial). Ok t) (tree_of-flat_of v)))
 
-init_again : (types : Types) (f : Form) (v : Option Initial) (i : Option raw_init.Init) → InitReadable f v → InitKnown v → IsInitOf v i → init_if types i ≡ Ok v
+init_again : (types : Types) (f : Form) (v : Option Initial) (i : Option raw_init.Init) → InitReadable f v → InitKnown v → IsInitOf v i → init_if types f i ≡ Ok v
 init_again types f None None h k p = refl
 init_again types f (Some v) (Some i) h k p = bound _ (initial_again types f v i h k p) refl
 init_again types f v i h k p = absurd p

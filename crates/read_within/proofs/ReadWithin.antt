@@ -14,7 +14,7 @@ use Rattle.ir_names.specs.Locals.{Known, none_known}
 use Rattle.ir_names.specs.Numbering.{locals_of}
 use Rattle.ir_names.specs.Settled.{◌>>=◌, each}
 use Rattle.ir_names.specs.Types.{Types, expanded}
-use Rattle.ir_names.specs.Variables.{head_in, part_in, init_in, init_if, variable_in}
+use Rattle.ir_names.specs.Variables.{constant_for, head_in, part_in, init_in, init_if, variable_in}
 use Rattle.ir_names.specs.declared.block.Body.{Body}
 use Rattle.ir_names.specs.declared.fault.Fault.{Fault}
 use Rattle.ir_names.specs.declared.groups.Groups.{Groups}
@@ -47,6 +47,8 @@ use Rattle.ir_tree.specs.declared.init_node.InitPart.TheVariants as tp
 use Rattle.ir_tree.specs.declared.instr.Line.{Line}
 use Rattle.ir_tree.specs.declared.module.GlobalValue.{GlobalValue}
 use Rattle.ir_tree.specs.declared.module.GlobalValue.TheVariants as globals
+use Rattle.ir_tree.specs.declared.operand.Operand.{Operand}
+use Rattle.ir_tree.specs.declared.operand.Operand.TheVariants as to
 use Rattle.printed_modules.specs.Bodies.{instructions, stated}
 use Rattle.printed_modules.specs.ModulesReadable.{LayoutReadable}
 use Rattle.spelled_within.specs.Laws.{ContentsAreBytes, ItemsAreWithin, TokensAreCut}
@@ -169,18 +171,23 @@ module _ (types : Types) where
   headed_fit th.Array vs b h = h
   headed_fit (th.Struct packed) vs b h = h
 
-  head_fits : (r : raw_head.InitHead) (h : InitHead) → head_in types none_known r ≡ Ok h → HeadFits h
-  head_fits (rh.Plain operand) h e = let x = took (operand_in types none_known operand) (λ o. Ok (th.Plain o)) h e in subst HeadFits (one x.2) (operand_fits types none_known operand x.0 x.1)
-  head_fits rh.Zeros h e = subst HeadFits (one e) tt
-  head_fits (rh.Bytes string) h e = subst HeadFits (one e) tt
-  head_fits rh.Array h e = subst HeadFits (one e) tt
-  head_fits (rh.Struct packed) h e = subst HeadFits (one e) tt
+  for_fits : (f : Form) (x : Operand) → OffsetFits x → OffsetFits (constant_for f x)
+  for_fits f (to.Poison reg) h = tt
+  for_fits f x h = h
+
+  head_fits : (f : Form) (r : raw_head.InitHead) (h : InitHead) → head_in types none_known f r ≡ Ok h → HeadFits h
+  head_fits f (rh.Plain operand) h e =
+      let x = took (operand_in types none_known operand) (λ o. Ok (th.Plain (constant_for f o))) h e in subst HeadFits (one x.2) (for_fits f x.0 (operand_fits types none_known operand x.0 x.1))
+  head_fits f rh.Zeros h e = subst HeadFits (one e) tt
+  head_fits f (rh.Bytes string) h e = subst HeadFits (one e) tt
+  head_fits f rh.Array h e = subst HeadFits (one e) tt
+  head_fits f (rh.Struct packed) h e = subst HeadFits (one e) tt
 
   part_fits : (r : raw_part.InitPart) (p : InitPart) → part_in types none_known r ≡ Ok p → PartFits p
   part_fits (rp.Typed typed head) p e =
-      let f = took (expanded types typed) (λ f. head_in types none_known head >>= λ h. Ok (tp.Typed f h)) p e in
-      let h = took (head_in types none_known head) (λ h. Ok (tp.Typed f.0 h)) p f.2 in
-      subst PartFits (one h.2) (head_fits head h.0 h.1)
+      let f = took (expanded types typed) (λ f. head_in types none_known f head >>= λ h. Ok (tp.Typed f h)) p e in
+      let h = took (head_in types none_known f.0 head) (λ h. Ok (tp.Typed f.0 h)) p f.2 in
+      subst PartFits (one h.2) (head_fits f.0 head h.0 h.1)
   part_fits rp.End p e = subst PartFits (one e) tt
 
   parts_fit : (rs : List raw_part.InitPart) (ps : List InitPart) → each (part_in types none_known) rs ≡ Ok ps → Each PartFits ps
@@ -190,22 +197,22 @@ module _ (types : Types) where
       let more = took (each (part_in types none_known) rs) (λ more. Ok (p.0 ∷ more)) ps p.2 in
       subst (Each PartFits) (one more.2) (part_fits r p.0 p.1, parts_fit rs more.0 more.1)
 
-  init_fits : (i : Option raw_init.Init) (v : Option Initial) → init_if types i ≡ Ok v → Each OffsetFits (init_operands v)
+  init_fits : (f : Form) (i : Option raw_init.Init) (v : Option Initial) → init_if types f i ≡ Ok v → Each OffsetFits (init_operands v)
   unfolding init_in
-  init_fits None v e = subst (λ (x : Option Initial). Each OffsetFits (init_operands x)) (one e) tt
-  init_fits (Some i) v e =
-      let tree = took (init_in types i) (λ x. Ok (Some x)) v e in
-      let root = took (head_in types none_known i.root) (λ root. each (part_in types none_known) i.parts >>= λ parts. Ok (tree_of (root, parts))) tree.0 tree.1 in
+  init_fits f None v e = subst (λ (x : Option Initial). Each OffsetFits (init_operands x)) (one e) tt
+  init_fits f (Some i) v e =
+      let tree = took (init_in types f i) (λ x. Ok (Some x)) v e in
+      let root = took (head_in types none_known f i.root) (λ root. each (part_in types none_known) i.parts >>= λ parts. Ok (tree_of (root, parts))) tree.0 tree.1 in
       let parts = took (each (part_in types none_known) i.parts) (λ parts. Ok (tree_of (root.0, parts))) tree.0 root.2 in
       subst (λ (x : Option Initial). Each OffsetFits (init_operands x)) (one tree.2)
-      (subst (λ (x : Initial). Each OffsetFits (initial_operands x)) (one parts.2) (headed_fit root.0 (levels parts.0).0 (head_fits i.root root.0 root.1) (levels_fit parts.0 (parts_fit i.parts parts.0 parts.1)).0))
+      (subst (λ (x : Initial). Each OffsetFits (initial_operands x)) (one parts.2) (headed_fit root.0 (levels parts.0).0 (head_fits f i.root root.0 root.1) (levels_fit parts.0 (parts_fit i.parts parts.0 parts.1)).0))
 
   variable_within : TypesCounted types → (r : raw_variable.Variable) (v : Variable) → Counted r.typed.shape → variable_in types r ≡ Ok v → VariableWithin v
   unfolding variable_in
   variable_within t r v c e =
-      let f = took (expanded types r.typed) (λ f. init_if types r.init >>= λ i. Ok (read_variable r f i)) v e in
-      let i = took (init_if types r.init) (λ i. Ok (read_variable r f.0 i)) v f.2 in
-      subst VariableWithin (one i.2) (record { counts = expanded_counts types r.typed f.0 t c f.1; offsets = All-from_recursion OffsetFits _ (init_fits r.init i.0 i.1) })
+      let f = took (expanded types r.typed) (λ f. init_if types f r.init >>= λ i. Ok (read_variable r f i)) v e in
+      let i = took (init_if types f.0 r.init) (λ i. Ok (read_variable r f.0 i)) v f.2 in
+      subst VariableWithin (one i.2) (record { counts = expanded_counts types r.typed f.0 t c f.1; offsets = All-from_recursion OffsetFits _ (init_fits f.0 r.init i.0 i.1) })
 
   -- ---- values
 
@@ -227,8 +234,8 @@ module _ (types : Types) where
     variable_named : (r : raw_variable.Variable) (v : Variable) → NameSpelled r.name → variable_in types r ≡ Ok v → NameWithin v.symbol
     unfolding variable_in
     variable_named r v n e =
-        let f = took (expanded types r.typed) (λ f. init_if types r.init >>= λ i. Ok (read_variable r f i)) v e in
-        let i = took (init_if types r.init) (λ i. Ok (read_variable r f.0 i)) v f.2 in
+        let f = took (expanded types r.typed) (λ f. init_if types f r.init >>= λ i. Ok (read_variable r f i)) v e in
+        let i = took (init_if types f.0 r.init) (λ i. Ok (read_variable r f.0 i)) v f.2 in
         subst (λ (x : Variable). NameWithin x.symbol) (one i.2) n
 
     no_value : (i : Item) → count_of i ≡ 0 → (o : Option GlobalValue) → ◌≡◌ {A = Result (Option GlobalValue) Fault} (Ok None) (Ok o) → ValueRight i o

@@ -1,4 +1,4 @@
--- Shapes that expand are within the limits.
+-- Shapes that expand are within the limits, and types of constants for them are those of registers.
 use Rattle.std.proofs.Common.{◌≡◌, ℕ, zero, suc, ◌+◌, ◌^◌, ◌≤◌, nat_le, nat_eq, Bool, true, false, List, [], ◌∷◌, length, Option, Some, None, Result, Ok, Err, refl, subst, arith, if◌then◌else◌}
 use Rattle.std.specs.List.{AllByRecursion as Each}
 use Rattle.std.proofs.lemmas.Bool.{and_parts, leb-true}
@@ -8,7 +8,7 @@ use Rattle.ir_read.specs.Shapes as w
 use Rattle.ir_read.specs.Shapes.{Written, WrittenParts}
 use Rattle.ir_read.specs.declared.shape.Typed.{Typed}
 use Rattle.ir_tree.specs.Forms.{Form, int, pointer, array, structure, forms_of}
-use Rattle.ir_tree.specs.Formed.{AreStored, AllStored, IsStored, IsShape, nesting, deepest}
+use Rattle.ir_tree.specs.Formed.{AreStored, AllStored, IsReg, IsStored, IsShape, IsWidth, nesting, deepest}
 use Rattle.ir_tree.specs.Layout.{IsLaidOut, AreLaidOut, size}
 use Rattle.ir_names.specs.declared.fault.Fault.{Fault}
 use Rattle.ir_names.specs.Bodies.{allocated}
@@ -18,7 +18,8 @@ use Rattle.ir_names.specs.Settled.{each}
 use Rattle.ir_names.specs.Types.{Types, limit, or_unknown, entry_of, entry_in, shape_in, head_from, head_of, is_width, scalar, within, opened, without_parts, expand, expanded, array_of}
 use Rattle.resolved_forms.specs.Laws.{ShapesAreWithin}
 use Rattle.resolved_forms.specs.Written.{ShapeWritten, PartsWritten, TypeWritten, TypesWritten}
-use Rattle.resolved_forms.proofs.Gives.{Gives, gives, fails, bind, bind_each}
+use Rattle.ir_names.specs.Variables.{constant_type}
+use Rattle.resolved_forms.proofs.Gives.{Gives, gives, fails, bind, bind_each, whatever}
 
 -- ---- what a name stands for is written so too
 
@@ -153,3 +154,50 @@ module _ (types : Types) (are : TypesWritten types) where
 
 pub shapes_within : ShapesAreWithin
 shapes_within types typed shape are h e = (expands types are typed h).given shape e
+
+-- ---- types of constants for shapes that expand, whatever is written
+
+abbrev IsTyped : Form → Type 0
+IsTyped f = IsReg (constant_type f)
+
+one_bit : IsWidth 1
+one_bit = (omega arith, omega arith)
+
+scalar_typed : (line width : ℕ) → Gives (scalar line width) IsTyped
+scalar_typed line width = by (is_width width) refl
+  where
+    by : (b : Bool) → is_width width ≡ b → Gives (if b then Ok (int width) else Err (limit line)) IsTyped
+    by true e =
+        let both : (nat_le 8 width ≡ true) × (nat_le width 64 ≡ true) = and_parts (nat_le 8 width) (nat_le width 64) e in
+        let low : 8 ≤ width = leb-true 8 width both.0 in gives IsTyped (int width) (omega (arith, low), leb-true width 64 both.1)
+    by false e = fails IsTyped (limit line)
+
+within_typed : (line : ℕ) (f : Form) → IsTyped f → Gives (within line f) IsTyped
+within_typed line f h = by (nat_le (size f) (2 ^ 31))
+  where
+    by : (b : Bool) → Gives (if b then Ok f else Err (limit line)) IsTyped
+    by true = gives IsTyped f h
+    by false = fails IsTyped (limit line)
+
+leaf_typed : (line : ℕ) (s : Written) → Gives (without_parts line s) IsTyped
+leaf_typed line (w.int width) = scalar_typed line width
+leaf_typed line w.pointer = gives IsTyped pointer tt
+leaf_typed line (w.array count of) = fails IsTyped (limit line)
+leaf_typed line (w.structure packed parts) = fails IsTyped (limit line)
+leaf_typed line (w.named name) = fails IsTyped (unknown name.line)
+
+level_typed : (line : ℕ) (inner : Written → Result Form Fault) (s : Written) → Gives (opened inner line s) IsTyped
+level_typed line inner (w.int width) = scalar_typed line width
+level_typed line inner w.pointer = gives IsTyped pointer tt
+level_typed line inner (w.array count of) = bind _ IsTyped (inner of) (λ f. within line (array count f)) (whatever (inner of)) (λ f _. within_typed line (array count f) one_bit)
+level_typed line inner (w.structure packed parts) =
+    bind _ IsTyped (each inner (w.list_of parts)) (λ fs. within line (structure packed (forms_of fs))) (whatever (each inner (w.list_of parts))) (λ fs _. within_typed line (structure packed (forms_of fs)) one_bit)
+level_typed line inner (w.named name) = fails IsTyped (unknown name.line)
+
+expands_typed : (types : Types) (n line : ℕ) (s : Written) → Gives (expand n types line s) IsTyped
+expands_typed types zero line s = bind _ IsTyped (head_of types s) (λ t. without_parts line t) (whatever (head_of types s)) (λ t _. leaf_typed line t)
+expands_typed types (suc n) line s = bind _ IsTyped (head_of types s) (λ t. opened (expand n types line) line t) (whatever (head_of types s)) (λ t _. level_typed line (expand n types line) t)
+
+pub constant_typed : (types : Types) (typed : Typed) → Gives (expanded types typed) (λ f. IsReg (constant_type f))
+unfolding expanded
+constant_typed types typed = record { given = λ f e. (expands_typed types 32 typed.line typed.shape).given f e }

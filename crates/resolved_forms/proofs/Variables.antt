@@ -1,5 +1,5 @@
 -- Variables whose names resolve are formed.
-use Rattle.std.proofs.Common.{◌≡◌, ℕ, List, [], ◌∷◌, ◌++◌, Option, Some, None, Ok, refl}
+use Rattle.std.proofs.Common.{◌≡◌, ℕ, ◌≤◌, List, [], ◌∷◌, ◌++◌, Option, Some, None, Ok, refl, arith}
 use Rattle.std.specs.Prelude.{All}
 use Rattle.std.specs.List.{AllByRecursion as Each}
 use Rattle.std.proofs.lemmas.List.Elements.{All-from_recursion, All-nil, recursion_from_All}
@@ -11,8 +11,8 @@ use Rattle.ir_read.specs.declared.raw.InitPart as raw_part
 use Rattle.ir_read.specs.declared.raw.InitPart.TheVariants as rp
 use Rattle.ir_read.specs.declared.raw.Operand as raw_operand
 use Rattle.ir_read.specs.declared.raw.Operand.TheVariants as ro
-use Rattle.ir_tree.specs.Formed.{IsShape}
-use Rattle.ir_tree.specs.Forms.{Form}
+use Rattle.ir_tree.specs.Formed.{IsReg, IsShape}
+use Rattle.ir_tree.specs.Forms.{Form, int, pointer, array, structure}
 use Rattle.ir_tree.specs.Initials.{Initial, Initials, Levels, around, begun, headed, levels, read, tree_of}
 use Rattle.ir_tree.specs.Layout.{align}
 use Rattle.ir_tree.specs.Wholes.{ConstantFormed, VariableFormed, all_operands, init_operands, initial_operands}
@@ -29,12 +29,12 @@ use Rattle.ir_names.specs.Locals.{none_known}
 use Rattle.ir_names.specs.Settled.{◌>>=◌}
 use Rattle.ir_names.specs.Symbols.{symbol_of}
 use Rattle.ir_names.specs.Types.{Types, expanded}
-use Rattle.ir_names.specs.Variables.{head_in, init_if, init_in, part_in, variable_in}
+use Rattle.ir_names.specs.Variables.{constant_for, constant_type, head_in, init_if, init_in, part_in, variable_in}
 use Rattle.resolved_forms.specs.Laws.{VariablesAreFormed}
 use Rattle.resolved_forms.specs.Written.{HeadWritten, InitWritten, OperandWritten, PartWritten}
 use Rattle.resolved_forms.proofs.Alignments.{aligned, shape_align}
 use Rattle.resolved_forms.proofs.Gives.{Gives, gives, bind, bind_each, whatever}
-use Rattle.resolved_forms.proofs.Shapes.{expands}
+use Rattle.resolved_forms.proofs.Shapes.{constant_typed, expands}
 use Rattle.resolved_forms.proofs.Uses.{IsPlace, used}
 
 -- ---- what stands in an initialiser
@@ -59,16 +59,27 @@ abbrev PartFormed : InitPart → Type 0
 PartFormed (tp.Typed shape head) = HeadFormed head
 PartFormed tp.End = Unit {0}
 
-head_formed : (types : Types) (h : raw_head.InitHead) → HeadWritten h → Gives (head_in types none_known h) HeadFormed
-head_formed types (rh.Plain operand) w = bind ConstantFormed HeadFormed _ _ (constant_formed types operand w) (λ o g. gives HeadFormed (th.Plain o) g)
-head_formed types rh.Zeros w = gives HeadFormed th.Zeros tt
-head_formed types (rh.Bytes string) w = gives HeadFormed (th.Bytes (content string.kind string.text)) tt
-head_formed types rh.Array w = gives HeadFormed th.Array tt
-head_formed types (rh.Struct packed) w = gives HeadFormed (th.Struct packed) tt
+-- poison takes the type of the shape
+shape_typed : (f : Form) → IsShape f → IsReg (constant_type f)
+shape_typed (int w) s = let low : 8 ≤ w = s.sized.0 in (omega (arith, low), s.sized.1)
+shape_typed pointer s = tt
+shape_typed (array n of) s = (omega arith, omega arith)
+shape_typed (structure packed parts) s = (omega arith, omega arith)
+
+for_formed : (f : Form) → IsReg (constant_type f) → (x : Operand) → ConstantFormed x → ConstantFormed (constant_for f x)
+for_formed f t (to.Poison reg) h = t
+for_formed f t x h = h
+
+head_formed : (types : Types) (f : Form) → IsReg (constant_type f) → (h : raw_head.InitHead) → HeadWritten h → Gives (head_in types none_known f h) HeadFormed
+head_formed types f t (rh.Plain operand) w = bind ConstantFormed HeadFormed _ _ (constant_formed types operand w) (λ o g. gives HeadFormed (th.Plain (constant_for f o)) (for_formed f t o g))
+head_formed types f t rh.Zeros w = gives HeadFormed th.Zeros tt
+head_formed types f t (rh.Bytes string) w = gives HeadFormed (th.Bytes (content string.kind string.text)) tt
+head_formed types f t rh.Array w = gives HeadFormed th.Array tt
+head_formed types f t (rh.Struct packed) w = gives HeadFormed (th.Struct packed) tt
 
 part_formed : (types : Types) (p : raw_part.InitPart) → PartWritten p → Gives (part_in types none_known p) PartFormed
 part_formed types (rp.Typed typed head) w =
-    bind _ PartFormed _ _ (whatever (expanded types typed)) (λ f _. bind HeadFormed PartFormed _ _ (head_formed types head w) (λ h g. gives PartFormed (tp.Typed f h) g))
+    bind (λ f. IsReg (constant_type f)) PartFormed _ _ (constant_typed types typed) (λ f t. bind HeadFormed PartFormed _ _ (head_formed types f t head w) (λ h g. gives PartFormed (tp.Typed f h) g))
 part_formed types rp.End w = gives PartFormed tp.End tt
 
 -- ---- the tree of the parts
@@ -112,10 +123,10 @@ tree_constant (th.Struct packed) vs h g = g
 abbrev InitialFormed : Initial → Type 0
 InitialFormed v = Each ConstantFormed (initial_operands v)
 
-initial_formed : (types : Types) (i : raw_init.Init) → InitWritten (Some i) → Gives (init_in types i) InitialFormed
+initial_formed : (types : Types) (f : Form) → IsReg (constant_type f) → (i : raw_init.Init) → InitWritten (Some i) → Gives (init_in types f i) InitialFormed
 unfolding init_in
-initial_formed types i w =
-    bind HeadFormed InitialFormed _ _ (head_formed types i.root w.0) (λ root h.
+initial_formed types f t i w =
+    bind HeadFormed InitialFormed _ _ (head_formed types f t i.root w.0) (λ root h.
     bind (Each PartFormed) InitialFormed _ _ (bind_each PartWritten PartFormed (part_in types none_known) (part_formed types) i.parts (recursion_from_All PartWritten i.parts w.1)) (λ parts g.
     gives InitialFormed (tree_of (root, parts)) (tree_constant root (levels parts).0 h (levels_constant parts g).0)))
 
@@ -125,19 +136,19 @@ initial_formed types i w =
 abbrev InitFormed : Option raw_init.Init → Option Initial → Type 0
 InitFormed written i = All ConstantFormed (init_operands i) × (i ≡ None → written ≡ None)
 
-init_formed : (types : Types) (written : Option raw_init.Init) → InitWritten written → Gives (init_if types written) (InitFormed written)
-init_formed types None w = gives (InitFormed None) None (All-nil ConstantFormed, λ e. refl)
-init_formed types (Some i) w =
-    bind InitialFormed (InitFormed (Some i)) _ _ (initial_formed types i w) (λ v h. gives (InitFormed (Some i)) (Some v) (All-from_recursion ConstantFormed (initial_operands v) h, λ e. absurd cc))
+init_formed : (types : Types) (f : Form) → IsReg (constant_type f) → (written : Option raw_init.Init) → InitWritten written → Gives (init_if types f written) (InitFormed written)
+init_formed types f t None w = gives (InitFormed None) None (All-nil ConstantFormed, λ e. refl)
+init_formed types f t (Some i) w =
+    bind InitialFormed (InitFormed (Some i)) _ _ (initial_formed types f t i w) (λ v h. gives (InitFormed (Some i)) (Some v) (All-from_recursion ConstantFormed (initial_operands v) h, λ e. absurd cc))
 
 pub variables_formed : VariablesAreFormed
 unfolding variable_in
 variables_formed types v resolved are w e =
     (bind IsShape VariableFormed (expanded types v.typed)
-    (λ f. init_if types v.init >>= λ i. Ok (record { symbol = symbol_of v.name; linkage = v.linkage; constant = v.constant; shape = f; init = i; align = align_or (align f) v.align }))
+    (λ f. init_if types f v.init >>= λ i. Ok (record { symbol = symbol_of v.name; linkage = v.linkage; constant = v.constant; shape = f; init = i; align = align_or (align f) v.align }))
     (expands types are v.typed w.shape) (λ f g.
-    bind (InitFormed v.init) VariableFormed (init_if types v.init)
+    bind (InitFormed v.init) VariableFormed (init_if types f v.init)
     (λ i. Ok (record { symbol = symbol_of v.name; linkage = v.linkage; constant = v.constant; shape = f; init = i; align = align_or (align f) v.align }))
-    (init_formed types v.init w.init) (λ i h.
+    (init_formed types f (shape_typed f g) v.init w.init) (λ i h.
     gives VariableFormed (record { symbol = symbol_of v.name; linkage = v.linkage; constant = v.constant; shape = f; init = i; align = align_or (align f) v.align })
     (record { shape = g; align = aligned (align f) v.align (shape_align f g.stored) w.align; operands = h.0; declared = λ none. w.declared (h.1 none) })))).given resolved e
