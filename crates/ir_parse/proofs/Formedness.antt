@@ -114,7 +114,7 @@ module _ (functions : FunctionsAreFormed) (variables : VariablesAreFormed) (line
   value_good (item.Attributes group noinline optnone) w h = gives (Good known (item.Attributes group noinline optnone)) None (nothing_good known (item.Attributes group noinline optnone) refl refl)
   value_good (item.Type name typed) w h = gives (Good known (item.Type name typed)) None (nothing_good known (item.Type name typed) refl refl)
   value_good (item.Variable v) w h =
-      bind (VariableGood v) (Good known (item.Variable v)) (variable_in types v) (λ t. Ok (Some (global.Variable t))) (variable_good v w h.1) (λ t g.
+      bind (VariableGood v) (Good known (item.Variable v)) (variable_in types v) (λ t. Ok (Some (global.Variable t))) (variable_good v w.0 h.1) (λ t g.
       gives (Good known (item.Variable v)) (Some (global.Variable t))
       (record { formed = g.formed; named = λ gs. ap (λ s. s ∷ symbols gs) g.symbol; used = g.used; lined = refl }))
   value_good (item.Declaration head) w h =

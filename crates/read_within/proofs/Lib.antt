@@ -3,3 +3,4 @@ pub mod Counts
 pub mod TypesCounted
 pub mod Resolving
 pub mod ReadWithin
+pub mod ReadTyped

@@ -4,3 +4,4 @@ pub mod Readable
 pub mod Behind
 pub mod Pieces
 pub mod Writable
+pub mod Typed

@@ -12,6 +12,7 @@ use Rattle.ir_read.specs.Literals.{literal}
 use Rattle.ir_read.specs.ShapeForms.{memory_shape}
 use Rattle.ir_read.specs.Shapes as written
 use Rattle.ir_read.specs.Shapes.{Written}
+use Rattle.ir_read.specs.declared.raw.InitPart.{InitPart}
 use Rattle.ir_read.specs.declared.raw.InitPart.TheVariants as init_parts
 use Rattle.ir_read.specs.declared.raw.Operand.{Operand}
 use Rattle.ir_read.specs.declared.raw.Operand.TheVariants as operands
@@ -19,6 +20,7 @@ use Rattle.ir_tree.specs.Formed.{IsReg, IsResult}
 use Rattle.ir_tree.specs.declared.operand.Reg.{Reg}
 use Rattle.ir_tree.specs.declared.operand.Reg.TheVariants.{Int, Ptr}
 use Rattle.resolved_forms.specs.Written.{HeadWritten, InitWritten, OperandWritten, PartWritten, ShapeWritten}
+use Rattle.spelled_forms.specs.Items.{InitShaped, PartShaped}
 use Rattle.spelled_forms.proofs.Instructions.{stored_width}
 use Rattle.spelled_forms.proofs.Means.{Means, among_means, chain_means, either_means, follow, nothing, pushed, skip, valued_means}
 use Rattle.spelled_forms.proofs.Operands.{address_written, literal_fits, mapped, one_bit}
@@ -104,33 +106,47 @@ part_shape_written : (first : Bool) → Means (part_shape memory_shape first) Ty
 part_shape_written true = shape_written
 part_shape_written false = skip _ (λ _. shape_written)
 
-part_written : (first : Bool) → Means (part memory_shape first) (λ p. HeadWritten p.1)
+part_written : (first : Bool) → Means (part memory_shape first) (λ p. ShapeWritten p.0.shape × HeadWritten p.1)
 unfolding part
-part_written first = follow (part_shape_written first) (λ typed h. follow (beginning_written (scalar_of typed.shape) (scalar_written typed.shape h)) (λ head g. nothing g))
+part_written first = follow (part_shape_written first) (λ typed h. follow (beginning_written (scalar_of typed.shape) (scalar_written typed.shape h)) (λ head g. nothing (h, g)))
 
-begun_written : (first : Bool) (open_ones : List Aggregate) → Means (begun memory_shape first open_ones) (λ x. PartWritten x.0)
+-- a part is written, and its shape
+abbrev PartRight : InitPart → Type 0
+PartRight p = PartWritten p × PartShaped p
+
+begun_written : (first : Bool) (open_ones : List Aggregate) → Means (begun memory_shape first open_ones) (λ x. PartRight x.0)
 unfolding begun
-begun_written first open_ones = follow (part_written first) (λ p h. nothing h)
+begun_written first open_ones = follow (part_written first) (λ p h. nothing (h.1, h.0))
 
-closed_written : (inner : Aggregate) (outer : List Aggregate) → Means (closed inner outer) (λ x. PartWritten x.0)
+closed_written : (inner : Aggregate) (outer : List Aggregate) → Means (closed inner outer) (λ x. PartRight x.0)
 unfolding closed
-closed_written inner outer = skip _ (λ _. nothing tt)
+closed_written inner outer = skip _ (λ _. nothing (tt, tt))
 
-piece_written : (first : Bool) (open_ones : List Aggregate) → Means (piece memory_shape first open_ones) (λ x. PartWritten x.0)
+piece_written : (first : Bool) (open_ones : List Aggregate) → Means (piece memory_shape first open_ones) (λ x. PartRight x.0)
 piece_written first [] = begun_written first []
 piece_written first (inner ∷ outer) = either_means (closed_written inner outer) (begun_written first (inner ∷ outer))
 
-listed_written : Means (listed memory_shape) (Each PartWritten)
-listed_written = chain_means {P = PartWritten} (true, []) (λ s. piece_written s.0 s.1)
+listed_written : Means (listed memory_shape) (Each PartRight)
+listed_written = chain_means {P = PartRight} (true, []) (λ s. piece_written s.0 s.1)
 
-parts_written : (whole : Aggregate) → Means (parts memory_shape whole) (Each PartWritten)
+parts_written : (whole : Aggregate) → Means (parts memory_shape whole) (Each PartRight)
 unfolding parts
-parts_written whole = follow listed_written (λ ps h. skip _ (λ _. nothing (pushed PartWritten ps init_parts.End h tt)))
+parts_written whole = follow listed_written (λ ps h. skip _ (λ _. nothing (pushed PartRight ps init_parts.End h (tt, tt))))
 
-behind_written : (whole : Option Aggregate) → Means (behind memory_shape whole) (Each PartWritten)
+behind_written : (whole : Option Aggregate) → Means (behind memory_shape whole) (Each PartRight)
 behind_written None = nothing tt
 behind_written (Some whole) = parts_written whole
 
-pub initialiser_written : (scalar : Option Reg) → IsResult scalar → Means (initialiser memory_shape scalar) (λ i. InitWritten (Some i))
+written_of : (ps : List InitPart) → Each PartRight ps → Each PartWritten ps
+written_of [] h = tt
+written_of (p ∷ ps) h = (h.0.0, written_of ps h.1)
+
+shaped_of : (ps : List InitPart) → Each PartRight ps → Each PartShaped ps
+shaped_of [] h = tt
+shaped_of (p ∷ ps) h = (h.0.1, shaped_of ps h.1)
+
+pub initialiser_written : (scalar : Option Reg) → IsResult scalar → Means (initialiser memory_shape scalar) (λ i. InitWritten (Some i) × InitShaped (Some i))
 unfolding initialiser
-initialiser_written scalar h = follow (beginning_written scalar h) (λ root g. follow (behind_written (aggregate_of root)) (λ ps k. nothing (g, All-from_recursion PartWritten ps k)))
+initialiser_written scalar h =
+    follow (beginning_written scalar h) (λ root g.
+    follow (behind_written (aggregate_of root)) (λ ps k. nothing ((g, All-from_recursion PartWritten ps (written_of ps k)), shaped_of ps k)))

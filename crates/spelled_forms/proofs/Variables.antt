@@ -13,7 +13,7 @@ use Rattle.ir_tree.specs.declared.function.Linkage.{Linkage}
 use Rattle.ir_tree.specs.declared.function.Linkage.TheVariants as linkages
 use Rattle.ir_tree.specs.declared.operand.Reg.{Reg}
 use Rattle.resolved_forms.specs.Written.{AlignWritten, InitWritten, TypeWritten}
-use Rattle.spelled_forms.specs.Items.{ItemWritten}
+use Rattle.spelled_forms.specs.Items.{InitShaped, ItemWritten}
 use Rattle.spelled_forms.proofs.Alignments.{alignment_written}
 use Rattle.spelled_forms.proofs.Initialisers.{initialiser_written, scalar_written}
 use Rattle.spelled_forms.proofs.Means.{Means, either_means, folded, follow, nothing, skip, star_means}
@@ -24,11 +24,12 @@ use Rattle.spelled_forms.proofs.Shapes.{shape_written}
 -- one that is left out stands behind `external`
 record ValueWritten (is : Bool) (i : Option Init) : Type 0 where
   written : InitWritten i
+  shaped : InitShaped i
   none : i ≡ None → is ≡ true
 
 value_written : (is : Bool) (scalar : Option Reg) → IsResult scalar → Means (value memory_shape is scalar) (ValueWritten is)
-value_written true scalar h = nothing (record { written = tt; none = λ e. refl })
-value_written false scalar h = follow (initialiser_written scalar h) (λ i g. nothing (record { written = g; none = λ e. absurd cc }))
+value_written true scalar h = nothing (record { written = tt; shaped = tt; none = λ e. refl })
+value_written false scalar h = follow (initialiser_written scalar h) (λ i g. nothing (record { written = g.0; shaped = g.1; none = λ e. absurd cc }))
 
 external_if : (l : Option Linkage) → is_declared l ≡ true → with_linkage linkages.External l ≡ linkages.External
 external_if None e = refl
@@ -68,7 +69,7 @@ unfolding behind_kind
 behind_kind_written name l constant =
     follow shape_written (λ typed h.
     follow (value_written (is_declared l) (scalar_of typed.shape) (scalar_written typed.shape h)) (λ init g.
-    follow tail_written (λ align k. nothing (record { shape = h; align = k; init = g.written; declared = λ e. external_if l (g.none e) }))))
+    follow tail_written (λ align k. nothing (record { shape = h; align = k; init = g.written; declared = λ e. external_if l (g.none e) }, g.shaped))))
 
 pub variable_written : Means (variable_line memory_shape) ItemWritten
 unfolding variable_line

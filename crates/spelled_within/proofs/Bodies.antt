@@ -15,6 +15,7 @@ use Rattle.spelled_within.specs.Spelled.{BlockSpelled, BodySpelled, LineSpelled,
 use Rattle.spelled_within.specs.Tokens.{IsCut}
 use Rattle.spelled_within.proofs.Lines.{line_spelled}
 use Rattle.spelled_within.proofs.Means.{Means, either_means, follow, kept_means, many_means, nothing, skip}
+use Rattle.spelled_within.proofs.Terminators.{terminator_spelled}
 
 -- ---- how many
 
@@ -54,7 +55,7 @@ BlockLeft room x = BlockSpelled x.0 × (length x.0.lines + x.1 ≤ room)
 
 behind_left : (room : ℕ) (name : Option Tok) → Means (block_behind room name) (BlockLeft room)
 unfolding block_behind
-behind_left room name = follow (lines_left room) (λ ls h. skip _ (λ e. nothing h))
+behind_left room name = follow (lines_left room) (λ ls h. follow terminator_spelled (λ e g. nothing ((h.0, g), h.1)))
 
 block_left : (room : ℕ) → Means (block room) (BlockLeft room)
 unfolding block

@@ -3,7 +3,6 @@ use Rattle.std.proofs.Common.{◌≡◌, ℕ, zero, suc, ◌+◌, ◌≤◌, nat
 use Rattle.std.specs.List.{AllByRecursion as Each, fold}
 use Rattle.std.specs.Prelude.{IfSome}
 use Rattle.ir_bodies.specs.Blocks.{definition}
-use Rattle.ir_globals.specs.Initialisers.{scalar_of}
 use Rattle.ir_globals.specs.TypeDefinitions.{defined, type_line}
 use Rattle.ir_globals.specs.Variables.{behind_kind, is_declared, variable_line}
 use Rattle.ir_items.specs.Items as whole
@@ -36,7 +35,7 @@ use Rattle.spelled_within.proofs.Bodies.{body_spelled}
 use Rattle.spelled_within.proofs.Heads.{HeadMarked, head_spelled, variable_name_spelled}
 use Rattle.spelled_within.proofs.Means.{Means, among_means, either_means, follow, kept_means, nothing, skip, token_means}
 use Rattle.spelled_within.proofs.Shapes.{shape_counted}
-use Rattle.spelled_within.proofs.Strings.{value_strings}
+use Rattle.spelled_within.proofs.Initialisers.{value_spelled}
 
 definition_spelled : Means (definition FURTHER_PARAMETERS) ItemSpelled
 unfolding definition
@@ -46,7 +45,7 @@ variable_spelled : Means (variable_line memory_shape) ItemSpelled
 unfolding variable_line behind_kind
 variable_spelled =
     follow variable_name_spelled (λ name n.
-    skip _ (λ _. skip _ (λ l. skip _ (λ constant. follow shape_counted (λ typed h. follow (value_strings (is_declared l) (scalar_of typed.shape)) (λ init g. skip _ (λ align. nothing (n, h, g))))))))
+    skip _ (λ _. skip _ (λ l. skip _ (λ constant. follow shape_counted (λ typed h. follow (value_spelled (is_declared l) typed.shape) (λ init g. skip _ (λ align. nothing (n, h, g))))))))
 
 layout_spelled : Means (form.token is_layout) LayoutSpelled
 unfolding is_layout

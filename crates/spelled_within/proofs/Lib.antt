@@ -4,8 +4,13 @@ pub mod Names
 pub mod Cut
 pub mod Means
 pub mod Shapes
+pub mod Operands
+pub mod Phis
+pub mod Addresses
+pub mod Calls
+pub mod Terminators
 pub mod Lines
-pub mod Strings
+pub mod Initialisers
 pub mod Bodies
 pub mod Heads
 pub mod Items

@@ -1,8 +1,8 @@
--- Lines that the grammar spells: an `alloca` reserves fewer than 2^64 shapes, and a phi has an entry.
-use Rattle.std.proofs.Common.{ℕ, ◌≤◌, max, min, Bool, true, false, List, [], ◌∷◌, ◌++◌, drop, Option, Some, None, arith}
-use Rattle.std.specs.List.{fold}
+-- Lines that the grammar spells: an `alloca` reserves fewer than 2^64 shapes, a phi has an entry, and constants are of the types
+-- that stand before them.
+use Rattle.std.proofs.Common.{ℕ, ◌≤◌, max, min, Bool, true, false, drop, Option, Some, None, subst, arith}
 use Rattle.std.specs.Prelude.{IfSome}
-use Rattle.ir_bodies.specs.Calls.{called, calling, tail_calling}
+use Rattle.ir_bodies.specs.Calls.{tail_calling}
 use Rattle.ir_bodies.specs.Lines.{attended, behind, kept, line, line_behind, lined, named_line, operation, plain_line}
 use Rattle.ir_bodies.specs.declared.opcodes.Opcode.{Opcode}
 use Rattle.ir_bodies.specs.declared.opcodes.Opcode.TheVariants as opcodes
@@ -10,25 +10,25 @@ use Rattle.ir_bodies.specs.declared.opcodes.Operation.{Operation}
 use Rattle.ir_bodies.specs.declared.opcodes.Operation.TheVariants as operations
 use Rattle.ir_lex.specs.Heads.{width_of}
 use Rattle.ir_lex.specs.Tok.{Tok}
-use Rattle.ir_read.specs.Addressing.{addressing, many_slots, one_slot, reserving, slots_behind}
+use Rattle.ir_read.specs.Addressing.{many_slots, one_slot, reserving, slots_behind}
 use Rattle.ir_read.specs.Instructions as instr
 use Rattle.ir_read.specs.Operands.{width}
-use Rattle.ir_read.specs.Phis.{entries, keep, phi, phi_of}
 use Rattle.ir_read.specs.ShapeForms.{memory_shape}
 use Rattle.ir_read.specs.declared.addressing.Slots.{Slots}
-use Rattle.ir_read.specs.declared.raw.Argument.{Argument}
-use Rattle.ir_read.specs.declared.raw.Incoming.{Incoming}
 use Rattle.ir_read.specs.declared.raw.Instr.{Instr}
-use Rattle.ir_read.specs.declared.raw.Operand.{Operand}
 use Rattle.ir_tree.specs.declared.instr.BinaryOp.{BinaryOp}
 use Rattle.ir_tree.specs.declared.instr.BinaryOp.TheVariants as ops
 use Rattle.ir_tree.specs.declared.instr.CastOp.{CastOp}
 use Rattle.ir_tree.specs.declared.instr.CastOp.TheVariants as casts
 use Rattle.ir_tree.specs.declared.instr.Flags.{Flags}
-use Rattle.ir_tree.specs.declared.operand.Reg.{Reg}
+use Rattle.ir_tree.specs.declared.operand.Reg.TheVariants.{Int, Ptr}
 use Rattle.lto_forms.specs.Forms.{Form}
-use Rattle.spelled_within.specs.Spelled.{HasIncoming, InstrSpelled, IsCount, LineSpelled}
+use Rattle.spelled_within.specs.Spelled.{InstrSpelled, IsCount, LineSpelled, OperandSpelled}
 use Rattle.spelled_within.proofs.Means.{Means, among_means, either_means, follow, nothing, skip, valued_means}
+use Rattle.spelled_within.proofs.Addresses.{addressing_spelled}
+use Rattle.spelled_within.proofs.Calls.{IfSpelled, calling_spelled}
+use Rattle.spelled_within.proofs.Operands.{argument_spelled, bit_is, operand_spelled}
+use Rattle.spelled_within.proofs.Phis.{phi_spelled}
 use Rattle.spelled_within.proofs.Shapes.{counted_fits, shape_counted}
 
 -- ---- instructions
@@ -59,27 +59,13 @@ reserving_spelled : Means (reserving memory_shape) InstrSpelled
 unfolding reserving
 reserving_spelled = follow shape_counted (λ typed h. follow slots_counted (λ s g. nothing (h, g)))
 
-addressing_spelled : Means (addressing memory_shape) InstrSpelled
-unfolding addressing
-addressing_spelled = skip _ (λ inbounds. follow shape_counted (λ typed h. skip _ (λ _. skip _ (λ _. skip _ (λ base. skip _ (λ is. nothing h))))))
-
-kept_some : (front : List Incoming) (all : List (Option Incoming)) → HasIncoming front → HasIncoming (fold keep front all)
-kept_some front [] h = h
-kept_some front (None ∷ all) h = kept_some front all h
-kept_some (i ∷ front) (Some j ∷ all) h = kept_some (i ∷ (front ++ j ∷ [])) all tt
-kept_some [] (Some j ∷ all) h = absurd h
-
-phi_spelled : Means (phi memory_shape) InstrSpelled
-unfolding phi phi_of entries
-phi_spelled = skip _ (λ r. skip _ (λ first. follow {P = HasIncoming} (skip _ (λ more. nothing (kept_some (first ∷ []) more tt))) (λ is h. nothing h)))
-
 on_two_spelled : (op : BinaryOp) (f : Flags) → Means (instr.on_two memory_shape op f) InstrSpelled
 unfolding instr.on_two
-on_two_spelled op f = skip _ (λ w. skip _ (λ left. skip _ (λ _. skip _ (λ right. nothing tt))))
+on_two_spelled op f = skip _ (λ w. follow (operand_spelled (Int w)) (λ left g. skip _ (λ _. follow (operand_spelled (Int w)) (λ right k. nothing (g, k)))))
 
 casting_spelled : (op : CastOp) → Means (instr.casting memory_shape op) InstrSpelled
 unfolding instr.casting
-casting_spelled op = skip _ (λ from. skip _ (λ value. skip _ (λ _. skip _ (λ to. nothing tt))))
+casting_spelled op = skip _ (λ from. follow (operand_spelled from) (λ value g. skip _ (λ _. skip _ (λ to. nothing g))))
 
 operation_spelled : (o : Operation) → Means (operation memory_shape o) InstrSpelled
 unfolding instr.wrapping instr.dividing instr.joining instr.comparing instr.extending instr.narrowing instr.selecting instr.freezing
@@ -87,23 +73,15 @@ operation_spelled (operations.Wrapping op) = skip _ (λ f. on_two_spelled op f)
 operation_spelled (operations.Dividing op) = skip _ (λ exact. on_two_spelled op (instr.flags false false exact))
 operation_spelled (operations.Plain op) = on_two_spelled op instr.no_flags
 operation_spelled operations.Or = skip _ (λ _. on_two_spelled ops.Or instr.no_flags)
-operation_spelled operations.Icmp = skip _ (λ _. skip _ (λ p. skip _ (λ r. skip _ (λ left. skip _ (λ _. skip _ (λ right. nothing tt))))))
+operation_spelled operations.Icmp = skip _ (λ _. skip _ (λ p. skip _ (λ r. follow (operand_spelled r) (λ left g. skip _ (λ _. follow (operand_spelled r) (λ right k. nothing (g, k)))))))
 operation_spelled operations.Zext = skip _ (λ _. casting_spelled casts.Zext)
 operation_spelled operations.Sext = casting_spelled casts.Sext
 operation_spelled operations.Trunc = skip _ (λ _. casting_spelled casts.Trunc)
-operation_spelled operations.Select = skip _ (λ w. skip _ (λ condition. skip _ (λ _. skip _ (λ one. skip _ (λ _. skip _ (λ other. nothing tt))))))
-operation_spelled operations.Freeze = skip _ (λ r. skip _ (λ value. nothing tt))
-
-abbrev IfSpelled : Option Instr → Type 0
-IfSpelled i = IfSome i InstrSpelled
-
-called_spelled : (r : Option Reg) (f : Option Operand) (as' : List Argument) → IfSpelled (called r f as')
-called_spelled r None as' = tt
-called_spelled r (Some f) as' = tt
-
-calling_spelled : (named : Bool) → Means (calling memory_shape named) IfSpelled
-unfolding calling
-calling_spelled named = skip _ (λ _. skip _ (λ r. skip _ (λ ws. skip _ (λ f. skip _ (λ _. skip _ (λ as'. skip _ (λ _. skip _ (λ _. nothing (called_spelled r f as')))))))))
+operation_spelled operations.Select =
+    follow bit_is (λ w one.
+    follow (operand_spelled (Int w)) (λ condition g.
+    skip _ (λ _. follow argument_spelled (λ if_true k. skip _ (λ _. follow argument_spelled (λ if_false l. nothing (subst (λ (n : ℕ). OperandSpelled (Int n) condition) one g, k, l)))))))
+operation_spelled operations.Freeze = skip _ (λ r. follow (operand_spelled r) (λ value g. nothing g))
 
 kept_spelled : {g : Form Tok Instr} → Means g InstrSpelled → Means (kept g) IfSpelled
 unfolding kept
@@ -114,9 +92,10 @@ unfolding attended tail_calling instr.loading instr.storing
 behind_spelled named (opcodes.Value o) = follow (operation_spelled o) (λ i k. skip _ (λ _. nothing k))
 behind_spelled named opcodes.Phi = kept_spelled phi_spelled
 behind_spelled named opcodes.Alloca = kept_spelled reserving_spelled
-behind_spelled named opcodes.Load = kept_spelled (skip _ (λ r. skip _ (λ _. skip _ (λ _. skip _ (λ address. skip _ (λ n. nothing tt))))))
+behind_spelled named opcodes.Load = kept_spelled (skip _ (λ r. skip _ (λ _. skip _ (λ _. follow (operand_spelled Ptr) (λ address g. skip _ (λ n. nothing g))))))
 behind_spelled named opcodes.GetElementPtr = kept_spelled addressing_spelled
-behind_spelled named opcodes.Store = kept_spelled (skip _ (λ r. skip _ (λ value. skip _ (λ _. skip _ (λ _. skip _ (λ address. skip _ (λ n. nothing tt)))))))
+behind_spelled named opcodes.Store =
+    kept_spelled (skip _ (λ r. follow (operand_spelled r) (λ value g. skip _ (λ _. skip _ (λ _. follow (operand_spelled Ptr) (λ address k. skip _ (λ n. nothing (g, k))))))))
 behind_spelled named opcodes.Tail = skip _ (λ _. calling_spelled named)
 behind_spelled named opcodes.Call = calling_spelled named
 

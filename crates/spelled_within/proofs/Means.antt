@@ -77,6 +77,14 @@ valued_means {A} refuse classes {value} {P} f =
 
 -- ---- lists
 
+pub star_means : {A : Type 0} {one : Form Tok A} {P : A → Type 0} → Means one P → Means (form.Star one) (Each P)
+star_means {A} {one} {P} p = record { of = of }
+  where
+    of : (ts : List Tok) (as' : List A) → Each IsCut ts → form.Star one ts as' → Each P as'
+    of ts [] s h = tt
+    of ts (a ∷ more) s h =
+        let all : Each IsCut (h.0 ++ h.1) = subst (Each IsCut) h.2 s in (p.of h.0 a (each_left IsCut h.0 h.1 all) h.3, of h.1 more (each_right IsCut h.0 h.1 all) h.4)
+
 pub many_means : {A : Type 0} {one : Form Tok A} {P : A → Type 0} (room : ℕ) → Means one P → Means (form.Many one room) (Each P)
 many_means {A} {one} {P} room p = record { of = of room }
   where

@@ -1,0 +1,102 @@
+-- Initialisers that the grammar spells: counts of the shapes of their parts, constants of integers behind these, and strings of
+-- bytes.
+use Rattle.std.proofs.Common.{◌≡◌, Bool, true, false, inl, inr, List, [], ◌∷◌, Option, Some, None, refl, subst}
+use Rattle.std.specs.List.{AllByRecursion as Each}
+use Rattle.ir_globals.specs.Constants.{constant, constant_by, number_of, single, type_of}
+use Rattle.ir_globals.specs.Initialisers as initial
+use Rattle.ir_globals.specs.Initialisers.{aggregate_of, scalar_of}
+use Rattle.ir_globals.specs.Variables.{value}
+use Rattle.ir_globals.specs.declared.initialisers.Aggregate.{Aggregate}
+use Rattle.ir_lex.specs.Tok.{Tok}
+use Rattle.ir_lex.specs.declared.head.Head.{Head}
+use Rattle.ir_lex.specs.declared.head.Head.TheVariants as heads
+use Rattle.ir_read.specs.Literals.{literal}
+use Rattle.ir_read.specs.ShapeForms.{memory_shape}
+use Rattle.ir_read.specs.Shapes as shapes
+use Rattle.ir_read.specs.Shapes.{Written}
+use Rattle.ir_read.specs.declared.raw.InitPart.TheVariants as init_parts
+use Rattle.ir_read.specs.declared.raw.Operand.{Operand}
+use Rattle.ir_read.specs.declared.raw.Operand.TheVariants as operands
+use Rattle.ir_read.specs.declared.shape.Typed.{Typed}
+use Rattle.spelled_within.specs.Spelled.{BeginningSpelled, ConstantSpelled, Counted, InitSpelled, PartSpelled}
+use Rattle.spelled_within.proofs.Means.{Means, among_means, chain_means, either_means, follow, nothing, pushed, skip, valued_means}
+use Rattle.spelled_within.proofs.Operands.{address_means, from_literal}
+use Rattle.spelled_within.proofs.Shapes.{TypedCounted, shape_counted}
+
+-- ---- constants
+
+one_bit : (s : Written) (o : Operand) → Some (operands.Number 1 0) ≡ Some o → ConstantSpelled s o
+one_bit s o e = let same : operands.Number 1 0 ≡ o = cc in subst (ConstantSpelled s) same (inl refl)
+
+number_spelled : (s : Written) (t : Tok) (o : Operand) → number_of (scalar_of s) t ≡ Some o → ConstantSpelled s o
+number_spelled (shapes.int w) t o e = from_literal (operands.Number w) (ConstantSpelled (shapes.int w)) (λ n. inr refl) (literal w t.text) o e
+number_spelled shapes.pointer t o e = one_bit shapes.pointer o e
+number_spelled (shapes.array count of) t o e = one_bit (shapes.array count of) o e
+number_spelled (shapes.structure packed parts) t o e = one_bit (shapes.structure packed parts) o e
+number_spelled (shapes.named name) t o e = one_bit (shapes.named name) o e
+
+constant_class : (head : Head) (s : Written) (t : Tok) (o : Operand) → constant_by head (scalar_of s) t ≡ Some o → ConstantSpelled s o
+constant_class heads.Number s t o e = number_spelled s t o e
+constant_class heads.True s t o e = let same : operands.Number 1 1 ≡ o = cc in subst (ConstantSpelled s) same (inl refl)
+constant_class heads.False s t o e = one_bit s o e
+constant_class heads.Null s t o e = let same : operands.Null ≡ o = cc in subst (ConstantSpelled s) same tt
+constant_class heads.Poison s t o e = let same : operands.Poison (type_of (scalar_of s)) ≡ o = cc in subst (ConstantSpelled s) same tt
+constant_class heads.Global s t o e = let same : operands.Global t ≡ o = cc in subst (ConstantSpelled s) same tt
+constant_class heads.NumberedGlobal s t o e = let same : operands.Global t ≡ o = cc in subst (ConstantSpelled s) same tt
+constant_class heads.NumberedDefinition s t o e = let same : operands.Global t ≡ o = cc in subst (ConstantSpelled s) same tt
+constant_class head s t o e = absurd cc
+
+single_spelled : (s : Written) → Means (single (scalar_of s)) (ConstantSpelled s)
+single_spelled s = valued_means _ _ (λ t o c e. constant_class t.head s t o e)
+
+constant_spelled : (s : Written) → Means (constant memory_shape (scalar_of s)) (ConstantSpelled s)
+unfolding constant
+constant_spelled s = either_means (address_means (λ a. tt)) (single_spelled s)
+
+-- ---- beginnings
+
+beginning_spelled : (s : Written) → Means (initial.beginning memory_shape (scalar_of s)) (BeginningSpelled s)
+unfolding initial.beginning initial.zeros initial.bytes initial.aggregate_begin initial.array_begin initial.structure_begin initial.packed_begin initial.plain
+beginning_spelled s =
+    either_means (skip _ (λ _. nothing tt))
+    (either_means (among_means _ _ _ (λ t c k. c.bytes))
+    (either_means (either_means (skip _ (λ _. nothing tt)) (either_means (skip _ (λ _. nothing tt)) (skip _ (λ _. skip _ (λ _. nothing tt)))))
+    (follow (constant_spelled s) (λ v g. nothing g))))
+
+-- ---- parts
+
+part_shape_counted : (first : Bool) → Means (initial.part_shape memory_shape first) TypedCounted
+part_shape_counted true = shape_counted
+part_shape_counted false = skip _ (λ _. shape_counted)
+
+part_spelled : (first : Bool) → Means (initial.part memory_shape first) (λ p. Counted p.0.shape × BeginningSpelled p.0.shape p.1)
+unfolding initial.part
+part_spelled first = follow (part_shape_counted first) (λ typed h. follow (beginning_spelled typed.shape) (λ head g. nothing (h, g)))
+
+begun_spelled : (first : Bool) (open_ones : List Aggregate) → Means (initial.begun memory_shape first open_ones) (λ x. PartSpelled x.0)
+unfolding initial.begun
+begun_spelled first open_ones = follow (part_spelled first) (λ p h. nothing h)
+
+closed_spelled : (inner : Aggregate) (outer : List Aggregate) → Means (initial.closed inner outer) (λ x. PartSpelled x.0)
+unfolding initial.closed
+closed_spelled inner outer = skip _ (λ _. nothing tt)
+
+piece_spelled : (first : Bool) (open_ones : List Aggregate) → Means (initial.piece memory_shape first open_ones) (λ x. PartSpelled x.0)
+piece_spelled first [] = begun_spelled first []
+piece_spelled first (inner ∷ outer) = either_means (closed_spelled inner outer) (begun_spelled first (inner ∷ outer))
+
+behind_spelled : (whole : Option Aggregate) → Means (initial.behind memory_shape whole) (Each PartSpelled)
+unfolding initial.parts
+behind_spelled None = nothing tt
+behind_spelled (Some whole) =
+    follow (chain_means {P = PartSpelled} (true, []) (λ s. piece_spelled s.0 s.1)) (λ ps h. skip _ (λ _. nothing (pushed PartSpelled ps init_parts.End h tt)))
+
+-- ---- initialisers
+
+initialiser_spelled : (s : Written) → Means (initial.initialiser memory_shape (scalar_of s)) (λ i. InitSpelled s (Some i))
+unfolding initial.initialiser
+initialiser_spelled s = follow (beginning_spelled s) (λ root g. follow (behind_spelled (aggregate_of root)) (λ ps k. nothing (g, k)))
+
+pub value_spelled : (is : Bool) (s : Written) → Means (value memory_shape is (scalar_of s)) (InitSpelled s)
+value_spelled true s = nothing tt
+value_spelled false s = follow (initialiser_spelled s) (λ i g. nothing g)
