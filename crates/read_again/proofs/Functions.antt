@@ -1,12 +1,12 @@
--- Sound functions within the limits are readable.
-use Rattle.std.proofs.Common.{◌≡◌, ℕ, inr, Option, Some, None, List, [], ◌∷◌, ◌++◌, refl, sym, subst}
+-- Formed functions within the limits, whose constants are of the types before them, are readable; sound ones are such.
+use Rattle.std.proofs.Common.{◌≡◌, ℕ, Option, Some, None, List, [], ◌∷◌, ◌++◌, refl, sym, subst}
 use Rattle.std.specs.List.{AllByRecursion as Each}
 use Rattle.std.specs.Prelude.{All, Contains, slice_index_or}
 use Rattle.std.proofs.lemmas.List.Elements.{recursion_from_All}
 use Rattle.ir_items.specs.Modules.{FURTHER_PARAMETERS}
-use Rattle.ir_tree.specs.Formed.{ArgumentFormed, IsBlock, IsReg, ItemFormed, OperandFormed, ResultFormed}
+use Rattle.ir_tree.specs.Formed.{ArgumentFormed, Formed, IsBlock, IsReg, ItemFormed, OperandFormed, ResultFormed}
 use Rattle.ir_tree.specs.Items.{Item, phi_item, line_item, end_item, items, operands, taken}
-use Rattle.ir_tree.specs.Rules.{HasType, Keeps, Sound}
+use Rattle.ir_tree.specs.Rules.{Sound}
 use Rattle.ir_tree.specs.Wholes.{IsKnown, ItemKnown}
 use Rattle.ir_tree.specs.declared.block.Block as tree_block
 use Rattle.ir_tree.specs.declared.block.Terminator.{Terminator}
@@ -21,18 +21,19 @@ use Rattle.ir_tree.specs.declared.operand.Argument.{Argument}
 use Rattle.ir_tree.specs.declared.operand.Operand.{Operand}
 use Rattle.ir_tree.specs.declared.operand.Operand.TheVariants as operand
 use Rattle.ir_tree.specs.declared.operand.Reg.{Reg}
-use Rattle.ir_tree.specs.declared.operand.Reg.TheVariants.{Int}
 use Rattle.ir_tree.specs.declared.operand.Symbol.{Symbol}
 use Rattle.ir_tree.specs.declared.rule.Rule.TheVariants.{TypeMismatch}
 use Rattle.read_again.proofs.Small.{BlockSmall, ResultSmall, block_small, given_small, local_small}
 use Rattle.printed_again.proofs.Walk.{BlockHas, blocks_have}
+use Rattle.read_within.specs.Typed.{FunctionTyped}
 use Rattle.read_within.specs.Within.{FunctionWithin, HasEntry, InstrWithin, ItemWithin, NameWithin, OffsetFits}
 use Rattle.printed_modules.specs.Bodies.{phi_as_line, stated}
 use Rattle.printed_modules.specs.ModulesReadable.{FunctionReadable}
 use Rattle.printed_modules.specs.Readable.{InstructionReadable, ResultReadable, LineReadable, BlockReadable, BodyReadable}
 use Rattle.printed_resolves.specs.Sorts.{IsNumbered}
-use Rattle.reading_back.proofs.Sound.{item_readable}
-use Rattle.reading_back.specs.Readable.{ArgumentReadable, HeadReadable, IsSmall, OperandReadable, ParamReadable, SymbolReadable, TerminatorReadable}
+use Rattle.reading_back.proofs.Sound.{arguments_readable, item_typed, typed_readable}
+use Rattle.reading_back.specs.Readable.{ArgumentReadable, HeadReadable, IsSmall, ParamReadable, SymbolReadable, TerminatorReadable}
+use Rattle.reading_back.specs.Typed.{ItemTyped}
 use Rattle.reading_back.specs.Writable.{EntriesWritable, InstrWritable, ItemReadable, ItemWritable, KindWritable, OperandWritable}
 
 module _ (known : List Symbol) (names : (s : Symbol) → Contains known s → NameWithin s) (f : Function) (w : FunctionWithin f) (n : IsNumbered f) where
@@ -49,29 +50,15 @@ module _ (known : List Symbol) (names : (s : Symbol) → Contains known s → Na
       by (operand.Symbol s offset) h k o = symbol_readable s offset k o
       by x h k o = tt
 
-  -- a call's operands, which are of their types
-  one_type : (a b : Reg) → Some a ≡ Some b → a ≡ b
-  one_type a b e = cc
-
-  argument_readable : (a : Argument) → ArgumentFormed f a → HasType f a → IsKnown known a.operand → OffsetFits a.operand → ArgumentReadable a
-  argument_readable a h t k o = (h.0, by a.reg a.operand h.1 t k o)
-    where
-      by : (reg : Reg) (x : Operand) → OperandFormed f x → HasType f (record { reg = reg; operand = x }) → IsKnown known x → OffsetFits x → OperandReadable reg x
-      by reg (operand.Local x) h t k o = local_small f x w n h
-      by reg (operand.Number width bits) h t k o = record { width = h.0; bits = h.1; typed = inr (sym (one_type (Int width) reg t)) }
-      by reg operand.Null h t k o = tt
-      by reg (operand.Poison r) h t k o = one_type r reg t
-      by reg (operand.Symbol s offset) h t k o = symbol_readable s offset k o
-
-  arguments_readable : (as' : List Argument) → Each (ArgumentFormed f) as' → Each (HasType f) as' → Each (λ a. IsKnown known a.operand) as' → Each (λ a. OffsetFits a.operand) as' → Each ArgumentReadable as'
-  arguments_readable [] h t k o = tt
-  arguments_readable (a ∷ as') h t k o = (argument_readable a h.0 t.0 k.0 o.0, arguments_readable as' h.1 t.1 k.1 o.1)
+  arguments_writable : (as' : List Argument) → Each (ArgumentFormed f) as' → Each (λ a. IsKnown known a.operand) as' → Each (λ a. OffsetFits a.operand) as' → Each (λ a. OperandWritable a.operand) as'
+  arguments_writable [] h k o = tt
+  arguments_writable (a ∷ as') h k o = (operand_writable a h.0 k.0 o.0, arguments_writable as' h.1 k.1 o.1)
 
   -- ---- items
 
   record IsGood (item : Item) : Type 0 where
     formed : ItemFormed f item
-    types : Keeps f TypeMismatch item
+    typed : ItemTyped item
     used : ItemKnown known item
     within : ItemWithin item
 
@@ -90,7 +77,7 @@ module _ (known : List Symbol) (names : (s : Symbol) → Contains known s → Na
   writable item g k = record { operands = λ i d lt. operand_writable (slice_index_or (operands item) i d) (g.formed.operands i d lt) (g.used i d lt) (g.within.offsets i d lt); kind = k }
 
   phi_line : (b : ℕ) (p : tree_phi.Phi) → IsGood (phi_item b p) → InstructionReadable (phi_as_line p).instr × ResultFormed (phi_as_line p).instr (phi_as_line p).local
-  phi_line b p g = (item_readable f (phi_item b p) g.formed g.types (writable (phi_item b p) g (entries_writable p.incoming g.within.kind g.formed.sources)), refl)
+  phi_line b p g = (typed_readable f (phi_item b p) g.formed g.typed (writable (phi_item b p) g (entries_writable p.incoming g.within.kind g.formed.sources)), refl)
 
   abbrev LineRight : Line → Type 0
   LineRight l = InstructionReadable l.instr × ResultFormed l.instr l.local
@@ -98,8 +85,9 @@ module _ (known : List Symbol) (names : (s : Symbol) → Contains known s → Na
   call_readable : (b k : ℕ) (local : Option ℕ) (result : Option Reg) (callee : Operand) (arguments : List Argument) → IsGood (line_item b k (record { local = local; instr = Call result callee arguments })) → InstructionReadable (Call result callee arguments)
   call_readable b k local result callee arguments g =
       let item : Item = line_item b k (record { local = local; instr = Call result callee arguments }) in
-      let all = arguments_readable (operands item) (recursion_from_All (ArgumentFormed f) (operands item) g.formed.operands) (recursion_from_All (HasType f) (operands item) g.types.0)
-      (recursion_from_All (λ a. IsKnown known a.operand) (operands item) g.used) (recursion_from_All (λ a. OffsetFits a.operand) (operands item) g.within.offsets) in
+      let formed : Each (ArgumentFormed f) (operands item) = recursion_from_All (ArgumentFormed f) (operands item) g.formed.operands in
+      let named = arguments_writable (operands item) formed (recursion_from_All (λ a. IsKnown known a.operand) (operands item) g.used) (recursion_from_All (λ a. OffsetFits a.operand) (operands item) g.within.offsets) in
+      let all : Each ArgumentReadable (operands item) = arguments_readable f (operands item) formed g.typed.operands named in
       (g.formed.kind.0, all.0.1, without_end arguments all.1)
     where
       without_end : (xs : List Argument) → Each ArgumentReadable (xs ++ []) → Each ArgumentReadable xs
@@ -107,7 +95,7 @@ module _ (known : List Symbol) (names : (s : Symbol) → Contains known s → Na
       without_end (x ∷ xs) h = (h.0, without_end xs h.1)
 
   plain_readable : (b k : ℕ) (l : Line) → ((result : Option Reg) (callee : Operand) (arguments : List Argument) → l.instr ≡ Call result callee arguments → ⊥) → IsGood (line_item b k l) → ItemReadable (line_item b k l)
-  plain_readable b k l c g = item_readable f (line_item b k l) g.formed g.types (writable (line_item b k l) g (instr_writable l.instr g.within.kind c g.formed.sources))
+  plain_readable b k l c g = typed_readable f (line_item b k l) g.formed g.typed (writable (line_item b k l) g (instr_writable l.instr g.within.kind c g.formed.sources))
 
   line_right : (b k : ℕ) (l : Line) → IsGood (line_item b k l) → LineRight l
   line_right b k l g = (by l.local l.instr g, g.formed.kind.1)
@@ -126,7 +114,7 @@ module _ (known : List Symbol) (names : (s : Symbol) → Contains known s → Na
       by local (Phi reg edges) g = plain_readable b k (record { local = local; instr = Phi reg edges }) (λ r c a e. cc) g
 
   end_right : (b : ℕ) (t : Terminator) → IsGood (end_item b t) → TerminatorReadable t
-  end_right b t g = item_readable f (end_item b t) g.formed g.types (writable (end_item b t) g (λ k d lt. block_small f _ w n (g.formed.kind.1 k d lt)))
+  end_right b t g = typed_readable f (end_item b t) g.formed g.typed (writable (end_item b t) g (λ k d lt. block_small f _ w n (g.formed.kind.1 k d lt)))
 
   -- ---- blocks
 
@@ -145,9 +133,9 @@ module _ (known : List Symbol) (names : (s : Symbol) → Contains known s → Na
 
   -- ---- functions
 
-  goods : (is : List Item) → Each (ItemFormed f) is → Each (Keeps f TypeMismatch) is → Each (ItemKnown known) is → Each ItemWithin is → Each IsGood is
+  goods : (is : List Item) → Each (ItemFormed f) is → Each ItemTyped is → Each (ItemKnown known) is → Each ItemWithin is → Each IsGood is
   goods [] a b c d = tt
-  goods (i ∷ is) a b c d = (record { formed = a.0; types = b.0; used = c.0; within = d.0 }, goods is a.1 b.1 c.1 d.1)
+  goods (i ∷ is) a b c d = (record { formed = a.0; typed = b.0; used = c.0; within = d.0 }, goods is a.1 b.1 c.1 d.1)
 
   params_readable : (ps : List Param) → Each (λ p. IsReg p.reg) ps → Each (λ p. IsSmall p.local) ps → Each ParamReadable ps
   params_readable [] h s = tt
@@ -157,11 +145,14 @@ module _ (known : List Symbol) (names : (s : Symbol) → Contains known s → Na
   by_blocks [] e h r = h
   by_blocks (b ∷ bs) e h r = record { head = h; body = subst BodyReadable (sym e) (subst (Each BlockReadable) e r); few_blocks = w.few_blocks; few_instructions = w.few_instructions }
 
-  pub function_readable : Sound f → NameWithin f.symbol → All (ItemKnown known) (items f) → FunctionReadable FURTHER_PARAMETERS f.blocks f
-  function_readable s name k =
+  pub function_readable : Formed f → FunctionTyped f → NameWithin f.symbol → All (ItemKnown known) (items f) → FunctionReadable FURTHER_PARAMETERS f.blocks f
+  function_readable s t name k =
       let small = given_small f w n in
-      let good = goods (items f) (recursion_from_All (ItemFormed f) (items f) s.formed.items) (recursion_from_All (Keeps f TypeMismatch) (items f) (s.rules TypeMismatch)) (recursion_from_All (ItemKnown known) (items f) k) (recursion_from_All ItemWithin (items f) w.items) in
+      let good = goods (items f) (recursion_from_All (ItemFormed f) (items f) s.items) (recursion_from_All ItemTyped (items f) t) (recursion_from_All (ItemKnown known) (items f) k) (recursion_from_All ItemWithin (items f) w.items) in
       let has = blocks_have IsGood LineRight TerminatorReadable phi_line line_right end_right 0 f.blocks good in
       by_blocks f.blocks refl
-      (record { result = s.formed.result; name = name.0; ordinary = name.1; params = params_readable f.params (recursion_from_All (λ p. IsReg p.reg) f.params s.formed.params) small.0; few = w.few_parameters })
+      (record { result = s.result; name = name.0; ordinary = name.1; params = params_readable f.params (recursion_from_All (λ p. IsReg p.reg) f.params s.params) small.0; few = w.few_parameters })
       (blocks_readable f.blocks has small.1)
+
+pub sound_typed : (f : Function) → Sound f → FunctionTyped f
+sound_typed f s = λ i d lt. item_typed f (slice_index_or (items f) i d) (s.rules TypeMismatch i d lt)

@@ -25,6 +25,7 @@ use Rattle.ir_read.specs.declared.raw.InitPart.TheVariants as rp
 use Rattle.ir_read.specs.declared.raw.Item.{Item}
 use Rattle.ir_read.specs.declared.raw.Item.TheVariants as items
 use Rattle.ir_read.specs.declared.raw.Variable as raw_variable
+use Rattle.ir_read.specs.Shapes.{Written}
 use Rattle.ir_tree.specs.Forms.{Form}
 use Rattle.ir_tree.specs.Initials.{Initial, Initials, Levels, around, begun, headed, levels, tree_of}
 use Rattle.ir_tree.specs.Names.{AllBytes}
@@ -40,7 +41,7 @@ use Rattle.read_within.proofs.Stages.{IfThere, one, put_each, read_variable, sta
 use Rattle.spelled_within.proofs.Contents.{content_bytes}
 use Rattle.spelled_within.proofs.Cut.{tokens_cut}
 use Rattle.spelled_within.proofs.Items.{module_spelled}
-use Rattle.spelled_within.specs.Spelled.{HeadStrings, InitStrings, ItemSpelled, PartStrings}
+use Rattle.spelled_within.specs.Spelled.{BeginningSpelled, InitSpelled, ItemSpelled, PartSpelled}
 use Rattle.spelled_within.specs.Tokens.{OfBytes}
 use Rattle.read_again.specs.Numbered.{InitialBytes, InitialsBytes, InitBytes, StringsAreBytes}
 
@@ -83,42 +84,42 @@ headed_bytes (th.Struct packed) vs b h = h
 -- ---- as they resolve
 
 module _ (types : Types) where
-  head_bytes : (known : Known) (f : Form) (r : raw_head.InitHead) (h : InitHead) → HeadStrings r → head_in types known f r ≡ Ok h → HeadBytes h
-  head_bytes known f (rh.Plain operand) h b e = let x = took (operand_in types known operand) (λ o. Ok (th.Plain (constant_for f o))) h e in subst HeadBytes (one x.2) tt
-  head_bytes known f rh.Zeros h b e = subst HeadBytes (one e) tt
-  head_bytes known f (rh.Bytes string) h b e = subst HeadBytes (one e) (content_bytes string.kind string.text b)
-  head_bytes known f rh.Array h b e = subst HeadBytes (one e) tt
-  head_bytes known f (rh.Struct packed) h b e = subst HeadBytes (one e) tt
+  head_bytes : (known : Known) (s : Written) (f : Form) (r : raw_head.InitHead) (h : InitHead) → BeginningSpelled s r → head_in types known f r ≡ Ok h → HeadBytes h
+  head_bytes known s f (rh.Plain operand) h b e = let x = took (operand_in types known operand) (λ o. Ok (th.Plain (constant_for f o))) h e in subst HeadBytes (one x.2) tt
+  head_bytes known s f rh.Zeros h b e = subst HeadBytes (one e) tt
+  head_bytes known s f (rh.Bytes string) h b e = subst HeadBytes (one e) (content_bytes string.kind string.text b)
+  head_bytes known s f rh.Array h b e = subst HeadBytes (one e) tt
+  head_bytes known s f (rh.Struct packed) h b e = subst HeadBytes (one e) tt
 
-  part_bytes : (known : Known) (r : raw_part.InitPart) (p : InitPart) → PartStrings r → part_in types known r ≡ Ok p → PartBytes p
+  part_bytes : (known : Known) (r : raw_part.InitPart) (p : InitPart) → PartSpelled r → part_in types known r ≡ Ok p → PartBytes p
   part_bytes known (rp.Typed typed head) p b e =
       let f = took (expanded types typed) (λ f. head_in types known f head >>= λ h. Ok (tp.Typed f h)) p e in
       let h = took (head_in types known f.0 head) (λ h. Ok (tp.Typed f.0 h)) p f.2 in
-      subst PartBytes (one h.2) (head_bytes known f.0 head h.0 b h.1)
+      subst PartBytes (one h.2) (head_bytes known typed.shape f.0 head h.0 b.1 h.1)
   part_bytes known rp.End p b e = subst PartBytes (one e) tt
 
-  parts_bytes : (known : Known) (rs : List raw_part.InitPart) (ps : List InitPart) → Each PartStrings rs → each (part_in types known) rs ≡ Ok ps → Each PartBytes ps
+  parts_bytes : (known : Known) (rs : List raw_part.InitPart) (ps : List InitPart) → Each PartSpelled rs → each (part_in types known) rs ≡ Ok ps → Each PartBytes ps
   parts_bytes known [] ps b e = subst (Each PartBytes) (one e) tt
   parts_bytes known (r ∷ rs) ps b e =
       let p = took (part_in types known r) (λ p. each (part_in types known) rs >>= λ more. Ok (p ∷ more)) ps e in
       let more = took (each (part_in types known) rs) (λ more. Ok (p.0 ∷ more)) ps p.2 in
       subst (Each PartBytes) (one more.2) (part_bytes known r p.0 b.0 p.1, parts_bytes known rs more.0 b.1 more.1)
 
-  init_bytes : (f : Form) (i : Option raw_init.Init) (v : Option Initial) → InitStrings i → init_if types f i ≡ Ok v → InitBytes v
+  init_bytes : (s : Written) (f : Form) (i : Option raw_init.Init) (v : Option Initial) → InitSpelled s i → init_if types f i ≡ Ok v → InitBytes v
   unfolding init_in
-  init_bytes f None v b e = subst InitBytes (one e) tt
-  init_bytes f (Some i) v b e =
+  init_bytes s f None v b e = subst InitBytes (one e) tt
+  init_bytes s f (Some i) v b e =
       let tree = took (init_in types f i) (λ x. Ok (Some x)) v e in
       let root = took (head_in types none_known f i.root) (λ root. each (part_in types none_known) i.parts >>= λ parts. Ok (tree_of (root, parts))) tree.0 tree.1 in
       let parts = took (each (part_in types none_known) i.parts) (λ parts. Ok (tree_of (root.0, parts))) tree.0 root.2 in
-      subst InitBytes (one tree.2) (subst InitialBytes (one parts.2) (headed_bytes root.0 (levels parts.0).0 (head_bytes none_known f i.root root.0 b.0 root.1) (levels_bytes parts.0 (parts_bytes none_known i.parts parts.0 b.1 parts.1)).0))
+      subst InitBytes (one tree.2) (subst InitialBytes (one parts.2) (headed_bytes root.0 (levels parts.0).0 (head_bytes none_known s f i.root root.0 b.0 root.1) (levels_bytes parts.0 (parts_bytes none_known i.parts parts.0 b.1 parts.1)).0))
 
-  variable_bytes : (r : raw_variable.Variable) (v : Variable) → InitStrings r.init → variable_in types r ≡ Ok v → InitBytes v.init
+  variable_bytes : (r : raw_variable.Variable) (v : Variable) → InitSpelled r.typed.shape r.init → variable_in types r ≡ Ok v → InitBytes v.init
   unfolding variable_in
   variable_bytes r v b e =
       let f = took (expanded types r.typed) (λ f. init_if types f r.init >>= λ i. Ok (read_variable r f i)) v e in
       let i = took (init_if types f.0 r.init) (λ i. Ok (read_variable r f.0 i)) v f.2 in
-      subst (λ (x : Variable). InitBytes x.init) (one i.2) (init_bytes f.0 r.init i.0 b i.1)
+      subst (λ (x : Variable). InitBytes x.init) (one i.2) (init_bytes r.typed.shape f.0 r.init i.0 b i.1)
 
   -- ---- values
 

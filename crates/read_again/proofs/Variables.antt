@@ -1,11 +1,11 @@
--- Variables within the limits whose initialisers fit their shapes are readable.
+-- Variables within the limits, whose constants are of the types before them, are readable; those whose initialisers fit their
+-- shapes are such.
 use Rattle.std.proofs.Common.{ℕ, ◌+◌, ◌≤◌, max, inr, Option, Some, None, List, ◌++◌, sym, ap, subst, arith}
 use Rattle.std.specs.List.{AllByRecursion as Each}
 use Rattle.std.specs.Prelude.{Bool, Contains}
 use Rattle.std.proofs.lemmas.List.Elements.{recursion_from_All}
-use Rattle.ir_globals.specs.Constants.{type_of}
-use Rattle.ir_globals.specs.Initialisers.{scalar_of}
-use Rattle.ir_tree.specs.Fits.{AllFit, AllOf, Fits, FitsScalar, FitsShape, InitFits, shapes}
+use Rattle.ir_names.specs.Variables.{constant_type}
+use Rattle.ir_tree.specs.Fits.{AllFit, AllOf, Fits, FitsScalar, InitFits, shapes}
 use Rattle.ir_tree.specs.Formed.{AllStored, deepest, nesting}
 use Rattle.ir_tree.specs.Forms.{Form, Forms, int, pointer, array, structure, part}
 use Rattle.ir_tree.specs.Initials.{Initial, Initials, plain, zeros, bytes, elements, members, no_initials, initial}
@@ -14,13 +14,16 @@ use Rattle.ir_tree.specs.Wholes.{ConstantFormed, IsKnown, VariableFormed, all_op
 use Rattle.ir_tree.specs.declared.function.Variable.{Variable}
 use Rattle.ir_tree.specs.declared.operand.Operand.{Operand}
 use Rattle.ir_tree.specs.declared.operand.Operand.TheVariants as operand
+use Rattle.ir_tree.specs.declared.operand.Reg.{Reg}
 use Rattle.ir_tree.specs.declared.operand.Reg.TheVariants.{Int}
 use Rattle.ir_tree.specs.declared.operand.Symbol.{Symbol}
 use Rattle.printed_again.proofs.Each.{front, back}
+use Rattle.printed_resolves.proofs.Variables.{type_again}
+use Rattle.read_within.specs.Typed.{InitialTyped, InitialsTyped, InitTyped}
 use Rattle.read_within.specs.Within.{NameWithin, OffsetFits, VariableWithin}
 use Rattle.printed_modules.specs.VariablesReadable.{ConstantReadable, InitialReadable, InitialsReadable, InitReadable, VariableReadable}
-use Rattle.reading_back.specs.Printed.{written_shape}
 use Rattle.reading_back.specs.Readable.{AllCountsReadable, ShapeReadable}
+use Rattle.reading_back.specs.Typed.{OperandTyped}
 
 -- ---- shapes of parts
 
@@ -48,16 +51,45 @@ others_readable f fs h = record { stored = h.stored.1; nested = low (nesting f) 
     low : (a b : ℕ) → max a b ≤ 32 → b ≤ 32
     low a b h = omega (arith, h)
 
+-- ---- initialisers that fit
+
+scalar_typed : (f : Form) (x : Operand) → FitsScalar f x → OperandTyped (constant_type f) x
+scalar_typed (int w) (operand.Number v bits) fits = inr (ap Int fits)
+scalar_typed (int w) (operand.Poison reg) fits = fits
+scalar_typed pointer operand.Null fits = tt
+scalar_typed pointer (operand.Symbol s offset) fits = tt
+scalar_typed pointer (operand.Poison reg) fits = fits
+scalar_typed f x fits = absurd fits
+
+mutual
+  initial_typed : (f : Form) (v : Initial) → ShapeReadable f → Fits f v → InitialTyped f v
+  initial_typed f (plain x) s fits = scalar_typed f x fits
+  initial_typed f zeros s fits = tt
+  initial_typed f (bytes text) s fits = tt
+  initial_typed f (elements parts) s fits = elements_typed fits.0.0 parts (element_readable _ fits.0.0 (subst (λ (g : Form). ShapeReadable g) fits.0.1 s)) fits.0.2 fits.1
+  initial_typed f (members packed parts) s fits = members_typed parts (parts_readable packed (shapes parts) (subst (λ (g : Form). ShapeReadable g) fits.0 s)) fits.1
+
+  elements_typed : (of : Form) (vs : Initials) → ShapeReadable of → AllOf of vs → AllFit vs → InitialsTyped vs
+  elements_typed of no_initials s all fits = tt
+  elements_typed of (initial f v vs) s all fits = let own = subst (λ (g : Form). ShapeReadable g) (sym all.0) s in (own, initial_typed f v own fits.0, elements_typed of vs s all.1 fits.1)
+
+  members_typed : (vs : Initials) → PartsReadable (shapes vs) → AllFit vs → InitialsTyped vs
+  members_typed no_initials s fits = tt
+  members_typed (initial f v vs) s fits = let own = first_readable f (shapes vs) s in (own, initial_typed f v own fits.0, members_typed vs (others_readable f (shapes vs) s) fits.1)
+
+pub fitting_typed : (f : Form) (v : Option Initial) → ShapeReadable f → InitFits f v → InitTyped f v
+fitting_typed f None s fits = tt
+fitting_typed f (Some v) s fits = initial_typed f v s fits
+
 module _ (known : List Symbol) (names : (s : Symbol) → Contains known s → NameWithin s) where
   -- ---- constants
 
-  scalar_readable : (f : Form) (x : Operand) → FitsScalar f x → ConstantFormed x → IsKnown known x → OffsetFits x → ConstantReadable (type_of (scalar_of (written_shape f))) x
-  scalar_readable (int w) (operand.Number v bits) fits h k o = record { width = h.0; bits = h.1; typed = inr (ap Int fits) }
-  scalar_readable (int w) (operand.Poison reg) fits h k o = fits
-  scalar_readable pointer operand.Null fits h k o = tt
-  scalar_readable pointer (operand.Symbol s offset) fits h k o = let name = names s k in record { name = name.0; ordinary = name.1; offset = o }
-  scalar_readable pointer (operand.Poison reg) fits h k o = fits
-  scalar_readable f x fits h k o = absurd fits
+  constant_readable : (f : Form) (x : Operand) → OperandTyped (constant_type f) x → ConstantFormed x → IsKnown known x → OffsetFits x → ConstantReadable (constant_type f) x
+  constant_readable f (operand.Local n) t h k o = h
+  constant_readable f (operand.Number width bits) t h k o = record { width = h.0; bits = h.1; typed = t }
+  constant_readable f operand.Null t h k o = tt
+  constant_readable f (operand.Poison reg) t h k o = t
+  constant_readable f (operand.Symbol s offset) t h k o = let name = names s k in record { name = name.0; ordinary = name.1; offset = o }
 
   -- ---- initialisers
 
@@ -71,39 +103,29 @@ module _ (known : List Symbol) (names : (s : Symbol) → Contains known s → Na
   back_right xs ys h = (back ConstantFormed xs ys h.0, back (IsKnown known) xs ys h.1, back OffsetFits xs ys h.2)
 
   mutual
-    initial_readable : (f : Form) (v : Initial) → ShapeReadable f → Fits f v → AreRight (initial_operands v) → InitialReadable f v
-    initial_readable f (plain x) s fits h = scalar_readable f x fits h.0.0 h.1.0 h.2.0
-    initial_readable f zeros s fits h = tt
-    initial_readable f (bytes text) s fits h = tt
-    initial_readable f (elements parts) s fits h =
-        elements_readable fits.0.0 parts (element_readable _ fits.0.0 (subst (λ (g : Form). ShapeReadable g) fits.0.1 s)) fits.0.2 fits.1 h
-    initial_readable f (members packed parts) s fits h = members_readable parts (parts_readable packed (shapes parts) (subst (λ (g : Form). ShapeReadable g) fits.0 s)) fits.1 h
+    initial_readable : (f : Form) (v : Initial) → InitialTyped f v → AreRight (initial_operands v) → InitialReadable f v
+    initial_readable f (plain x) t h = subst (λ (reg : Reg). ConstantReadable reg x) (type_again f) (constant_readable f x t h.0.0 h.1.0 h.2.0)
+    initial_readable f zeros t h = tt
+    initial_readable f (bytes text) t h = tt
+    initial_readable f (elements parts) t h = initials_readable parts t h
+    initial_readable f (members packed parts) t h = initials_readable parts t h
 
-    elements_readable : (of : Form) (vs : Initials) → ShapeReadable of → AllOf of vs → AllFit vs → AreRight (all_operands vs) → InitialsReadable vs
-    elements_readable of no_initials s all fits h = tt
-    elements_readable of (initial f v vs) s all fits h =
-        let own = subst (λ (g : Form). ShapeReadable g) (sym all.0) s in
-        (own, initial_readable f v own fits.0 (front_right (initial_operands v) (all_operands vs) h), elements_readable of vs s all.1 fits.1 (back_right (initial_operands v) (all_operands vs) h))
+    initials_readable : (vs : Initials) → InitialsTyped vs → AreRight (all_operands vs) → InitialsReadable vs
+    initials_readable no_initials t h = tt
+    initials_readable (initial f v vs) t h =
+        (t.0, initial_readable f v t.1 (front_right (initial_operands v) (all_operands vs) h), initials_readable vs t.2 (back_right (initial_operands v) (all_operands vs) h))
 
-    members_readable : (vs : Initials) → PartsReadable (shapes vs) → AllFit vs → AreRight (all_operands vs) → InitialsReadable vs
-    members_readable no_initials s fits h = tt
-    members_readable (initial f v vs) s fits h =
-        let own = first_readable f (shapes vs) s in
-        (own, initial_readable f v own fits.0 (front_right (initial_operands v) (all_operands vs) h), members_readable vs (others_readable f (shapes vs) s) fits.1 (back_right (initial_operands v) (all_operands vs) h))
-
-  init_readable : (f : Form) (v : Option Initial) → ShapeReadable f → InitFits f v → AreRight (init_operands v) → InitReadable f v
-  init_readable f None s fits h = tt
-  init_readable f (Some v) s fits h = initial_readable f v s fits h
+  init_readable : (f : Form) (v : Option Initial) → InitTyped f v → AreRight (init_operands v) → InitReadable f v
+  init_readable f None t h = tt
+  init_readable f (Some v) t h = initial_readable f v t h
 
   -- ---- variables
 
-  pub variable_readable : (v : Variable) → VariableFormed v → FitsShape v → NameWithin v.symbol → Each (IsKnown known) (init_operands v.init) → VariableWithin v → VariableReadable v
-  variable_readable v formed fits name k w =
-      let shape : ShapeReadable v.shape = record { shape = formed.shape; counts = w.counts } in
-      record {
-        name = name.0;
-        ordinary = name.1;
-        shape = shape;
-        init = init_readable v.shape v.init shape fits (recursion_from_All ConstantFormed (init_operands v.init) formed.operands, k, recursion_from_All OffsetFits (init_operands v.init) w.offsets);
-        align = formed.align;
-      }
+  pub variable_readable : (v : Variable) → VariableFormed v → InitTyped v.shape v.init → NameWithin v.symbol → Each (IsKnown known) (init_operands v.init) → VariableWithin v → VariableReadable v
+  variable_readable v formed typed name k w = record {
+    name = name.0;
+    ordinary = name.1;
+    shape = record { shape = formed.shape; counts = w.counts };
+    init = init_readable v.shape v.init typed (recursion_from_All ConstantFormed (init_operands v.init) formed.operands, k, recursion_from_All OffsetFits (init_operands v.init) w.offsets);
+    align = formed.align;
+  }

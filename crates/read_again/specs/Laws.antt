@@ -6,7 +6,6 @@ use Rattle.ir_tree.specs.Wholes.{IsVerified}
 use Rattle.ir_tree.specs.declared.module.Module.{Module}
 use Rattle.printed_again.specs.Known.{ModuleKnown}
 use Rattle.printed_again.specs.Laws.{IsReadAgain}
-use Rattle.printed_modules.specs.ModulesReadable.{ModuleReadable}
 use Rattle.read_again.specs.Numbered.{ModuleNumbered}
 use Rattle.read_within.specs.Within.{ModuleWithin}
 
@@ -14,15 +13,10 @@ use Rattle.read_within.specs.Within.{ModuleWithin}
 abbrev pub ReadIsKnown : Type 0
 ReadIsKnown = (bytes : List ℕ) (m : Module) (lines : List (List ℕ)) → AllBytes bytes → Reads bytes m lines → ModuleKnown m
 
--- where it is readable too, what is printed of it is read as itself
+-- and what is printed of it is read as itself, whatever its size, sound or not
 abbrev pub ReadIsReadAgain : Type 0
-ReadIsReadAgain = (bytes : List ℕ) (m : Module) (lines : List (List ℕ)) → AllBytes bytes → Reads bytes m lines → ModuleReadable m → IsReadAgain m
+ReadIsReadAgain = (bytes : List ℕ) (m : Module) (lines : List (List ℕ)) → AllBytes bytes → Reads bytes m lines → IsReadAgain m
 
--- so is that of a verified module within the grammar's limits whose locals are numbered along its text
+-- so is what is printed of a verified module within the grammar's limits whose locals are numbered along its text
 abbrev pub VerifiedIsRead : Type 0
 VerifiedIsRead = (m : Module) → IsVerified m → ModuleNumbered m → ModuleWithin m → IsReadAgain m
-
--- so is that of what was read of bytes and is verified, whatever its size: reading numbers locals along the text, and reads what
--- is within the limits alone
-abbrev pub ReadAndVerifiedIsRead : Type 0
-ReadAndVerifiedIsRead = (bytes : List ℕ) (m : Module) (lines : List (List ℕ)) → AllBytes bytes → Reads bytes m lines → IsVerified m → IsReadAgain m

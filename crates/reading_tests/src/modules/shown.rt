@@ -2,6 +2,7 @@
 
 use ir_parse::{FaultKind, ReadError, ReadFault, parse};
 use ir_print::print;
+use ir_tree::Parsed;
 use std::alloc::{AllocError, Global};
 use std::fmt::Write;
 use std::string::String;
@@ -41,5 +42,26 @@ pub fn shown(alloc: Global, text: &str) -> Result<String, AllocError> {
         }
         Err(ReadError::NoMemory) => Err(AllocError),
         Err(ReadError::Fault(fault)) => Ok(fault_shown(alloc, &fault)),
+    }
+}
+
+/// What bytes are read as, where they are read as a module.
+fn module_of(alloc: Global, bytes: &[u8]) -> Result<Option<Parsed>, AllocError> {
+    match parse(alloc, bytes) {
+        Ok(parsed) => Ok(Some(parsed)),
+        Err(ReadError::NoMemory) => Err(AllocError),
+        Err(ReadError::Fault(_)) => Ok(None),
+    }
+}
+
+/// Whether a text is read as a module, and what is printed of that as the very same one.
+pub fn stays(alloc: Global, text: &str) -> Result<bool, AllocError> {
+    let Some(first) = module_of(alloc, text.as_bytes())? else {
+        return Ok(false);
+    };
+    let printed = print(alloc, first.module())?;
+    match module_of(alloc, printed.as_slice())? {
+        None => Ok(false),
+        Some(again) => Ok(*again.module() == *first.module()),
     }
 }
