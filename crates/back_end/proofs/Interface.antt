@@ -1,5 +1,5 @@
 -- What is made of a function has its interface.
-use Rattle.std.proofs.Common.{◌≡◌, ◌∙◌, ℕ, zero, suc, Bool, true, false, List, [], ◌∷◌, length, map, Option, refl, ap, sym, subst, inl, inr}
+use Rattle.std.proofs.Common.{◌≡◌, ◌∙◌, ℕ, zero, suc, Bool, true, false, List, [], ◌∷◌, length, map, Option, refl, ap, sym, subst}
 use Rattle.ir_tree.specs.declared.block.Block.{Block}
 use Rattle.ir_tree.specs.declared.function.Function.{Function}
 use Rattle.ir_tree.specs.declared.function.Param.{Param}
@@ -81,8 +81,7 @@ numbered_interface f = record {
 }
 
 simplified_interface : (f g : Function) → IsApplied f g → HasInterfaceOf f g
-simplified_interface f g (inl (reached, rounds)) = rounds_interface 16 f g rounds
-simplified_interface f g (inr (unreached, same)) = is_itself f g same
+simplified_interface f g rounds = rounds_interface 16 f g rounds
 
 -- ---- their order
 

@@ -1,11 +1,11 @@
 -- Operands replaced everywhere: what items read then, and the types of locals, which stay.
-use Rattle.std.proofs.Common.{◌≡◌, ℕ, suc, List, [], ◌∷◌, ◌++◌, Option, Some, None, map, option_map, refl, sym, ◌∙◌, ap}
+use Rattle.std.proofs.Common.{◌≡◌, ℕ, List, [], ◌∷◌, ◌++◌, Option, Some, None, map, option_map, refl, sym, ◌∙◌, ap}
 use Rattle.std.specs.Prelude.{flat_map, filter_map}
 use Rattle.std.specs.List.{cons_option}
 use Rattle.std.proofs.lemmas.List.{map-append}
 use Rattle.ir_tree.specs.Flow.{holds}
 use Rattle.ir_tree.specs.Formed.{OperandFormed}
-use Rattle.ir_tree.specs.Items.{Item, phi_item, line_item, end_item, block_items, end_reads, items, items_from, lines_from, operands, phi_reads, reads, taken_as, typed}
+use Rattle.ir_tree.specs.Items.{Item, phi_item, line_item, end_item, end_reads, operands, phi_reads, reads, taken_as, typed}
 use Rattle.ir_tree.specs.Rules.{Typing, block_typings, line_typing, result_type, type_of, typing, typings}
 use Rattle.ir_tree.specs.declared.block.Block.{Block}
 use Rattle.ir_tree.specs.declared.block.Terminator.{Terminator}
@@ -34,27 +34,6 @@ module _ (h : Operand → Operand) where
   item_by (phi_item b p) = phi_item b (phi_edited (λ x. x) h p)
   item_by (line_item b k l) = line_item b k (line_edited (λ x. x) h l)
   item_by (end_item b t) = end_item b (end_edited (λ x. x) h t)
-
-  lines_by : (b k : ℕ) (ls : List Line) → lines_from b k (map (line_edited (λ x. x) h) ls) ≡ map item_by (lines_from b k ls)
-  lines_by b k [] = refl
-  lines_by b k (l ∷ ls) = ap (λ (is : List Item). line_item b k (line_edited (λ x. x) h l) ∷ is) (lines_by b (suc k) ls)
-
-  phis_by : (b : ℕ) (ps : List Phi) → map (phi_item b) (map (phi_edited (λ x. x) h) ps) ≡ map item_by (map (phi_item b) ps)
-  phis_by b [] = refl
-  phis_by b (p ∷ ps) = ap (λ (is : List Item). phi_item b (phi_edited (λ x. x) h p) ∷ is) (phis_by b ps)
-
-  block_items_by : (b : ℕ) (block : Block) → block_items b (block_by h block) ≡ map item_by (block_items b block)
-  block_items_by b block =
-      (λ i. phis_by b block.phis i ++ (lines_by b 0 block.lines i ++ end_item b (end_edited (λ x. x) h block.end) ∷ []))
-      ∙ ap (λ (is : List Item). map item_by (map (phi_item b) block.phis) ++ is) (sym (map-append item_by (lines_from b 0 block.lines) (end_item b block.end ∷ [])))
-      ∙ sym (map-append item_by (map (phi_item b) block.phis) (lines_from b 0 block.lines ++ end_item b block.end ∷ []))
-
-  items_from_by : (b : ℕ) (bs : List Block) → items_from b (map (block_by h) bs) ≡ map item_by (items_from b bs)
-  items_from_by b [] = refl
-  items_from_by b (block ∷ bs) = (λ i. block_items_by b block i ++ items_from_by (suc b) bs i) ∙ sym (map-append item_by (block_items b block) (items_from (suc b) bs))
-
-  pub items_same : (f : Function) → items (edited (λ x. x) h f) ≡ map item_by (items f)
-  items_same f = items_from_by 0 f.blocks
 
   -- ---- what items read
 

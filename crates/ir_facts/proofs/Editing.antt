@@ -1,9 +1,8 @@
 -- Operands replaced everywhere: definitions, numbers and control flow stay.
-use Rattle.std.proofs.Common.{◌≡◌, ℕ, zero, suc, ◌||◌, List, [], ◌∷◌, ◌++◌, Option, Some, None, map, option_map, refl, ◌∙◌, ap}
+use Rattle.std.proofs.Common.{◌≡◌, ℕ, zero, suc, List, [], ◌∷◌, ◌++◌, Option, Some, None, map, option_map, refl, ◌∙◌, ap}
 use Rattle.std.specs.Prelude.{slice_get, flat_map}
 use Rattle.std.specs.List.{cons_option}
-use Rattle.std.proofs.lemmas.List.{length-map}
-use Rattle.ir_tree.specs.Flow.{availability, defined_in, definitions, edges, entry_row, holds, leading, leading_to, locals, parameters, repeated, results, room, targets}
+use Rattle.ir_tree.specs.Flow.{definitions, edges, leading, leading_to, locals, repeated, results, targets}
 use Rattle.ir_tree.specs.Formed.{numbers}
 use Rattle.ir_tree.specs.declared.block.Block.{Block}
 use Rattle.ir_tree.specs.declared.block.Case.{Case}
@@ -59,12 +58,6 @@ module _ (h : Operand → Operand) where
   block_at (b ∷ bs) zero = refl
   block_at (b ∷ bs) (suc i) = block_at bs i
 
-  -- a block after the edit is one before it
-  pub block_before : (bs : List Block) (i : ℕ) (b' : Block) → slice_get (map block_by bs) i ≡ Some b' → (b : Block) × (slice_get bs i ≡ Some b) × (block_by b ≡ b')
-  block_before [] i b' e = absurd (cc e)
-  block_before (b ∷ bs) zero b' e = (b, refl, cc e)
-  block_before (b ∷ bs) (suc i) b' e = block_before bs i b' e
-
   blocks_same : (bs : List Block) → flat_map definitions (map block_by bs) ≡ flat_map definitions bs
   blocks_same [] = refl
   blocks_same (b ∷ bs) = λ i. definitions_same b i ++ blocks_same bs i
@@ -81,30 +74,8 @@ module _ (h : Operand → Operand) where
     pub edges_same : (b : ℕ) → edges (edited (λ x. x) h f) b ≡ edges f b
     edges_same b = ap (leading_to (map block_by f.blocks)) (block_at f.blocks b) ∙ leading_to_same f.blocks (slice_get f.blocks b)
 
-    pub parameters_same : parameters (edited (λ x. x) h f) ≡ parameters f
-    parameters_same = params_same f.params
-
     pub locals_same : locals (edited (λ x. x) h f) ≡ locals f
     locals_same = λ i. params_same f.params i ++ blocks_same f.blocks i
 
     pub numbers_same : numbers (edited (λ x. x) h f) ≡ numbers f
     numbers_same = numbers_from f.blocks
-
-    pub all_same : locals (edited (λ x. x) h f) ++ numbers (edited (λ x. x) h f) ≡ locals f ++ numbers f
-    all_same = λ i. locals_same i ++ numbers_same i
-
-    defined_by : (o : Option Block) (x : ℕ) → defined_in (option_map block_by o) x ≡ defined_in o x
-    defined_by None x = refl
-    defined_by (Some b) x = ap (λ (xs : List ℕ). holds xs x) (definitions_same b)
-
-    pub defined_same : (b x : ℕ) → defined_in (slice_get (map block_by f.blocks) b) x ≡ defined_in (slice_get f.blocks b) x
-    defined_same b x = ap (λ (o : Option Block). defined_in o x) (block_at f.blocks b) ∙ defined_by (slice_get f.blocks b) x
-
-    pub availability_same : availability (edited (λ x. x) h f) ≡ availability f
-    availability_same = λ i. record {
-      blocks = length-map f.blocks block_by i;
-      size = room (locals_same i);
-      edges = λ b. edges_same b i;
-      out = λ b row x. row x || defined_same b x i;
-      fixed = λ b. entry_row b (parameters_same i);
-    }

@@ -63,7 +63,7 @@ without_had y x v ((z, u) ∷ fs) h = by ((z == y) || is_local y u) h (λ h'. wi
     by false (inl e) more = inl e
     by false (inr h') more = inr (more h')
 
-with_has : (y x : ℕ) (v : Operand) (o : Option Operand) (fs : Facts) → Has fs x v → Has (with_fact y o fs) x v
+pub with_has : (y x : ℕ) (v : Operand) (o : Option Operand) (fs : Facts) → Has fs x v → Has (with_fact y o fs) x v
 with_has y x v None fs h = h
 with_has y x v (Some u) fs h = inr h
 
@@ -112,7 +112,7 @@ module _ (c : ℕ → Option Operand) where
 
   -- ---- operands by facts that are all there
 
-  local_some : (fs : Facts) (x : ℕ) (v : Operand) → ((u : Operand) → Has fs x u → u ≡ v) → Has fs x v → replaced_local fs x ≡ v
+  pub local_some : (fs : Facts) (x : ℕ) (v : Operand) → ((u : Operand) → Has fs x u → u ≡ v) → Has fs x v → replaced_local fs x ≡ v
   local_some [] x v one h = absurd h
   local_some ((y, u) ∷ fs) x v one h = by (λ h'. local_some fs x v (λ w k. one w (inr k)) h') (cases_eq y x)
     where
@@ -123,7 +123,7 @@ module _ (c : ℕ → Option Operand) where
       by later (inl e) = ap (λ (b : Bool). if b then u else replaced_local fs x) (eq-eqb y x e) ∙ one u (inl (e, refl))
       by later (inr ne) = ap (λ (b : Bool). if b then u else replaced_local fs x) (ne_eqb y x ne) ∙ later (rest ne)
 
-  local_none : (fs : Facts) (x : ℕ) → ((u : Operand) → Has fs x u → ⊥) → replaced_local fs x ≡ Local x
+  pub local_none : (fs : Facts) (x : ℕ) → ((u : Operand) → Has fs x u → ⊥) → replaced_local fs x ≡ Local x
   local_none [] x none = refl
   local_none ((y, u) ∷ fs) x none = by (local_none fs x (λ w k. none w (inr k))) (cases_eq y x)
     where
@@ -173,7 +173,7 @@ module _ (c : ℕ → Option Operand) where
   instr_same s h e (Call result o args) n k = λ i. Call result (e o k.0 i) (each_same s h e args k.1 i)
   instr_same s h e (StrayPhi reg es) n k = absurd n
 
-  local_kept : (o : Option ℕ) → o ≡ option_map (λ x. x) o
+  pub local_kept : (o : Option ℕ) → o ≡ option_map (λ x. x) o
   local_kept None = refl
   local_kept (Some x) = refl
 
@@ -183,7 +183,7 @@ module _ (c : ℕ → Option Operand) where
       λ i. record { local = local_kept l.local i; instr = instr_same s (replaced fs) (same_operand s fs held known) l.instr cov.0 cov.1 i }
       ∷ lines_same ls (with_named s l.local) (behind_local c l.local fs) (held_one s l.local fs held safe.0) (known_one l.local fs known) safe.1 cov.2 i
 
-  cases_kept : (cs : List Case) → cs ≡ map (case_edited (λ x. x)) cs
+  pub cases_kept : (cs : List Case) → cs ≡ map (case_edited (λ x. x)) cs
   cases_kept [] = refl
   cases_kept (d ∷ cs) = ap (λ (more : List Case). d ∷ more) (cases_kept cs)
 
@@ -246,7 +246,7 @@ module _ (c : ℕ → Option Operand) where
 
 -- ---- the facts of what is there
 
-edge_all : (end : Facts) (from : ℕ) (ps : List Phi) (fs : Facts)
+pub edge_all : (end : Facts) (from : ℕ) (ps : List Phi) (fs : Facts)
     → ((x : ℕ) (v : Operand) → Has fs x v → (is_phi_operand v ps ≡ false) × (((is_phi x ps ≡ false) × Has end x v) ⊎ ((is_phi x ps ≡ true) × EntryIs end x v (phi_operand x from ps))))
     → EdgeFacts end from ps fs
 edge_all end from ps [] all = tt
@@ -289,7 +289,7 @@ module _ (k : Bool) (c : ℕ → Option Operand) (r : ℕ → ℕ → Bool) (f :
   unfolding filled
   filled_fills p b e x v h is = below_from c (room (locals f)) (there (slice_get f.blocks (place f.blocks b.number)) (place f.blocks b.number)) x v (open_room p b x e h) (there_is p b e x ∙ h) is
 
-  filled_has : (p : ℕ) (b : Block) → slice_get f.blocks p ≡ Some b → (x : ℕ) (v : Operand) → Has (filled b.number) x v → (opening r p b x ≡ true) × (c x ≡ Some v)
+  pub filled_has : (p : ℕ) (b : Block) → slice_get f.blocks p ≡ Some b → (x : ℕ) (v : Operand) → Has (filled b.number) x v → (opening r p b x ≡ true) × (c x ≡ Some v)
   unfolding filled
   filled_has p b e x v h =
       let both = below_has c (room (locals f)) (there (slice_get f.blocks (place f.blocks b.number)) (place f.blocks b.number)) x v h in
@@ -378,6 +378,10 @@ module _ (k : Bool) (c : ℕ → Option Operand) (r : ℕ → ℕ → Bool) (f :
   filled_solves = record {
     known = filled_known;
     entry = entry_empty;
+    outside = λ n x v b e h.
+        let to = found_there f.blocks n b e in
+        let has = filled_has (place f.blocks n) b to.0 x v (subst (λ (j : ℕ). Has (filled j) x v) (sym to.1) h) in
+        safe.phis (place f.blocks n) b to.0 x v has.0 has.1;
     edges = λ m n a b e target d.
         let from = found_there f.blocks m a e in
         let to = found_there f.blocks n b d in

@@ -1,8 +1,7 @@
--- Rounds of substitution in sound functions all whose blocks are reached.
-use Rattle.std.proofs.Common.{◌≡◌, ◌↔◌, ℕ, zero, suc, ◌-◌, ◌<◌, Bool, true, false, List, [], ◌∷◌, length, refl, sym, ◌∙◌, ap, subst, arith, lit≤}
-use Rattle.std.specs.Prelude.{IsTrue, replicate}
+-- Rounds of substitution: what they make of sound functions, and that they replace every use where all blocks are reached.
+use Rattle.std.proofs.Common.{◌≡◌, ℕ, zero, suc, ◌-◌, ◌<◌, Bool, true, false, List, [], ◌∷◌, refl, sym, subst, arith, lit≤}
+use Rattle.std.proofs.lemmas.Option.{slice_get_within}
 use Rattle.std.proofs.lemmas.List.{length-map}
-use Rattle.lto_sets.specs.Sets.{contains}
 use Rattle.ir_tree.specs.Flow.{Among, Path}
 use Rattle.ir_tree.specs.Rules.{Sound}
 use Rattle.ir_tree.specs.declared.function.Function.{Function}
@@ -14,17 +13,19 @@ use Rattle.ir_better.proofs.Alike.Itself.{same_better}
 use Rattle.ir_better.proofs.Between.InARow.{in_a_row}
 use Rattle.ir_edit.specs.Edited.{edited}
 use Rattle.ir_edit.specs.Substituted.{operand_replaced, replacement}
-use Rattle.ir_flow.specs.OfFunction.{IsReach}
 use Rattle.ir_facts.specs.Candidates.{candidates}
 use Rattle.ir_facts.specs.Steps.{AllReached, AreRounds, IsRound, IsStep, RoundsAreAll, RoundsAreBetter, SettledIsBetter, candidate_of, round_of, rounds_of, step_of}
+use Rattle.ir_facts.proofs.AnySolution.{steps_better}
 use Rattle.ir_facts.proofs.Better.{sources_better}
 use Rattle.ir_facts.proofs.Covering.{covered}
 use Rattle.ir_facts.proofs.Covers.{Covers}
 use Rattle.ir_facts.proofs.Editing.{block_by, edges_same}
-use Rattle.ir_facts.proofs.Holding.{AreSafe, one_step}
+use Rattle.ir_facts.proofs.Holding.{AreSafe}
+use Rattle.ir_facts.proofs.Holding.{one_step as all_step}
+use Rattle.ir_facts.proofs.OneFunction.{one_step}
 use Rattle.ir_facts.proofs.Passing.{constants_safe, sources_safe}
 use Rattle.ir_facts.proofs.Sourcing.{are_sources}
-use Rattle.ir_facts.proofs.Substituting.{covered_new, wider}
+use Rattle.ir_facts.proofs.StepsSound.{steps_sound}
 
 -- ---- reached blocks stay
 
@@ -38,128 +39,95 @@ module _ (h : Operand → Operand) (f : Function) where
       let way = all b (subst (λ (n : ℕ). b < n) (length-map f.blocks (block_by h)) lt) in
       (way.0, path_stays way.0 b way.1)
 
--- ---- one step
+-- ---- what a step makes, where candidates are safe
 
 abbrev Family : Type 0
 Family = ℕ → ℕ → Bool
 
-record IsCovered (f : Function) : Type 0 where
-  family : Family
-  covers : Covers family f
-
--- what a step makes, where candidates are safe
 record Steps (k : Bool) (f g : Function) : Type 0 where
   step : IsStep (candidate_of k f) f g
   better : (p : Program) → IsFormed p → BetterThan p 1 g f
-  cover : IsCovered g
 
-safe_step : (k : Bool) (f : Function) (c : IsCovered f) → AreSafe (replacement (candidates k f)) c.family f → Steps k f (step_of k f)
-safe_step k f c safe =
-    let src = are_sources c.family f c.covers k in
+safe_step : (k : Bool) (f : Function) (r : Family) (cov : Covers r f) → AreSafe (replacement (candidates k f)) r f → Steps k f (step_of k f)
+safe_step k f r cov safe =
+    let src = are_sources r f cov k in
     record {
-      step = one_step k (replacement (candidates k f)) c.family f c.covers src safe;
-      better = sources_better k (replacement (candidates k f)) c.family f c.covers src safe;
-      cover = record { family = wider c.family (replacement (candidates k f)) f; covers = covered_new k (replacement (candidates k f)) c.family f c.covers src };
+      step = all_step k (replacement (candidates k f)) r f cov src safe;
+      better = sources_better k (replacement (candidates k f)) r f cov src safe;
     }
 
-settled : (f : Function) → IsCovered f → Steps true f (step_of true f)
-settled f c = safe_step true f c (constants_safe (replacement (candidates true f)) ((are_sources c.family f c.covers true).constant refl) c.family f)
+-- ---- one step
 
-forwarded : (f : Function) → IsCovered f → AllReached f → Steps false f (step_of false f)
-forwarded f c all = safe_step false f c (sources_safe false (replacement (candidates false f)) c.family f c.covers (are_sources c.family f c.covers false) all)
+settled : (f : Function) → Sound f → Steps true f (step_of true f)
+settled f sound =
+    let found = covered f sound in
+    let src = are_sources found.family f found.held true in
+    safe_step true f found.family found.held (constants_safe (replacement (candidates true f)) (src.constant refl) found.family f)
 
-sound_covered : (f : Function) → Sound f → IsCovered f
-sound_covered f sound = let found = covered f sound in record { family = found.family; covers = found.held }
+forwarded : (f : Function) → Sound f → AllReached f → Steps false f (step_of false f)
+forwarded f sound all =
+    let found = covered f sound in
+    safe_step false f found.family found.held
+    (sources_safe false (replacement (candidates false f)) found.family f found.held (are_sources found.family f found.held false) (λ x z p b is e h. all p (slice_get_within f.blocks p b e)))
 
 pub settled_better : SettledIsBetter
-settled_better f sound = let s = settled f (sound_covered f sound) in (s.step, s.better)
+settled_better f sound = let s = settled f sound in (s.step, s.better)
 
 -- ---- rounds
 
-record Round (f g : Function) : Type 0 where
-  round : IsRound f g
-  better : (p : Program) → IsFormed p → BetterThan p 1 g f
-  cover : IsCovered g
-  reached : AllReached g
-
-one_round : (f : Function) → IsCovered f → AllReached f → Round f (round_of f)
-one_round f c all =
-    let first = settled f c in
-    let reached = reached_stays (operand_replaced (replacement (candidates true f))) f all in
-    let second = forwarded (step_of true f) first.cover reached in
-    record {
-      round = (step_of true f, first.step, second.step);
-      better = λ p formed. in_a_row p formed 1 1 (lit≤ tt) (round_of f) (step_of true f) f (second.better p formed) (first.better p formed);
-      cover = second.cover;
-      reached = reached_stays (operand_replaced (replacement (candidates false (step_of true f)))) (step_of true f) reached;
-    }
-
-rounds_all : (n : ℕ) (f : Function) → IsCovered f → AllReached f → AreRounds n f (rounds_of n f)
+rounds_all : (n : ℕ) (f : Function) → Sound f → AllReached f → AreRounds n f (rounds_of n f)
 unfolding AreRounds rounds_of
-rounds_all zero f c all = refl
-rounds_all (suc n) f c all = let one = one_round f c all in (round_of f, one.round, rounds_all n (round_of f) one.cover one.reached)
-
-rounds_better : (n : ℕ) (f : Function) → IsCovered f → AllReached f → (p : Program) → IsFormed p → BetterThan p 1 (rounds_of n f) f
-unfolding rounds_of
-rounds_better zero f c all p formed = same_better p formed f
-rounds_better (suc n) f c all p formed =
-    let one = one_round f c all in
-    in_a_row p formed 1 1 (lit≤ tt) (rounds_of n (round_of f)) (round_of f) f (rounds_better n (round_of f) one.cover one.reached p formed) (one.better p formed)
+rounds_all zero f sound all = refl
+rounds_all (suc n) f sound all =
+    let first = (settled f sound).step in
+    let reached = reached_stays (operand_replaced (replacement (candidates true f))) f all in
+    let settled_sound = steps_sound true f (step_of true f) sound first in
+    let second = (forwarded (step_of true f) settled_sound reached).step in (
+      round_of f,
+      (step_of true f, first, second),
+      rounds_all n (round_of f) (steps_sound false (step_of true f) (round_of f) settled_sound second)
+          (reached_stays (operand_replaced (replacement (candidates false (step_of true f)))) (step_of true f) reached),
+    )
 
 pub are_all : RoundsAreAll
-are_all n f sound all = rounds_all n f (sound_covered f sound) all
+are_all n f sound all = rounds_all n f sound all
+
+-- what settles free choices is one function
+settling_better : (f g : Function) → Sound f → IsStep (candidate_of true f) f g → (p : Program) → IsFormed p → BetterThan p 1 g f
+settling_better f g sound step p formed =
+    let s = settled f sound in
+    subst (λ (h : Function). BetterThan p 1 h f) (sym (one_step (candidate_of true f) f g (step_of true f) step s.step)) (s.better p formed)
+
+pub round_sound : (f g : Function) → Sound f → IsRound f g → Sound g
+round_sound f g sound (h, first, second) = steps_sound false h g (steps_sound true f h sound first) second
+
+round_better : (f g : Function) → Sound f → IsRound f g → (p : Program) → IsFormed p → BetterThan p 1 g f
+round_better f g sound (h, first, second) p formed =
+    in_a_row p formed 1 1 (lit≤ tt) g h f (steps_better h g (steps_sound true f h sound first) second p formed) (settling_better f h sound first p formed)
 
 pub are_better : RoundsAreBetter
-are_better n f sound all = rounds_better n f (sound_covered f sound) all
+unfolding AreRounds
+are_better zero f g sound e = (subst Sound (sym e) sound, (λ p formed. subst (λ (h : Function). BetterThan p 1 h f) (sym e) (same_better p formed f)))
+are_better (suc n) f g sound (h, round, rest) =
+    let more = are_better n h g (round_sound f h sound round) rest in (
+      more.0,
+      (λ p formed. in_a_row p formed 1 1 (lit≤ tt) g h f (more.1 p formed) (round_better f h sound round p formed)),
+    )
 
--- ---- counting rounds
-
-pub no_rounds : (n : ℕ) (f : Function) → n ≡ 0 → f ≡ rounds_of n f
-unfolding rounds_of
-no_rounds zero f e = refl
-no_rounds (suc n) f e = absurd (omega (arith, e))
-
-pub rounds_left : (n : ℕ) (f g : Function) → 0 < n → g ≡ round_of f → rounds_of (n - 1) g ≡ rounds_of n f
-unfolding rounds_of
-rounds_left zero f g some e = absurd (omega (arith, some))
-rounds_left (suc n) f g some e =
-    let one : suc n - 1 ≡ n = omega arith in
-    ap (λ (m : ℕ). rounds_of m g) one ∙ ap (λ (h : Function). rounds_of n h) e
+-- ---- rounds, one after another
 
 -- behind a round that changes nothing none changes anything
-pub last_round : (n : ℕ) (f : Function) → f ≡ round_of f → f ≡ rounds_of n f
-unfolding rounds_of
-last_round zero f e = refl
-last_round (suc n) f e = last_round n f e ∙ ap (rounds_of n) e
+pub last_round : (n : ℕ) (f : Function) → IsRound f f → AreRounds n f f
+unfolding AreRounds
+last_round zero f round = refl
+last_round (suc n) f round = (f, round, last_round n f round)
 
--- ---- rounds of a copy
+pub one_more : (n : ℕ) (f g h : Function) → 0 < n → IsRound f g → AreRounds (n - 1) g h → AreRounds n f h
+unfolding AreRounds
+one_more zero f g h some round rest = absurd (omega (arith, some))
+one_more (suc n) f g h some round rest = let one : suc n - 1 ≡ n = omega arith in (g, round, subst (λ (m : ℕ). AreRounds m g h) one rest)
 
-pub made_all : (n : ℕ) (f h g : Function) → g ≡ rounds_of n h → h ≡ f → Sound f → AllReached f → AreRounds n f g
-made_all n f h g e copy sound all = subst (λ (k : Function). AreRounds n f k) (sym (e ∙ ap (λ (k : Function). rounds_of n k) copy)) (are_all n f sound all)
-
-pub made_better : (n : ℕ) (f h g : Function) → g ≡ rounds_of n h → h ≡ f → Sound f → AllReached f → (p : Program) → IsFormed p → BetterThan p 1 g f
-made_better n f h g e copy sound all p formed =
-    subst (λ (k : Function). BetterThan p 1 k f) (sym (e ∙ ap (λ (k : Function). rounds_of n k) copy)) (are_better n f sound all p formed)
-
-pub copy_better : (f h : Function) → h ≡ f → (p : Program) → IsFormed p → BetterThan p 1 h f
-copy_better f h copy p formed = subst (λ (k : Function). BetterThan p 1 k f) (sym copy) (same_better p formed f)
-
--- ---- the set of reached blocks
-
-full_has : (n i : ℕ) → i < n → contains (replicate n true) i ≡ true
-full_has zero i lt = absurd (omega (arith, lt))
-full_has (suc n) zero lt = refl
-full_has (suc n) (suc i) lt = full_has n i (omega (arith, lt))
-
-full_is : (s : List Bool) → ((i : ℕ) → i < length s → contains s i ≡ true) → s ≡ replicate (length s) true
-full_is [] h = refl
-full_is (b ∷ s) h = λ i. h 0 (omega arith) i ∷ full_is s (λ j lt. h (suc j) (omega (arith, lt))) i
-
-pub reached_all : (f : Function) (s : List Bool) → IsReach f s → (t : Bool) → IsTrue t ↔ (s ≡ replicate (length s) true) → IsTrue t ↔ AllReached f
-reached_all f s reach t test = (
-  (λ yes b lt.
-      let full = test.0 yes in
-      let has : contains s b ≡ true = ap (λ (u : List Bool). contains u b) full ∙ full_has (length s) b (subst (λ (n : ℕ). b < n) (sym reach.0) lt) in
-      (reach.1 b).0 has),
-  (λ all. test.1 (full_is s (λ i lt. (reach.1 i).1 (all i (subst (λ (n : ℕ). i < n) reach.0 lt))))),
-)
+pub no_rounds : (n : ℕ) (f : Function) → n ≡ 0 → AreRounds n f f
+unfolding AreRounds
+no_rounds zero f e = refl
+no_rounds (suc n) f e = absurd (omega (arith, e))

@@ -12,19 +12,19 @@ use Rattle.ir_facts.specs.Steps.{AppliedIsOne, AreRounds, IsRound, IsSolution, I
 use Rattle.ir_facts.proofs.Holding.{without_had, without_has}
 
 -- each fact of the first is among the second
-abbrev AreIn : Facts → Facts → Type 0
+abbrev pub AreIn : Facts → Facts → Type 0
 AreIn fs gs = (x : ℕ) (v : Operand) → Has fs x v → Has gs x v
 
-left_in : (fs gs : Facts) → AreIn fs (fs ++ gs)
+pub left_in : (fs gs : Facts) → AreIn fs (fs ++ gs)
 left_in [] gs x v h = absurd h
 left_in ((y, u) ∷ fs) gs x v (inl e) = inl e
 left_in ((y, u) ∷ fs) gs x v (inr h) = inr (left_in fs gs x v h)
 
-right_in : (fs gs : Facts) → AreIn gs (fs ++ gs)
+pub right_in : (fs gs : Facts) → AreIn gs (fs ++ gs)
 right_in [] gs x v h = h
 right_in ((y, u) ∷ fs) gs x v h = inr (right_in fs gs x v h)
 
-one_of : (fs gs : Facts) (x : ℕ) (v : Operand) → Has (fs ++ gs) x v → Has fs x v ⊎ Has gs x v
+pub one_of : (fs gs : Facts) (x : ℕ) (v : Operand) → Has (fs ++ gs) x v → Has fs x v ⊎ Has gs x v
 one_of [] gs x v h = inr h
 one_of ((y, u) ∷ fs) gs x v (inl e) = inl (inl e)
 one_of ((y, u) ∷ fs) gs x v (inr h) = elim (one_of fs gs x v h) [ inl a ↦ inl (inr a) | inr b ↦ inr b ]
@@ -32,7 +32,7 @@ one_of ((y, u) ∷ fs) gs x v (inr h) = elim (one_of fs gs x v h) [ inl a ↦ in
 -- ---- along lines
 
 -- what a new value of y leaves is no fact of y, and none that rests on it
-left_apart : (y x : ℕ) (v : Operand) (fs : Facts) → Has (without y fs) x v → ((x == y) || is_local y v) ≡ false
+pub left_apart : (y x : ℕ) (v : Operand) (fs : Facts) → Has (without y fs) x v → ((x == y) || is_local y v) ≡ false
 left_apart y x v [] h = absurd h
 left_apart y x v ((z, u) ∷ fs) h = by ((z == y) || is_local y u) refl h (λ h'. left_apart y x v fs h')
   where
@@ -42,7 +42,7 @@ left_apart y x v ((z, u) ∷ fs) h = by ((z == y) || is_local y u) refl h (λ h'
     by false q (inl e) more = ap (λ (n : ℕ). (n == y) || is_local y v) (sym e.0) ∙ ap (λ (o : Operand). (z == y) || is_local y o) (sym e.1) ∙ q
     by false q (inr h') more = more h'
 
-without_in : (y : ℕ) (fs gs : Facts) → AreIn fs gs → AreIn (without y fs) (without y gs)
+pub without_in : (y : ℕ) (fs gs : Facts) → AreIn fs gs → AreIn (without y fs) (without y gs)
 without_in y fs gs sub x v h =
     let apart = or_parts (x == y) (is_local y v) (left_apart y x v fs h) in
     without_has y x v gs (λ e. false≢true (sym apart.0 ∙ eq-eqb x y (sym e))) apart.1 (sub x v (without_had y x v fs h))
@@ -68,7 +68,7 @@ entry_in end more sub x v None h = tt
 entry_in end more sub x v (Some e) (inl is) = inl is
 entry_in end more sub x v (Some e) (inr (own, h)) = inr (own, sub x v h)
 
-edge_in : (end more : Facts) (from : ℕ) (ps : List Phi) → AreIn end more → (fs : Facts) → EdgeFacts end from ps fs → EdgeFacts more from ps fs
+pub edge_in : (end more : Facts) (from : ℕ) (ps : List Phi) → AreIn end more → (fs : Facts) → EdgeFacts end from ps fs → EdgeFacts more from ps fs
 edge_in end more from ps sub [] t = tt
 edge_in end more from ps sub ((x, v) ∷ fs) (outside, inl (none, h), rest) = (outside, inl (none, sub x v h), edge_in end more from ps sub fs rest)
 edge_in end more from ps sub ((x, v) ∷ fs) (outside, inr (phi, h), rest) =
@@ -89,20 +89,21 @@ module _ (c : ℕ → Option Operand) (f : Function) where
       by (Some b) x v h = lines_in c b.lines (starts b.number) (others b.number) (sub b.number) x v h
 
   module _ (s t : ℕ → Facts) where
-    abbrev both : ℕ → Facts
+    abbrev pub both : ℕ → Facts
     both n = s n ++ t n
 
-    both_solve : IsSolution c f s → IsSolution c f t → IsSolution c f both
+    pub both_solve : IsSolution c f s → IsSolution c f t → IsSolution c f both
     both_solve first second = record {
       known = λ n x v h. elim (one_of (s n) (t n) x v h) [ inl a ↦ first.known n x v a | inr b ↦ second.known n x v b ];
       entry = λ b e. ap (λ (fs : Facts). fs ++ t b.number) (first.entry b e) ∙ second.entry b e;
+      outside = λ n x v b e h. elim (one_of (s n) (t n) x v h) [ inl a ↦ first.outside n x v b e a | inr d ↦ second.outside n x v b e d ];
       edges = λ m n a b at target found.
           edge_both (ends_of c both f m) m b.phis (s n) (t n)
           (edge_in (ends_of c s f m) (ends_of c both f m) m b.phis (ends_in s both (λ k. left_in (s k) (t k)) m) (s n) (first.edges m n a b at target found))
           (edge_in (ends_of c t f m) (ends_of c both f m) m b.phis (ends_in t both (λ k. right_in (s k) (t k)) m) (t n) (second.edges m n a b at target found));
     }
 
-  one_step : (g h : Function) → IsStep c f g → IsStep c f h → g ≡ h
+  pub one_step : (g h : Function) → IsStep c f g → IsStep c f h → g ≡ h
   one_step g h first second =
       let solves = both_solve first.starts second.starts first.solution second.solution in
       first.most (both first.starts second.starts) solves (λ n. left_in (first.starts n) (second.starts n))
@@ -122,7 +123,4 @@ one_chain (suc n) f g h (k, round, more) (l, round', more') =
     one_chain n l g h (subst (λ (j : Function). AreRounds n j g) (one_round f k l round round') more) more'
 
 pub is_one : AppliedIsOne
-is_one f g h (inl (all, first)) (inl (all', second)) = one_chain 16 f g h first second
-is_one f g h (inl (all, first)) (inr (none, second)) = absurd (none all)
-is_one f g h (inr (none, first)) (inl (all, second)) = absurd (none all)
-is_one f g h (inr (none, first)) (inr (none', second)) = first ∙ sym second
+is_one f g h first second = one_chain 16 f g h first second

@@ -1,4 +1,4 @@
--- Where all blocks are reached, no local that is there has its candidate given another value.
+-- Where the sources of candidates are defined in reached blocks, no local that is there has its candidate given another value.
 use Rattle.std.proofs.Common.{◌≡◌, ℕ, zero, suc, ◌<◌, nat_eq, ◌||◌, ◌⊎◌, inl, inr, Bool, true, false, List, [], ◌∷◌, Option, Some, None, map, length, refl, sym, ◌∙◌, ap, subst, arith}
 use Rattle.std.specs.Prelude.{slice_get, flat_map}
 use Rattle.std.specs.List.{cons_option}
@@ -126,18 +126,32 @@ module _ (k : Bool) (c : ℕ → Option Operand) (r : ℕ → ℕ → Bool) (f :
         | inr t ↦ ih (end_passed p x at.0 at.1 (taken_here k c r f cov src p at.0 x at.1 t) ps path.1)
       ]
 
+  -- a path to the block that defines a local passed its source's definition, or ends with it
+  source_near : (q : ℕ) (qs : List ℕ) (x z : ℕ) → Path f qs q → c x ≡ Some (Local z) → defined_in (slice_get f.blocks q) x ≡ true → (Passed f x qs → Passed f z qs)
+      → (defined_in (slice_get f.blocks q) z ≡ true) ⊎ Passed f z qs
+  source_near q qs x z path is d ih =
+      let at = defined_block q x d in
+      elim (or_cases (holds (phi_locals at.0) x) (holds (results at.0.lines) x) (sym (list_any-append (nat_eq x) (phi_locals at.0) (results at.0.lines)) ∙ at.2)) [
+        | inl phi ↦ inr (phi_passed q at.0 qs x z at.1 path phi is ih)
+        | inr line ↦
+            end_passed q z at.0 at.1
+            (sym (closing_is r q at.0 z) ∙ line_sourced k c at.0.lines (opening r q at.0) x z (cov.blocks q at.0 at.1).lines (src.lines q at.0 at.1) line is) qs path
+      ]
+
   -- a path that passed a local's definition passed its source's
   source_passed : (ps : List ℕ) (b : ℕ) → Path f ps b → (x z : ℕ) → c x ≡ Some (Local z) → Passed f x ps → Passed f z ps
   source_passed [] b path x z is passed = absurd (false≢true (sym (src.params x (Local z) is) ∙ passed))
   source_passed (q ∷ qs) b path x z is (inr more) = inr (source_passed qs q path.1 x z is more)
-  source_passed (q ∷ qs) b path x z is (inl d) =
-      let at = defined_block q x d in
-      elim (or_cases (holds (phi_locals at.0) x) (holds (results at.0.lines) x) (sym (list_any-append (nat_eq x) (phi_locals at.0) (results at.0.lines)) ∙ at.2)) [
-        | inl phi ↦ inr (phi_passed q at.0 qs x z at.1 path.1 phi is (source_passed qs q path.1 x z is))
-        | inr line ↦
-            end_passed q z at.0 at.1
-            (sym (closing_is r q at.0 z) ∙ line_sourced k c at.0.lines (opening r q at.0) x z (cov.blocks q at.0 at.1).lines (src.lines q at.0 at.1) line is) qs path.1
-      ]
+  source_passed (q ∷ qs) b path x z is (inl d) = source_near q qs x z path.1 is d (source_passed qs q path.1 x z is)
+
+  -- the source of a local that a reached block defines is defined in a reached block
+  pub source_reached : (p q x z : ℕ) (b : Block) → Reachable f p → defined_in (slice_get f.blocks p) x ≡ true → c x ≡ Some (Local z) → slice_get f.blocks q ≡ Some b → holds (definitions b) z ≡ true → Reachable f q
+  source_reached p q x z b way d is e h =
+      onto (passed_here q z b e h (p ∷ way.0) (source_near p way.0 x z way.1 is d (source_passed way.0 p way.1 x z is)))
+    where
+      onto : Among q (p ∷ way.0) → Reachable f q
+      onto (inl same) = (way.0, subst (Path f way.0) (sym same) way.1)
+      onto (inr m) = let part = cut f q way.0 p way.1 m in (part.0, part.1)
 
   open_passed : (p : ℕ) (b : Block) (x z : ℕ) → slice_get f.blocks p ≡ Some b → opening r p b x ≡ true → c x ≡ Some (Local z) → (ps : List ℕ) → Path f ps p → Passed f z ps
   open_passed p b x z e h is ps path =
@@ -146,15 +160,15 @@ module _ (k : Bool) (c : ℕ → Option Operand) (r : ℕ → ℕ → Bool) (f :
         | inr phi ↦ phi_passed p b ps x z e path phi is (source_passed ps p path x z is)
       ]
 
-  module _ (reached : (p : ℕ) → p < length f.blocks → Reachable f p) where
-    -- what every path to a block passed, the block doesn't define
-    not_defined : (p z : ℕ) (b : Block) → slice_get f.blocks p ≡ Some b → p < length f.blocks → ((ps : List ℕ) → Path f ps p → Passed f z ps) → holds (definitions b) z ≡ false
-    not_defined p z b e lt all = by (holds (definitions b) z) refl
+  module _ (reached : (x z p : ℕ) (b : Block) → c x ≡ Some (Local z) → slice_get f.blocks p ≡ Some b → holds (definitions b) z ≡ true → Reachable f p) where
+    -- the source of a local that every path to a block passed, the block doesn't define
+    not_defined : (p x z : ℕ) (b : Block) → slice_get f.blocks p ≡ Some b → c x ≡ Some (Local z) → ((ps : List ℕ) → Path f ps p → Passed f z ps) → holds (definitions b) z ≡ false
+    not_defined p x z b e is all = by (holds (definitions b) z) refl
       where
         by : (t : Bool) → holds (definitions b) z ≡ t → t ≡ false
         by false q = refl
         by true q =
-            let path = reached p lt in
+            let path = reached x z p b is e q in
             absurd (first_time f p (λ qs w. passed_here p z b e q qs (all qs w)) (suc (length path.0)) path.0 (omega arith) path.1)
 
     parts_false : (b : Block) (z : ℕ) → holds (definitions b) z ≡ false → (holds (phi_locals b) z ≡ false) × (holds (results b.lines) z ≡ false)
@@ -166,7 +180,7 @@ module _ (k : Bool) (c : ℕ → Option Operand) (r : ℕ → ℕ → Bool) (f :
 
     -- none of the lines gives a value to what is there, or to its source
     abbrev Spared : (ℕ → Bool) → List Line → Type 0
-    Spared s ls = ((x z : ℕ) → s x ≡ true → c x ≡ Some (Local z) → holds (results ls) z ≡ false) × ((z : ℕ) → s z ≡ true → holds (results ls) z ≡ false)
+    Spared s ls = ((x z : ℕ) → s x ≡ true → c x ≡ Some (Local z) → holds (results ls) z ≡ false) × ((x z : ℕ) → c x ≡ Some (Local z) → s z ≡ true → holds (results ls) z ≡ false)
 
     cons_false : (o : Option ℕ) (xs : List ℕ) (z : ℕ) → holds (cons_option o xs) z ≡ false → (named o z ≡ false) × (holds xs z ≡ false)
     cons_false None xs z h = (refl, h)
@@ -183,10 +197,10 @@ module _ (k : Bool) (c : ℕ → Option Operand) (r : ℕ → ℕ → Bool) (f :
       lines_safe ls (with_named s l.local) (
         (λ x z h is. elim (or_cases (s x) (named l.local x) h) [
           | inl g ↦ (cons_false l.local (results ls) z (spared.0 x z g is)).1
-          | inr g ↦ (cons_false l.local (results ls) z (spared.1 z (named_source l.local own.0 x z g is))).1
+          | inr g ↦ (cons_false l.local (results ls) z (spared.1 x z is (named_source l.local own.0 x z g is))).1
         ]),
-        (λ z h. elim (or_cases (s z) (named l.local z) h) [
-          | inl g ↦ (cons_false l.local (results ls) z (spared.1 z g)).1
+        (λ x z is h. elim (or_cases (s z) (named l.local z) h) [
+          | inl g ↦ (cons_false l.local (results ls) z (spared.1 x z is g)).1
           | inr g ↦ named_once l.local once z g
         ]),
       )
@@ -224,19 +238,14 @@ module _ (k : Bool) (c : ℕ → Option Operand) (r : ℕ → ℕ → Bool) (f :
         from (z ∷ bs) once zero d = let is : z ≡ b = cc d in subst (λ (y : Block). Once (definitions y)) is (once_left (definitions z) (flat_map definitions bs) once)
         from (z ∷ bs) once (suc i) d = from bs (once_right (definitions z) (flat_map definitions bs) once) i d
 
-    within : (bs : List Block) (i : ℕ) (b : Block) → slice_get bs i ≡ Some b → i < length bs
-    within [] i b e = absurd (cc e)
-    within (z ∷ bs) zero b e = omega arith
-    within (z ∷ bs) (suc i) b e = let less : i < length bs = within bs i b e in omega (arith, less)
-
     open_out : (p : ℕ) (b : Block) (x z : ℕ) → slice_get f.blocks p ≡ Some b → opening r p b x ≡ true → c x ≡ Some (Local z) → holds (definitions b) z ≡ false
-    open_out p b x z e h is = not_defined p z b e (within f.blocks p b e) (λ ps w. open_passed p b x z e h is ps w)
+    open_out p b x z e h is = not_defined p x z b e is (λ ps w. open_passed p b x z e h is ps w)
 
     spared_open : (p : ℕ) (b : Block) → slice_get f.blocks p ≡ Some b → Spared (opening r p b) b.lines
     spared_open p b e = (
       (λ x z h is. (parts_false b z (open_out p b x z e h is)).1),
-      (λ z h. elim (or_cases (r p z) (holds (phi_locals b) z) h) [
-        | inl g ↦ (parts_false b z (not_defined p z b e (within f.blocks p b e) (λ ps w. there_passed p z g ps w))).1
+      (λ x z is h. elim (or_cases (r p z) (holds (phi_locals b) z) h) [
+        | inl g ↦ (parts_false b z (not_defined p x z b e is (λ ps w. there_passed p z g ps w))).1
         | inr g ↦ apart_right z (phi_locals b) (results b.lines) (block_once p b e z) g
       ]),
     )

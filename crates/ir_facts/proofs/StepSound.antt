@@ -1,5 +1,5 @@
--- What a step makes of a sound function is sound.
-use Rattle.std.proofs.Common.{◌≡◌, ◌+◌, ℕ, zero, suc, nat_eq, Bool, true, false, cond, List, [], ◌∷◌, Option, Some, None, map, option_map, get_or, refl, sym, ◌∙◌, ap, subst, if◌then◌else◌}
+-- What items of a sound function keep as their operands are changed.
+use Rattle.std.proofs.Common.{◌≡◌, ◌+◌, ℕ, zero, suc, nat_eq, Bool, cond, List, [], ◌∷◌, Option, Some, None, map, option_map, get_or, refl, sym, ◌∙◌, ap, subst, if◌then◌else◌}
 use Rattle.std.specs.Prelude.{All, IsSome, slice_get}
 use Rattle.std.specs.List.{count_by}
 use Rattle.std.proofs.lemmas.List.Elements.{All-map}
@@ -7,9 +7,9 @@ use Rattle.std.proofs.lemmas.List.Sums.{sum_by-cons}
 use Rattle.std.proofs.lemmas.Option.{slice_get-map}
 use Rattle.ir_tree.specs.Forms.{Form, int, pointer, array, structure}
 use Rattle.ir_tree.specs.Flow.{holds, targets}
-use Rattle.ir_tree.specs.Formed.{ArgumentFormed, CaseFormed, CasesFormed, Distinct, Formed, InstrFormed, IsBlock, IsReg, ItemFormed, KindFormed, ResultFormed}
-use Rattle.ir_tree.specs.Items.{Item, phi_item, line_item, end_item, entries, items, operands, taken}
-use Rattle.ir_tree.specs.Rules.{CaseHas, CasesDiffer, CastsRight, DiffersRight, EndDiffers, EndTypes, EntriesThere, Follow, Follows, HasEdges, HasType, IndicesFollow, IsNoPhi, Keeps, KindTypes, LeavesEntry, LineCasts, LineFollows, LineOnEdges, LineTypes, OnEdges, ReadsThere, Sound, StandsRight, place}
+use Rattle.ir_tree.specs.Formed.{ArgumentFormed, CaseFormed, CasesFormed, InstrFormed, IsBlock, ItemFormed, KindFormed, ResultFormed}
+use Rattle.ir_tree.specs.Items.{Item, phi_item, line_item, end_item, entries, operands, taken, typed}
+use Rattle.ir_tree.specs.Rules.{CaseHas, CasesDiffer, CastsRight, DiffersRight, EndDiffers, EndTypes, Follow, Follows, HasEdges, HasType, IndicesFollow, IsNoPhi, Keeps, KindTypes, LeavesEntry, LineCasts, LineFollows, LineOnEdges, LineTypes, OnEdges, StandsRight, place}
 use Rattle.ir_tree.specs.declared.block.Block.{Block}
 use Rattle.ir_tree.specs.declared.block.Case.{Case}
 use Rattle.ir_tree.specs.declared.block.Terminator.{Terminator}
@@ -20,46 +20,40 @@ use Rattle.ir_tree.specs.declared.instr.Instr.{Instr}
 use Rattle.ir_tree.specs.declared.instr.Instr.TheVariants as kind
 use Rattle.ir_tree.specs.declared.operand.Argument.{Argument}
 use Rattle.ir_tree.specs.declared.operand.Operand.{Operand}
+use Rattle.ir_tree.specs.declared.operand.Operand.TheVariants.{Number as Constant}
 use Rattle.ir_tree.specs.declared.operand.Reg.{Reg}
-use Rattle.ir_tree.specs.declared.rule.Rule.{Rule}
-use Rattle.ir_tree.specs.declared.rule.Rule.TheVariants.{TypeMismatch, NotAvailable, PhiEdges, PhiPlace, EntryBranch, Index, Cast, CaseTwice}
-use Rattle.ir_edit.specs.Edited.{argument_edited, case_edited, edited, end_edited, incoming_edited, instr_edited, param_edited}
-use Rattle.ir_edit.specs.Substituted.{operand_replaced, replacement}
-use Rattle.ir_facts.specs.Candidates.{candidates}
-use Rattle.ir_facts.specs.Steps.{rounds_of, round_of, step_of}
-use Rattle.ir_facts.proofs.Availability.{all_then, all_there}
-use Rattle.ir_facts.proofs.Covering.{covered}
-use Rattle.ir_facts.proofs.EditedItems.{formed_same, item_by, items_same, operands_same, type_same}
-use Rattle.ir_facts.proofs.Editing.{all_same, block_by, edges_same, numbers_same, targets_same}
+use Rattle.ir_tree.specs.declared.operand.Reg.TheVariants.{Int}
+use Rattle.ir_tree.specs.declared.rule.Rule.TheVariants.{TypeMismatch}
+use Rattle.ir_edit.specs.Edited.{argument_edited, case_edited, edited, end_edited, incoming_edited, instr_edited}
+use Rattle.ir_facts.proofs.Availability.{all_then}
+use Rattle.ir_facts.proofs.EditedItems.{formed_same, item_by, operands_same, type_same}
+use Rattle.ir_facts.proofs.Editing.{block_by, edges_same, numbers_same, targets_same}
 use Rattle.ir_facts.proofs.RuleTypes.{Typed}
-use Rattle.ir_facts.proofs.SourceTypes.{operand_typed}
-use Rattle.ir_facts.proofs.Sourcing.{are_sources}
-use Rattle.ir_facts.proofs.Substituting.{covered_new, wider}
 
 -- ---- lists of changed elements
 
 all_along : {X : Type 0} (P : X → Type 0) (xs ys : List X) → xs ≡ ys → All P xs → All P ys
 all_along P xs ys e h = subst (All P) e h
 
-all_with : {X : Type 0} (P Q R : X → Type 0) (xs : List X) → ((x : X) → P x → Q x → R x) → All P xs → All Q xs → All R xs
+pub all_with : {X : Type 0} (P Q R : X → Type 0) (xs : List X) → ((x : X) → P x → Q x → R x) → All P xs → All Q xs → All R xs
 all_with P Q R xs f h g = λ k d lt. f (get_or xs k d) (h k d lt) (g k d lt)
 
-same_count : {A : Type 0} (p q : A → Bool) → ((x : A) → p x ≡ q x) → (xs : List A) → count_by p xs ≡ count_by q xs
+pub same_count : {A : Type 0} (p q : A → Bool) → ((x : A) → p x ≡ q x) → (xs : List A) → count_by p xs ≡ count_by q xs
 same_count p q e xs = λ i. count_by (λ x. e x i) xs
 
-count_changed : {A B : Type 0} (f : A → B) (p : B → Bool) (xs : List A) → count_by p (map f xs) ≡ count_by (λ x. p (f x)) xs
+pub count_changed : {A B : Type 0} (f : A → B) (p : B → Bool) (xs : List A) → count_by p (map f xs) ≡ count_by (λ x. p (f x)) xs
 count_changed f p [] = refl
 count_changed f p (x ∷ xs) =
     sum_by-cons (λ y. cond (p y) 1 0) (f x) (map f xs) ∙ ap (λ n. cond (p (f x)) 1 0 + n) (count_changed f p xs) ∙ sym (sum_by-cons (λ z. cond (p (f z)) 1 0) x xs)
 
-abbrev IsChanged : {A B : Type 0} → (A → B) → List A → ℕ → B → Type 0
+abbrev pub IsChanged : {A B : Type 0} → (A → B) → List A → ℕ → B → Type 0
 IsChanged {A} f xs i y = (x : A) × (slice_get xs i ≡ Some x) × (f x ≡ y)
 
-of_option : {A B : Type 0} (f : A → B) (o : Option A) (y : B) → option_map f o ≡ Some y → (x : A) × (o ≡ Some x) × (f x ≡ y)
+pub of_option : {A B : Type 0} (f : A → B) (o : Option A) (y : B) → option_map f o ≡ Some y → (x : A) × (o ≡ Some x) × (f x ≡ y)
 of_option f None y e = absurd (cc e)
 of_option f (Some x) y e = (x, refl, cc e)
 
-changed : {A B : Type 0} (f : A → B) (xs : List A) (i : ℕ) (y : B) → slice_get (map f xs) i ≡ Some y → IsChanged f xs i y
+pub changed : {A B : Type 0} (f : A → B) (xs : List A) (i : ℕ) (y : B) → slice_get (map f xs) i ≡ Some y → IsChanged f xs i y
 changed f xs i y e = of_option f (slice_get xs i) y (sym (slice_get-map f xs i) ∙ e)
 
 some_still : (o : Option ℕ) → IsSome o → IsSome (option_map (λ x. x) o)
@@ -69,12 +63,9 @@ some_still (Some x) h = h
 none_still : (o : Option ℕ) → o ≡ None → option_map (λ (x : ℕ). x) o ≡ None
 none_still o e = ap (option_map (λ (x : ℕ). x)) e
 
-module _ (c : ℕ → Option Operand) (f : Function) (takes : (o : Operand) (t : Reg) → Typed f t o → Typed f t (operand_replaced c o)) where
-  abbrev h : Operand → Operand
-  h = operand_replaced c
-
+module _ (h : Operand → Operand) (f : Function) (takes : (o : Operand) (t : Reg) → Typed f t o → Typed f t (h o)) (stays : (w n : ℕ) → h (Constant w n) ≡ Constant w n) where
   abbrev g : Function
-  g = edited (λ x. x) (operand_replaced c) f
+  g = edited (λ x. x) h f
 
   no_blocks : (bs : List Block) → map (block_by h) bs ≡ [] → bs ≡ []
   no_blocks [] e = refl
@@ -88,7 +79,7 @@ module _ (c : ℕ → Option Operand) (f : Function) (takes : (o : Operand) (t :
       let new = takes a.operand a.reg (t, k.1) in
       ((k.0, formed_same h f (h a.operand) new.1), type_same h f (h a.operand) ∙ new.0)
 
-  place_same : (bs : List Block) (n : ℕ) → place (map (block_by h) bs) n ≡ place bs n
+  pub place_same : (bs : List Block) (n : ℕ) → place (map (block_by h) bs) n ≡ place bs n
   place_same [] n = refl
   place_same (b ∷ bs) n = λ i. if nat_eq b.number n then zero else suc (place_same bs n i)
 
@@ -163,7 +154,7 @@ module _ (c : ℕ → Option Operand) (f : Function) (takes : (o : Operand) (t :
       all_along (λ e. IsBlock g e.from) (map (incoming_edited (λ x. x) h) (entries item)) (entries (item_by h item)) (sym (entries_same item))
       (All-map (λ e. IsBlock g e.from) (incoming_edited (λ x. x) h) (entries item) (all_then (λ e. IsBlock f e.from) (λ e. IsBlock g e.from) (entries item) (λ e. block_there e.from) k))
 
-  item_formed : (item : Item) → ItemFormed f item → All (HasType f) (operands item) → ItemFormed g (item_by h item)
+  pub item_formed : (item : Item) → ItemFormed f item → All (HasType f) (operands item) → ItemFormed g (item_by h item)
   item_formed item k types = record {
     operands =
         operands_all (ArgumentFormed g) item
@@ -201,7 +192,7 @@ module _ (c : ℕ → Option Operand) (f : Function) (takes : (o : Operand) (t :
   kind_types (line_item b n l) k = line_types l.local l.instr k
   kind_types (end_item b t) k = end_types t k
 
-  types_still : (item : Item) → ItemFormed f item × Keeps f TypeMismatch item → Keeps g TypeMismatch (item_by h item)
+  pub types_still : (item : Item) → ItemFormed f item × Keeps f TypeMismatch item → Keeps g TypeMismatch (item_by h item)
   types_still item k = (
     operands_all (HasType g) item
         (all_with (ArgumentFormed f) (HasType f) (λ a. HasType g (argument_edited h a)) (operands item) (λ a x y. (argument_right a x y).1) k.0.operands k.1.0),
@@ -239,7 +230,7 @@ module _ (c : ℕ → Option Operand) (f : Function) (takes : (o : Operand) (t :
   line_on_edges b (kind.Call result callee arguments) k = tt
   line_on_edges b (kind.Phi reg incoming) k = on_edges b incoming k
 
-  has_edges : (item : Item) → HasEdges f item → HasEdges g (item_by h item)
+  pub has_edges : (item : Item) → HasEdges f item → HasEdges g (item_by h item)
   has_edges (phi_item b phi) k = on_edges b phi.incoming k
   has_edges (line_item b n l) k = line_on_edges b l.instr k
   has_edges (end_item b t) k = tt
@@ -257,14 +248,14 @@ module _ (c : ℕ → Option Operand) (f : Function) (takes : (o : Operand) (t :
   no_phi (kind.Call result callee arguments) k = tt
   no_phi (kind.Phi reg incoming) k = k
 
-  stands_right : (item : Item) → StandsRight item → StandsRight (item_by h item)
+  pub stands_right : (item : Item) → StandsRight item → StandsRight (item_by h item)
   stands_right (phi_item b phi) k = k
   stands_right (line_item b n l) k = no_phi l.instr k
   stands_right (end_item b t) k = tt
 
   -- ---- 5 to 8
 
-  leaves_entry : (item : Item) → LeavesEntry f item → LeavesEntry g (item_by h item)
+  pub leaves_entry : (item : Item) → LeavesEntry f item → LeavesEntry g (item_by h item)
   leaves_entry (phi_item b phi) k = tt
   leaves_entry (line_item b n l) k = tt
   leaves_entry (end_item b t) k =
@@ -275,7 +266,7 @@ module _ (c : ℕ → Option Operand) (f : Function) (takes : (o : Operand) (t :
   follow (int w) (a ∷ more) k = k
   follow pointer (a ∷ more) k = k
   follow (array n of) (a ∷ more) k = (k.0, follow of more k.1)
-  follow (structure packed parts) (a ∷ more) (n, form, is, part, rest) = (n, form, ap (argument_edited h) is, part, follow form more rest)
+  follow (structure packed parts) (a ∷ more) (n, form, is, part, rest) = (n, form, ap (argument_edited h) is ∙ ap (λ (o : Operand). typed (Int 32) o) (stays 32 n), part, follow form more rest)
 
   indices_follow : (form : Form) (as' : List Argument) → IndicesFollow form as' → IndicesFollow form (map (argument_edited h) as')
   indices_follow form [] k = tt
@@ -294,7 +285,7 @@ module _ (c : ℕ → Option Operand) (f : Function) (takes : (o : Operand) (t :
   line_follows (kind.Call result callee arguments) k = tt
   line_follows (kind.Phi reg incoming) k = tt
 
-  follows : (item : Item) → Follows item → Follows (item_by h item)
+  pub follows : (item : Item) → Follows item → Follows (item_by h item)
   follows (phi_item b phi) k = tt
   follows (line_item b n l) k = line_follows l.instr k
   follows (end_item b t) k = tt
@@ -312,7 +303,7 @@ module _ (c : ℕ → Option Operand) (f : Function) (takes : (o : Operand) (t :
   line_casts (kind.Call result callee arguments) k = tt
   line_casts (kind.Phi reg incoming) k = tt
 
-  casts_right : (item : Item) → CastsRight item → CastsRight (item_by h item)
+  pub casts_right : (item : Item) → CastsRight item → CastsRight (item_by h item)
   casts_right (phi_item b phi) k = tt
   casts_right (line_item b n l) k = line_casts l.instr k
   casts_right (end_item b t) k = tt
@@ -330,58 +321,7 @@ module _ (c : ℕ → Option Operand) (f : Function) (takes : (o : Operand) (t :
   end_differs (Switch width value default cases) k = cases_differ cases k
   end_differs Unreachable k = tt
 
-  differs_right : (item : Item) → DiffersRight item → DiffersRight (item_by h item)
+  pub differs_right : (item : Item) → DiffersRight item → DiffersRight (item_by h item)
   differs_right (phi_item b phi) k = tt
   differs_right (line_item b n l) k = tt
   differs_right (end_item b t) k = end_differs t k
-
-  -- ---- all of them
-
-  items_all : (P Q : Item → Type 0) → ((item : Item) → P item → Q (item_by h item)) → All P (items f) → All Q (items g)
-  items_all P Q to k =
-      all_along Q (map (item_by h) (items f)) (items g) (sym (items_same h f))
-      (All-map Q (item_by h) (items f) (all_then P (λ item. Q (item_by h item)) (items f) to k))
-
-  module _ (sound : Sound f) (there : All (λ item. ReadsThere g item × EntriesThere g item) (items g)) where
-    abbrev Known : Item → Type 0
-    Known item = ItemFormed f item × Keeps f TypeMismatch item
-
-    known : All Known (items f)
-    known = λ i d lt. (sound.formed.items i d lt, sound.rules TypeMismatch i d lt)
-
-    formed_still : Formed g
-    formed_still = record {
-      result = sound.formed.result;
-      params = All-map (λ p. IsReg p.reg) (param_edited (λ x. x)) f.params sound.formed.params;
-      once = subst Distinct (sym (all_same h f)) sound.formed.once;
-      items = items_all Known (ItemFormed g) (λ item k. item_formed item k.0 k.1.0) known;
-      declared = λ none. sound.formed.declared (no_blocks f.blocks none);
-    }
-
-    keeps_still : (rule : Rule) → All (Keeps g rule) (items g)
-    keeps_still TypeMismatch = items_all Known (Keeps g TypeMismatch) types_still known
-    keeps_still NotAvailable = there
-    keeps_still PhiEdges = items_all (Keeps f PhiEdges) (Keeps g PhiEdges) has_edges (sound.rules PhiEdges)
-    keeps_still PhiPlace = items_all (Keeps f PhiPlace) (Keeps g PhiPlace) stands_right (sound.rules PhiPlace)
-    keeps_still EntryBranch = items_all (Keeps f EntryBranch) (Keeps g EntryBranch) leaves_entry (sound.rules EntryBranch)
-    keeps_still Index = items_all (Keeps f Index) (Keeps g Index) follows (sound.rules Index)
-    keeps_still Cast = items_all (Keeps f Cast) (Keeps g Cast) casts_right (sound.rules Cast)
-    keeps_still CaseTwice = items_all (Keeps f CaseTwice) (Keeps g CaseTwice) differs_right (sound.rules CaseTwice)
-
-    pub sound_still : Sound g
-    sound_still = record { formed = formed_still; rules = keeps_still }
-
-step_sound : (k : Bool) (f : Function) → Sound f → Sound (step_of k f)
-step_sound k f sound =
-    let found = covered f sound in
-    let cov = covered_new k (replacement (candidates k f)) found.family f found.held (are_sources found.family f found.held k) in
-    sound_still (replacement (candidates k f)) f (operand_typed f sound k) sound
-    (all_there (wider found.family (replacement (candidates k f)) f) (step_of k f) cov)
-
-rounds_sound : (n : ℕ) (f : Function) → Sound f → Sound (rounds_of n f)
-unfolding rounds_of
-rounds_sound zero f sound = sound
-rounds_sound (suc n) f sound = rounds_sound n (round_of f) (step_sound false (step_of true f) (step_sound true f sound))
-
-pub made_sound : (n : ℕ) (f h g : Function) → g ≡ rounds_of n h → h ≡ f → Sound f → Sound g
-made_sound n f h g e copy sound = subst Sound (sym (e ∙ ap (λ (k : Function). rounds_of n k) copy)) (rounds_sound n f sound)

@@ -1,11 +1,11 @@
--- A covered function stays covered as sources are put in the place of locals.
+-- Sources of locals are there where the locals are, in a wider family of sets.
 use Rattle.std.proofs.Common.{◌≡◌, ℕ, zero, suc, ◌+◌, ◌<◌, nat_eq, ◌==◌, ◌&&◌, ◌||◌, ◌⊎◌, inl, inr, Bool, true, false, List, [], ◌∷◌, ◌++◌, Option, Some, None, map, option_map, length, refl, sym, ◌∙◌, ap, subst, arith, if◌then◌else◌}
 use Rattle.std.specs.Prelude.{slice_get, flat_map}
 use Rattle.std.specs.List.{cons_option}
 use Rattle.std.proofs.lemmas.Bool.{and_from, and_parts, cases_eq, cases_lt, eq-eqb, eqb-true, false≢true, or_cases, or_left, or_right}
 use Rattle.std.proofs.lemmas.List.Folds.{list_any-append}
 use Rattle.std.proofs.lemmas.Option.{slice_get_within, slice_get-map}
-use Rattle.ir_tree.specs.Flow.{Among, Equations, IsJustified, Justified, availability, defined_in, definitions, edges, entry_row, holds, locals, parameters, phi_locals, results, room}
+use Rattle.ir_tree.specs.Flow.{Among, IsJustified, Justified, availability, defined_in, definitions, edges, entry_row, holds, locals, parameters, phi_locals, results, room}
 use Rattle.ir_tree.specs.Formed.{Distinct, numbers}
 use Rattle.ir_tree.specs.Rules.{IsNoPhi}
 use Rattle.ir_tree.specs.declared.block.Block.{Block}
@@ -22,12 +22,11 @@ use Rattle.ir_tree.specs.declared.operand.Operand.{Operand}
 use Rattle.ir_tree.specs.declared.operand.Operand.TheVariants.{Local, Null, Number as Constant, Poison as PoisonOf, Symbol as Named}
 use Rattle.ir_better.specs.Facts.{edge_operand, is_local}
 use Rattle.ir_better.specs.Needed.{AllKept, EndReads, IsKept, Reads}
-use Rattle.ir_edit.specs.Edited.{argument_edited, edited, end_edited, incoming_edited, instr_edited, line_edited, phi_edited}
+use Rattle.ir_edit.specs.Edited.{argument_edited, end_edited, instr_edited}
 use Rattle.ir_edit.specs.Substituted.{operand_replaced, or_local}
 use Rattle.ir_flow.proofs.Reaching.{edge-from}
 use Rattle.ir_flow.proofs.Solved.{at_end, at_ends}
-use Rattle.ir_facts.proofs.Covers.{BlockCovered, Covers, EdgesCovered, LinesCovered, PhisCovered, PhisEntered, TakenAt, behind, behind_is, closing, closing_is, named, opening, with_named}
-use Rattle.ir_facts.proofs.Editing.{all_same, availability_same, block_at, block_before, block_by, definitions_same, edges_same, phis_same}
+use Rattle.ir_facts.proofs.Covers.{Covers, EdgesCovered, LinesCovered, PhisCovered, PhisEntered, TakenAt, behind, behind_is, closing, closing_is, named, opening, with_named}
 use Rattle.ir_facts.proofs.RuleReads.{rule_kept}
 use Rattle.ir_facts.proofs.RightSources.{AreSources, LineSource, LineSources, PhiSources}
 
@@ -61,7 +60,7 @@ end_taken s s' h t (Branch c yes' no') k = t c k
 end_taken s s' h t (Switch w o default cases) k = t o k
 end_taken s s' h t Unreachable k = tt
 
-no_phi : (h : Operand → Operand) (i : Instr) → IsNoPhi i → IsNoPhi (instr_edited (λ x. x) h i)
+pub no_phi : (h : Operand → Operand) (i : Instr) → IsNoPhi i → IsNoPhi (instr_edited (λ x. x) h i)
 no_phi h (Binary op f w l r) n = tt
 no_phi h (Icmp p reg l r) n = tt
 no_phi h (Cast op from o to) n = tt
@@ -97,14 +96,14 @@ takes c s s' less src Null k = tt
 takes c s s' less src (PoisonOf reg) k = tt
 takes c s s' less src (Named t i) k = tt
 
-named_less : (s s' : ℕ → Bool) (o : Option ℕ) → Less s s' → Less (with_named s o) (with_named s' o)
+pub named_less : (s s' : ℕ → Bool) (o : Option ℕ) → Less s s' → Less (with_named s o) (with_named s' o)
 named_less s s' o less x h =
     elim (or_cases (s x) (named o x) h) [
       | inl a ↦ or_left (s' x) (named o x) (less x a)
       | inr b ↦ or_right (s' x) (named o x) b
     ]
 
-named_sourced : (k : Bool) (c : ℕ → Option Operand) (s s' : ℕ → Bool) (l : Line) → Less s s' → Sourced c s s' → LineSource k c l.local l.instr → Reads s l.instr → Sourced c (with_named s l.local) (with_named s' l.local)
+pub named_sourced : (k : Bool) (c : ℕ → Option Operand) (s s' : ℕ → Bool) (l : Line) → Less s s' → Sourced c s s' → LineSource k c l.local l.instr → Reads s l.instr → Sourced c (with_named s l.local) (with_named s' l.local)
 named_sourced k c s s' l less src line reads x z h e =
     elim (or_cases (s x) (named l.local x) h) [
       | inl a ↦ or_left (s' z) (named l.local z) (src x z a e)
@@ -122,20 +121,6 @@ pub lines_end : (k : Bool) (c : ℕ → Option Operand) (ls : List Line) (s s' :
 lines_end k c [] s s' less src own cov = (less, src)
 lines_end k c (l ∷ ls) s s' less src own cov =
     lines_end k c ls (with_named s l.local) (with_named s' l.local) (named_less s s' l.local less) (named_sourced k c s s' l less src own.0 cov.1) own.1 cov.2
-
-named_same : (s : ℕ → Bool) (o : Option ℕ) → with_named s (option_map (λ x. x) o) ≡ with_named s o
-named_same s None = refl
-named_same s (Some y) = refl
-
-pub lines_covered : (k : Bool) (c : ℕ → Option Operand) (ls : List Line) (s s' : ℕ → Bool) → Less s s' → Sourced c s s' → LineSources k c ls → LinesCovered s ls
-    → LinesCovered s' (map (line_edited (λ x. x) (operand_replaced c)) ls)
-lines_covered k c [] s s' less src own cov = tt
-lines_covered k c (l ∷ ls) s s' less src own cov = (
-  no_phi (operand_replaced c) l.instr cov.0,
-  instr_taken s s' (operand_replaced c) (takes c s s' less src) l.instr cov.1,
-  subst (λ (t : ℕ → Bool). LinesCovered t (map (line_edited (λ x. x) (operand_replaced c)) ls)) (sym (named_same s' l.local))
-      (lines_covered k c ls (with_named s l.local) (with_named s' l.local) (named_less s s' l.local less) (named_sourced k c s s' l less src own.0 cov.1) own.1 cov.2),
-)
 
 -- a line's source is there before the line
 pub line_sourced : (k : Bool) (c : ℕ → Option Operand) (ls : List Line) (s : ℕ → Bool) (x z : ℕ) → LinesCovered s ls → LineSources k c ls → holds (results ls) x ≡ true → c x ≡ Some (Local z) → behind s ls z ≡ true
@@ -359,7 +344,7 @@ module _ (k : Bool) (c : ℕ → Option Operand) (r : ℕ → ℕ → Bool) (f :
           by true q j = j
           by false q j = absurd (false≢true (sym q ∙ eq-eqb b 0 zero_is))
 
-  wide_justified : IsJustified (availability f) wide
+  pub wide_justified : IsJustified (availability f) wide
   unfolding wider
   wide_justified b z m =
       elim (or_cases (r b z) (any_below (room (locals f)) (λ x. open_at r f b x && names z (c x))) m) [
@@ -394,79 +379,3 @@ module _ (k : Bool) (c : ℕ → Option Operand) (r : ℕ → ℕ → Bool) (f :
               → Justified (availability f) wide b z (if t then Some (holds (parameters f)) else None)
           by true q x is block e opened = absurd (entry_bare b block x (Local z) e opened is (eqb-true b 0 q))
           by false q x is block e opened = at_ends (availability f) wide z (edges f b) (λ p edge. end_has b block x z e opened is (λ h. false≢true (sym q ∙ eq-eqb b 0 h)) p edge)
-
-  -- ---- block by block
-
-  abbrev h : Operand → Operand
-  h = operand_replaced c
-
-  abbrev g : Function
-  g = edited (λ x. x) (operand_replaced c) f
-
-  closing_same : (p : ℕ) (b : Block) → closing wide p (block_by h b) ≡ closing wide p b
-  closing_same p b = λ i x. wide p x || holds (definitions_same h b i) x
-
-  opening_same : (p : ℕ) (b : Block) → opening wide p (block_by h b) ≡ opening wide p b
-  opening_same p b = λ i x. wide p x || holds (phis_same h b.phis i) x
-
-  taken_new : (n : ℕ) (o : Operand) → TakenAt r f n o → TakenAt wide g n (h o)
-  taken_new n o t =
-      let ends = at_ends_of t.place t.block t.found in
-      record {
-        place = t.place;
-        block = block_by h t.block;
-        found = block_at h f.blocks t.place ∙ ap (option_map (block_by h)) t.found;
-        number = t.number;
-        kept = subst (λ (s : ℕ → Bool). IsKept s (h o)) (sym (closing_same t.place t.block)) (takes c (closing r t.place t.block) (closing wide t.place t.block) ends.0 ends.1 o t.kept);
-      }
-
-  edges_new : (es : List Incoming) → EdgesCovered r f es → EdgesCovered wide g (map (incoming_edited (λ x. x) h) es)
-  edges_new [] t = tt
-  edges_new (e ∷ es) t = (taken_new e.from e.value t.0, edges_new es t.1)
-
-  phis_new : (ps : List Phi) → PhisCovered r f ps → PhisCovered wide g (map (phi_edited (λ x. x) h) ps)
-  phis_new [] t = tt
-  phis_new (p ∷ ps) t = (edges_new p.incoming t.0, phis_new ps t.1)
-
-  entry_new : (n : ℕ) (es : List Incoming) → edge_operand n (map (incoming_edited (λ x. x) h) es) ≡ option_map h (edge_operand n es)
-  entry_new n [] = refl
-  entry_new n (e ∷ es) = by (e.from == n) (entry_new n es)
-    where
-      by : (t : Bool) → edge_operand n (map (incoming_edited (λ x. x) h) es) ≡ option_map h (edge_operand n es)
-          → (if t then Some (h e.value) else edge_operand n (map (incoming_edited (λ x. x) h) es)) ≡ option_map h (if t then Some e.value else edge_operand n es)
-      by true more = refl
-      by false more = more
-
-  entered_new : (n : ℕ) (ps : List Phi) → PhisEntered n ps → PhisEntered n (map (phi_edited (λ x. x) h) ps)
-  entered_new n [] t = tt
-  entered_new n (p ∷ ps) t = ((h t.0.0, entry_new n p.incoming ∙ ap (option_map h) t.0.1), entered_new n ps t.1)
-
-  block_new : (p : ℕ) (b : Block) → slice_get f.blocks p ≡ Some b → BlockCovered wide g p (block_by h b)
-  block_new p b e =
-      let cover = cov.blocks p b e in
-      let ends = at_ends_of p b e in
-      record {
-        phis = phis_new b.phis cover.phis;
-        lines =
-            subst (λ (s : ℕ → Bool). LinesCovered s (map (line_edited (λ x. x) h) b.lines)) (sym (opening_same p b))
-            (lines_covered k c b.lines (opening r p b) (opening wide p b) (less_open p b) (sourced_open p b e) (src.lines p b e) cover.lines);
-        end =
-            subst (λ (s : ℕ → Bool). EndReads s (end_edited (λ x. x) h b.end)) (sym (closing_same p b))
-            (end_taken (closing r p b) (closing wide p b) h (takes c (closing r p b) (closing wide p b) ends.0 ends.1) b.end cover.end);
-        entered = λ q a' edge found.
-            let before = block_before h f.blocks q a' found in
-            subst (λ (a : Block). PhisEntered a.number (map (phi_edited (λ x. x) h) b.phis)) before.2
-            (entered_new before.0.number b.phis (cover.entered q before.0 (subst (Among q) (edges_same h f p) edge) before.1));
-      }
-
-  pub covered_new : Covers wide g
-  covered_new = record {
-    justified = subst (λ (e : Equations). IsJustified e wide) (sym (availability_same h f)) wide_justified;
-    blocks = λ p b' found.
-        let before = block_before h f.blocks p b' found in
-        subst (BlockCovered wide g p) before.2 (block_new p before.0 before.1);
-    bare = λ b' found.
-        let before = block_before h f.blocks 0 b' found in
-        subst (λ (b : Block). b.phis ≡ []) before.2 (ap (map (phi_edited (λ x. x) h)) (cov.bare before.0 before.1));
-    once = subst Distinct (sym (all_same h f)) cov.once;
-  }

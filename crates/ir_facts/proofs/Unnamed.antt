@@ -18,14 +18,12 @@ use Rattle.ir_better.specs.Facts.{Facts}
 use Rattle.ir_edit.specs.Edited.{argument_edited, case_edited, edited, end_edited, incoming_edited, instr_edited, line_edited, phi_edited}
 use Rattle.ir_edit.specs.Numbered.{later_or}
 use Rattle.ir_edit.specs.Substituted.{operand_replaced, or_local, replacement}
-use Rattle.ir_facts.specs.Candidates.{candidates}
 use Rattle.ir_facts.specs.Membership.{is_member}
 use Rattle.ir_facts.specs.Naming.{arguments_name, block_names, blocks_name, end_names, entries_name, instr_names, is_key, lines_name, phis_name}
-use Rattle.ir_facts.specs.Steps.{step_of}
 use Rattle.ir_facts.proofs.Editing.{block_by}
 use Rattle.ir_facts.proofs.Holding.{params_kept}
 
-neither : (a b : Bool) → (a || b) ≡ false → (a ≡ false) × (b ≡ false)
+pub neither : (a b : Bool) → (a || b) ≡ false → (a ≡ false) × (b ≡ false)
 neither true b h = absurd (false≢true (sym h))
 neither false b h = (refl, h)
 
@@ -35,19 +33,16 @@ no_key ((y, v) ∷ fs) x h =
     let two = neither (y == x) (is_key x fs) h in
     ap (λ (o : Option Operand). later_or o (if y == x then Some v else None)) (no_key fs x two.1) ∙ ap (λ (b : Bool). if b then Some v else None) two.0
 
-module _ (among : ℕ → Bool) (c : ℕ → Option Operand) (out : (x : ℕ) → among x ≡ false → c x ≡ None) where
-  abbrev g : Operand → Operand
-  g = operand_replaced c
+pub operand_same : (among : ℕ → Bool) (c : ℕ → Option Operand) → ((x : ℕ) → among x ≡ false → c x ≡ None) → (o : Operand) → is_member among o ≡ false → operand_replaced c o ≡ o
+operand_same among c out (Local x) h = ap (λ (o : Option Operand). or_local o x) (out x h)
+operand_same among c out (Constant w n) h = refl
+operand_same among c out Null h = refl
+operand_same among c out (PoisonOf reg) h = refl
+operand_same among c out (Named t i) h = refl
 
-  operand_same : (o : Operand) → is_member among o ≡ false → g o ≡ o
-  operand_same (Local x) h = ap (λ (o : Option Operand). or_local o x) (out x h)
-  operand_same (Constant w n) h = refl
-  operand_same Null h = refl
-  operand_same (PoisonOf reg) h = refl
-  operand_same (Named t i) h = refl
-
+module _ (among : ℕ → Bool) (g : Operand → Operand) (operand_stays : (o : Operand) → is_member among o ≡ false → g o ≡ o) where
   argument_same : (a : Argument) → is_member among a.operand ≡ false → argument_edited g a ≡ a
-  argument_same a h = λ i. record { reg = a.reg; operand = operand_same a.operand h i }
+  argument_same a h = λ i. record { reg = a.reg; operand = operand_stays a.operand h i }
 
   arguments_same : (as' : List Argument) → arguments_name among as' ≡ false → map (argument_edited g) as' ≡ as'
   arguments_same [] h = refl
@@ -59,22 +54,22 @@ module _ (among : ℕ → Bool) (c : ℕ → Option Operand) (out : (x : ℕ) �
   entries_same [] h = refl
   entries_same (e ∷ es) h =
       let two = neither (is_member among e.value) (entries_name among es) h in
-      λ i. record { from = e.from; value = operand_same e.value two.0 i } ∷ entries_same es two.1 i
+      λ i. record { from = e.from; value = operand_stays e.value two.0 i } ∷ entries_same es two.1 i
 
-  instr_same : (i : Instr) → instr_names among i ≡ false → instr_edited (λ x. x) g i ≡ i
-  instr_same (Binary op fl w l r) h = let two = neither (is_member among l) (is_member among r) h in λ i. Binary op fl w (operand_same l two.0 i) (operand_same r two.1 i)
-  instr_same (Icmp p reg l r) h = let two = neither (is_member among l) (is_member among r) h in λ i. Icmp p reg (operand_same l two.0 i) (operand_same r two.1 i)
-  instr_same (Cast op from o to) h = ap (λ (v : Operand). Cast op from v to) (operand_same o h)
+  pub instr_same : (i : Instr) → instr_names among i ≡ false → instr_edited (λ x. x) g i ≡ i
+  instr_same (Binary op fl w l r) h = let two = neither (is_member among l) (is_member among r) h in λ i. Binary op fl w (operand_stays l two.0 i) (operand_stays r two.1 i)
+  instr_same (Icmp p reg l r) h = let two = neither (is_member among l) (is_member among r) h in λ i. Icmp p reg (operand_stays l two.0 i) (operand_stays r two.1 i)
+  instr_same (Cast op from o to) h = ap (λ (v : Operand). Cast op from v to) (operand_stays o h)
   instr_same (Select t a b) h =
       let two = neither (is_member among t) (is_member among a.operand || is_member among b.operand) h in
       let more = neither (is_member among a.operand) (is_member among b.operand) two.1 in
-      λ i. Select (operand_same t two.0 i) (argument_same a more.0 i) (argument_same b more.1 i)
-  instr_same (Freeze reg o) h = ap (λ (v : Operand). Freeze reg v) (operand_same o h)
+      λ i. Select (operand_stays t two.0 i) (argument_same a more.0 i) (argument_same b more.1 i)
+  instr_same (Freeze reg o) h = ap (λ (v : Operand). Freeze reg v) (operand_stays o h)
   instr_same (Alloca shape align) h = refl
-  instr_same (Load reg o align) h = ap (λ (v : Operand). Load reg v align) (operand_same o h)
-  instr_same (Store reg o d align) h = let two = neither (is_member among o) (is_member among d) h in λ i. Store reg (operand_same o two.0 i) (operand_same d two.1 i) align
-  instr_same (Address inbounds shape o is) h = let two = neither (is_member among o) (arguments_name among is) h in λ i. Address inbounds shape (operand_same o two.0 i) (arguments_same is two.1 i)
-  instr_same (Call result o args) h = let two = neither (is_member among o) (arguments_name among args) h in λ i. Call result (operand_same o two.0 i) (arguments_same args two.1 i)
+  instr_same (Load reg o align) h = ap (λ (v : Operand). Load reg v align) (operand_stays o h)
+  instr_same (Store reg o d align) h = let two = neither (is_member among o) (is_member among d) h in λ i. Store reg (operand_stays o two.0 i) (operand_stays d two.1 i) align
+  instr_same (Address inbounds shape o is) h = let two = neither (is_member among o) (arguments_name among is) h in λ i. Address inbounds shape (operand_stays o two.0 i) (arguments_same is two.1 i)
+  instr_same (Call result o args) h = let two = neither (is_member among o) (arguments_name among args) h in λ i. Call result (operand_stays o two.0 i) (arguments_same args two.1 i)
   instr_same (StrayPhi reg es) h = ap (λ (l : List Incoming). StrayPhi reg l) (entries_same es h)
 
   own : (o : Option ℕ) → option_map (λ x. x) o ≡ o
@@ -97,12 +92,12 @@ module _ (among : ℕ → Bool) (c : ℕ → Option Operand) (out : (x : ℕ) �
   cases_same [] = refl
   cases_same (d ∷ cs) = ap (λ (more : List Case). d ∷ more) (cases_same cs)
 
-  end_same : (t : Terminator) → end_names among t ≡ false → end_edited (λ x. x) g t ≡ t
+  pub end_same : (t : Terminator) → end_names among t ≡ false → end_edited (λ x. x) g t ≡ t
   end_same (Return None) h = refl
   end_same (Return (Some a)) h = ap (λ (b : Argument). Return (Some b)) (argument_same a h)
   end_same (Jump target) h = refl
-  end_same (Branch t yes' no') h = ap (λ (o : Operand). Branch o yes' no') (operand_same t h)
-  end_same (Switch w o default cases) h = λ i. Switch w (operand_same o h i) default (cases_same cases i)
+  end_same (Branch t yes' no') h = ap (λ (o : Operand). Branch o yes' no') (operand_stays t h)
+  end_same (Switch w o default cases) h = λ i. Switch w (operand_stays o h i) default (cases_same cases i)
   end_same Unreachable h = refl
 
   block_same : (b : Block) → block_names among b ≡ false → block_by g b ≡ b
@@ -118,10 +113,4 @@ module _ (among : ℕ → Bool) (c : ℕ → Option Operand) (out : (x : ℕ) �
       λ i. block_same b two.0 i ∷ blocks_same bs two.1 i
 
   pub unnamed : (f : Function) → blocks_name among f.blocks ≡ false → edited (λ x. x) g f ≡ f
-  unnamed f h = λ i. record f { params = sym (params_kept c f.params) i; blocks = blocks_same f.blocks h i }
-
--- ---- a step that changes nothing
-
-pub step_same : (k : Bool) (f : Function) (among : ℕ → Bool) (found : Facts) → found ≡ candidates k f → ((x : ℕ) → among x ≡ is_key x found) → blocks_name among f.blocks ≡ false → f ≡ step_of k f
-step_same k f among found e keys h =
-    sym (unnamed among (replacement (candidates k f)) (λ x out. no_key (candidates k f) x (ap (is_key x) (sym e) ∙ sym (keys x) ∙ out)) f h)
+  unnamed f h = λ i. record f { params = sym (params_kept (λ x. None) f.params) i; blocks = blocks_same f.blocks h i }

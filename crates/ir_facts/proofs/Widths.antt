@@ -1,7 +1,7 @@
 -- The instructions of formed functions have widths.
-use Rattle.std.proofs.Common.{◌≡◌, ℕ, suc, Bool, List, [], ◌∷◌, ◌++◌, map, subst, sym}
+use Rattle.std.proofs.Common.{ℕ, suc, List, [], ◌∷◌, ◌++◌, map, subst}
 use Rattle.std.specs.List.{All}
-use Rattle.std.proofs.lemmas.List.Elements.{All-cons, All-head, All-tail, All-weaker}
+use Rattle.std.proofs.lemmas.List.Elements.{All-head, All-tail, All-weaker}
 use Rattle.std.proofs.Common.{append-nil, append_assoc, Option}
 use Rattle.ir_tree.specs.Formed.{ArgumentFormed, Formed, IsReg, ItemFormed}
 use Rattle.ir_tree.specs.Items.{Item, phi_item, line_item, end_item, lines_from, items_from, typed}
@@ -12,14 +12,9 @@ use Rattle.ir_tree.specs.declared.instr.Instr.TheVariants.{Address, Alloca, Bina
 use Rattle.ir_tree.specs.declared.instr.Line.{Line}
 use Rattle.ir_tree.specs.declared.instr.Phi.{Phi}
 use Rattle.ir_tree.specs.declared.operand.Argument.{Argument}
-use Rattle.ir_tree.specs.declared.operand.Operand.{Operand}
 use Rattle.ir_tree.specs.declared.operand.Reg.TheVariants.{Int, Ptr}
 use Rattle.fold_rules.specs.Widths.{HasWidths}
-use Rattle.ir_edit.specs.Edited.{argument_edited, block_edited, instr_edited, line_edited}
-use Rattle.ir_edit.specs.Substituted.{operand_replaced, replacement}
 use Rattle.ir_facts.specs.Askable.{BlocksHaveWidths, LinesHaveWidths}
-use Rattle.ir_facts.specs.Candidates.{candidates}
-use Rattle.ir_facts.specs.Steps.{step_of}
 
 first_reg : (f : Function) (a : Argument) (more : List Argument) → All (ArgumentFormed f) (a ∷ more) → IsReg a.reg
 first_reg f a more h = let own = All-head (ArgumentFormed f) a more h in own.0
@@ -63,35 +58,3 @@ blocks_wide f b (block ∷ bs) h =
 
 pub formed_wide : (f : Function) → Formed f → BlocksHaveWidths f.blocks
 formed_wide f h = blocks_wide f 0 f.blocks h.items
-
--- ---- operands replaced
-
-module _ (h : Operand → Operand) where
-  args_edited : (as' : List Argument) → All (λ a. IsReg a.reg) as' → All (λ a. IsReg a.reg) (map (argument_edited h) as')
-  args_edited [] all = all
-  args_edited (a ∷ more) all =
-      All-cons (λ b. IsReg b.reg) (argument_edited h a) (map (argument_edited h) more) (All-head (λ b. IsReg b.reg) a more all) (args_edited more (All-tail (λ b. IsReg b.reg) a more all))
-
-  instr_edited_wide : (i : Instr) → HasWidths i → HasWidths (instr_edited (λ x. x) h i)
-  instr_edited_wide (Binary op flags width left right) w = w
-  instr_edited_wide (Icmp predicate reg left right) w = w
-  instr_edited_wide (Cast op from value to) w = w
-  instr_edited_wide (Select condition if_true if_false) w = tt
-  instr_edited_wide (Freeze reg value) w = w
-  instr_edited_wide (Alloca shape align) w = tt
-  instr_edited_wide (Load reg address align) w = tt
-  instr_edited_wide (Store reg value address align) w = tt
-  instr_edited_wide (Address inbounds shape base indices) w = (w.0, args_edited indices w.1)
-  instr_edited_wide (Call result callee arguments) w = tt
-  instr_edited_wide (StrayPhi reg incoming) w = tt
-
-  lines_edited_wide : (ls : List Line) → LinesHaveWidths ls → LinesHaveWidths (map (line_edited (λ x. x) h) ls)
-  lines_edited_wide [] w = tt
-  lines_edited_wide (l ∷ ls) w = (instr_edited_wide l.instr w.0, lines_edited_wide ls w.1)
-
-  blocks_edited_wide : (bs : List Block) → BlocksHaveWidths bs → BlocksHaveWidths (map (block_edited (λ x. x) h) bs)
-  blocks_edited_wide [] w = tt
-  blocks_edited_wide (b ∷ bs) w = (lines_edited_wide b.lines w.0, blocks_edited_wide bs w.1)
-
-pub step_wide : (k : Bool) (f g : Function) → g ≡ step_of k f → BlocksHaveWidths f.blocks → BlocksHaveWidths g.blocks
-step_wide k f g e w = subst (λ (h : Function). BlocksHaveWidths h.blocks) (sym e) (blocks_edited_wide (operand_replaced (replacement (candidates k f))) f.blocks w)

@@ -1,4 +1,7 @@
+pub mod Agreement
+pub mod Apart
 pub mod Askable
+pub mod AtPoints
 pub mod Candidates
 pub mod FactFlow
 pub mod FlowLaws

@@ -1,5 +1,5 @@
 -- Facts at the points of a function, and substitution by them in rounds (Kildall 1973, "A unified approach to global program optimization").
-use Rattle.std.specs.Prelude.{◌≡◌, ◌⊎◌, ℕ, zero, suc, ◌<◌, length, [], Bool, true, false, slice_get, Option, Some, None}
+use Rattle.std.specs.Prelude.{◌≡◌, ℕ, zero, suc, ◌<◌, length, [], Bool, true, false, slice_get, Option, Some, None}
 use Rattle.ir_tree.specs.declared.block.Block.{Block}
 use Rattle.ir_tree.specs.declared.function.Function.{Function}
 use Rattle.ir_tree.specs.declared.operand.Operand.{Operand}
@@ -8,7 +8,7 @@ use Rattle.ir_tree.specs.Rules.{Sound}
 use Rattle.ir_meaning.specs.Act.{find_block}
 use Rattle.ir_meaning.specs.Near.{BetterThan}
 use Rattle.ir_meaning.specs.Program.{Program}
-use Rattle.ir_better.specs.Facts.{EdgeFacts, Facts, Has, IsTarget, behind_lines, function_replaced}
+use Rattle.ir_better.specs.Facts.{EdgeFacts, Facts, Has, IsTarget, behind_lines, function_replaced, is_phi_operand}
 use Rattle.ir_better.specs.Formed.{IsFormed}
 use Rattle.ir_edit.specs.Substituted.{replacement, substituted}
 use Rattle.ir_facts.specs.Candidates.{candidates}
@@ -25,10 +25,11 @@ ends_of candidate starts f n = end_of candidate starts (find_block f.blocks n)
 
 -- Facts at the start of each block, behind its phis, that follow from those at the ends of its predecessors: a local that no phi
 -- gives a value has the fact at each of these ends, and one that a phi gives a value is the candidate on the edge, or itself with
--- its fact; no phi of the block gives the candidate's local a value.
+-- its fact; no phi of the block gives the candidate's local a value, whether the block has predecessors or not.
 pub record IsSolution (candidate : ℕ → Option Operand) (f : Function) (starts : ℕ → Facts) : Type 0 where
   pub known : (n x : ℕ) (v : Operand) → Has (starts n) x v → candidate x ≡ Some v
   pub entry : (b : Block) → slice_get f.blocks 0 ≡ Some b → starts b.number ≡ []
+  pub outside : (n x : ℕ) (v : Operand) (b : Block) → find_block f.blocks n ≡ Some b → Has (starts n) x v → is_phi_operand v b.phis ≡ false
   pub edges : (m n : ℕ) (a b : Block) → find_block f.blocks m ≡ Some a → IsTarget a.end n → find_block f.blocks n ≡ Some b
       → EdgeFacts (ends_of candidate starts f m) m b.phis (starts n)
 
@@ -60,18 +61,18 @@ unfoldable pub AreRounds : ℕ → Function → Function → Type 0
 AreRounds zero f g = g ≡ f
 AreRounds (suc n) f g = (h : Function) × IsRound f h × AreRounds n h g
 
--- ---- where all blocks are reached
-
-abbrev pub AllReached : Function → Type 0
-AllReached f = (b : ℕ) → b < length f.blocks → Reachable f b
-
--- what facts make of a function: sixteen rounds where all its blocks are reached, and else the function itself
+-- what facts make of a function: sixteen rounds
 abbrev pub IsApplied : Function → Function → Type 0
-IsApplied f g = (AllReached f × AreRounds 16 f g) ⊎ ((AllReached f → ⊥) × (g ≡ f))
+IsApplied f g = AreRounds 16 f g
 
 -- there is one such function
 abbrev pub AppliedIsOne : Type 0
 AppliedIsOne = (f g h : Function) → IsApplied f g → IsApplied f h → g ≡ h
+
+-- ---- where all blocks are reached
+
+abbrev pub AllReached : Function → Type 0
+AllReached f = (b : ℕ) → b < length f.blocks → Reachable f b
 
 -- each use replaced, wherever it stands
 abbrev pub step_of : Bool → Function → Function
@@ -94,9 +95,9 @@ or_same f (Some g) = g
 abbrev pub RoundsAreAll : Type 0
 RoundsAreAll = (n : ℕ) (f : Function) → Sound f → AllReached f → AreRounds n f (rounds_of n f)
 
--- and what they make is better in every program
+-- what rounds make of a sound function is sound, and better in every program
 abbrev pub RoundsAreBetter : Type 0
-RoundsAreBetter = (n : ℕ) (f : Function) → Sound f → AllReached f → (p : Program) → IsFormed p → BetterThan p 1 (rounds_of n f) f
+RoundsAreBetter = (n : ℕ) (f g : Function) → Sound f → AreRounds n f g → Sound g × ((p : Program) → IsFormed p → BetterThan p 1 g f)
 
 -- settling free choices is better, reached or not
 abbrev pub SettledIsBetter : Type 0
@@ -105,3 +106,7 @@ SettledIsBetter = (f : Function) → Sound f → IsStep (candidate_of true f) f 
 -- what a step makes of a sound function with its other candidates is better, whether its blocks are reached or not
 abbrev pub StepsAreBetter : Type 0
 StepsAreBetter = (f g : Function) → Sound f → IsStep (candidate_of false f) f g → (p : Program) → IsFormed p → BetterThan p 1 g f
+
+-- and a step of either kind keeps it sound
+abbrev pub StepsAreSound : Type 0
+StepsAreSound = (settling : Bool) (f g : Function) → Sound f → IsStep (candidate_of settling f) f g → Sound g

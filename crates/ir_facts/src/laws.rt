@@ -1,7 +1,8 @@
 //! Laws of the candidates, and of substitution by them.
+ghost use Rattle.ir_facts.specs.Agreement.{FactsMakeSteps, SolutionsAgree};
 ghost use Rattle.ir_facts.specs.Laws.{FormedHaveWidths, LineSourcesRight, PhiSourcesAreSole, PhiSourcesRight};
 ghost use Rattle.ir_facts.specs.Points.{FactsAreOne};
-ghost use Rattle.ir_facts.specs.Steps.{AppliedIsOne, RoundsAreAll, RoundsAreBetter, SettledIsBetter, StepsAreBetter};
+ghost use Rattle.ir_facts.specs.Steps.{AppliedIsOne, RoundsAreAll, RoundsAreBetter, SettledIsBetter, StepsAreBetter, StepsAreSound};
 
 /// A phi has a candidate exactly where it takes one operand beside its own value and that is no phi of the same
 /// block: that operand.
@@ -37,7 +38,7 @@ pub fn facts_hold_at_uses()
     ensures { RoundsAreAll }
 {}
 
-/// What rounds make of a sound function all whose blocks are reached is better.
+/// What rounds make of a sound function is sound and better.
 pub fn rounds_are_better()
     ensures { RoundsAreBetter }
 {}
@@ -52,6 +53,22 @@ pub fn settled_is_better()
 /// blocks are reached or not: so is what any solution makes.
 pub fn steps_are_better()
     ensures { StepsAreBetter }
+{}
+
+/// What a step makes of a sound function is sound, whether its blocks are reached or not.
+pub fn steps_are_sound()
+    ensures { StepsAreSound }
+{}
+
+/// Lists of facts at the starts of blocks, as rounds have them, are a solution exactly where the marks of each fact by
+/// itself, as `facts` has them, are one.
+pub fn facts_at_points_agree()
+    ensures { SolutionsAgree }
+{}
+
+/// Of a sound function each use replaced where its fact, as `facts` has it, holds is what a step makes.
+pub fn facts_make_steps()
+    ensures { FactsMakeSteps }
 {}
 
 /// No two functions are what facts make of one function.

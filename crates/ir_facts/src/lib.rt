@@ -8,21 +8,26 @@
 //! ([`line_sources_right`]), by the law of the rule table.
 //!
 //! [`apply`] puts candidates in the place of locals, in rounds. The definition (`specs/Steps.antt`) is by facts at
-//! points, the greatest solution of equations over the edges. In a sound function all whose blocks are reached
-//! each use has its fact ([`facts_hold_at_uses`]), so no sets at points are kept; what is made is one function
-//! ([`applied_is_one`]), and better in every program ([`rounds_are_better`]).
+//! points, the greatest solution of equations over the edges. In a sound function a fact whose operand no unreached
+//! block defines holds wherever its local is used (of functions all whose blocks are reached: [`facts_hold_at_uses`]),
+//! so no sets at points are kept of it; the others are solved and looked up at points (`specs/AtPoints.antt`). What is
+//! made is one function ([`applied_is_one`]), sound, and better in every program ([`rounds_are_better`]).
 //!
 //! [`facts`] gives the facts themselves, each with the points where it holds, of any function that the grammar
 //! allows, reached or not: the greatest solution of the equations of `specs/Points.antt`, by `ir_flow::greatest`,
 //! which is one list ([`facts_are_one`]). What any solution makes of a sound function is better ([`steps_are_better`]).
+//! The two definitions of where facts hold agree ([`facts_at_points_agree`]).
 //!
 //! Below this crate stand `ir_tree`, `ir_flow`, `lto_sets`, `ir_edit`, `fold_rules`, and `ir_meaning` and `ir_better`
-//! for what is proved. A round goes through the function four times, and two times more to see whether there is
-//! anything to replace; rounds end behind one that changes nothing. Each entry of a phi is compared once, whether an
-//! operand is a phi of the same block is looked up in a set that is made once for a block, and each use is looked up
-//! in a tree of the candidates. `facts` solves the equations of each fact by itself.
+//! for what is proved. Each of a round's two steps goes through the function for candidates, once more where there are
+//! any, to see whether one is used, and once or twice to replace uses; rounds end behind one that changes nothing. Each
+//! entry of a phi is compared once, whether an operand is a phi of the same block is looked up in a set that is made
+//! once for a block, and each use is looked up in a tree of the candidates. `facts` solves the equations of each fact
+//! by itself, and so does a round with each fact whose operand is a local that an unreached block defines.
 #![tactic(auto)]
 
+mod apart;
+mod at_points;
 mod flow;
 mod laws;
 mod naming;
@@ -31,9 +36,9 @@ mod rounds;
 mod sources;
 
 pub use laws::{
-    applied_is_one, facts_are_one, facts_hold_at_uses, formed_functions_have_widths,
-    line_sources_right, phi_sources_are_sole, phi_sources_right, rounds_are_better,
-    settled_is_better, steps_are_better,
+    applied_is_one, facts_are_one, facts_at_points_agree, facts_hold_at_uses, facts_make_steps,
+    formed_functions_have_widths, line_sources_right, phi_sources_are_sole, phi_sources_right,
+    rounds_are_better, settled_is_better, steps_are_better, steps_are_sound,
 };
 pub use points::{Fact, facts};
 pub use rounds::apply;

@@ -4,7 +4,7 @@ ghost use Rattle.std.specs.HashSet.{contains};
 ghost use Rattle.ir_facts.specs.Membership.{is_member};
 ghost use Rattle.ir_facts.specs.Naming.{arguments_name, block_names, blocks_name, end_names, entries_name, instr_names, is_key, lines_name, phis_name};
 
-use ir_tree::{Argument, Block, Incoming, Instr, Line, Operand, Phi, Terminator};
+use ir_tree::{Argument, Block, Function, Incoming, Instr, Line, Operand, Phi, Terminator};
 use std::alloc::{AllocError, Global};
 use std::collections::HashSet;
 
@@ -134,4 +134,21 @@ pub(crate) fn blocks_name(set: &HashSet<u32>, blocks: &[Block]) -> bool
         }
     }
     false
+}
+
+/// Whether a function uses a local of these facts.
+pub(crate) fn are_used(
+    alloc: Global,
+    found: &[(u32, Operand)],
+    f: &Function,
+) -> Result<bool, AllocError>
+    ensures { IfOk result (λ used. used ≡ blocks_name (λ x. is_key x found.now) f.now.blocks) }
+{
+    let count = found.len();
+    if count == 0 {
+        return Ok(false);
+    }
+    let among = keys(alloc, found)?;
+    let used = blocks_name(&among, f.blocks.as_slice());
+    Ok(used)
 }

@@ -1,10 +1,10 @@
 //! The facts of a function: at which of its points the operand that may stand for a local has its value.
-ghost use Rattle.std.specs.Prelude.{◌≡◌, ◌++◌, ℕ, false, length, IfOk, OnOk};
+ghost use Rattle.std.specs.Prelude.{◌≡◌, ◌++◌, ℕ, false, length, map, IfOk, OnOk};
 ghost use Rattle.ir_tree.specs.Formed.{Formed};
 ghost use Rattle.ir_flow.specs.Narrowing.{AreSized, marked};
 ghost use Rattle.ir_flow.specs.OfFunction.{IsGraphOf};
 ghost use Rattle.ir_facts.specs.FactFlow.{flow_points};
-ghost use Rattle.ir_facts.specs.Points.{AreFacts, IsFact, line_points};
+ghost use Rattle.ir_facts.specs.Points.{AreFacts, EachIsFact, IsFact, line_points};
 ghost use Rattle.lto_sets.specs.Sets.{contains};
 
 use crate::flow::{FactFlow, held_behind, opened, phi_of, put};
@@ -110,24 +110,39 @@ fn fact_of(
     Ok(Fact { local, value, at })
 }
 
+/// The fact of each of these pairs of a local and an operand.
+pub(crate) fn facts_of(
+    alloc: Global,
+    f: &Function,
+    pairs: &[(u32, Operand)],
+) -> Result<Vec<Fact>, AllocError>
+    requires formed { Formed f.now }
+    ensures listed { IfOk result (λ found. map (λ t. (t.local, t.value)) found.items ≡ pairs.now) }
+    ensures each { IfOk result (λ found. EachIsFact f.now found.items) }
+{
+    let edges = preds(alloc, f)?;
+    let none = Bits::new(alloc, 2)?;
+    let mut facts = Vec::with_capacity(alloc, pairs.len())?;
+    for pair in pairs {
+        let fact = fact_of(alloc, f, &edges, &none, pair)?;
+        facts.push(fact)?;
+    }
+    Ok(facts)
+}
+
 /// For each local that has a candidate, in the order of the text, the candidate and the points at which it may stand
 /// for the local: by the greatest solution of the equations of `specs/Points.antt` over the function's edges. In a
 /// block without predecessors, other than the entry, each fact holds behind the phis.
 ///
 /// Beside want of memory, a function of `2^32` blocks or points or more is refused as too large for it. For each
 /// fact the equations are solved over the blocks and their phis and instructions, and there is a bit for each point:
-/// use it to look at facts. [`apply`](crate::apply) asks no sets at points.
+/// use it to look at facts. [`apply`](crate::apply) asks for points of those facts alone whose operand is a local that
+/// an unreached block defines.
 pub fn facts(alloc: Global, f: &Function) -> Result<Vec<Fact>, AllocError>
     requires formed { Formed f.now }
     ensures { IfOk result (λ found. AreFacts f.now found.items) }
 {
-    let edges = preds(alloc, f)?;
-    let none = Bits::new(alloc, 2)?;
     let found = all_candidates(alloc, f)?;
-    let mut facts = Vec::with_capacity(alloc, found.len())?;
-    for pair in found.as_slice() {
-        let fact = fact_of(alloc, f, &edges, &none, pair)?;
-        facts.push(fact)?;
-    }
+    let facts = facts_of(alloc, f, found.as_slice())?;
     Ok(facts)
 }

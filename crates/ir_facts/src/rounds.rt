@@ -1,103 +1,147 @@
 //! Copy and constant propagation: substitution by facts, in rounds.
-ghost use Rattle.std.specs.Prelude.{◌≡◌, ◌↔◌, IfOk, IsTrue};
+ghost use Rattle.std.specs.Prelude.{◌≡◌, nat_eq, true, false, IfOk};
+ghost use Rattle.std.specs.HashSet.{contains};
 ghost use Rattle.ir_tree.specs.Rules.{Sound};
 ghost use Rattle.ir_meaning.specs.Near.{BetterThan};
 ghost use Rattle.ir_meaning.specs.Program.{Program};
 ghost use Rattle.ir_better.specs.Formed.{IsFormed};
-ghost use Rattle.ir_facts.specs.Askable.{BlocksHaveWidths};
-ghost use Rattle.ir_facts.specs.Steps.{AllReached, IsApplied, or_same, round_of, rounds_of, step_of};
+ghost use Rattle.ir_facts.specs.Apart.{IsApart};
+ghost use Rattle.ir_facts.specs.Steps.{AreRounds, IsApplied, IsRound, IsStep, candidate_of, or_same};
 
-use crate::naming::{blocks_name, keys};
+use crate::apart::{apart, firm, resting};
+use crate::at_points::function_at;
+use crate::naming::are_used;
+use crate::points::facts_of;
 use crate::sources::candidates;
 use ir_edit::substitute;
-use ir_flow::reachable;
 use ir_tree::{Duplicate, Function};
-use lto_sets::Bits;
 use std::alloc::{AllocError, Global};
+use std::collections::HashSet;
 
 /// At most so many rounds are made.
 const ROUNDS: u32 = 16;
 
-/// The function with each use of a local replaced by its candidate, of one kind of candidates; none where no local
-/// that is used has one.
-fn step(alloc: Global, f: &Function, settling: bool) -> Result<Option<Function>, AllocError>
-    requires sized { BlocksHaveWidths f.now.blocks }
-    ensures made { IfOk result (λ g. or_same f.now g ≡ step_of settling f.now) }
-    ensures sized { IfOk result (λ g. BlocksHaveWidths (or_same f.now g).blocks) }
+/// Free choices settled: each use of a freeze or of a comparison of pointers replaced by its constant; none where no
+/// such local that has one is used.
+fn settled(alloc: Global, f: &Function) -> Result<Option<Function>, AllocError>
+    requires sound { Sound f.now }
+    ensures { IfOk result (λ g. IsStep (candidate_of true f.now) f.now (or_same f.now g)) }
 {
-    let found = candidates(alloc, f, settling)?;
-    let among = keys(alloc, found.as_slice())?;
-    if !blocks_name(&among, f.blocks.as_slice()) {
+    let found = candidates(alloc, f, true)?;
+    let used = are_used(alloc, found.as_slice(), f)?;
+    if !used {
         return Ok(None);
     }
     let g = substitute(alloc, f, found.as_slice())?;
     Ok(Some(g))
 }
 
-/// Free choices settled, and then the other candidates put in place; none where neither changes anything.
-fn round(alloc: Global, f: &Function) -> Result<Option<Function>, AllocError>
-    requires sized { BlocksHaveWidths f.now.blocks }
-    ensures made { IfOk result (λ g. or_same f.now g ≡ round_of f.now) }
-    ensures sized { IfOk result (λ g. BlocksHaveWidths (or_same f.now g).blocks) }
+/// Each use of a local replaced where its fact holds at the use; none where no local that is used has a candidate.
+///
+/// A fact whose candidate no unreached block gives a value holds wherever its local is used. Of the others it is looked
+/// up at each point; `outside` has the locals to which unreached blocks give values.
+fn forwarded(
+    alloc: Global,
+    f: &Function,
+    outside: &HashSet<u32>,
+) -> Result<Option<Function>, AllocError>
+    requires sound { Sound f.now }
+    requires apart { IsApart f.now (contains nat_eq outside.now) }
+    ensures { IfOk result (λ g. IsStep (candidate_of false f.now) f.now (or_same f.now g)) }
 {
-    let first = step(alloc, f, true)?;
+    let found = candidates(alloc, f, false)?;
+    let used = are_used(alloc, found.as_slice(), f)?;
+    if !used {
+        return Ok(None);
+    }
+    let some = resting(alloc, found.as_slice(), outside)?;
+    let count = some.len();
+    if count == 0 {
+        let g = substitute(alloc, f, found.as_slice())?;
+        return Ok(Some(g));
+    }
+    let others = firm(alloc, found.as_slice(), outside)?;
+    let facts = facts_of(alloc, f, some.as_slice())?;
+    let h = substitute(alloc, f, others.as_slice())?;
+    let g = function_at(alloc, facts.as_slice(), &h)?;
+    Ok(Some(g))
+}
+
+/// Free choices settled, and then the other candidates put in place; none where neither changes anything.
+fn round(
+    alloc: Global,
+    f: &Function,
+    outside: &HashSet<u32>,
+) -> Result<Option<Function>, AllocError>
+    requires sound { Sound f.now }
+    requires apart { IsApart f.now (contains nat_eq outside.now) }
+    ensures { IfOk result (λ g. IsRound f.now (or_same f.now g)) }
+{
+    let first = settled(alloc, f)?;
     match first {
         None => {
-            let second = step(alloc, f, false)?;
+            let second = forwarded(alloc, f, outside)?;
             Ok(second)
         }
-        Some(settled) => {
-            let second = step(alloc, &settled, false)?;
+        Some(h) => {
+            let second = forwarded(alloc, &h, outside)?;
             match second {
                 Some(g) => Ok(Some(g)),
-                None => Ok(Some(settled)),
+                None => Ok(Some(h)),
             }
         }
     }
 }
 
 /// The function after so many rounds. A round that changes nothing is the last, since no later one changes anything.
-fn rounds(alloc: Global, f: Function, left: u32) -> Result<Function, AllocError>
-    requires sized { BlocksHaveWidths f.blocks }
-    ensures { IfOk result (λ g. g ≡ rounds_of left f) }
+fn rounds(
+    alloc: Global,
+    f: Function,
+    outside: &HashSet<u32>,
+    left: u32,
+) -> Result<Function, AllocError>
+    requires sound { Sound f }
+    requires apart { IsApart f (contains nat_eq outside.now) }
+    ensures { IfOk result (λ g. AreRounds left f g) }
 {
     if left == 0 {
         return Ok(f);
     }
-    let next = round(alloc, &f)?;
+    let next = round(alloc, &f, outside)?;
     match next {
-        Some(g) => rounds(alloc, g, left - 1),
+        Some(g) => {
+            let h = rounds(alloc, g, outside, left - 1)?;
+            Ok(h)
+        }
         None => Ok(f),
     }
 }
 
-/// Whether all blocks are reached from the entry.
-fn all_reached(alloc: Global, f: &Function) -> Result<bool, AllocError>
-    ensures { IfOk result (λ all. IsTrue all ↔ AllReached f.now) }
-{
-    let reached = reachable(alloc, f)?;
-    let full = Bits::full(alloc, reached.size())?;
-    let all = reached.equal(&full);
-    Ok(all)
-}
-
 /// A sound function with uses of locals replaced by what has their value: the one operand that a phi takes, and
-/// the operand of the rule table; sixteen rounds, but none behind one that changes nothing, which would change
-/// nothing either.
+/// the operand of the rule table, wherever the fact that it has this value holds at the use; sixteen rounds, but none
+/// behind one that changes nothing, which would change nothing either.
 /// In each round free choices are settled first, all uses of such a local by one constant.
 ///
-/// What is made is sound, and better in every program. A function with a block that isn't reached is given back as it is.
+/// What is made is sound, and better in every program.
+///
+/// Beside want of memory, a function is refused as too large where it has `2^32` points or more and a candidate is a
+/// local to which a block that isn't reached gives a value.
 pub fn apply(alloc: Global, f: &Function) -> Result<Function, AllocError>
     requires sound { Sound f.now }
     ensures made { IfOk result (λ g. IsApplied f.now g) }
     ensures better { IfOk result (λ g. (p : Program) → IsFormed p → BetterThan p 1 g f.now) }
     ensures sound { IfOk result (λ g. Sound g) }
 {
-    let copy = f.duplicate(alloc)?;
-    let all = all_reached(alloc, f)?;
-    if !all {
-        return Ok(copy);
+    let outside = apart(alloc, f)?;
+    let first = round(alloc, f, &outside)?;
+    match first {
+        Some(g) => {
+            let h = rounds(alloc, g, &outside, ROUNDS - 1)?;
+            Ok(h)
+        }
+        None => {
+            let copy = f.duplicate(alloc)?;
+            Ok(copy)
+        }
     }
-    let g = rounds(alloc, copy, ROUNDS)?;
-    Ok(g)
 }

@@ -2,7 +2,7 @@
 use crate::rows::{Pass, Row, failing};
 use std::alloc::AllocError;
 
-const FACTS: [Row; 10] = [
+const FACTS: [Row; 11] = [
     (
         "a sum of constants",
         Pass::Optimised,
@@ -205,7 +205,7 @@ o:
 ",
     ),
     (
-        "with a block that is not reached all stays",
+        "facts of reached blocks hold in others",
         Pass::Facts,
         b"define i32 @f(i32 %0) {
   %2 = add i32 %0, 0
@@ -217,10 +217,38 @@ o:
 ",
         b"define i32 @f(i32 %0) {
   %2 = add i32 %0, 0
-  ret i32 %2
+  ret i32 %0
 3:
-  %4 = add i32 %2, 0
-  ret i32 %4
+  %4 = add i32 %0, 0
+  ret i32 %0
+}
+",
+    ),
+    // The last block leads to itself alone; its local 6 is a copy of its local 4, and is used in front of 4, between the
+    // two, and behind both.
+    (
+        "between a new value and its copy a use stays",
+        Pass::Facts,
+        b"define i32 @f(i32 %0) {
+  ret i32 %0
+2:
+  %3 = add i32 %6, 1
+  %4 = add i32 %0, 1
+  %5 = add i32 %6, 2
+  %6 = add i32 %4, 0
+  %7 = add i32 %6, 3
+  br label %2
+}
+",
+        b"define i32 @f(i32 %0) {
+  ret i32 %0
+2:
+  %3 = add i32 %4, 1
+  %4 = add i32 %0, 1
+  %5 = add i32 %6, 2
+  %6 = add i32 %4, 0
+  %7 = add i32 %4, 3
+  br label %2
 }
 ",
     ),

@@ -1,43 +1,12 @@
-use Rattle.std.proofs.Common.{◌≡◌, ℕ, suc, ◌+◌, ◌++◌, ◌∷◌, [], List, drop, map, subst, sym, ap, ◌∙◌, arith, append-nil}
-use Rattle.std.proofs.Math.Seq.{drop-cons}
-use Rattle.std.proofs.lemmas.List.{drop_all}
-use Rattle.ir_tree.specs.declared.operand.Operand.{Operand}
-use Rattle.ir_facts.specs.Points.{EachIsFact}
-use Rattle.ir_facts.specs.declared.points.Fact.{Fact}
-use Rattle.ir_facts.proofs.FactSolutions.{each_pushed, listed_more}
+use Rattle.std.proofs.Common.{◌∙◌}
 use Rattle.ir_facts.proofs.Widths.{formed_wide}
 use Rattle.ir_facts.proofs.points.facts.Goals as goal
 
 pub all_candidates-requires : goal.all_candidates-requires
 all_candidates-requires c = record { sized = formed_wide c.args.f.now c.requires.formed }
 
-pub loop-pair-preserved : goal.loop-pair-preserved
-loop-pair-preserved c =
-    let pairs = c.as_slice-pair-items.result.now in
-    let i = c.loop-pair.pair-index in
-    let pair = c.pair-item.result in
-    let old = c.loop-pair.facts.items in
-    let fact = c.in_ok-fact.fact in
-    let one : suc i ≡ i + 1 = omega arith in
-    let more = drop-cons pairs i pair c.loop-pair-test.true ∙ ap (λ (p : ℕ × Operand). p ∷ drop (suc i) pairs) (sym c.pair-item.is) ∙ ap (λ (j : ℕ). pair ∷ drop j pairs) one in
-    let made = c.in_ok-fact.ensures in
-    record {
-      listed =
-          ap (λ (ts : List Fact). map (λ (t : Fact). (t.local, t.value)) ts ++ drop (i + 1) pairs) c.in_ok-push.ensures.items
-          ∙ listed_more old fact (drop (i + 1) pairs) (drop i pairs) pair.0 pair.1 made.0 made.1 more
-          ∙ c.loop-pair.invariant.listed;
-      each = subst (EachIsFact c.args.f.now) (sym c.in_ok-push.ensures.items) (each_pushed c.args.f.now old fact c.loop-pair.invariant.each made.2);
-    }
-
 pub returns : goal.returns
-returns c =
-    let pairs = c.as_slice-pair-items.result.now in
-    let i = c.loop-pair.pair-index in
-    let listed : List (ℕ × Operand) = map (λ (t : Fact). (t.local, t.value)) c.loop-pair.facts.items in
-    let none : drop i pairs ≡ [] = drop_all i pairs (omega (arith, c.loop-pair-test.false)) in
-    record {
-      listed =
-          sym (append-nil listed) ∙ ap (λ (rest : List (ℕ × Operand)). listed ++ rest) (sym none) ∙ c.loop-pair.invariant.listed
-          ∙ c.as_slice-pair-items.ensures.value ∙ c.in_ok-found.ensures;
-      each = c.loop-pair.invariant.each;
-    }
+returns c = record {
+  listed = c.in_ok-facts.ensures.listed ∙ c.as_slice.ensures.value ∙ c.in_ok-found.ensures;
+  each = c.in_ok-facts.ensures.each;
+}

@@ -1,0 +1,42 @@
+-- Each use replaced where its fact by itself holds is what a step makes.
+use Rattle.std.proofs.Common.{◌≡◌, ℕ, false, Option, Some, None, refl, sym, subst}
+use Rattle.ir_tree.specs.declared.function.Function.{Function}
+use Rattle.ir_tree.specs.declared.operand.Operand.{Operand}
+use Rattle.ir_tree.specs.declared.operand.Operand.TheVariants.{Local}
+use Rattle.ir_better.specs.Facts.{Facts, Has}
+use Rattle.ir_edit.specs.Edited.{edited}
+use Rattle.ir_edit.specs.Substituted.{operand_replaced, replacement}
+use Rattle.ir_facts.specs.Agreement.{FactsMakeSteps}
+use Rattle.ir_facts.specs.AtPoints.{function_at}
+use Rattle.ir_facts.specs.Candidates.{candidates}
+use Rattle.ir_facts.specs.Steps.{IsStep}
+use Rattle.ir_facts.proofs.AtPoints.{made_step}
+use Rattle.ir_facts.proofs.Covering.{covered}
+use Rattle.ir_facts.proofs.Keys.{candidates_once, found_has, has_found}
+use Rattle.ir_facts.proofs.Parting.{own_all, sources_less}
+use Rattle.ir_facts.proofs.Passing.{constants_safe}
+use Rattle.ir_facts.proofs.Sourcing.{are_sources}
+use Rattle.ir_facts.proofs.Unnamed.{operand_same, unnamed}
+use Rattle.ir_facts.proofs.Unused.{blocks_none}
+
+-- no candidates
+abbrev nothing : ℕ → Option Operand
+nothing x = None
+
+nothing_stays : (f : Function) → edited (λ x. x) (operand_replaced nothing) f ≡ f
+nothing_stays f = unnamed (λ x. false) (operand_replaced nothing) (operand_same (λ x. false) nothing (λ x h. refl)) f (blocks_none f.blocks)
+
+no_value : {X : Type 0} (x : ℕ) (v : Operand) → nothing x ≡ Some v → X
+no_value x v e = absurd (cc e)
+
+pub facts_make : FactsMakeSteps
+facts_make k f ts sound listed each =
+    let all = covered f sound in
+    subst (λ (g : Function). IsStep (replacement (candidates k f)) f (function_at ts g)) (nothing_stays f)
+    (made_step k (replacement (candidates k f)) nothing (λ x v e. no_value x v e) all.family f all.held
+    (sources_less k (replacement (candidates k f)) nothing (λ x v e. no_value x v e) f (are_sources all.family f all.held k))
+    (constants_safe nothing (λ x v e. no_value x v e) all.family f)
+    ts each
+    (own_all (replacement (candidates k f)) ts (λ x v h. has_found (candidates k f) (candidates_once f sound.formed.once k) x v (subst (λ (fs : Facts). Has fs x v) listed h)))
+    (λ x v q none. subst (λ (fs : Facts). Has fs x v) (sym listed) (found_has (candidates k f) x v q))
+    (λ y x v q h. no_value y (Local x) q))

@@ -1,0 +1,68 @@
+-- A step leaves which blocks are reached, and what the others define.
+use Rattle.std.proofs.Common.{◌≡◌, ◌<◌, ℕ, suc, Bool, true, false, List, [], ◌∷◌, ◌++◌, Option, refl, sym, ◌∙◌, ap, subst}
+use Rattle.lto_sets.specs.Sets.{contains}
+use Rattle.ir_tree.specs.Flow.{Among, Path}
+use Rattle.ir_tree.specs.declared.block.Block.{Block}
+use Rattle.ir_tree.specs.declared.function.Function.{Function}
+use Rattle.ir_tree.specs.declared.instr.Line.{Line}
+use Rattle.ir_tree.specs.declared.instr.Phi.{Phi}
+use Rattle.ir_tree.specs.declared.operand.Operand.{Operand}
+use Rattle.ir_better.specs.Facts.{Facts, behind_local, block_replaced, blocks_replaced, function_replaced, lines_replaced, phis_replaced}
+use Rattle.ir_edit.specs.Numbered.{line_numbers, local_number, phi_numbers}
+use Rattle.ir_flow.specs.OfFunction.{IsReach}
+use Rattle.ir_facts.specs.Apart.{IsApart, given_apart, given_where, is_listed}
+use Rattle.ir_facts.specs.Steps.{IsRound, IsStep, candidate_of, ends_of}
+use Rattle.ir_facts.proofs.Replaced.{edges_still, length_still}
+
+module _ (c : ℕ → Option Operand) (starts ends : ℕ → Facts) where
+  phis_still : (ps : List Phi) → phi_numbers (phis_replaced ends ps) ≡ phi_numbers ps
+  phis_still [] = refl
+  phis_still (p ∷ ps) = ap (λ (xs : List ℕ). p.local ∷ xs) (phis_still ps)
+
+  lines_still : (ls : List Line) (fs : Facts) → line_numbers (lines_replaced c fs ls) ≡ line_numbers ls
+  lines_still [] fs = refl
+  lines_still (l ∷ ls) fs = ap (λ (xs : List ℕ). local_number l.local ++ xs) (lines_still ls (behind_local c l.local fs))
+
+  given_still : (t : Bool) (b : Block) → given_where t (block_replaced c starts ends b) ≡ given_where t b
+  unfolding given_where
+  given_still true b = refl
+  given_still false b = λ i. phis_still b.phis i ++ lines_still b.lines (starts b.number) i
+
+  apart_still : (inside : ℕ → Bool) (p : ℕ) (bs : List Block) → given_apart inside p (blocks_replaced c starts ends bs) ≡ given_apart inside p bs
+  apart_still inside p [] = refl
+  apart_still inside p (b ∷ bs) = λ i. given_still (inside p) b i ++ apart_still inside (suc p) bs i
+
+  module _ (f : Function) where
+    abbrev g : Function
+    g = function_replaced c starts ends f
+
+    path_then : (ps : List ℕ) (b : ℕ) → Path f ps b → Path g ps b
+    path_then [] b path = (path.0, subst (λ (n : ℕ). b < n) (sym (length_still c starts ends f.blocks)) path.1)
+    path_then (p ∷ ps) b path = (subst (Among p) (sym (edges_still c starts ends f b)) path.0, path_then ps p path.1)
+
+    path_was : (ps : List ℕ) (b : ℕ) → Path g ps b → Path f ps b
+    path_was [] b path = (path.0, subst (λ (n : ℕ). b < n) (length_still c starts ends f.blocks) path.1)
+    path_was (p ∷ ps) b path = (subst (Among p) (edges_still c starts ends f b) path.0, path_was ps p path.1)
+
+    reach_still : (s : List Bool) → IsReach f s → IsReach g s
+    reach_still s reach = (
+      reach.0 ∙ sym (length_still c starts ends f.blocks),
+      (λ b. (
+        (λ has. let way = (reach.1 b).0 has in (way.0, path_then way.0 b way.1)),
+        (λ way. (reach.1 b).1 (way.0, path_was way.0 b way.1)),
+      )),
+    )
+
+    still_apart : (among : ℕ → Bool) → IsApart f among → IsApart g among
+    still_apart among a = record {
+      reached = a.reached;
+      reach = reach_still a.reached a.reach;
+      is = λ x. a.is x ∙ ap (is_listed x) (sym (apart_still (contains a.reached) 0 f.blocks));
+    }
+
+pub step_apart : (among : ℕ → Bool) (c : ℕ → Option Operand) (f g : Function) → IsStep c f g → IsApart f among → IsApart g among
+step_apart among c f g step a =
+    subst (λ (h : Function). IsApart h among) (sym (step.most step.starts step.solution (λ n x v h. h))) (still_apart c step.starts (ends_of c step.starts f) f among a)
+
+pub round_apart : (among : ℕ → Bool) (f g : Function) → IsRound f g → IsApart f among → IsApart g among
+round_apart among f g (h, first, second) a = step_apart among (candidate_of false h) h g second (step_apart among (candidate_of true f) f h first a)
