@@ -7,7 +7,7 @@ use Rattle.lto_outside.specs.Calls.{Call, DidNoPut, Fetched, NoPut, Put}
 use Rattle.lto_outside.specs.Cause.{Rose}
 use Rattle.lto_outside.specs.declared.fault.FetchFault.TheVariants.{Fault, TooLong}
 use Rattle.lto_fetch.specs.Answers.{IfFault}
-use Rattle.lto_fetch.specs.Fetching.{FetchFailed, IsShort, fetch_call, fetch_calls}
+use Rattle.lto_fetch.specs.Fetching.{FetchFailed, FetchStopped, IsShort, IsTried, fetch_call, fetch_calls}
 use Rattle.lto_fetch.specs.declared.fetching.FetchError.{FetchError}
 use Rattle.lto_fetch.specs.declared.fetching.FetchError.TheVariants as error
 
@@ -74,4 +74,18 @@ module _ {F : Type 0} (did : F → List Call → F → Type 0)
     given = given;
     each = each ∙ sym (length-take-le i names (omega arith));
     calls = more a b c (fetch_calls (take i names) given) (Fetched name (Err Fault) ∷ []) before now;
+  }
+
+  -- the last fetch, whatever it gave
+  pub one_stopped : length given ≡ i → i < length names → name ≡ get_or names i name
+      → did a (fetch_calls (take i names) given) b → IsTried (λ calls. did b calls c) name → FetchStopped (λ calls. did a calls c) names
+  one_stopped each lt is before tried = record {
+    before = take i names;
+    last = name;
+    behind = drop (suc i) names;
+    split = split_at names i name lt is;
+    given = given;
+    each = each ∙ sym (length-take-le i names (omega arith));
+    answer = tried.answer;
+    calls = more a b c (fetch_calls (take i names) given) (Fetched name tried.answer ∷ []) before tried.call;
   }

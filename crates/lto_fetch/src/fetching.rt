@@ -1,10 +1,10 @@
 //! The fetches of all files of a command.
-ghost use Rattle.std.specs.Prelude.{◌≡◌, ◌≤◌, ◌<◌, ◌∷◌, [], Err, IfOk, IfErr, IsErrOf, All, length};
+ghost use Rattle.std.specs.Prelude.{◌≡◌, ◌≤◌, ◌<◌, ◌∷◌, [], Err, IfOk, IfErr, OnErr, IsErrOf, All, length};
 ghost use Rattle.lto_outside.specs.Calls.{DidNoPut, Fetched};
 ghost use Rattle.lto_outside.specs.Cause.{Rose};
 ghost use Rattle.lto_outside.specs.declared.fault.FetchFault.TheVariants.{Fault};
 ghost use Rattle.lto_fetch.specs.Answers.{IfFault};
-ghost use Rattle.lto_fetch.specs.Fetching.{FetchFailed, IsShort, fetch_call, fetch_calls};
+ghost use Rattle.lto_fetch.specs.Fetching.{FetchFailed, FetchStopped, IsShort, IsTried, fetch_call, fetch_calls};
 
 use ir_tree::{Rows, Text};
 use lto_outside::{FetchFault, Files};
@@ -39,6 +39,7 @@ fn fetch_one<F: Files>(
     ensures fetched { IfOk result (λ bytes. F.did files.old (fetch_call name.now bytes ∷ []) files.new) }
     ensures short { IfOk result (λ bytes. IsShort bytes) }
     ensures failed { IfErr result (λ e. IfFault e (λ told. (told ≡ name.now) × F.did files.old (Fetched name.now (Err Fault) ∷ []) files.new × Rose (F.faults files.old) (F.faults files.new))) }
+    ensures tried { IsTried (λ calls. F.did files.old calls files.new) name.now }
     ensures no_put { DidNoPut (λ calls. F.did files.old calls files.new) }
     ensures later { F.faults files.old ≤ F.faults files.new }
 {
@@ -51,7 +52,8 @@ fn fetch_one<F: Files>(
 }
 
 /// What each of these files holds, or none where that is more than 16 MiB: all are fetched, in this order, up to one that
-/// can't be. No file changes. Beside a fault of the files, memory can be what is lacking, in any fetch.
+/// can't be. No file changes. Beside a fault of the files, memory can be what is lacking, in or behind any fetch: then too
+/// the calls are the fetches up to one of the files.
 pub fn fetch_all<F: Files>(
     alloc: Global,
     files: &mut F,
@@ -61,6 +63,7 @@ pub fn fetch_all<F: Files>(
     ensures each { IfOk result (λ given. length given ≡ length names.now) }
     ensures short { IfOk result (λ given. All IsShort given) }
     ensures failed { IfErr result (λ e. IfFault e (λ name. FetchFailed (λ calls. F.did files.old calls files.new) names.now name × Rose (F.faults files.old) (F.faults files.new))) }
+    ensures stopped { OnErr result (FetchStopped (λ calls. F.did files.old calls files.new) names.now) }
     ensures no_put { DidNoPut (λ calls. F.did files.old calls files.new) }
     ensures later { F.faults files.old ≤ F.faults files.new }
 {

@@ -307,7 +307,7 @@ fn push_refusal<N: ByteOut>(out: &mut N, refusal: &Refusal) -> bool
     }
 }
 
-/// Says why a command was refused, and nothing where it was done. What is pushed is a front of the line up to a fault.
+/// Says why a command was refused, and nothing where it was done. Where the sink fails, a front of the line is pushed.
 pub fn say<N: ByteOut>(notes: &mut N, status: &Result<(), Refusal>)
     ensures said { Hears (stream_seen N.sent N.faults notes.old notes.new) (note_of status.now) }
     ensures later { N.faults notes.old ≤ N.faults notes.new }

@@ -5,7 +5,7 @@ ghost use Rattle.lto_notes.specs.Pushing.{Pushes, joined};
 
 use lto_outside::ByteOut;
 
-/// Pushes all the bytes, or a front of them up to a fault. It says whether it pushed all.
+/// Pushes all the bytes, or a front of them where the sink fails. It says whether it pushed all.
 pub fn push_all<N: ByteOut>(out: &mut N, bytes: &[u8]) -> bool
     ensures pushed { Pushes (stream_seen N.sent N.faults out.old out.new) bytes.now result }
     ensures later { N.faults out.old ≤ N.faults out.new }

@@ -3,7 +3,7 @@ use Rattle.std.specs.Prelude.{All}
 use Rattle.std.proofs.lemmas.List.Elements.{All-push}
 use Rattle.lto_outside.specs.Cause.{Rose}
 use Rattle.lto_fetch.specs.Fetching.{FetchFailed, IsShort}
-use Rattle.lto_fetch.proofs.Fetches.{if_fault_map, no_put_more, one_failed, one_more}
+use Rattle.lto_fetch.proofs.Fetches.{if_fault_map, no_put_more, one_failed, one_more, one_stopped}
 use Rattle.lto_fetch.proofs.fetching.fetch_all.Goals as goal
 
 pub returns-in-Err-clause-failed : goal.returns-in-Err-clause-failed
@@ -15,6 +15,16 @@ returns-in-Err-clause-failed g c =
           c.loop-name.invariant.each c.loop-name-test.true c.name-item.is c.loop-name.invariant.calls h.1),
       rose,
     )) c.in-Err.ensures.failed
+
+pub returns-in-Err-clause-stopped : goal.returns-in-Err-clause-stopped
+returns-in-Err-clause-stopped g c =
+    one_stopped g.F.Files.did g.met.F.Files.did_more c.args.files.now c.loop-name.files c.fetch_one.new.files c.args.names.now c.loop-name.name-index c.name-item.result c.loop-name.given
+    c.loop-name.invariant.each c.loop-name-test.true c.name-item.is c.loop-name.invariant.calls c.fetch_one.ensures.tried
+
+pub returns-in_default-clause-stopped : goal.returns-in_default-clause-stopped
+returns-in_default-clause-stopped g c =
+    one_stopped g.F.Files.did g.met.F.Files.did_more c.args.files.now c.loop-name.files c.fetch_one.new.files c.args.names.now c.loop-name.name-index c.name-item.result c.loop-name.given
+    c.loop-name.invariant.each c.loop-name-test.true c.name-item.is c.loop-name.invariant.calls c.fetch_one.ensures.tried
 
 pub returns-in-Err-clause-no_put : goal.returns-in-Err-clause-no_put
 returns-in-Err-clause-no_put g c =
