@@ -1,7 +1,6 @@
 -- What is found under a name is a root of the module, and each root is found.
-use Rattle.std.proofs.Common.{◌≡◌, ◌⊎◌, inl, inr, ℕ, zero, suc, ◌<◌, Bool, true, false, List, [], ◌∷◌, length, slice_get, Option, Some, None, refl, sym, ap, subst, ◌∙◌, arith}
+use Rattle.std.proofs.Common.{◌≡◌, ◌⊎◌, inl, inr, ℕ, ◌<◌, Bool, true, false, if◌then◌else◌, List, [], ◌∷◌, length, slice_get, Option, Some, None, refl, sym, ap, subst, ◌∙◌, arith}
 use Rattle.std.specs.Prelude.{All}
-use Rattle.std.specs.List.{AllZip}
 use Rattle.std.proofs.lemmas.List.Elements.{All-cons, All-head, All-nil, All-tail}
 use Rattle.ir_tree.specs.Rules.{IsInteger}
 use Rattle.ir_tree.specs.declared.block.Block.{Block}
@@ -18,7 +17,8 @@ use Rattle.ir_calls.specs.Calls.{IsKind}
 use Rattle.ir_calls.specs.declared.call.Entity.{Entity}
 use Rattle.ir_calls.specs.declared.call.Entity.TheVariants as entity
 use Rattle.ir_program.specs.Programs.{body_of, kind_of, regs_of, symbol_of}
-use Rattle.machine_steps.specs.Code.{function_in, function_of, locals_of}
+use Rattle.machine_steps.specs.Code.{function_in, locals_of}
+use Rattle.machine_steps.specs.Steps.{CanBegin}
 use Rattle.machine_steps.specs.declared.code.Code.{Code}
 use Rattle.machine_steps.specs.declared.code.Function.{Function}
 use Rattle.machine_code.specs.Addresses.{base_in}
@@ -26,9 +26,9 @@ use Rattle.machine_code.specs.Blocks.{IsFunctionFor}
 use Rattle.machine_code.specs.Lowered.{IsMadeOf}
 use Rattle.machine_memory.specs.Tables.{IsBased, base_at, base_of, bytes_of, kind_at, number_at}
 use Rattle.machine_code.specs.Programs.{IsBodyFor, IsBodyOf, IsEntityFor}
-use Rattle.machine_code.specs.Roots.{IsRoot, are_integers, index_in, takes_integers}
+use Rattle.machine_code.specs.Roots.{IsRoot, are_integers, index_in, integers_of, only_integers}
 use Rattle.machine_code.specs.declared.code.Lowered.{Lowered}
-use Rattle.machine_code.proofs.Zips.{zip_got, zip_other}
+use Rattle.machine_code.proofs.Zips.{zip_beside, zip_got}
 
 -- ---- types
 
@@ -46,9 +46,22 @@ integers_no (p ∷ ps) h = by p.reg (All-head (λ (x : Param). IsInteger x.reg) 
   by (Int w) j rest = rest
   by Ptr j rest = absurd j
 
+integers_got : (regs types : List Reg) → Some types ≡ only_integers regs → (are_integers regs ≡ true) × (regs ≡ types)
+integers_got regs types h = by (are_integers regs) refl h where
+  by : (b : Bool) → are_integers regs ≡ b → Some types ≡ (if b then Some regs else None) → (are_integers regs ≡ true) × (regs ≡ types)
+  by true e f = let same : types ≡ regs = cc f in (e, sym same)
+  by false e f = absurd (cc f)
+
+integers_are : (regs : List Reg) → are_integers regs ≡ true → only_integers regs ≡ Some regs
+integers_are regs h = ap (λ (b : Bool). if b then Some regs else None) h
+
 long_locals : (ps : List Param) → length (locals_of ps) ≡ length ps
 long_locals [] = refl
 long_locals (p ∷ ps) = omega (arith, long_locals ps)
+
+long_types : (ps : List Param) → length (regs_of ps) ≡ length ps
+long_types [] = refl
+long_types (p ∷ ps) = omega (arith, long_types ps)
 
 -- ---- indices
 
@@ -69,9 +82,9 @@ some_code None f e = absurd (cc e)
 some_code (Some None) f e = absurd (cc e)
 some_code (Some (Some g)) f e = let same : f ≡ g = cc e in ap (λ (x : Function). Some (Some x)) (sym same)
 
-some_entity : (o : Option Entity) → takes_integers o ≡ true → (e : Entity) × ((o ≡ Some e) × (takes_integers (Some e) ≡ true))
-some_entity None h = absurd (cc h)
-some_entity (Some e) h = (e, (refl, h))
+some_entity : (o : Option Entity) (types : List Reg) → Some types ≡ integers_of o → (e : Entity) × ((o ≡ Some e) × (Some types ≡ integers_of (Some e)))
+some_entity None types h = absurd (cc h)
+some_entity (Some e) types h = (e, (refl, h))
 
 -- ---- a function that is defined
 
@@ -91,75 +104,59 @@ made_code l (global.Function m) f k = by m.blocks refl k where
   by [] e j = absurd (cc j)
   by (b ∷ bs) e j = (m, (refl, (omega (arith, ap (λ (xs : List Block). length xs) e), j)))
 
-takes_all : (m : MeantFunction) (e : Entity) → IsKind e (AFunction (regs_of m.params) m.result) → takes_integers (Some e) ≡ are_integers (regs_of m.params)
-takes_all m (entity.Function params result) k = let same : regs_of m.params ≡ params.items = cc k in ap (λ (rs : List Reg). are_integers rs) (sym same)
-takes_all m (entity.Host h) k = absurd (cc k)
-takes_all m entity.Other k = absurd (other k) where
+body_code : (l : Lowered) (m : MeantFunction) (bs : List Block) → 0 < length bs → (o : Option Function) → IsBodyOf l.addresses m bs o → (f : Function) × ((o ≡ Some f) × IsFunctionFor l.addresses m f)
+body_code l m [] j o c = absurd (omega (arith, j))
+body_code l m (b ∷ bs) j None c = absurd c
+body_code l m (b ∷ bs) j (Some f) c = (f, (refl, c))
+
+integers_all : (m : MeantFunction) (e : Entity) → IsKind e (AFunction (regs_of m.params) m.result) → integers_of (Some e) ≡ only_integers (regs_of m.params)
+integers_all m (entity.Function params result) k = let same : regs_of m.params ≡ params.items = cc k in ap (λ (rs : List Reg). only_integers rs) (sym same)
+integers_all m (entity.Host h) k = absurd (cc k)
+integers_all m entity.Other k = absurd (other k) where
   other : IsKind entity.Other (AFunction (regs_of m.params) m.result) → ⊥
   other (inl e) = cc e
   other (inr e) = cc e.1
 
 -- ---- roots
 
-pub is_root : (gs : List GlobalValue) (l : Lowered) (name : List ℕ) (i : ℕ) (f : Function) → IsMadeOf gs l → Some i ≡ index_in (base_in l.addresses name) → Some f ≡ function_of l.code i →
-    takes_integers (slice_get l.code.entities.items i) ≡ true → IsRoot gs name i (length f.params.items)
-is_root gs l name i f h at code integers =
+pub is_root : (gs : List GlobalValue) (l : Lowered) (name : List ℕ) (i : ℕ) (types : List Reg) → IsMadeOf gs l → Some i ≡ index_in (base_in l.addresses name) →
+    Some types ≡ integers_of (slice_get l.code.entities.items i) → CanBegin l.code i (length types) → IsRoot gs name i types
+is_root gs l name i types h at integers (f, (code, count)) =
     let d = h.table.only name (base.Function i) (function_base (base_in l.addresses name) i at) in
     let k = index_based d.index i (kind_at (number_at 0 gs d.index) d.value) (bytes_of d.value) d.base in
     let here : slice_get gs i ≡ Some d.value = ap (λ (j : ℕ). slice_get gs j) (sym k) ∙ d.there in
-    let body = zip_got (IsBodyFor l.addresses) gs l.code.functions.items i d.value (Some f) h.bodies here (some_code (slice_get l.code.functions.items i) f code) in
+    let body = zip_got (IsBodyFor l.addresses) gs l.code.functions.items i d.value (Some f) h.bodies here (some_code (slice_get l.code.functions.items i) f (sym code)) in
     let m = made_code l d.value f body in
-    let e = some_entity (slice_get l.code.entities.items i) integers in
+    let e = some_entity (slice_get l.code.entities.items i) types integers in
     let kind = zip_got IsEntityFor gs l.code.entities.items i d.value e.0 h.entities here e.1.0 (number_at 0 gs i) in
     let is : IsKind e.0 (AFunction (regs_of m.0.params) m.0.result) =
     subst (λ (x : Kind). IsKind e.0 x) (ap (λ (x : GlobalValue). kind_at (number_at 0 gs i) x) m.1.0 ∙ kind_defined (number_at 0 gs i) m.0 m.1.1.0) kind in
+    let found = integers_got (regs_of m.0.params) types (e.1.1 ∙ integers_all m.0 e.0 is) in
     record {
       function = m.0;
       there = here ∙ ap Some m.1.0;
       named = sym (ap (λ (x : GlobalValue). (symbol_of x).name) m.1.0) ∙ d.name;
       defined = m.1.1.0;
-      integers = integers_yes m.0.params (sym (takes_all m.0 e.0 is) ∙ e.1.1);
-      count = sym (long_locals m.0.params) ∙ sym (ap (λ (xs : List ℕ). length xs) m.1.1.1.params);
+      integers = integers_yes m.0.params found.0;
+      typed = found.1;
     }
 
-module _ (gs : List GlobalValue) (l : Lowered) (name : List ℕ) (i n : ℕ) (h : IsMadeOf gs l) (r : IsRoot gs name i n) where
+module _ (gs : List GlobalValue) (l : Lowered) (name : List ℕ) (i : ℕ) (types : List Reg) (h : IsMadeOf gs l) (r : IsRoot gs name i types) where
   pub root_indexed : index_in (base_in l.addresses name) ≡ Some i
   root_indexed =
       ap (λ (o : Option Base). index_in o)
       (sym (ap (λ (x : List ℕ). base_in l.addresses x) r.named) ∙ h.table.found i (global.Function r.function) r.there
       ∙ ap (λ (k : Kind). base_of i k 0) (kind_defined (number_at 0 gs i) r.function r.defined))
 
-  pub root_code : function_of l.code i ≡ None → ⊥
-  root_code e = by (slice_get l.code.functions.items i) refl e where
-    body : (o : Option Function) → IsBodyFor l.addresses (global.Function r.function) o → o ≡ None → ⊥
-    body o b z = at r.function.blocks r.defined o b z where
-      at : (bs : List Block) → 0 < length bs → (x : Option Function) → IsBodyOf l.addresses r.function bs x → x ≡ None → ⊥
-      at [] j x c y = omega (arith, j)
-      at (b' ∷ bs) j None c y = c
-      at (b' ∷ bs) j (Some g) c y = cc y
+  pub root_integers : integers_of (slice_get l.code.entities.items i) ≡ Some types
+  root_integers =
+      let e = zip_beside IsEntityFor gs l.code.entities.items i (global.Function r.function) h.entities r.there in
+      let is = kind_known e.0 (number_at 0 gs i) r.function r.defined (e.1.1 (number_at 0 gs i)) in
+      ap (λ (o : Option Entity). integers_of o) e.1.0 ∙ integers_all r.function e.0 is ∙ integers_are (regs_of r.function.params) (integers_no r.function.params r.integers) ∙ ap Some r.typed
 
-    none : (xs : List GlobalValue) (ys : List (Option Function)) (k : ℕ) (x : GlobalValue) → AllZip (IsBodyFor l.addresses) xs ys → slice_get xs k ≡ Some x → slice_get ys k ≡ None → ⊥
-    none [] ys k x z f g = cc f
-    none (y ∷ xs) [] k x z f g = z
-    none (y ∷ xs) (o ∷ ys) zero x z f g = cc g
-    none (y ∷ xs) (o ∷ ys) (suc k) x z f g = none xs ys k x z.1 f g
-
-    by : (o : Option (Option Function)) → slice_get l.code.functions.items i ≡ o → function_in o ≡ None → ⊥
-    by None f z = none gs l.code.functions.items i (global.Function r.function) h.bodies r.there f
-    by (Some o) f z = body o (zip_got (IsBodyFor l.addresses) gs l.code.functions.items i (global.Function r.function) o h.bodies r.there f) z
-
-  pub root_takes : takes_integers (slice_get l.code.entities.items i) ≡ false → ⊥
-  root_takes e = by (slice_get l.code.entities.items i) refl e where
-    none : (xs : List GlobalValue) (ys : List Entity) (k : ℕ) (x : GlobalValue) → AllZip IsEntityFor xs ys → slice_get xs k ≡ Some x → slice_get ys k ≡ None → ⊥
-    none [] ys k x z f g = cc f
-    none (y ∷ xs) [] k x z f g = z
-    none (y ∷ xs) (o ∷ ys) zero x z f g = cc g
-    none (y ∷ xs) (o ∷ ys) (suc k) x z f g = none xs ys k x z.1 f g
-
-    by : (o : Option Entity) → slice_get l.code.entities.items i ≡ o → takes_integers o ≡ false → ⊥
-    by None f z = none gs l.code.entities.items i (global.Function r.function) h.entities r.there f
-    by (Some x) f z =
-        let kind = zip_got IsEntityFor gs l.code.entities.items i (global.Function r.function) x h.entities r.there f (number_at 0 gs i) in
-        let is = kind_known x (number_at 0 gs i) r.function r.defined kind in
-        let both : true ≡ false = sym (integers_no r.function.params r.integers) ∙ sym (takes_all r.function x is) ∙ z in
-        cc both
+  pub root_begins : CanBegin l.code i (length types)
+  root_begins =
+      let o = zip_beside (IsBodyFor l.addresses) gs l.code.functions.items i (global.Function r.function) h.bodies r.there in
+      let f = body_code l r.function r.function.blocks r.defined o.0 o.1.1 in
+      let count = ap (λ (xs : List ℕ). length xs) f.1.1.params ∙ long_locals r.function.params ∙ sym (long_types r.function.params) ∙ ap (λ (xs : List Reg). length xs) r.typed in
+      (f.0, (ap (λ (x : Option (Option Function)). function_in x) o.1.0 ∙ f.1.0, count))

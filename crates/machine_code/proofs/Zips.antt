@@ -75,3 +75,10 @@ zip_other R [] (b ∷ ys) k y h f = absurd h
 zip_other R (a ∷ xs) [] k y h f = absurd (cc f)
 zip_other {A} {B} R (a ∷ xs) (b ∷ ys) zero y h f = let other : b ≡ y = cc f in (a, (refl, subst (λ (z : B). R a z) other h.0))
 zip_other R (a ∷ xs) (b ∷ ys) (suc k) y h f = zip_other R xs ys k y h.1 f
+
+-- for an item at a place one stands there
+pub zip_beside : {A B : Type 0} (R : A → B → Type 0) (xs : List A) (ys : List B) (k : ℕ) (x : A) → AllZip R xs ys → slice_get xs k ≡ Some x → (y : B) × ((slice_get ys k ≡ Some y) × R x y)
+zip_beside R [] ys k x h e = absurd (cc e)
+zip_beside R (a ∷ xs) [] k x h e = absurd h
+zip_beside {A} {B} R (a ∷ xs) (b ∷ ys) zero x h e = let same : a ≡ x = cc e in (b, (refl, subst (λ (z : A). R z b) same h.0))
+zip_beside R (a ∷ xs) (b ∷ ys) (suc k) x h e = zip_beside R xs ys k x h.1 e

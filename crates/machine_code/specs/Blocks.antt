@@ -87,6 +87,8 @@ AreBlocksFor t blocks cs = (q : ℕ) (b : MeantBlock) (c : Block) → slice_get 
 
 pub record IsFunctionFor (t : Addresses) (f : MeantFunction) (g : Function) : Type 0 where
   pub params : g.params.items ≡ locals_of f.params
+  -- a number for each parameter, phi, instruction and terminator
+  pub registers : g.registers ≡ length f.params + counted_before f.blocks (length f.blocks)
   pub long : length g.blocks.items ≡ length f.blocks
   pub blocks : AreBlocksFor t f.blocks g.blocks.items
 

@@ -1,5 +1,5 @@
 -- Functions in which a run can begin.
-use Rattle.std.specs.Prelude.{◌≡◌, ℕ, ◌<◌, Bool, true, false, List, [], ◌∷◌, length, slice_get, All, Option, Some, None}
+use Rattle.std.specs.Prelude.{◌≡◌, ℕ, ◌<◌, Bool, true, false, if◌then◌else◌, List, [], ◌∷◌, length, slice_get, All, Option, Some, None}
 use Rattle.ir_tree.specs.Rules.{IsInteger}
 use Rattle.ir_tree.specs.declared.function.Function.{Function as MeantFunction}
 use Rattle.ir_tree.specs.declared.module.GlobalValue.{GlobalValue}
@@ -10,15 +10,16 @@ use Rattle.ir_machine.specs.declared.scalar.Base.{Base}
 use Rattle.ir_machine.specs.declared.scalar.Base.TheVariants.{Block, Function, Null}
 use Rattle.ir_calls.specs.declared.call.Entity.{Entity}
 use Rattle.ir_calls.specs.declared.call.Entity.TheVariants as entity
+use Rattle.ir_program.specs.Programs.{regs_of}
 
--- the function at an index goes by this name, is defined, and takes so many integers
-pub record IsRoot (gs : List GlobalValue) (name : List ℕ) (i n : ℕ) : Type 0 where
+-- the function at an index goes by this name, is defined, and takes integers of these types
+pub record IsRoot (gs : List GlobalValue) (name : List ℕ) (i : ℕ) (types : List Reg) : Type 0 where
   pub function : MeantFunction
   pub there : slice_get gs i ≡ Some (global.Function function)
   pub named : function.symbol.name ≡ name
   pub defined : 0 < length function.blocks
   pub integers : All (λ p. IsInteger p.reg) function.params
-  pub count : length function.params ≡ n
+  pub typed : regs_of function.params ≡ types
 
 -- the index of a function on which an address is based
 abbrev pub index_in : Option Base → Option ℕ
@@ -32,9 +33,13 @@ are_integers [] = true
 are_integers (Int w ∷ regs) = are_integers regs
 are_integers (Ptr ∷ regs) = false
 
--- a function that takes integers alone
-abbrev pub takes_integers : Option Entity → Bool
-takes_integers None = false
-takes_integers (Some (entity.Function params result)) = are_integers params.items
-takes_integers (Some (entity.Host h)) = false
-takes_integers (Some entity.Other) = false
+-- these types, where all are those of integers
+abbrev pub only_integers : List Reg → Option (List Reg)
+only_integers regs = if are_integers regs then Some regs else None
+
+-- the types of the parameters of a function that takes integers alone
+abbrev pub integers_of : Option Entity → Option (List Reg)
+integers_of None = None
+integers_of (Some (entity.Function params result)) = only_integers params.items
+integers_of (Some (entity.Host h)) = None
+integers_of (Some entity.Other) = None

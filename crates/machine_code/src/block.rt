@@ -2,7 +2,7 @@
 ghost use Rattle.std.specs.Prelude.{◌≡◌, ◌+◌, ◌<◌, ◌^◌, All, IfOk, List, length};
 ghost use Rattle.std.specs.List.{AllZip};
 ghost use Rattle.ir_tree.specs.declared.block.Block.{Block as MeantBlock};
-ghost use Rattle.machine_steps.specs.Code.{locals_of};
+ghost use Rattle.machine_steps.specs.Code.{counted_before, locals_of};
 ghost use Rattle.machine_code.specs.Blocks.{AreBlocksFor, ArePositions, HasSoundInstrs, IsBlockFor, IsFunctionFor, IsLineFor, IsSoundBlock};
 ghost use Rattle.machine_code.specs.Tasks.{IsSoundInstr};
 
@@ -44,6 +44,19 @@ fn behind_block(before: u64, phis: usize, lines: usize) -> Result<u64, AllocErro
     let first = counted(before, phis)?;
     let behind = counted(first, lines)?;
     counted(behind, 1)
+}
+
+/// How many registers there is to be room for, of a function of so many parameters: one for each of them, and for each phi,
+/// instruction and terminator.
+fn room(params: usize, blocks: &[ir_tree::Block]) -> Result<usize, AllocError>
+    ensures { IfOk result (λ all. all ≡ params + counted_before blocks.now (length blocks.now)) }
+{
+    let mut all = params as u64;
+    for block in blocks {
+        let next = behind_block(all, block.phis.len(), block.lines.len())?;
+        all = next;
+    }
+    Ok(all as usize)
 }
 
 /// The registers of parameters.
@@ -143,23 +156,13 @@ impl<'a> Addresses<'a> {
         ensures { IfOk result (λ made. IsFunctionFor self.now function.entry.now made) }
     {
         let params = param_registers(alloc, function.params.as_slice())?;
-        let blocks = self.blocks(alloc, function.blocks.as_slice())?;
-        let registers = room(&params, &blocks);
+        let tree = function.blocks.as_slice();
+        let blocks = self.blocks(alloc, tree)?;
+        let registers = room(function.params.len(), tree)?;
         Ok(Function {
             params,
             registers,
             blocks,
         })
-    }
-}
-
-/// How many registers there is to be room for: one for each parameter, and for each phi, line and terminator.
-fn room(params: &[u32], blocks: &[Block]) -> usize {
-    match blocks.last() {
-        Some(block) => params
-            .len()
-            .saturating_add(block.before as usize)
-            .saturating_add(block.lines.len()),
-        None => params.len(),
     }
 }

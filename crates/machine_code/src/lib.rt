@@ -3,9 +3,10 @@
 //!
 //! [`lower`] makes of a module for each symbol, by the index of its global value, what it is for calls and, where it is
 //! defined, its blocks by position, with lines, phis and terminators over sources. A register is the local of its number;
-//! a symbol's address is found by name in its table ([`Addresses`], over `machine_memory`'s), and blocks by number. [`Lowered::root`] finds the functions in
-//! which a run can begin. Contracts say of each part that it means the same as the part of the tree, whatever the locals, and of
-//! the whole that it is code of the program that the module means (`IsLowered`).
+//! a symbol's address is found by name in its table ([`Addresses`], over `machine_memory`'s), and blocks by number.
+//! [`Lowered::root`] finds the functions in which a run can begin, with the types of their parameters. Contracts say of each
+//! part that it means the same as the part of the tree, whatever the locals, and of the whole that it is code of the program
+//! that the module means (`IsLowered`).
 //!
 //! Below this crate stand `ir_tree`, `ir_meaning`, `ir_better`, `ir_program`, `ir_machine`, `ir_frames`, `ir_calls`,
 //! `ir_lines`, `machine_steps` and `machine_memory`. Its promise: the code is the program's, its lines can run, and what is known

@@ -1,21 +1,22 @@
 //! Functions in which a run can begin.
-ghost use Rattle.std.specs.Prelude.{◌≡◌, ℕ, List, None, IfSome, slice_get};
+ghost use Rattle.std.specs.Prelude.{◌≡◌, ℕ, List, None, IfSome, length, option_copied, slice_get};
 ghost use Rattle.ir_tree.specs.declared.module.GlobalValue.{GlobalValue};
+ghost use Rattle.ir_tree.specs.declared.operand.Reg.{Reg};
 ghost use Rattle.machine_steps.specs.Steps.{CanBegin};
 ghost use Rattle.machine_code.specs.Addresses.{base_in};
 ghost use Rattle.machine_code.specs.Lowered.{IsMadeOf};
-ghost use Rattle.machine_code.specs.Roots.{IsRoot, are_integers, index_in, takes_integers};
+ghost use Rattle.machine_code.specs.Roots.{IsRoot, are_integers, index_in, integers_of, only_integers};
 
 use crate::code::Lowered;
 use ir_calls::Entity;
 use ir_machine::Base;
 use ir_tree::Reg;
 
-/// A function in which a run can begin: the index of its symbol, and how many integers it takes.
-#[derive(Clone, Copy, Debug)]
-pub struct Root {
+/// A function in which a run can begin: the index of its symbol, and the types of its parameters, which are integers.
+#[derive(Clone, Copy)]
+pub struct Root<'r> {
     pub index: u32,
-    pub arguments: usize,
+    pub params: &'r [Reg],
 }
 
 /// Whether all types are those of integers.
@@ -31,6 +32,17 @@ fn are_integers(regs: &[Reg]) -> bool
     }
 }
 
+/// These types, where all are those of integers.
+fn only_integers(types: &[Reg]) -> Option<&[Reg]>
+    ensures { option_copied result ≡ only_integers types.now }
+{
+    if are_integers(types) {
+        Some(types)
+    } else {
+        None
+    }
+}
+
 impl<'a> Lowered<'a> {
     /// The index of the function on which the address of a name's symbol is based.
     fn index_of(&self, name: &[u8]) -> Option<u32>
@@ -43,30 +55,29 @@ impl<'a> Lowered<'a> {
         }
     }
 
-    /// Whether the symbol of an index is a function that takes integers alone.
-    fn takes_integers(&self, index: u32) -> bool
-        ensures { result ≡ takes_integers (slice_get self.now.code.entities.items index) }
+    /// The types of the parameters of the symbol of an index, where it is a function that takes integers alone.
+    fn integers_of(&self, index: u32) -> Option<&[Reg]>
+        ensures { option_copied result ≡ integers_of (slice_get self.now.code.entities.items index) }
     {
         match self.code.entities.get(index as usize) {
             Some(entity) => match entity {
-                Entity::Function { params, .. } => are_integers(params),
-                Entity::Host(_) | Entity::Other => false,
+                Entity::Function { params, .. } => only_integers(params),
+                Entity::Host(_) | Entity::Other => None,
             },
-            None => false,
+            None => None,
         }
     }
 
     /// The function of a name in which a run can begin: one that is defined, and whose parameters are integers.
-    pub fn root(&self, name: &[u8]) -> Option<Root>
-        ensures begins { IfSome result (λ r. CanBegin self.now.code r.index r.arguments) }
-        ensures some { IfSome result (λ r. (gs : List GlobalValue) → IsMadeOf gs self.now → IsRoot gs name.now r.index r.arguments) }
-        ensures none { result ≡ None → (gs : List GlobalValue) (i n : ℕ) → IsMadeOf gs self.now → IsRoot gs name.now i n → ⊥ }
+    pub fn root(&self, name: &[u8]) -> Option<Root<'_>>
+        ensures begins { IfSome result (λ r. CanBegin self.now.code r.index (length r.params.now)) }
+        ensures some { IfSome result (λ r. (gs : List GlobalValue) → IsMadeOf gs self.now → IsRoot gs name.now r.index r.params.now) }
+        ensures none { result ≡ None → (gs : List GlobalValue) (i : ℕ) (types : List Reg) → IsMadeOf gs self.now → IsRoot gs name.now i types → ⊥ }
     {
         let index = self.index_of(name)?;
-        let function = self.code.function(index)?;
-        let arguments = function.params.len();
-        if self.takes_integers(index) {
-            Some(Root { index, arguments })
+        let params = self.integers_of(index)?;
+        if self.code.can_begin(index, params.len()) {
+            Some(Root { index, params })
         } else {
             None
         }

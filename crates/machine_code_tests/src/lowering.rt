@@ -2,7 +2,7 @@
 use ir_calls::{Entity, Exit, Host};
 use ir_frames::{Source, Task};
 use ir_parse::parse;
-use ir_tree::Verified;
+use ir_tree::{Reg, Verified};
 use ir_verify::verify;
 use machine_code::lower;
 use std::alloc::Global;
@@ -45,7 +45,9 @@ fn runs_begin_in_functions_of_integers(rt: HostRuntime) {
     let lowered = lower(rt.alloc(), &verified).expect(&rt, "memory");
     let root = lowered.root(b"f").expect(&rt, "a root");
     assert!(rt; root.index == 3);
-    assert!(rt; root.arguments == 2);
+    assert!(rt; root.params.len() == 2);
+    assert!(rt; matches!(root.params[0], Reg::Int(32)));
+    assert!(rt; matches!(root.params[1], Reg::Int(8)));
     assert!(rt; lowered.root(b"g").is_none());
     assert!(rt; lowered.root(b"v").is_none());
     assert!(rt; lowered.root(b"putchar").is_none());

@@ -1,37 +1,39 @@
-use Rattle.std.proofs.Common.{◌≡◌, ℕ, length, Option, Some, None, slice_get, sym, ap, subst, ◌∙◌, arith}
-use Rattle.machine_steps.specs.Code.{function_of}
-use Rattle.machine_code.specs.Addresses.{base_in}
-use Rattle.machine_code.specs.Roots.{IsRoot, index_in, takes_integers}
-use Rattle.machine_code.proofs.Rooting.{is_root, root_code, root_indexed, root_takes}
+use Rattle.std.proofs.Common.{◌≡◌, ℕ, List, length, true, false, Some, None, slice_get, sym, ap, subst, ◌∙◌}
+use Rattle.ir_tree.specs.declared.operand.Reg.{Reg}
+use Rattle.machine_steps.specs.Steps.{CanBegin}
+use Rattle.machine_code.specs.Roots.{integers_of}
+use Rattle.machine_code.proofs.Rooting.{is_root, root_begins, root_indexed, root_integers}
 use Rattle.machine_code.proofs.code.Lowered.root.Goals as goal
 
 pub returns-in_err-index-clause-none : goal.returns-in_err-index-clause-none
-returns-in_err-index-clause-none c = λ e gs i n h r.
-    let never : None ≡ Some i = c.in_err-index.ensures ∙ root_indexed gs c.args.self.now c.args.name.now i n h r in
+returns-in_err-index-clause-none c = λ e gs i types h r.
+    let never : None ≡ Some i = c.in_err-index.ensures ∙ root_indexed gs c.args.self.now c.args.name.now i types h r in
     cc never
 
-pub returns-in_err-function-clause-none : goal.returns-in_err-function-clause-none
-returns-in_err-function-clause-none c = λ e gs i n h r.
-    let both : Some c.in_ok-index.index ≡ Some i = c.in_ok-index.ensures ∙ root_indexed gs c.args.self.now c.args.name.now i n h r in
+pub returns-in_err-params-clause-none : goal.returns-in_err-params-clause-none
+returns-in_err-params-clause-none c = λ e gs i types h r.
+    let both : Some c.in_ok-index.index ≡ Some i = c.in_ok-index.ensures ∙ root_indexed gs c.args.self.now c.args.name.now i types h r in
     let same : c.in_ok-index.index ≡ i = cc both in
-    root_code gs c.args.self.now c.args.name.now i n h r (ap (λ (k : ℕ). function_of c.args.self.now.code k) (sym same) ∙ sym c.in_err-function.ensures)
+    let never : None ≡ Some types =
+    c.in_err-params.ensures ∙ ap (λ (k : ℕ). integers_of (slice_get c.args.self.now.code.entities.items k)) same ∙ root_integers gs c.args.self.now c.args.name.now i types h r in
+    cc never
 
-pub returns-then-takes_integers-clause-begins : goal.returns-then-takes_integers-clause-begins
-returns-then-takes_integers-clause-begins c = (
-  c.in_ok-function.function.now,
-  (sym c.in_ok-function.ensures, omega (arith, c.len-arguments.ensures, c.in_ok-function.function.now.params.ok)),
-)
+pub returns-then-can_begin-clause-begins : goal.returns-then-can_begin-clause-begins
+returns-then-can_begin-clause-begins c = c.can_begin.ensures.0 c.if-can_begin.true
 
-pub returns-then-takes_integers-clause-some : goal.returns-then-takes_integers-clause-some
-returns-then-takes_integers-clause-some c = λ gs h.
-    let count : length c.in_ok-function.function.now.params.items ≡ c.len-arguments.result = omega (arith, c.len-arguments.ensures, c.in_ok-function.function.now.params.ok) in
-    subst (λ (n : ℕ). IsRoot gs c.args.name.now c.in_ok-index.index n) count
-    (is_root gs c.args.self.now c.args.name.now c.in_ok-index.index c.in_ok-function.function.now h c.in_ok-index.ensures c.in_ok-function.ensures
-    (sym c.takes_integers.ensures ∙ c.if-takes_integers.true))
+pub returns-then-can_begin-clause-some : goal.returns-then-can_begin-clause-some
+returns-then-can_begin-clause-some c = λ gs h.
+    is_root gs c.args.self.now c.args.name.now c.in_ok-index.index c.in_ok-params.params.now h c.in_ok-index.ensures c.in_ok-params.ensures (c.can_begin.ensures.0 c.if-can_begin.true)
 
-pub returns-else-takes_integers-clause-none : goal.returns-else-takes_integers-clause-none
-returns-else-takes_integers-clause-none c = λ e gs i n h r.
-    let both : Some c.in_ok-index.index ≡ Some i = c.in_ok-index.ensures ∙ root_indexed gs c.args.self.now c.args.name.now i n h r in
+pub returns-else-can_begin-clause-none : goal.returns-else-can_begin-clause-none
+returns-else-can_begin-clause-none c = λ e gs i types h r.
+    let both : Some c.in_ok-index.index ≡ Some i = c.in_ok-index.ensures ∙ root_indexed gs c.args.self.now c.args.name.now i types h r in
     let same : c.in_ok-index.index ≡ i = cc both in
-    root_takes gs c.args.self.now c.args.name.now i n h r
-    (ap (λ (k : ℕ). takes_integers (slice_get c.args.self.now.code.entities.items k)) (sym same) ∙ sym c.takes_integers.ensures ∙ c.if-takes_integers.false)
+    let found : Some c.in_ok-params.params.now ≡ Some types =
+    c.in_ok-params.ensures ∙ ap (λ (k : ℕ). integers_of (slice_get c.args.self.now.code.entities.items k)) same ∙ root_integers gs c.args.self.now c.args.name.now i types h r in
+    let typed : c.in_ok-params.params.now ≡ types = cc found in
+    let begins : CanBegin c.args.self.now.code c.in_ok-index.index (length c.in_ok-params.params.now) =
+    subst (λ (k : ℕ). CanBegin c.args.self.now.code k (length c.in_ok-params.params.now)) (sym same)
+    (subst (λ (ts : List Reg). CanBegin c.args.self.now.code i (length ts)) (sym typed) (root_begins gs c.args.self.now c.args.name.now i types h r)) in
+    let never : true ≡ false = sym (c.can_begin.ensures.1 begins) ∙ c.if-can_begin.false in
+    cc never
