@@ -2,7 +2,7 @@
 use crate::rows::{Pass, Row, failing};
 use std::alloc::AllocError;
 
-const BLOCKS: [Row; 5] = [
+const BLOCKS: [Row; 6] = [
     (
         "a switch on a constant, a branch on poison and one on true",
         Pass::Branches,
@@ -28,6 +28,36 @@ const BLOCKS: [Row; 5] = [
 5:
   %6 = phi i32 [ 9, %2 ], [ 10, %3 ]
   ret i32 %6
+}
+",
+    ),
+    (
+        "edges that are lost to a block with a phi, and beside one that stays",
+        Pass::Branches,
+        b"define i32 @f(i1 %0) {
+  br i1 %0, label %2, label %4
+2:
+  %3 = freeze i32 11
+  switch i32 3, label %6 [ i32 1, label %4 i32 2, label %4 i32 3, label %6 ]
+4:
+  %5 = phi i32 [ %3, %2 ], [ 7, %1 ], [ %3, %2 ]
+  ret i32 %5
+6:
+  %7 = phi i32 [ %3, %2 ], [ %3, %2 ]
+  ret i32 %7
+}
+",
+        b"define i32 @f(i1 %0) {
+  br i1 %0, label %2, label %4
+2:
+  %3 = freeze i32 11
+  br label %6
+4:
+  %5 = phi i32 [ 7, %1 ]
+  ret i32 %5
+6:
+  %7 = phi i32 [ %3, %2 ]
+  ret i32 %7
 }
 ",
     ),

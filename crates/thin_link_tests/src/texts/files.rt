@@ -18,7 +18,10 @@ pub(crate) fn read(alloc: Global, source: &str) -> Option<Verified> {
 }
 
 /// The modules of these files, each with the name of its file before it.
-fn all_read(alloc: Global, files: &[(&str, &str)]) -> Option<(Vec<Text>, Vec<Verified>)> {
+pub(crate) fn all_read(
+    alloc: Global,
+    files: &[(&str, &str)],
+) -> Option<(Vec<Text>, Vec<Verified>)> {
     let mut names = Vec::new(alloc);
     let mut modules = Vec::new(alloc);
     for (name, source) in files {
