@@ -4,8 +4,9 @@
 //! contract says that the result is the one function of the blocks that paths reach (`specs/Trimmed.antt`), that it is
 //! better in every program, and sound where the function is.
 //!
-//! Below this crate stand `ir_tree`, `ir_flow` for the blocks that are reached, and `ir_meaning` and `ir_better` for
-//! what is proved. Time and memory are linear in the function and the greatest number of a block.
+//! Below this crate stand `ir_tree`, `ir_flow` for the blocks that are reached, which are a set of `lto_sets`, and
+//! `ir_meaning`, `ir_better`, `ir_edit` and `edge_counts` for what is proved. Time and memory are linear in the function
+//! and the greatest number of a block.
 #![tactic(auto)]
 
 mod laws;

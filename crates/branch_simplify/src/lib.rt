@@ -1,15 +1,15 @@
 //! Constant branches: a `br` or a `switch` that leads to one block whatever happens becomes a jump.
 //!
-//! A `br` on `true` or `false` or with equal targets, and a `switch` on a constant or without cases, is decided. Each
-//! edge that is lost takes the last phi entry of its block from its target, so that phis keep one entry for each
-//! predecessor edge (LLVM Language Reference, "phi Instruction"). On `poison` a `br` with two targets and a `switch`
-//! with cases stay: to reach them is undefined, which no other block need be.
+//! A `br` on `true` or `false` or with equal targets, and a `switch` on a constant or without cases, is decided. With an
+//! edge goes a phi entry of the block that it led to, of those for the edge's block the last one: so phis keep one entry
+//! for each predecessor edge (LLVM Language Reference, "phi Instruction"). What branches on `poison` is kept, unless it
+//! has one target or no cases: to reach it is undefined, which no other block need be.
 //!
 //! The pass is a definition (`specs/Simplified.antt`), and the call gives exactly it. Of a sound function the result is
 //! better in every program, and sound.
 //!
-//! Below this crate stand `ir_tree`, and `ir_meaning` and `ir_better` for what is proved. Time and memory are linear in
-//! the function: lost edges are gathered once by their target, and each phi's entries are counted once.
+//! Below this crate stand `ir_tree`, and `ir_meaning`, `ir_better` and `edge_counts` for what is proved. Time and memory
+//! are linear in the function: lost edges are gathered once by their target, and each phi's entries are counted once.
 #![tactic(auto)]
 
 mod counts;

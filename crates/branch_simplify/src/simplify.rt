@@ -74,7 +74,7 @@ fn simplified(alloc: Global, f: &Function) -> Result<Function, AllocError>
 }
 
 /// The function with each `br` on `true` or `false` or with equal targets, and each `switch` on a constant or without
-/// cases, as a jump. Each edge that is lost takes the last phi entry of its block from its target; all else stays.
+/// cases, as a jump. With an edge goes a phi entry of the block that it led to, the last one for its block; all else stays.
 ///
 /// Refused for want of memory alone.
 pub fn branches(alloc: Global, f: &Function) -> Result<Function, AllocError>

@@ -7,8 +7,9 @@
 //! (`specs/Chains.antt`), each once, in the order of the index's numbers (`specs/Plans.antt`).
 //!
 //! Below stand `combined_index`, for symbols and definitions by number and for marks of what is live,
-//! and `lto_sets`, whose words say what a set is. A module's functions are found level by level, a
-//! level being the functions at one place of a chain. Since the limit never rises along a chain, a
+//! with `ir_summary`, `symbol_resolve` and `indexmap` under it, `ir_tree`, for linkages, and `lto_sets`,
+//! whose words say what a set is. A module's functions are found level by level, a level being the
+//! functions at one place of a chain. Since the limit never rises along a chain, a
 //! function that is found at a level stands there under the highest limit that it can have, so it is
 //! looked at once in each module. A module takes time linear in its own definitions and in the calls
 //! of what it imports, and the time of sorting its imports; no table is cleared between modules. Memory

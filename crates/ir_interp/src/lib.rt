@@ -6,8 +6,9 @@
 //! has left, the run is that of the definition over these bytes, step by step: its ending, the bytes that were
 //! sent and those that are left are the trace's.
 //!
-//! Below this crate stand `machine_steps`, which makes the steps, and `lto_outside`, the traits of input and
-//! output. Its promise: a run's answer is the definition's. It takes the time of its steps and no memory of its own.
+//! Below this crate stand `machine_steps`, which makes the steps, `lto_outside`, the traits of input and output,
+//! `ir_meaning` and `ir_machine` for how a run ends and what it returns, and `ir_tree` for symbols. Its promise: a
+//! run's answer is the definition's. It takes the time of its steps and no memory of its own.
 #![tactic(auto)]
 
 mod end;

@@ -1,4 +1,4 @@
--- What a link makes of a file: both halves of the headline.
+-- What a link makes of a file: preserved behaviour, and one text.
 use Rattle.std.specs.Prelude.{◌≡◌, ℕ, Bool, IsTrue, List, None}
 use Rattle.std.specs.List.{list_any}
 use Rattle.ir_tree.specs.declared.module.Module.{Module}

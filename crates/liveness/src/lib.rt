@@ -4,7 +4,8 @@
 //! that prevail refer to, in bodies and initialisers alike (the thin link's dead stripping of Johnson,
 //! Amini and Li, "ThinLTO: Scalable and Incremental LTO", 2017). Contracts say that the marks are those of
 //! this set (`specs/Liveness.antt`), and that a link is refused exactly where a live definition refers to
-//! a name that nobody defines, or else a name that is to be exported has no definition.
+//! a name that nobody defines and the system doesn't give, or else a name that is to be exported has no
+//! definition.
 //!
 //! Below stand `combined_index`, for symbols and definitions by number, and `lto_sets`, for marks. Each
 //! live definition is looked at once, by a work list; then one pass over the symbols, one over the

@@ -35,7 +35,7 @@ abbrev pub NoLocals : List GlobalValue → Type 0
 NoLocals [] = Unit {0}
 NoLocals (g ∷ gs) = (standing_of g ≢ None) × NoLocals gs
 
--- a global value of module k, each reference taken to its symbol
+-- a global value of module k, with names as symbols
 abbrev pub taken_in : ℕ → Module → GlobalValue → GlobalValue
 taken_in k m g = global_under (named_by (symbol_in k m.globals)) g
 
@@ -49,7 +49,7 @@ pub record IsGivenBy (ms : List Module) (k : ℕ) (m : Module) (g : GlobalValue)
 abbrev pub AllWhole : List Module → Type 0
 AllWhole ms = (k : ℕ) (m : Module) → slice_get ms k ≡ Some m → Whole m.globals
 
--- in the merged program each symbol has the definition that prevails, with each reference taken to its symbol
+-- in the merged program each symbol has the definition that prevails, with names as symbols
 abbrev pub PrevailingIsDefined : Type 0
 PrevailingIsDefined = (ms : List Module) → AllWhole ms → (k : ℕ) (m : Module) (g : GlobalValue) → IsGivenBy ms k m g →
     (n : ℕ) × (definition_of (merged_globals ms) (symbol_in k m.globals (symbol_of g)) ≡ defined n (taken_in k m g))

@@ -1,5 +1,5 @@
--- The merged program of modules: each symbol with its prevailing definition, and each reference taken to its symbol
--- (LangRef, "Linkage Types", "Module Structure").
+-- The merged program of modules: the definitions that prevail, in which each name is the symbol that it stands for in its
+-- module (LangRef, "Linkage Types", "Module Structure").
 use Rattle.std.specs.Prelude.{ℕ, suc, Bool, true, false, ◌&&◌, is_none, nat_eq, if◌then◌else◌, List, [], ◌∷◌, ◌++◌, map, filter, Option, Some, None}
 use Rattle.std.specs.List.{list_any}
 use Rattle.std.specs.Option.{option_eq}
@@ -52,7 +52,7 @@ prevails ms k g = prevails_as (prevailing (mentions ms) (symbol_of g).name) k (s
 
 -- ---- the merged program
 
--- what module k gives: its definitions that prevail, with each reference taken to its symbol
+-- what module k gives: its definitions that prevail, with names as symbols
 abbrev pub given_by : List Module → ℕ → List GlobalValue → List GlobalValue
 given_by ms k gs = map (global_under (named_by (symbol_in k gs))) (filter (prevails ms k) gs)
 

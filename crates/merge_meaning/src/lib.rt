@@ -1,8 +1,9 @@
 //! The merged program of modules, and when a linked program refines it.
 //!
-//! The merged program has each symbol with its prevailing definition, and each reference taken to its symbol: a local of
-//! a module is a symbol of that module, every other name one symbol of all (`specs/Merged.antt`). It is said of lists of
-//! global values, as `ir_program` says which program one module means. A link puts better functions in the places of its
+//! The merged program is what the modules mean together. Of the definitions of a symbol it has the one that prevails, and
+//! a name in it is the symbol that it stands for where it is written: a local of a module is a symbol of that module,
+//! every other name one symbol of all (`specs/Merged.antt`). It is said of lists of global values, as `ir_program` says
+//! which program one module means. A link puts better functions in the places of its
 //! functions, keeps of these definitions the live ones, and gives each its final name (`specs/Linked.antt`). Laws, as
 //! functions with empty bodies: the definition that prevails is the one that a resolution names
 //! (`table_names_prevailing`), and what is linked refines the merged program (`linked_refines_merged`).

@@ -82,8 +82,8 @@ fn given(
     Ok(rows)
 }
 
-/// The global values that the modules mean together: each symbol with its prevailing definition, and each reference taken
-/// to its symbol. The resolution is that of the modules.
+/// The global values that the modules mean together: the definitions that prevail, in which each name is the symbol that
+/// it stands for in its module. The resolution is that of the modules.
 ///
 /// Beside want of memory, `2^32` modules or more are refused as too many. Each global value is copied once, and each name
 /// is looked up once.

@@ -1,4 +1,4 @@
-//! Global values with each reference taken to its symbol.
+//! Global values in which names are the symbols that they stand for.
 ghost use Rattle.std.specs.Prelude.{◌≡◌, IfOk, map, option_map};
 ghost use Rattle.merge_meaning.specs.Globals.{function_under, global_under, initial_under, variable_under};
 ghost use Rattle.merge_meaning.specs.Kept.{head_under, names_from, part_under};

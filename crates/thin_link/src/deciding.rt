@@ -77,9 +77,10 @@ fn kept(
 ///
 /// Refused, in this order: two files whose data layouts differ, or whose triples; a name that two
 /// files define externally; a name that is a function in one file and a variable in another; a name
-/// that a live definition refers to and no file defines; an exported name that no file defines. Of
-/// several names the one with the least bytes is told. Beside want of memory, more than 32 bits can
-/// count is refused as too much for it.
+/// that a live definition refers to, where no file defines it and the system doesn't give it, as it
+/// gives `putchar` and `getchar`; an exported name that no file defines. Of several names the one with
+/// the least bytes is told. Beside want of memory, more than 32 bits can count is refused as too much
+/// for it.
 pub fn thin_link(
     alloc: Global,
     files: &[Text],

@@ -18,8 +18,8 @@ pub record HasThinLink (ms : List Module) (exports : List (List ℕ)) (limit : �
   pub is : IsThinLink ms exports limit index live imports
 
 -- The one file was fetched, its module has a thin link, and what a link makes of it was put, or its put failed; there were no
--- other calls. Both halves of the headline: the linked program does what the program read does, and no other text is a link
--- of these bytes.
+-- other calls. Both promises: the linked program does what the program read does, and no other text is a link of these
+-- bytes.
 pub record DidLink (exports : List (List ℕ)) (limit : ℕ) (out : List ℕ) (names : List (List ℕ)) (files : FilesSeen) (done : Bool) : Type 0 where
   pub file : List ℕ
   pub one : names ≡ file ∷ []

@@ -71,7 +71,7 @@ pub fn top<
     // 5: the put of this name or a push failed, and the count of faults rose. The file may hold, and the output have got, a front of the text.
     ensures cannot_write { OnWriteFault result.status (λ name. Asked (map string_bytes words.now) (λ c. (causes c (seen F.did F.held F.faults O.sent O.faults files.old files.new out.old out.new)).unwritten name)) }
 
-    // 0: the command was done. Of a link, both halves of the headline: reproducible bytes and preserved behaviour.
+    // 0: the command was done. Of a link, both promises: reproducible bytes and preserved behaviour.
     ensures done { OnOk result.status (Asked (map string_bytes words.now) (λ c. (causes c (seen F.did F.held F.faults O.sent O.faults files.old files.new out.old out.new)).done)) }
 
     // Beside these there is want of memory alone.

@@ -9,9 +9,9 @@
 //! what was decided, and a refusal (`lto_fault`) is told on the notes (`lto_notes`). Which answer comes when is one definition
 //! by cases on the command (`specs/Answers.antt`), and what files that tell hold is another (`specs/Telling.antt`).
 //!
-//! The promise kept here is the headline of the linker for one module of the whole language: the bytes put are the text of the
-//! linked module, and each run of the linked program is a run of the module as it was read. Beside the link itself, each byte
-//! is moved once.
+//! The linker's two promises are kept here for one module of the whole language: the bytes put are the text of the linked
+//! module, and each run of the linked program is a run of the module as it was read. Beside the link itself, each byte is
+//! moved once.
 #![tactic(auto)]
 
 mod cache;
