@@ -287,7 +287,7 @@ pub record Steady (p : Program) (k : ℕ) (f g : Function) : Type 0 where
 
 joins_better : (p : Program) → IsFormed p → (k : ℕ) (f g : Function) → Fits f → Joins k f g → Steady p k f g
 joins_better p formed zero f g fits is = subst (λ (h : Function). Steady p zero f h) (sym is) (record { fits = fits; count = omega arith; some = omega arith; better = same_better p formed f })
-joins_better p formed (suc k) f g fits (h, a, y, before, can, is) = by (joins_better p formed k f h fits before)
+joins_better p formed (suc k) f g fits (h, a, y, before, can, a_first, is) = by (joins_better p formed k f h fits before)
   where
     by : Steady p k f h → Steady p (suc k) f g
     by was =

@@ -385,7 +385,7 @@ module _ (f : Function) (sound : Sound f) (a y : Block) (can : CanJoin f a y) wh
 
 joins_sound : (k : ℕ) (f g : Function) → Sound f → Joins k f g → Sound g
 joins_sound zero f g sound is = subst Sound (sym is) sound
-joins_sound (suc k) f g sound (h, a, y, before, can, is) = subst Sound (sym is) (join_sound h (joins_sound k f h sound before) a y can)
+joins_sound (suc k) f g sound (h, a, y, before, can, a_first, is) = subst Sound (sym is) (join_sound h (joins_sound k f h sound before) a y can)
 
 pub is_sound : MergeIsSound
 is_sound f g sound (k, joins, none) = joins_sound k f g sound joins

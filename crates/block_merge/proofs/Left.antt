@@ -1,5 +1,5 @@
 -- The blocks that are left.
-use Rattle.std.proofs.Common.{◌≡◌, ℕ, zero, suc, nat_eq, Bool, true, false, ◌⊎◌, inl, inr, List, [], ◌∷◌, length, Option, Some, None, refl, sym, ◌∙◌, ap, if◌then◌else◌}
+use Rattle.std.proofs.Common.{◌≡◌, ℕ, zero, suc, ◌<◌, nat_eq, Bool, true, false, ◌⊎◌, inl, inr, List, [], ◌∷◌, length, Option, Some, None, refl, sym, ◌∙◌, ap, arith, if◌then◌else◌}
 use Rattle.std.specs.Prelude.{◌&&◌, slice_get}
 use Rattle.std.proofs.lemmas.Bool.{and_from, and_parts, eq-eqb, eqb-true, or_cases, or_left, or_right}
 use Rattle.std.proofs.lemmas.List.{nil_from_length}
@@ -18,17 +18,45 @@ further b bs c (i, at) = (suc i, at)
 
 -- ---- blocks and contents
 
--- a block whose content is there is there
-pub there : (name : ℕ → ℕ) (contents : ℕ → Option Content) (bs : List Block) (b : Block) (c : Content) → IsOneOf bs b → contents b.number ≡ Some c → IsOneOf (blocks_of name contents bs) (block_of name b c)
-there name contents [] b c (i, at) e = absurd cc
-there name contents (x ∷ bs) b c (zero, at) e =
-    let same : x ≡ b = cc at in
-    (0, ap (λ (y : Block). slice_get (with_block name y (contents y.number) (blocks_of name contents bs)) 0) same ∙ ap (λ (o : Option Content). slice_get (with_block name b o (blocks_of name contents bs)) 0) e)
-there name contents (x ∷ bs) b c (suc i, at) e = by (contents x.number) (there name contents bs b c (i, at) e)
+-- a block of this number was before the place i
+abbrev pub WasBefore : List Block → ℕ → Block → Type 0
+WasBefore bs i z = (m : ℕ) × (x : Block) × (m < i) × (slice_get bs m ≡ Some x) × (z.number ≡ x.number)
+
+-- the block y has a place among the blocks ys, before which are such alone that were before the place i
+pub record Stands (bs ys : List Block) (i : ℕ) (y : Block) : Type 0 where
+  pub place : ℕ
+  pub at : slice_get ys place ≡ Some y
+  pub before : (k : ℕ) (z : Block) → k < place → slice_get ys k ≡ Some z → WasBefore bs i z
+
+-- a block whose content is there has a place, and those before it were before it
+pub stands : (name : ℕ → ℕ) (contents : ℕ → Option Content) (bs : List Block) (i : ℕ) (b : Block) (c : Content) → slice_get bs i ≡ Some b → contents b.number ≡ Some c
+    → Stands bs (blocks_of name contents bs) i (block_of name b c)
+stands name contents [] i b c b_at e = absurd cc
+stands name contents (x ∷ bs) zero b c b_at e =
+    let same : x ≡ b = cc b_at in
+    record {
+      place = 0;
+      at = ap (λ (y : Block). slice_get (with_block name y (contents y.number) (blocks_of name contents bs)) 0) same ∙ ap (λ (o : Option Content). slice_get (with_block name b o (blocks_of name contents bs)) 0) e;
+      before = λ k z lt z_at. absurd (omega (arith, lt));
+    }
+stands name contents (x ∷ bs) (suc i) b c b_at e = by (contents x.number) (stands name contents bs i b c b_at e)
   where
-    by : (o : Option Content) → IsOneOf (blocks_of name contents bs) (block_of name b c) → IsOneOf (with_block name x o (blocks_of name contents bs)) (block_of name b c)
-    by None h = h
-    by (Some d) h = further (block_of name x d) (blocks_of name contents bs) (block_of name b c) h
+    later : (z : Block) → WasBefore bs i z → WasBefore (x ∷ bs) (suc i) z
+    later z (m, w, lt, w_at, number) = (suc m, w, omega (arith, lt), w_at, number)
+
+    by : (o : Option Content) → Stands bs (blocks_of name contents bs) i (block_of name b c) → Stands (x ∷ bs) (with_block name x o (blocks_of name contents bs)) (suc i) (block_of name b c)
+    by None h = record { place = h.place; at = h.at; before = λ k z lt z_at. later z (h.before k z lt z_at) }
+    by (Some d) h = record { place = suc h.place; at = h.at; before = before }
+      where
+        before : (k : ℕ) (z : Block) → k < suc h.place → slice_get (block_of name x d ∷ blocks_of name contents bs) k ≡ Some z → WasBefore (x ∷ bs) (suc i) z
+        before zero z lt z_at = let same : block_of name x d ≡ z = cc z_at in (0, x, omega arith, refl, ap (λ (w : Block). w.number) (sym same))
+        before (suc k) z lt z_at = later z (h.before k z (omega (arith, lt)) z_at)
+
+-- and so it is there
+pub there : (name : ℕ → ℕ) (contents : ℕ → Option Content) (bs : List Block) (b : Block) (c : Content) → IsOneOf bs b → contents b.number ≡ Some c → IsOneOf (blocks_of name contents bs) (block_of name b c)
+there name contents bs b c (i, at) e =
+    let h : Stands bs (blocks_of name contents bs) i (block_of name b c) = stands name contents bs i b c at e in
+    (h.place, h.at)
 
 abbrev pub Was : (ℕ → ℕ) → (ℕ → Option Content) → List Block → Block → Type 0
 Was name contents bs y = (b : Block) × (c : Content) × IsOneOf bs b × (contents b.number ≡ Some c) × (y ≡ block_of name b c)

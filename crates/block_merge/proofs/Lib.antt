@@ -6,6 +6,8 @@ mod JoinedSound
 mod Left
 mod Loops
 mod Moved
+mod One
 mod Start
 mod Stepping
+mod Turns
 mod Weights

@@ -9,7 +9,7 @@ use Rattle.ir_tree.specs.declared.block.Block.{Block}
 use Rattle.ir_tree.specs.declared.function.Function.{Function}
 use Rattle.edge_counts.proofs.Counting.{number_at, numbers_in}
 use Rattle.block_merge.specs.Counts.{counted, edges_counted}
-use Rattle.block_merge.specs.Merged.{IsMergeOf}
+use Rattle.block_merge.specs.Merged.{IsMergeOf, IsOneOf}
 use Rattle.block_merge.specs.Working.{HasContents, IsContentOf, IsNumber, Joined, block_of, blocks_taken, left, may_go, naming, next, with_block, without}
 use Rattle.block_merge.specs.declared.joining.Content.{Content}
 use Rattle.block_merge.specs.declared.joining.Joining.{Joining}
@@ -115,8 +115,8 @@ row_some name b c o z rows rows' e z_is h = h ∙ ap (λ (x : Block). rows ++ x 
 
 -- ---- the end
 
-pub is_merge : (f : Function) (j : Joining) (g : Function) → Distinct (numbers f) → Joined f j → ((i n : ℕ) → slice_get (numbers f) i ≡ Some n → next j n ≡ None)
+pub is_merge : (f : Function) (j : Joining) (g : Function) → Distinct (numbers f) → Joined f j → ((b : Block) → IsOneOf f.blocks b → next j b.number ≡ None)
     → g ≡ record f { blocks = blocks_taken (naming j.joins.items) (left j) f.blocks } → IsMergeOf f g
 is_merge f j g once work done is =
     subst (IsMergeOf f) (sym (is ∙ (λ i. record f { blocks = taken_alike (naming j.joins.items) (left j) (left j) f.blocks once (λ k b e. refl) i })))
-    (work.joins.0, work.joins.1, none_left f j once work (λ b (i, at). done i b.number (number_at f.blocks i b at)))
+    (work.joins.0, work.joins.1, none_left f j once work done)

@@ -68,7 +68,7 @@ no_phis_before : (name : ℕ → ℕ) (ps : List Phi) → map (phi_named name) p
 no_phis_before name [] e = refl
 no_phis_before name (p ∷ ps) e = absurd cc
 
-module _ (f : Function) (j : Joining) (once : Distinct (numbers f)) (work : Joined f j) (done : (b : Block) → IsOneOf f.blocks b → next j b.number ≡ None) where
+module _ (f : Function) (j : Joining) (once : Distinct (numbers f)) (work : Joined f j) where
   abbrev name : ℕ → ℕ
   name = naming j.joins.items
 
@@ -84,8 +84,9 @@ module _ (f : Function) (j : Joining) (once : Distinct (numbers f)) (work : Join
       by None h is = absurd (stays h)
       by (Some c) h is = was name (left j) bs y is
 
-  pub none_left : (a y : Block) → CanJoin (at_work j f) a y → ⊥
-  none_left a y can = by (was name (left j) f.blocks a can.first) (behind f.blocks refl y can.second)
+  -- where a block can take another one, something goes into it
+  pub takes : (a y : Block) → CanJoin (at_work j f) a y → next j a.number ≢ None
+  takes a y can none = by (was name (left j) f.blocks a can.first) (behind f.blocks refl y can.second)
     where
       by : Was name (left j) f.blocks a → Was name (left j) (behind_entry f.blocks) y → ⊥
       by (b, c, at, e, made) (z, d, z_at, g, z_made) =
@@ -100,5 +101,11 @@ module _ (f : Function) (j : Joining) (once : Distinct (numbers f)) (work : Join
           (and_from (not (nat_eq z.number b.number)) (hash_set.contains nat_eq j.candidates z.number) (ap not (ne_eqb z.number b.number (λ s. can.other (y_number ∙ s ∙ sym a_number)))) (work.candidates z.number ∙ may'))
           (ap is_some g) in
           let jumps : c.end ≡ Jump z.number = ap (λ (x : Block). x.end) (sym made) ∙ can.jumps ∙ ap Jump y_number in
-          let clash : Some z.number ≡ None = sym (next_is (can_go j b.number) (left j b.number) c z.number e jumps goes) ∙ done b at in
+          let clash : Some z.number ≡ None = sym (next_is (can_go j b.number) (left j b.number) c z.number e jumps goes) ∙ ap (next j) (sym a_number) ∙ none in
           absurd (cc clash)
+
+  pub none_left : ((b : Block) → IsOneOf f.blocks b → next j b.number ≡ None) → (a y : Block) → CanJoin (at_work j f) a y → ⊥
+  none_left done a y can = by (was name (left j) f.blocks a can.first)
+    where
+      by : Was name (left j) f.blocks a → ⊥
+      by (b, c, at, e, made) = takes a y can (ap (λ (x : Block). next j x.number) made ∙ done b at)

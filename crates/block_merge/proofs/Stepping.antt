@@ -5,6 +5,7 @@ use Rattle.std.specs.HashSet as hash_set
 use Rattle.std.proofs.lemmas.Bool.{and_from, and_parts, eq-eqb, eqb-true, ne_eqb}
 use Rattle.ir_tree.specs.Flow.{leading, targets}
 use Rattle.ir_tree.specs.Formed.{Distinct, numbers}
+use Rattle.ir_tree.specs.Rules.{place}
 use Rattle.ir_tree.specs.declared.block.Block.{Block}
 use Rattle.ir_tree.specs.declared.block.Terminator.{Terminator}
 use Rattle.ir_tree.specs.declared.block.Terminator.TheVariants.{Branch, Jump, Return, Switch, Unreachable}
@@ -12,15 +13,17 @@ use Rattle.ir_tree.specs.declared.function.Function.{Function}
 use Rattle.ir_tree.specs.declared.instr.Incoming.{Incoming}
 use Rattle.ir_tree.specs.declared.instr.Line.{Line}
 use Rattle.ir_tree.specs.declared.instr.Phi.{Phi}
-use Rattle.edge_counts.proofs.Counting.{numbers_in}
+use Rattle.edge_counts.proofs.Counting.{numbers_in, place_is}
 use Rattle.block_merge.specs.Counts.{counted}
-use Rattle.block_merge.specs.Merged.{CanJoin, IsOneOf, Joins, behind_entry, entry_named, joined, joined_block, joined_blocks, phi_named, renamed}
-use Rattle.block_merge.specs.Working.{IsJoined, IsNumber, Joined, at_work, block_of, blocks_of, can_go, has_one_edge, left, may_go, naming, next, next_of, target_if, with_block}
+use Rattle.block_merge.specs.Merged.{CanJoin, IsFirst, IsOneOf, Joins, behind_entry, entry_named, joined, joined_block, joined_blocks, phi_named, renamed}
+use Rattle.block_merge.specs.Working.{IsJoined, IsNumber, IsTurnOf, Joined, at_work, block_of, blocks_of, can_go, has_one_edge, left, may_go, naming, next, next_of, target_if, with_block}
 use Rattle.block_merge.specs.declared.joining.Content.{Content}
 use Rattle.block_merge.specs.declared.joining.Join.{Join}
 use Rattle.block_merge.specs.declared.joining.Joining.{Joining}
 use Rattle.block_merge.proofs.Weights.{leading_left, out_of, weigh, weigh_changed}
-use Rattle.block_merge.proofs.Left.{Goes, NextWas, entry_stays, goes, next_was, there}
+use Rattle.block_merge.proofs.Left.{Goes, NextWas, Stands, WasBefore, entry_stays, goes, next_was, stands, there}
+use Rattle.block_merge.proofs.Start.{takes}
+use Rattle.block_merge.proofs.Turns.{not_below}
 
 -- ---- names
 
@@ -41,8 +44,8 @@ module _ (name then' both : ℕ → ℕ) (is : (n : ℕ) → both n ≡ then' (n
 
 module _ (name both : ℕ → ℕ) (old new : ℕ → Option Content) (first : ℕ) (y : Block) (a b c : Content) (apart : first ≢ y.number)
     (named : (n : ℕ) → both n ≡ renamed y.number first (name n))
-    (first_left : old first ≡ Some a) (second_lines : y.lines ≡ b.lines.items) (second_end : y.end ≡ b.end)
-    (lines : c.lines.items ≡ a.lines.items ++ b.lines.items) (end : c.end ≡ b.end)
+    (first_left : old first ≡ Some a) (second_lines : y.lines ≡ b.lines) (second_end : y.end ≡ b.end)
+    (lines : c.lines ≡ a.lines ++ b.lines) (end : c.end ≡ b.end)
     (now : (n : ℕ) → new n ≡ (if nat_eq first n then Some c else if nat_eq y.number n then None else old n)) where
   abbrev after : Bool → Bool → Option Content → Option Content
   after u v o = if u then Some c else if v then None else o
@@ -55,8 +58,8 @@ module _ (name both : ℕ → ℕ) (old new : ℕ → Option Content) (first : �
     end = last i;
   }
     where
-      all : c.lines.items ≡ (if nat_eq first x.number then a.lines.items ++ y.lines else a.lines.items)
-      all = lines ∙ ap (λ (l : List Line). a.lines.items ++ l) (sym second_lines) ∙ ap (λ (t : Bool). if t then a.lines.items ++ y.lines else a.lines.items) (sym e)
+      all : c.lines ≡ (if nat_eq first x.number then a.lines ++ y.lines else a.lines)
+      all = lines ∙ ap (λ (l : List Line). a.lines ++ l) (sym second_lines) ∙ ap (λ (t : Bool). if t then a.lines ++ y.lines else a.lines) (sym e)
 
       last : c.end ≡ (if nat_eq first x.number then y.end else a.end)
       last = end ∙ sym second_end ∙ ap (λ (t : Bool). if t then y.end else a.end) (sym e)
@@ -69,8 +72,8 @@ module _ (name both : ℕ → ℕ) (old new : ℕ → Option Content) (first : �
     end = last i;
   }
     where
-      all : d.lines.items ≡ (if nat_eq first x.number then d.lines.items ++ y.lines else d.lines.items)
-      all = ap (λ (t : Bool). if t then d.lines.items ++ y.lines else d.lines.items) (sym e)
+      all : d.lines ≡ (if nat_eq first x.number then d.lines ++ y.lines else d.lines)
+      all = ap (λ (t : Bool). if t then d.lines ++ y.lines else d.lines) (sym e)
 
       last : d.end ≡ (if nat_eq first x.number then y.end else d.end)
       last = ap (λ (t : Bool). if t then y.end else d.end) (sym e)
@@ -119,15 +122,15 @@ second_there f j once was b n is may = by f.blocks refl
 
         at : Goes (has_one_edge f.blocks) bs n → (o : Option Content) → left j x.number ≡ o → IsSecond j f b n
         at g None h = absurd (stays h)
-        at (z, (i, place), number, no_phis, one) (Some c) h =
-            let found : IsOneOf (blocks_of (naming j.joins.items) (left j) bs) (block_of (naming j.joins.items) z b) = there (naming j.joins.items) (left j) bs z b (i, place) (ap (left j) number ∙ is) in
+        at (z, (i, z_at), number, no_phis, one) (Some c) h =
+            let found : IsOneOf (blocks_of (naming j.joins.items) (left j) bs) (block_of (naming j.joins.items) z b) = there (naming j.joins.items) (left j) bs z b (i, z_at) (ap (left j) number ∙ is) in
             let whole : blocks_of (naming j.joins.items) (left j) f.blocks ≡ block_of (naming j.joins.items) x c ∷ blocks_of (naming j.joins.items) (left j) bs =
             ap (blocks_of (naming j.joins.items) (left j)) e ∙ ap (λ (o : Option Content). with_block (naming j.joins.items) x o (blocks_of (naming j.joins.items) (left j) bs)) h in (
               z,
               number,
               no_phis,
               ap (has_one_edge f.blocks) (sym number) ∙ one,
-              (z, subst (λ (l : List Block). IsOneOf l z) (sym e) (suc i, place), number),
+              (z, subst (λ (l : List Block). IsOneOf l z) (sym e) (suc i, z_at), number),
               subst (λ (l : List Block). IsOneOf (behind_entry l) (block_of (naming j.joins.items) z b)) (sym whole) found,
             )
 
@@ -190,7 +193,7 @@ module _ (old new : Joining) (first second : ℕ) (a b : Content) (first_left : 
 -- ---- one join
 
 module _ (f : Function) (once : Distinct (numbers f)) (old new : Joining) (first second : ℕ) (a b : Content) (was : Joined f old) (is_next : next old first ≡ Some second)
-    (first_left : left old first ≡ Some a) (second_left : left old second ≡ Some b) (made : IsJoined old new first second a b) where
+    (first_left : left old first ≡ Some a) (second_left : left old second ≡ Some b) (made : IsJoined old new first second a b) (turn : IsTurnOf f old first) where
   step : (c : Content) × (left old first ≡ Some c) × (c.end ≡ Jump second) × (can_go old first second ≡ true)
   step = next_was (can_go old first) (left old first) second is_next
 
@@ -231,15 +234,27 @@ module _ (f : Function) (once : Distinct (numbers f)) (old new : Joining) (first
   known : IsNumber f.blocks first
   known = was.known first a first_left
 
-  can : CanJoin (at_work old f) (block_of (naming old.joins.items) known.0 a) y
+  standing : Stands f.blocks (at_work old f).blocks known.1.0 (block_of (naming old.joins.items) known.0 a)
+  standing = stands (naming old.joins.items) (left old) f.blocks known.1.0 known.0 a known.1.1 (ap (left old) known.2 ∙ first_left)
+
+  abbrev can : CanJoin (at_work old f) (block_of (naming old.joins.items) known.0 a) y
   can = record {
-    first = there (naming old.joins.items) (left old) f.blocks known.0 a known.1 (ap (left old) known.2 ∙ first_left);
+    first = (standing.place, standing.at);
     second = there'.5;
     jumps = jumps ∙ ap Jump (sym there'.1);
     other = λ e. apart (sym there'.1 ∙ e ∙ known.2);
     only = ap (λ (n : ℕ). length (leading n 0 (at_work old f).blocks)) there'.1 ∙ was.edges second is_left ∙ one_edge;
     no_phis = ap (map (phi_named (naming old.joins.items))) there'.2;
   }
+
+  -- no block before it can take another one
+  is_first : IsFirst (at_work old f) standing.place
+  is_first x z other = not_below standing.place other.first.0 (λ lt. earlier (standing.before other.first.0 x lt other.first.1))
+    where
+      earlier : WasBefore f.blocks known.1.0 x → ⊥
+      earlier (m, c, lt, at, number) =
+          let here : place f.blocks first ≡ known.1.0 = ap (place f.blocks) (sym known.2) ∙ place_is f.blocks once known.1.0 known.0 known.1.1 in
+          takes f old once was x z other (ap (next old) number ∙ turn m c (omega (arith, lt, here)) at)
 
   joins_now : (k : ℕ) × Joins k f (at_work new f)
   joins_now = (
@@ -250,6 +265,7 @@ module _ (f : Function) (once : Distinct (numbers f)) (old new : Joining) (first
       y,
       was.joins.1,
       can,
+      is_first,
       (λ i. record f { blocks = all_joined i }) ∙ ap (λ (n : ℕ). joined n y (at_work old f)) (sym known.2),
     ),
   )

@@ -1,5 +1,6 @@
--- A sound function whose blocks are joined is better and sound.
-use Rattle.std.specs.Prelude.{◌-◌, ◌^◌, length}
+-- A sound function whose blocks are joined is better and sound, and blocks are joined in one way.
+use Rattle.std.specs.Prelude.{◌≡◌, ◌-◌, ◌^◌, length}
+use Rattle.ir_tree.specs.Formed.{Distinct, numbers}
 use Rattle.ir_tree.specs.Rules.{Sound}
 use Rattle.ir_tree.specs.declared.function.Function.{Function}
 use Rattle.ir_meaning.specs.Near.{BetterThan}
@@ -16,3 +17,7 @@ MergeIsBetter = (f g : Function) → Sound f → IsMergeOf f g → (p : Program)
 -- available behind the other's lines
 abbrev pub MergeIsSound : Type 0
 MergeIsSound = (f g : Function) → Sound f → IsMergeOf f g → Sound g
+
+-- where no two blocks have one number, there is one such function
+abbrev pub MergeIsOne : Type 0
+MergeIsOne = (f g h : Function) → Distinct (numbers f) → IsMergeOf f g → IsMergeOf f h → g ≡ h

@@ -1,5 +1,5 @@
 -- Blocks that are joined to their only predecessors.
-use Rattle.std.specs.Prelude.{◌≡◌, ◌≢◌, ℕ, zero, suc, nat_eq, if◌then◌else◌, List, [], ◌∷◌, ◌++◌, length, map, slice_get, Some}
+use Rattle.std.specs.Prelude.{◌≡◌, ◌≢◌, ℕ, zero, suc, ◌≤◌, nat_eq, if◌then◌else◌, List, [], ◌∷◌, ◌++◌, length, map, slice_get, Some}
 use Rattle.ir_tree.specs.Flow.{leading}
 use Rattle.ir_tree.specs.declared.block.Block.{Block}
 use Rattle.ir_tree.specs.declared.block.Terminator.TheVariants.{Jump}
@@ -54,10 +54,14 @@ joined a y f = record f { blocks = joined_blocks a y f.blocks }
 
 -- ---- all joins
 
--- so many joins, one after another, lead from f to g
+-- no block before the place i can take another one
+abbrev pub IsFirst : Function → ℕ → Type 0
+IsFirst f i = (a y : Block) (can : CanJoin f a y) → i ≤ can.first.0
+
+-- so many joins lead from f to g, each of the first block that can take another one
 abbrev pub Joins : ℕ → Function → Function → Type 0
 Joins zero f g = g ≡ f
-Joins (suc k) f g = (h : Function) × (a : Block) × (y : Block) × Joins k f h × CanJoin h a y × (g ≡ joined a.number y h)
+Joins (suc k) f g = (h : Function) × (a : Block) × (y : Block) × Joins k f h × (can : CanJoin h a y) × IsFirst h can.first.0 × (g ≡ joined a.number y h)
 
 -- joins lead from f to g, in which no blocks are left to be joined
 abbrev pub IsMergeOf : Function → Function → Type 0

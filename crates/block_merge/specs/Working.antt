@@ -3,6 +3,7 @@ use Rattle.std.specs.Prelude.{◌≡◌, ◌≢◌, ℕ, ◌<◌, nat_eq, Bool, 
 use Rattle.std.specs.HashMap as hash_map
 use Rattle.std.specs.HashSet as hash_set
 use Rattle.ir_tree.specs.Flow.{leading}
+use Rattle.ir_tree.specs.Rules.{place}
 use Rattle.ir_tree.specs.declared.block.Block.{Block}
 use Rattle.ir_tree.specs.declared.block.Terminator.{Terminator}
 use Rattle.ir_tree.specs.declared.block.Terminator.TheVariants.{Jump}
@@ -34,7 +35,7 @@ abbrev pub left : Joining → ℕ → Option Content
 left j n = hash_map.get nat_eq j.contents n
 
 abbrev pub block_of : (ℕ → ℕ) → Block → Content → Block
-block_of name b c = record { number = b.number; phis = map (phi_named name) b.phis; lines = c.lines.items; end = c.end }
+block_of name b c = record { number = b.number; phis = map (phi_named name) b.phis; lines = c.lines; end = c.end }
 
 abbrev pub with_block : (ℕ → ℕ) → Block → Option Content → List Block → List Block
 with_block name b None bs = bs
@@ -57,7 +58,7 @@ abbrev pub IsNumber : List Block → ℕ → Type 0
 IsNumber bs n = (b : Block) × IsOneOf bs b × (b.number ≡ n)
 
 abbrev pub IsContentOf : Block → Content → Type 0
-IsContentOf b c = (c.lines.items ≡ b.lines) × (c.end ≡ b.end)
+IsContentOf b c = (c.lines ≡ b.lines) × (c.end ≡ b.end)
 
 -- the first blocks, so many of these, have their own contents, and nothing else has any
 pub record HasContents (count : ℕ) (bs : List Block) (contents : ℕ → Option Content) : Type 0 where
@@ -90,13 +91,17 @@ next_of test (Some c) = target_if test c.end
 abbrev pub next : Joining → ℕ → Option ℕ
 next j n = next_of (can_go j n) (left j n)
 
+-- nothing goes into a block before that of the number n
+abbrev pub IsTurnOf : Function → Joining → ℕ → Type 0
+IsTurnOf f j n = (i : ℕ) (b : Block) → i < place f.blocks n → slice_get f.blocks i ≡ Some b → next j b.number ≡ None
+
 -- ---- one join
 
 pub record IsJoined (old new : Joining) (first second : ℕ) (a b : Content) : Type 0 where
   pub candidates : new.candidates ≡ old.candidates
   pub joins : new.joins.items ≡ old.joins.items ++ record { first = first; second = second } ∷ []
   pub content : Content
-  pub lines : content.lines.items ≡ a.lines.items ++ b.lines.items
+  pub lines : content.lines ≡ a.lines ++ b.lines
   pub end : content.end ≡ b.end
   pub fewer : hash_map.hash_map_len new.contents < hash_map.hash_map_len old.contents
   pub left : (n : ℕ) → hash_map.get nat_eq new.contents n ≡ (if nat_eq first n then Some content else if nat_eq second n then None else hash_map.get nat_eq old.contents n)

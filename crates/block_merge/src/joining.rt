@@ -1,21 +1,23 @@
 //! Blocks while they are joined.
-ghost use Rattle.std.specs.Prelude.{◌≡◌, ◌≢◌, ℕ, nat_eq, map, length, slice_get, IfOk, OnOk, None, Some};
+ghost use Rattle.std.specs.Prelude.{◌≡◌, ◌≢◌, ℕ, nat_eq, map, length, IfOk, OnOk, None, Some};
 ghost use Rattle.std.specs.HashMap.{get};
 ghost use Rattle.ir_tree.specs.Formed.{Distinct, numbers};
+ghost use Rattle.ir_tree.specs.declared.block.Block.{Block};
 ghost use Rattle.ir_tree.specs.declared.function.Function.{Function};
-ghost use Rattle.block_merge.specs.Working.{HasContents, IsContentOf, IsJoined, Joined, blocks_taken, can_go, left, naming, next};
+ghost use Rattle.block_merge.specs.Merged.{IsOneOf};
+ghost use Rattle.block_merge.specs.Working.{HasContents, IsContentOf, IsJoined, IsTurnOf, Joined, blocks_taken, can_go, left, naming, next};
 ghost use Rattle.block_merge.specs.declared.joining.Content.{Content};
 
 use crate::candidates::candidates;
 use crate::names::Names;
 use ir_tree::{Block, Duplicate, Line, Rows, Terminator};
 use std::alloc::{AllocError, Global};
-use std::collections::{HashMap, HashSet};
+use std::collections::{HashMap, HashSet, LinkedList};
 
-/// What a block has behind its phis.
+/// What a block has behind its phis. Two lists of lines become one in constant time.
 #[derive(Drop)]
 pub(crate) struct Content {
-    lines: Vec<Line>,
+    lines: LinkedList<Line>,
     end: Terminator,
 }
 
@@ -38,9 +40,9 @@ pub(crate) struct Joining {
 fn content_of(alloc: Global, block: &Block) -> Result<Content, AllocError>
     ensures { IfOk result (λ c. IsContentOf block.now c) }
 {
-    let mut lines = Vec::with_capacity(alloc, block.lines.len())?;
+    let mut lines = LinkedList::new(alloc);
     for line in block.lines.as_slice() {
-        lines.push(line.duplicate(alloc)?)?;
+        lines.push_back(line.duplicate(alloc)?)?;
     }
     let end = block.end.duplicate(alloc)?;
     Ok(Content { lines, end })
@@ -55,6 +57,17 @@ fn contents(alloc: Global, blocks: &[Block]) -> Result<HashMap<u32, Content>, Al
         contents.insert(block.number, content)?;
     }
     Ok(contents)
+}
+
+/// These lines, each of which moves once.
+fn rows_of(alloc: Global, mut lines: LinkedList<Line>) -> Result<Rows<Line>, AllocError>
+    ensures { IfOk result (λ rows. rows ≡ lines) }
+{
+    let mut rows = Rows::new(alloc);
+    while let Some(line) = lines.pop_front() {
+        rows.push(line)?;
+    }
+    Ok(rows)
 }
 
 impl Joining {
@@ -80,7 +93,7 @@ impl Joining {
     }
 
     /// The block that goes into this one.
-    pub(crate) fn next(&self, number: u32) -> Option<u32>
+    fn next(&self, number: u32) -> Option<u32>
         ensures { result ≡ next self.now number }
     {
         match self.contents.get(&number) {
@@ -116,7 +129,7 @@ impl Joining {
 
     /// A block takes what goes into it, until nothing does.
     fn grow(&mut self, number: u32) -> Result<(), AllocError>
-        ensures joined { OnOk result ((f : Function) → Distinct (numbers f) → Joined f self.old → Joined f self.new) }
+        ensures joined { OnOk result ((f : Function) → Distinct (numbers f) → IsTurnOf f self.old number → Joined f self.old → Joined f self.new) }
         ensures others { OnOk result ((n : ℕ) → next self.old n ≡ None → next self.new n ≡ None) }
         ensures done { OnOk result (next self.new number ≡ None) }
     {
@@ -126,13 +139,13 @@ impl Joining {
         Ok(())
     }
 
-    /// Each of these blocks takes what goes into it.
-    pub(crate) fn grow_all(&mut self, order: &[u32]) -> Result<(), AllocError>
-        ensures joined { OnOk result ((f : Function) → Distinct (numbers f) → Joined f self.old → Joined f self.new) }
-        ensures done { OnOk result ((i n : ℕ) → slice_get order.now i ≡ Some n → next self.new n ≡ None) }
+    /// Each of the blocks, in their order, takes what goes into it.
+    pub(crate) fn grow_all(&mut self, blocks: &[Block]) -> Result<(), AllocError>
+        ensures joined { OnOk result ((f : Function) → f.blocks ≡ blocks.now → Distinct (numbers f) → Joined f self.old → Joined f self.new) }
+        ensures done { OnOk result ((b : Block) → IsOneOf blocks.now b → next self.new b.number ≡ None) }
     {
-        for number in order {
-            self.grow(*number)?;
+        for taker in blocks {
+            self.grow(taker.number)?;
         }
         Ok(())
     }
@@ -152,7 +165,7 @@ impl Joining {
                 None => {}
                 Some(content) => {
                     let phis = names.phis(alloc, block.phis.as_slice())?;
-                    let lines = Rows::of(content.lines);
+                    let lines = rows_of(alloc, content.lines)?;
                     rows.push(Block {
                         number: block.number,
                         phis,

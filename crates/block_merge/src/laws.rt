@@ -1,5 +1,5 @@
 //! The laws of merging.
-ghost use Rattle.block_merge.specs.Laws.{MergeIsBetter, MergeIsSound};
+ghost use Rattle.block_merge.specs.Laws.{MergeIsBetter, MergeIsOne, MergeIsSound};
 
 /// A sound function whose blocks are joined is better.
 pub fn merge_is_better()
@@ -9,4 +9,9 @@ pub fn merge_is_better()
 /// A sound function whose blocks are joined is sound.
 pub fn merge_is_sound()
     ensures { MergeIsSound }
+{}
+
+/// Where no two blocks have one number, no two functions are what merging gives.
+pub fn merge_is_one()
+    ensures { MergeIsOne }
 {}

@@ -1,12 +1,14 @@
 //! Merging of blocks: a block that another jumps to, and to which no other edge leads, goes into that block.
 //!
-//! Joins go on until none is left; phi entries that named a block that went name the block that took it. The contract says
-//! that joins lead from the function to the result, one after another, and that no blocks are left there to be joined
-//! (`specs/Merged.antt`). Of a sound function the result is sound, and better in every program.
+//! The first block in block order that can take another one takes it, until none is left; phi entries that named a block that
+//! went name the block that took it. The contract says that such joins lead from the function to the result, one after
+//! another, and that no blocks are left there to be joined (`specs/Merged.antt`): there is one such function. Of a sound
+//! function the result is sound, and better in every program.
 //!
 //! Below this crate stand `ir_tree`, and `ir_meaning`, `ir_better`, `ir_flow`, `ir_edit` and `edge_counts` for what is proved.
-//! Time and memory are linear in the function: edges are counted once, chains of blocks are followed from their heads, so that
-//! each instruction moves once, and phi entries are renamed by one table.
+//! Time and memory are linear in the function: edges are counted once, two blocks are joined in constant time, since their
+//! lines stand in linked lists until all are joined, so that each instruction moves once, and phi entries are renamed by one
+//! table.
 #![tactic(auto)]
 
 mod candidates;
@@ -16,5 +18,5 @@ mod laws;
 mod merging;
 mod names;
 
-pub use laws::{merge_is_better, merge_is_sound};
+pub use laws::{merge_is_better, merge_is_one, merge_is_sound};
 pub use merging::merge;

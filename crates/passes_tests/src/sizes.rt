@@ -45,10 +45,10 @@ fn freezing(alloc: Global, number: u32, end: Terminator) -> Result<Block, AllocE
     })
 }
 
-/// A function whose first block leads to the last one, and each of so many others to the one before it, against the text.
-fn backward(alloc: Global, count: u32) -> Result<Function, AllocError> {
+/// A function of a first block with an end and of so many others, each of which leads to the one before it, against the text.
+fn backward(alloc: Global, count: u32, first: Terminator) -> Result<Function, AllocError> {
     let mut blocks = Rows::new(alloc);
-    blocks.push(freezing(alloc, 0, Terminator::Jump(count.saturating_mul(2)))?)?;
+    blocks.push(freezing(alloc, 0, first)?)?;
     let mut end = Terminator::Unreachable;
     for before in 0..count {
         let number = before.saturating_add(1).saturating_mul(2);
@@ -68,10 +68,12 @@ fn backward(alloc: Global, count: u32) -> Result<Function, AllocError> {
 
 #[test]
 fn a_long_chain_becomes_one_block(rt: HostRuntime) -> Result<(), AllocError> {
-    let g = merge(rt.alloc(), &backward(rt.alloc(), 60_000)?)?;
+    let g = merge(rt.alloc(), &backward(rt.alloc(), 60_000, Terminator::Jump(120_000))?)?;
     assert!(rt; g.blocks.len() == 1);
     for block in g.blocks.as_slice() {
         assert!(rt; block.lines.len() == 60_001);
     }
+    let h = merge(rt.alloc(), &backward(rt.alloc(), 60_000, Terminator::Unreachable)?)?;
+    assert!(rt; h.blocks.len() == 2);
     Ok(())
 }

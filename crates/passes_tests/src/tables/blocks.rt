@@ -2,7 +2,7 @@
 use crate::rows::{Pass, Row, failing};
 use std::alloc::AllocError;
 
-const BLOCKS: [Row; 6] = [
+const BLOCKS: [Row; 7] = [
     (
         "a switch on a constant, a branch on poison and one on true",
         Pass::Branches,
@@ -146,6 +146,32 @@ const BLOCKS: [Row; 6] = [
   %11 = freeze i32 19
   %13 = freeze i32 23
   ret i32 %10
+}
+",
+    ),
+    (
+        "the first of a circle that nobody reaches takes the others",
+        Pass::Merge,
+        b"define i32 @f() {
+  ret i32 7
+1:
+  %2 = freeze i32 11
+  br label %5
+3:
+  %4 = freeze i32 13
+  br label %1
+5:
+  %6 = freeze i32 15
+  br label %3
+}
+",
+        b"define i32 @f() {
+  ret i32 7
+1:
+  %2 = freeze i32 11
+  %6 = freeze i32 15
+  %4 = freeze i32 13
+  br label %1
 }
 ",
     ),

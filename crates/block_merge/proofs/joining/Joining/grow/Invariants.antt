@@ -2,12 +2,12 @@ use Rattle.std.proofs.Common.{◌≡◌, ◌≢◌, ℕ, None}
 use Rattle.std.specs.HashMap.{hash_map_len}
 use Rattle.ir_tree.specs.Formed.{Distinct, numbers}
 use Rattle.ir_tree.specs.declared.function.Function.{Function}
-use Rattle.block_merge.specs.Working.{Joined, next}
+use Rattle.block_merge.specs.Working.{IsTurnOf, Joined, next}
 use Rattle.block_merge.proofs.joining.Joining.grow.Given as goal
 
 abbrev pub invariant-loop-second : goal.invariant-loop-second
 invariant-loop-second l = record {
-  joined : (f : Function) → Distinct (numbers f) → Joined f l.fn.self → Joined f l.self;
+  joined : (f : Function) → Distinct (numbers f) → IsTurnOf f l.fn.self l.number → Joined f l.fn.self → Joined f l.self;
   others : (n : ℕ) → n ≢ l.number → next l.fn.self n ≡ None → next l.self n ≡ None;
 }
 

@@ -26,7 +26,7 @@ returns-in_ok-push c = λ a b apart first_left second_left.
       candidates = refl;
       joins = c.in_ok-push.ensures.items;
       content = record { lines = c.append.new.self; end = c.in-Some.gone.end };
-      lines = c.in_ok-append.ensures.items ∙ (λ i. (was_is i).lines.items ++ (gone_is i).lines.items);
+      lines = c.in_ok-append.ensures.items ∙ (λ i. (was_is i).lines ++ (gone_is i).lines);
       end = ap (λ (x : Content). x.end) gone_is;
       fewer = omega (arith, one, two, three, four);
       left = λ n.
