@@ -1,6 +1,7 @@
-//! Parts of functions.
+//! Parts of functions, and modules that are read from texts.
+use ir_parse::parse;
 use ir_tree::{
-    Block, Flags, Function, Line, Linkage, Param, Phi, Reg, Rows, Symbol, Terminator, Text,
+    Block, Flags, Function, Line, Linkage, Param, Parsed, Phi, Reg, Rows, Symbol, Terminator, Text,
 };
 use std::alloc::{AllocError, Global};
 
@@ -58,4 +59,12 @@ pub(crate) fn nameless(alloc: Global, params: Rows<Param>, blocks: Rows<Block>) 
         name: Text::new(alloc),
     };
     function(symbol, None, params, blocks)
+}
+
+/// The module that a text is read as; none where it is read as no module, or memory runs out.
+pub(crate) fn read(alloc: Global, text: &[u8]) -> Option<Parsed> {
+    match parse(alloc, text) {
+        Ok(parsed) => Some(parsed),
+        Err(_) => None,
+    }
 }

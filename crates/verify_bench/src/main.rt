@@ -5,13 +5,8 @@
 //! (whether its tree is one that the grammar allows), and to verify it, in microseconds. `bench/verify` prints ratios of these.
 //!
 //! Below stand functions by plan (`function_plans`) and the verifier (`ir_verify`). What is promised is that the verifier is asked of
-//! formed functions alone; the tests show each of its rules kept and broken.
+//! formed functions alone.
 #![tactic(auto)]
-
-#[cfg(test)]
-mod tests;
-#[cfg(test)]
-mod verdict;
 
 use function_plans::{Layout, Plan, Sums, is_formed, lines_of};
 use ir_verify::function_fault;
@@ -19,15 +14,6 @@ use std::alloc::Global;
 use std::rt::Env;
 use std::time::Instant;
 use std::{env, io};
-
-/// The words behind the program's own name, unless they can't be had.
-fn all_words<R: Env + AllocGlobal>(rt: &R, alloc: Global) -> Option<Vec<String>> {
-    let mut words = Vec::new(alloc);
-    for word in env::args(rt).ok()?.skip(1) {
-        words.push(word).ok()?;
-    }
-    Some(words)
-}
 
 fn layout_of(word: &str) -> Option<Layout> {
     match word {
@@ -56,6 +42,16 @@ fn plan_of(words: &[String]) -> Option<(Plan, bool)> {
     Some((plan, times))
 }
 
+/// What the words behind the program's own name ask for: a plan, and whether times are printed; none where they are none of the
+/// program's, or can't be had.
+fn requested<R: Env + AllocGlobal>(rt: &R, alloc: Global) -> Option<(Plan, bool)> {
+    let mut words = Vec::new(alloc);
+    for word in env::args(rt).ok()?.skip(1) {
+        words.push(word).ok()?;
+    }
+    plan_of(&words)
+}
+
 /// The microseconds since a moment, from the clock of the machine.
 fn micros_since(rt: &HostRuntime, start: &Instant) -> io::Result<u128> {
     Ok(start.elapsed(rt)?.as_micros())
@@ -63,12 +59,7 @@ fn micros_since(rt: &HostRuntime, start: &Instant) -> io::Result<u128> {
 
 fn main(rt: HostRuntime) -> io::Result<()> {
     let alloc = rt.alloc();
-    let words = all_words(&rt, alloc);
-    let given = match &words {
-        Some(words) => plan_of(words),
-        None => None,
-    };
-    let Some((plan, times)) = given else {
+    let Some((plan, times)) = requested(&rt, alloc) else {
         println!(rt; "usage: verify_bench chain|ladder|nest|fan BLOCKS LINES [times]")?;
         return Ok(());
     };

@@ -1,108 +1,445 @@
-//! Casts that go the right way, and cases that differ.
-use crate::parts::{block, empty, nameless};
-use function_plans::{is_formed, lines_of};
-use ir_tree::{
-    Block, Case, CastOp, Function, Instr, Line, Operand, Param, Reg, Rows, Rule, Terminator,
-};
-use ir_verify::function_fault;
-use std::alloc::{AllocError, Global};
+//! Each rule kept and broken, with the line at fault, and the order of faults.
+use crate::parts::read;
+use ir_tree::Rule;
+use ir_verify::{VerifyError, VerifyFault, module_fault, verify};
+use std::alloc::AllocError;
 
-/// The rule that a function breaks first. One that the grammar doesn't allow is answered as want of memory.
-fn broken_by(alloc: Global, function: &Function) -> Result<Option<Rule>, AllocError> {
-    if !is_formed(alloc, function)? {
-        return Err(AllocError);
-    }
-    let lines = lines_of(alloc, function, 1)?;
-    let fault = function_fault(alloc, function, &lines, 0, None)?;
-    match fault {
-        Some(fault) => Ok(Some(fault.kind)),
-        None => Ok(None),
-    }
+/// What a row shows, a module that begins with its function, and the line and the rule of the fault, where there is one.
+type Row = (&'static str, &'static [u8], Option<(u32, Rule)>);
+
+const ROWS: [Row; 40] = [
+    ("a module without global values", b"", None),
+    // Types.
+    (
+        "a sum of a number, and one of that sum",
+        b"define void @f(i32 %0) {
+  %2 = add i32 %0, 1
+  %3 = add i32 %2, 1
+  ret void
 }
-
-/// A function of these blocks, which takes one argument, `%0`, and returns nothing.
-fn function(alloc: Global, reg: Reg, blocks: Vec<Block>) -> Result<Function, AllocError> {
-    let param = Param { local: 0, reg };
-    let params = Rows::of(vec![in alloc; param]?);
-    Ok(nameless(alloc, params, Rows::of(blocks)))
+",
+        None,
+    ),
+    (
+        "a sum of a pointer",
+        b"define void @f(ptr %0) {
+  %2 = add i32 %0, 1
+  ret void
 }
-
-/// A function that casts its argument.
-fn casting(alloc: Global, op: CastOp, from: Reg, to: Reg) -> Result<Function, AllocError> {
-    let instr = Instr::Cast {
-        op,
-        from,
-        value: Operand::Local(0),
-        to,
-    };
-    let line = Line {
-        local: Some(2),
-        instr,
-    };
-    let lines = Rows::of(vec![in alloc; line]?);
-    let only = block(1, Rows::new(alloc), lines, Terminator::Return(None));
-    function(alloc, from, vec![in alloc; only]?)
+",
+        Some((2, Rule::TypeMismatch)),
+    ),
+    (
+        "a select between two types",
+        b"define void @f(i1 %0) {
+  %2 = select i1 %0, i32 1, ptr null
+  ret void
 }
-
-/// Integer types by their widths, and whether a cast from the first to the second may be written.
-const CASTS: [(CastOp, u8, u8, bool); 9] = [
-    (CastOp::Zext, 8, 32, true),
-    (CastOp::Zext, 32, 32, false),
-    (CastOp::Zext, 32, 8, false),
-    (CastOp::Sext, 1, 64, true),
-    (CastOp::Sext, 64, 64, false),
-    (CastOp::Sext, 64, 1, false),
-    (CastOp::Trunc, 32, 8, true),
-    (CastOp::Trunc, 32, 32, false),
-    (CastOp::Trunc, 8, 32, false),
+",
+        Some((2, Rule::TypeMismatch)),
+    ),
+    (
+        "a call that gives nothing, under a name",
+        b"define void @f() {
+  %1 = call void null()
+  ret void
+}
+",
+        Some((2, Rule::TypeMismatch)),
+    ),
+    // What is available.
+    (
+        "a use before its definition",
+        b"define void @f(i32 %0) {
+  %2 = add i32 %3, 1
+  %3 = add i32 %0, 1
+  ret void
+}
+",
+        Some((2, Rule::NotAvailable)),
+    ),
+    (
+        "a use of what one path alone defines",
+        b"define void @f(i32 %0, i1 %1) {
+  br i1 %1, label %3, label %5
+3:
+  %4 = add i32 %0, 1
+  br label %6
+5:
+  br label %6
+6:
+  %7 = add i32 %4, 1
+  ret void
+}
+",
+        Some((9, Rule::NotAvailable)),
+    ),
+    (
+        "a phi that takes it from that path",
+        b"define void @f(i32 %0, i1 %1) {
+  br i1 %1, label %3, label %5
+3:
+  %4 = add i32 %0, 1
+  br label %6
+5:
+  br label %6
+6:
+  %7 = phi i32 [ %4, %3 ], [ 0, %5 ]
+  ret void
+}
+",
+        None,
+    ),
+    (
+        "a phi that takes it from the other path",
+        b"define void @f(i32 %0, i1 %1) {
+  br i1 %1, label %3, label %5
+3:
+  %4 = add i32 %0, 1
+  br label %6
+5:
+  br label %6
+6:
+  %7 = phi i32 [ 0, %3 ], [ %4, %5 ]
+  ret void
+}
+",
+        Some((9, Rule::NotAvailable)),
+    ),
+    (
+        "a block that isn't reached uses what it likes",
+        b"define void @f(i32 %0) {
+  %2 = add i32 %0, 1
+  ret void
+3:
+  %4 = add i32 %4, 1
+  br label %3
+}
+",
+        None,
+    ),
+    // Phis and edges.
+    (
+        "a phi that lacks an entry",
+        b"define void @f(i32 %0, i1 %1) {
+  br i1 %1, label %3, label %5
+3:
+  %4 = add i32 %0, 1
+  br label %6
+5:
+  br label %6
+6:
+  %7 = phi i32 [ 0, %3 ]
+  ret void
+}
+",
+        Some((9, Rule::PhiEdges)),
+    ),
+    (
+        "equal entries for two edges from one block",
+        b"define void @f(i1 %0) {
+  br i1 %0, label %2, label %2
+2:
+  %3 = phi i32 [ 7, %1 ], [ 7, %1 ]
+  unreachable
+}
+",
+        None,
+    ),
+    (
+        "entries that differ for two edges from one block",
+        b"define void @f(i1 %0) {
+  br i1 %0, label %2, label %2
+2:
+  %3 = phi i32 [ 7, %1 ], [ 8, %1 ]
+  unreachable
+}
+",
+        Some((4, Rule::PhiEdges)),
+    ),
+    (
+        "a phi behind a sum",
+        b"define void @f() {
+  br label %1
+1:
+  %2 = add i32 1, 1
+  %3 = phi i32 [ 7, %0 ]
+  ret void
+}
+",
+        Some((5, Rule::PhiPlace)),
+    ),
+    (
+        "a phi in the entry, to which an edge leads",
+        b"define void @f() {
+  %1 = phi i32 [ 7, %0 ]
+  br label %0
+}
+",
+        Some((2, Rule::PhiPlace)),
+    ),
+    (
+        "an edge to the second block",
+        b"define void @f() {
+  br label %1
+1:
+  br label %1
+}
+",
+        None,
+    ),
+    (
+        "an edge to the entry",
+        b"define void @f() {
+  br label %1
+1:
+  br label %0
+}
+",
+        Some((4, Rule::EntryBranch)),
+    ),
+    // Indices.
+    (
+        "the index of a member",
+        b"define void @f(ptr %0) {
+  %2 = getelementptr inbounds <{ i8, i32 }>, ptr %0, i32 0, i32 1
+  ret void
+}
+",
+        None,
+    ),
+    (
+        "an index behind the last member",
+        b"define void @f(ptr %0) {
+  %2 = getelementptr inbounds <{ i8, i32 }>, ptr %0, i32 0, i32 2
+  ret void
+}
+",
+        Some((2, Rule::Index)),
+    ),
+    (
+        "an index of 64 bits into a structure",
+        b"define void @f(ptr %0) {
+  %2 = getelementptr inbounds <{ i8, i32 }>, ptr %0, i32 0, i64 1
+  ret void
+}
+",
+        Some((2, Rule::Index)),
+    ),
+    (
+        "an index into an array, which may be any number",
+        b"define void @f(i32 %0, ptr %1) {
+  %3 = getelementptr [4 x i32], ptr %1, i32 0, i32 %0
+  ret void
+}
+",
+        None,
+    ),
+    // Casts and comparisons.
+    (
+        "`zext i8 to i32`",
+        b"define void @f(i8 %0) {
+  %2 = zext i8 %0 to i32
+  ret void
+}
+",
+        None,
+    ),
+    (
+        "`zext i32 to i32`",
+        b"define void @f(i32 %0) {
+  %2 = zext i32 %0 to i32
+  ret void
+}
+",
+        Some((2, Rule::Cast)),
+    ),
+    (
+        "`zext i32 to i8`",
+        b"define void @f(i32 %0) {
+  %2 = zext i32 %0 to i8
+  ret void
+}
+",
+        Some((2, Rule::Cast)),
+    ),
+    (
+        "`sext i1 to i64`",
+        b"define void @f(i1 %0) {
+  %2 = sext i1 %0 to i64
+  ret void
+}
+",
+        None,
+    ),
+    (
+        "`sext i64 to i64`",
+        b"define void @f(i64 %0) {
+  %2 = sext i64 %0 to i64
+  ret void
+}
+",
+        Some((2, Rule::Cast)),
+    ),
+    (
+        "`sext i64 to i1`",
+        b"define void @f(i64 %0) {
+  %2 = sext i64 %0 to i1
+  ret void
+}
+",
+        Some((2, Rule::Cast)),
+    ),
+    (
+        "`trunc i32 to i8`",
+        b"define void @f(i32 %0) {
+  %2 = trunc i32 %0 to i8
+  ret void
+}
+",
+        None,
+    ),
+    (
+        "`trunc i32 to i32`",
+        b"define void @f(i32 %0) {
+  %2 = trunc i32 %0 to i32
+  ret void
+}
+",
+        Some((2, Rule::Cast)),
+    ),
+    (
+        "`trunc i8 to i32`",
+        b"define void @f(i8 %0) {
+  %2 = trunc i8 %0 to i32
+  ret void
+}
+",
+        Some((2, Rule::Cast)),
+    ),
+    (
+        "`zext ptr to i64`",
+        b"define void @f(ptr %0) {
+  %2 = zext ptr %0 to i64
+  ret void
+}
+",
+        Some((2, Rule::Cast)),
+    ),
+    (
+        "a pointer that is frozen",
+        b"define void @f() {
+  %1 = freeze ptr null
+  ret void
+}
+",
+        Some((2, Rule::Cast)),
+    ),
+    (
+        "pointers compared as unsigned",
+        b"define void @f(ptr %0) {
+  %2 = icmp ult ptr %0, null
+  ret void
+}
+",
+        None,
+    ),
+    (
+        "pointers compared as signed",
+        b"define void @f(ptr %0) {
+  %2 = icmp slt ptr %0, null
+  ret void
+}
+",
+        Some((2, Rule::Cast)),
+    ),
+    // Cases.
+    (
+        "three cases that differ",
+        b"define void @f(i8 %0) {
+  switch i8 %0, label %2 [ i8 0, label %2 i8 255, label %2 i8 7, label %2 ]
+2:
+  ret void
+}
+",
+        None,
+    ),
+    (
+        "the first case again as the third",
+        b"define void @f(i8 %0) {
+  switch i8 %0, label %2 [ i8 0, label %2 i8 255, label %2 i8 0, label %2 ]
+2:
+  ret void
+}
+",
+        Some((2, Rule::CaseTwice)),
+    ),
+    (
+        "two cases that differ",
+        b"define void @f(i32 %0) {
+  switch i32 %0, label %2 [ i32 1, label %2 i32 2, label %2 ]
+2:
+  unreachable
+}
+",
+        None,
+    ),
+    (
+        "one case twice",
+        b"define void @f(i32 %0) {
+  switch i32 %0, label %2 [ i32 1, label %2 i32 1, label %2 ]
+2:
+  unreachable
+}
+",
+        Some((2, Rule::CaseTwice)),
+    ),
+    // The least line, and there the least rule.
+    (
+        "two faults on two lines, the greater rule first",
+        b"define void @f(i32 %0, ptr %1) {
+  %3 = trunc i32 %0 to i32
+  %4 = add i32 %1, 1
+  ret void
+}
+",
+        Some((2, Rule::Cast)),
+    ),
+    (
+        "two faults on one line",
+        b"define void @f(i32 %0, ptr %1) {
+  %3 = trunc i32 %0 to i32 %4 = add i32 %1, 1
+  ret void
+}
+",
+        Some((2, Rule::TypeMismatch)),
+    ),
 ];
 
 #[test]
-fn casts_go_the_right_way(rt: HostRuntime) {
-    let alloc = rt.alloc();
-    for (op, from, to, right) in CASTS {
-        let cast = casting(alloc, op, Reg::Int(from), Reg::Int(to)).expect(&rt, "memory");
-        let want = if right { None } else { Some(Rule::Cast) };
-        assert!(rt; broken_by(alloc, &cast).expect(&rt, "a formed function") == want);
+fn rules_are_kept_and_broken(rt: HostRuntime) -> Result<(), AllocError> {
+    for (name, text, broken) in ROWS {
+        let parsed = read(rt.alloc(), text).expect(&rt, name);
+        let wanted = match broken {
+            Some((line, kind)) => Some(VerifyFault {
+                function: Some(0),
+                line,
+                kind,
+            }),
+            None => None,
+        };
+        let least = module_fault(rt.alloc(), &parsed)?;
+        assert!(rt; least == wanted, "{name}");
+        let count = parsed.module().globals.len();
+        let told = match verify(rt.alloc(), parsed) {
+            Ok(verified) => {
+                assert!(rt; verified.module().globals.len() == count, "{name}");
+                None
+            }
+            Err(VerifyError::Fault(fault)) => Some(fault),
+            Err(VerifyError::NoMemory) => return Err(AllocError),
+        };
+        assert!(rt; told == wanted, "{name}");
     }
-    let pointer = casting(alloc, CastOp::Zext, Reg::Ptr, Reg::Int(64)).expect(&rt, "memory");
-    let broken = broken_by(alloc, &pointer).expect(&rt, "a formed function");
-    assert!(rt; broken == Some(Rule::Cast));
-}
-
-/// The cases of an `i8`, all of which lead to `%2`.
-fn cases(alloc: Global, values: &[u64]) -> Result<Rows<Case>, AllocError> {
-    let mut cases = Rows::new(alloc);
-    for bits in values {
-        cases.push(Case {
-            reg: Reg::Int(8),
-            width: 8,
-            bits: *bits,
-            target: 2,
-        })?;
-    }
-    Ok(cases)
-}
-
-/// A function that switches by its argument to cases of these values.
-fn switching(alloc: Global, values: &[u64]) -> Result<Function, AllocError> {
-    let end = Terminator::Switch {
-        width: 8,
-        value: Operand::Local(0),
-        default: 2,
-        cases: cases(alloc, values)?,
-    };
-    let first = empty(alloc, 1, end);
-    let second = empty(alloc, 2, Terminator::Return(None));
-    function(alloc, Reg::Int(8), vec![in alloc; first, second]?)
-}
-
-#[test]
-fn two_cases_of_one_value_are_found(rt: HostRuntime) {
-    let alloc = rt.alloc();
-    let apart = switching(alloc, &[0, 255, 7]).expect(&rt, "memory");
-    assert!(rt; broken_by(alloc, &apart).expect(&rt, "a formed function") == None);
-    let again = switching(alloc, &[0, 255, 0]).expect(&rt, "memory");
-    let broken = broken_by(alloc, &again).expect(&rt, "a formed function");
-    assert!(rt; broken == Some(Rule::CaseTwice));
+    Ok(())
 }
