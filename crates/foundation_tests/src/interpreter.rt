@@ -1,6 +1,5 @@
 //! The interpreter's memory, addresses, registers, calls and lines.
 mod calls;
 mod frames;
-mod lines;
 mod memory;
 mod walks;

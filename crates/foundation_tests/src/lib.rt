@@ -3,8 +3,10 @@
 //! the verifier (`ir_verify`), functions to a plan (`function_plans`), the interpreter's memory, addresses, registers, calls and
 //! lines (`ir_machine`, `ir_address`, `ir_frames`, `ir_calls`, `ir_lines`), and the words of the command line (`lto_words`).
 //!
-//! What the clauses of these crates say is not tried again here. The tests stand above the crates, so that their own
-//! proofs are not done twice, and in one crate, so that their statements are loaded once.
+//! What the clauses of these crates say is not tried again here. Like cases are rows of one table, which one test reads. Modules
+//! come from texts (`ir_parse`): what is printed is read and printed again, and data flow and the verifier are asked of what is
+//! read. The tests stand above the crates, so that their own proofs are not done twice, and in one crate, so that their statements
+//! are loaded once.
 #![tactic(auto)]
 
 #[cfg(test)]

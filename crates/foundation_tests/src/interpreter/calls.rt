@@ -7,25 +7,7 @@ use ir_tree::Reg;
 use std::alloc::AllocError;
 
 #[test]
-fn a_branch_goes_by_its_condition(rt: HostRuntime) -> Result<(), AllocError> {
-    let registers = Registers::new(rt.alloc(), 1)?;
-    let exit = Exit::Branch {
-        condition: Source::Known(Scalar::Number(1)),
-        if_true: 4,
-        if_false: 5,
-    };
-    assert!(rt; matches!(leave(&registers, &exit), Left::To(4)));
-    let unset = Exit::Branch {
-        condition: Source::Register(0),
-        if_true: 4,
-        if_false: 5,
-    };
-    assert!(rt; matches!(leave(&registers, &unset), Left::Undefined(_)));
-    Ok(())
-}
-
-#[test]
-fn a_call_is_resolved_by_its_type(rt: HostRuntime) -> Result<(), AllocError> {
+fn a_frame_is_left_by_a_call_or_a_branch(rt: HostRuntime) -> Result<(), AllocError> {
     let registers = Registers::new(rt.alloc(), 1)?;
     let mut entities = Vec::new(rt.alloc());
     entities.push(Entity::Host(Host::PutChar))?;
@@ -40,13 +22,21 @@ fn a_call_is_resolved_by_its_type(rt: HostRuntime) -> Result<(), AllocError> {
     })?;
     let asked = resolve(&entities, &registers, Some(Reg::Int(32)), callee, &given);
     assert!(rt; matches!(asked, Resolved::Host(Host::PutChar)));
-    assert!(rt;
-        matches!(
-            resolve(&entities, &registers, None, callee, &given),
-            Resolved::Undefined(_)
-        )
-    );
+    let mistyped = resolve(&entities, &registers, None, callee, &given);
+    assert!(rt; matches!(mistyped, Resolved::Undefined(_)));
     let values = arguments(rt.alloc(), &registers, &given)?;
     assert!(rt; put_char(&values) == Some(65));
+    let branch = Exit::Branch {
+        condition: Source::Known(Scalar::Number(1)),
+        if_true: 4,
+        if_false: 5,
+    };
+    assert!(rt; matches!(leave(&registers, &branch), Left::To(4)));
+    let unset = Exit::Branch {
+        condition: Source::Register(0),
+        if_true: 4,
+        if_false: 5,
+    };
+    assert!(rt; matches!(leave(&registers, &unset), Left::Undefined(_)));
     Ok(())
 }

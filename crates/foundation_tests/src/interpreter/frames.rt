@@ -1,38 +1,11 @@
-//! What no clause says: that memory is found. And a few tasks, worked out by hand.
+//! What no clause says: that memory is found. And a line and a few tasks, worked out by hand.
 
 use crate::parts::UNMARKED;
-use ir_frames::{Compute, Edge, Phi, Registers, Source, Typed};
-use ir_machine::{Base, Memory, Outcome, Pointer, Scalar};
+use ir_frames::{Compute, Edge, Phi, Ran, Registers, Source, Task, Typed};
+use ir_lines::{Line, Reached, run_line};
+use ir_machine::{Memory, Outcome, Scalar};
 use ir_tree::{BinaryOp, Reg, Shape};
-use std::alloc::{AllocError, Global};
-
-fn number(value: Scalar) -> Option<u64> {
-    match value {
-        Scalar::Number(number) => Some(number),
-        _ => None,
-    }
-}
-
-fn given(outcome: Outcome) -> Option<u64> {
-    match outcome {
-        Outcome::Value(value) => number(value),
-        _ => None,
-    }
-}
-
-/// Two phis that take each other's value.
-fn swapped(alloc: Global) -> Result<Vec<Phi>, AllocError> {
-    let mut phis = Vec::new(alloc);
-    for local in 0..2u32 {
-        let mut edges = Vec::new(alloc);
-        edges.push(Edge {
-            from: 7,
-            source: Source::Register(1 - local),
-        })?;
-        phis.push(Phi { local, edges })?;
-    }
-    Ok(phis)
-}
+use std::alloc::AllocError;
 
 #[test]
 fn phis_take_their_values_at_once(rt: HostRuntime) -> Result<(), AllocError> {
@@ -40,12 +13,22 @@ fn phis_take_their_values_at_once(rt: HostRuntime) -> Result<(), AllocError> {
     registers.reserve(1)?;
     registers.write(0, Scalar::Number(3));
     registers.write(1, Scalar::Number(4));
-    let phis = swapped(rt.alloc())?;
+    // Two phis that take each other's value.
+    let mut phis = Vec::new(rt.alloc());
+    for local in 0..2u32 {
+        let mut edges = Vec::new(rt.alloc());
+        edges.push(Edge {
+            from: 7,
+            source: Source::Register(1 - local),
+        })?;
+        phis.push(Phi { local, edges })?;
+    }
     let mut values = Vec::new(rt.alloc());
     registers.enter(7, &phis, &mut values)?;
-    assert!(rt; number(registers.read(0)) == Some(4) && number(registers.read(1)) == Some(3));
+    assert!(rt; matches!(registers.read(0), Scalar::Number(4)));
+    assert!(rt; matches!(registers.read(1), Scalar::Number(3)));
     registers.enter(6, &phis, &mut values)?;
-    assert!(rt; number(registers.read(0)) == None);
+    assert!(rt; matches!(registers.read(0), Scalar::Poison));
     Ok(())
 }
 
@@ -56,15 +39,13 @@ fn tasks_read_registers(rt: HostRuntime) -> Result<(), AllocError> {
         blocks: Vec::new(rt.alloc()),
         made: 0,
     };
-    let block = memory.reserve(rt.alloc(), 16, 8)?;
-    registers.reserve(0)?;
-    registers.write(
-        0,
-        Scalar::Pointer(Pointer {
-            base: Base::Block(block),
-            offset: 0,
-        }),
-    );
+    let line = Line {
+        local: Some(0),
+        task: Task::Reserve { size: 16, align: 8 },
+    };
+    let reached = run_line(rt.alloc(), &mut registers, &mut memory, &line, 0)?;
+    assert!(rt; matches!(reached, Reached::Ran(Ran::Went { reserved: true })));
+    assert!(rt; memory.blocks.len() == 1);
     let mut indices = Vec::new(rt.alloc());
     indices.push(Typed {
         reg: Reg::Int(64),
@@ -77,19 +58,16 @@ fn tasks_read_registers(rt: HostRuntime) -> Result<(), AllocError> {
         base: Source::Register(0),
         indices,
     };
-    assert!(rt;
-        matches!(
-            registers.perform(&memory, &address, 0),
-            Outcome::Value(Scalar::Pointer(_))
-        )
-    );
-    let sum = Compute::Binary {
+    let third = registers.perform(&memory, &address, 0);
+    assert!(rt; matches!(third, Outcome::Value(Scalar::Pointer(_))));
+    let added = Compute::Binary {
         op: BinaryOp::Add,
         flags: UNMARKED,
         width: 8,
         left: Source::Known(Scalar::Number(200)),
         right: Source::Known(Scalar::Number(100)),
     };
-    assert!(rt; given(registers.perform(&memory, &sum, 0)) == Some(44));
+    let sum = registers.perform(&memory, &added, 0);
+    assert!(rt; matches!(sum, Outcome::Value(Scalar::Number(44))));
     Ok(())
 }

@@ -6,21 +6,12 @@ use ir_machine::{
     compare_integers, freeze, select,
 };
 use ir_tree::{BinaryOp, CastOp, Predicate, Reg};
-use std::alloc::{AllocError, Global};
-
-/// The number of an outcome, where it is one.
-fn number(outcome: Outcome) -> Option<u64> {
-    match outcome {
-        Outcome::Value(Scalar::Number(number)) => Some(number),
-        _ => None,
-    }
-}
 
 #[test]
 fn operations_go_over_scalars(rt: HostRuntime) {
     let seven = Scalar::Number(7);
     let sum = binary(BinaryOp::Add, UNMARKED, 8, seven, Scalar::Number(250));
-    assert!(rt; number(sum) == Some(1));
+    assert!(rt; matches!(sum, Outcome::Value(Scalar::Number(1))));
     let quotient = binary(BinaryOp::Udiv, UNMARKED, 8, seven, Scalar::Number(0));
     assert!(rt; matches!(quotient, Outcome::Undefined(_)));
     let less = compare_integers(Predicate::Slt, 8, Scalar::Number(255), seven);
@@ -36,16 +27,6 @@ fn operations_go_over_scalars(rt: HostRuntime) {
     assert!(rt; bits(2, seven) == None);
 }
 
-/// Sixteen bytes of a stack block.
-fn block(alloc: Global) -> Result<(Memory, Handle), AllocError> {
-    let mut memory = Memory {
-        blocks: Vec::new(alloc),
-        made: 0,
-    };
-    let handle = memory.reserve(alloc, 16, 8)?;
-    Ok((memory, handle))
-}
-
 fn address(handle: Handle, offset: u64) -> Scalar {
     Scalar::Pointer(Pointer {
         base: Base::Block(handle),
@@ -54,55 +35,41 @@ fn address(handle: Handle, offset: u64) -> Scalar {
 }
 
 #[test]
-fn numbers_are_little_endian(rt: HostRuntime) {
-    let (mut memory, handle) = block(rt.alloc()).expect(&rt, "memory");
-    let at = address(handle, 4);
+fn memory_gives_what_it_was_given(rt: HostRuntime) {
+    let mut memory = Memory {
+        blocks: Vec::new(rt.alloc()),
+        made: 0,
+    };
+    let handle = memory.reserve(rt.alloc(), 16, 8).expect(&rt, "memory");
+    // Numbers are little endian.
+    let number = Scalar::Number(0x0102_0304);
     let stored = memory
-        .store(Reg::Int(32), Scalar::Number(0x0102_0304), at, 4)
+        .store(Reg::Int(32), number, address(handle, 4), 4)
         .expect(&rt, "memory");
     assert!(rt; matches!(stored, Stored::Done));
-    assert!(rt; number(memory.load(Reg::Int(16), address(handle, 6), 2)) == Some(0x0102));
-    assert!(rt;
-        matches!(
-            memory.load(Reg::Int(64), address(handle, 0), 8),
-            Outcome::Uninit
-        )
-    );
-    assert!(rt;
-        matches!(
-            memory.load(Reg::Int(32), address(handle, 2), 4),
-            Outcome::Undefined(_)
-        )
-    );
-    assert!(rt;
-        matches!(
-            memory.load(Reg::Int(32), address(handle, 16), 4),
-            Outcome::Undefined(_)
-        )
-    );
-}
-
-#[test]
-fn pointers_are_read_whole(rt: HostRuntime) {
-    let (mut memory, handle) = block(rt.alloc()).expect(&rt, "memory");
+    let upper = memory.load(Reg::Int(16), address(handle, 6), 2);
+    assert!(rt; matches!(upper, Outcome::Value(Scalar::Number(258))));
+    let unset = memory.load(Reg::Int(64), address(handle, 0), 8);
+    assert!(rt; matches!(unset, Outcome::Uninit));
+    let askew = memory.load(Reg::Int(32), address(handle, 2), 4);
+    assert!(rt; matches!(askew, Outcome::Undefined(_)));
+    let outside = memory.load(Reg::Int(32), address(handle, 16), 4);
+    assert!(rt; matches!(outside, Outcome::Undefined(_)));
+    // Pointers are read whole.
     let at = address(handle, 8);
     let stored = memory
         .store(Reg::Ptr, address(handle, 3), at, 8)
         .expect(&rt, "memory");
     assert!(rt; matches!(stored, Stored::Done));
-    let read = memory.load(Reg::Ptr, at, 8);
+    let whole = memory.load(Reg::Ptr, at, 8);
     assert!(rt;
         matches!(
-            read,
+            whole,
             Outcome::Value(Scalar::Pointer(Pointer { offset: 3, .. }))
         )
     );
-    assert!(rt;
-        matches!(
-            memory.load(Reg::Int(8), at, 1),
-            Outcome::Value(Scalar::Poison)
-        )
-    );
+    let part = memory.load(Reg::Int(8), at, 1);
+    assert!(rt; matches!(part, Outcome::Value(Scalar::Poison)));
     assert!(rt; memory.is_at(handle, 16) && !memory.is_inside(handle, 16));
     let same = memory.compare_pointers(Predicate::Eq, at, address(handle, 8), 1);
     assert!(rt; matches!(same, Scalar::Number(1)));
@@ -116,6 +83,7 @@ fn bytes_begin_unset_or_zero(rt: HostRuntime) {
     let zeros = Bytes::zeros(rt.alloc(), 8).expect(&rt, "memory");
     assert!(rt; unset.len() == 8 && zeros.len() == 8);
     assert!(rt; matches!(unset.load(Reg::Int(8), 0), Outcome::Uninit));
-    assert!(rt; number(zeros.load(Reg::Int(64), 0)) == Some(0));
+    let zero = zeros.load(Reg::Int(64), 0);
+    assert!(rt; matches!(zero, Outcome::Value(Scalar::Number(0))));
     assert!(rt; matches!(zeros.load(Reg::Ptr, 0), Outcome::Value(Scalar::Pointer(_))));
 }

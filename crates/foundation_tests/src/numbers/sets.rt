@@ -1,9 +1,9 @@
-//! Sets: calls that allocate, and one set of examples.
+//! Sets: calls that allocate, at sizes round those of words, and what becomes of two sets of seventy numbers.
 use lto_sets::Bits;
 use std::alloc::AllocError;
 
 #[test]
-fn rows_of_any_size_are_made(rt: HostRuntime) -> Result<(), AllocError> {
+fn sets_are_made_and_combined(rt: HostRuntime) -> Result<(), AllocError> {
     for size in [0, 1, 63, 64, 65, 1000] {
         let empty = Bits::new(rt.alloc(), size)?;
         let full = Bits::full(rt.alloc(), size)?;
@@ -11,11 +11,6 @@ fn rows_of_any_size_are_made(rt: HostRuntime) -> Result<(), AllocError> {
         assert_eq!(rt; full.size(), size);
         assert_eq!(rt; empty.equal(&full), size == 0, "at {size}");
     }
-    Ok(())
-}
-
-#[test]
-fn sets_of_seventy_numbers(rt: HostRuntime) -> Result<(), AllocError> {
     let mut left = Bits::new(rt.alloc(), 70)?;
     let mut right = Bits::full(rt.alloc(), 70)?;
     left.with(3);

@@ -10,7 +10,8 @@ const OVERFLOW: Answer = Answer::Undefined(Cause::DivisionOverflow);
 // An operation, a width, two operands, and what they give without flags and with all of them.
 type Row = (BinaryOp, u8, u64, u64, Answer, Answer);
 
-static ARITHMETIC: [Row; 17] = [
+static OPERATIONS: [Row; 70] = [
+    // Arithmetic.
     (BinaryOp::Add, 1, 1, 1, Answer::Value(0), POISON),
     (BinaryOp::Add, 7, 127, 1, Answer::Value(0), POISON),
     (
@@ -98,9 +99,7 @@ static ARITHMETIC: [Row; 17] = [
         Answer::Value(0xfffffffffffffffa),
         POISON,
     ),
-];
-
-static DIVISIONS: [Row; 23] = [
+    // Divisions.
     (BinaryOp::Udiv, 1, 1, 1, Answer::Value(1), Answer::Value(1)),
     (BinaryOp::Udiv, 7, 12, 4, Answer::Value(3), Answer::Value(3)),
     (BinaryOp::Udiv, 8, 5, 0, BY_ZERO, BY_ZERO),
@@ -201,9 +200,7 @@ static DIVISIONS: [Row; 23] = [
         Answer::Value(0xffffffffffffffff),
         Answer::Value(0xffffffffffffffff),
     ),
-];
-
-static SHIFTS: [Row; 15] = [
+    // Shifts.
     (BinaryOp::Shl, 1, 1, 0, Answer::Value(1), Answer::Value(1)),
     (BinaryOp::Shl, 7, 4, 2, Answer::Value(16), Answer::Value(16)),
     (BinaryOp::Shl, 8, 144, 4, Answer::Value(0), POISON),
@@ -254,9 +251,7 @@ static SHIFTS: [Row; 15] = [
         Answer::Value(7),
         Answer::Value(7),
     ),
-];
-
-static BITWISE: [Row; 15] = [
+    // Bitwise operations.
     (BinaryOp::And, 1, 1, 1, Answer::Value(1), Answer::Value(1)),
     (BinaryOp::And, 7, 0, 54, Answer::Value(0), Answer::Value(0)),
     (
@@ -575,50 +570,8 @@ const ALL: Flags = Flags {
 };
 
 #[test]
-fn arithmetic_agrees_with_outside_vectors(rt: HostRuntime) {
-    for &(op, w, a, b, plain, flagged) in &ARITHMETIC {
-        assert!(rt; w >= 1 && w <= 64, "{w}");
-        let (a, b) = (narrow(w, a), narrow(w, b));
-        assert_eq!(rt; binary(op, NONE, w, a, b), plain, "{op:?} i{w} {a}, {b}");
-        assert_eq!(rt;
-            binary(op, ALL, w, a, b),
-            flagged,
-            "{op:?} i{w} {a}, {b} with flags"
-        );
-    }
-}
-
-#[test]
-fn divisions_agree_with_outside_vectors(rt: HostRuntime) {
-    for &(op, w, a, b, plain, flagged) in &DIVISIONS {
-        assert!(rt; w >= 1 && w <= 64, "{w}");
-        let (a, b) = (narrow(w, a), narrow(w, b));
-        assert_eq!(rt; binary(op, NONE, w, a, b), plain, "{op:?} i{w} {a}, {b}");
-        assert_eq!(rt;
-            binary(op, ALL, w, a, b),
-            flagged,
-            "{op:?} i{w} {a}, {b} with flags"
-        );
-    }
-}
-
-#[test]
-fn shifts_agree_with_outside_vectors(rt: HostRuntime) {
-    for &(op, w, a, b, plain, flagged) in &SHIFTS {
-        assert!(rt; w >= 1 && w <= 64, "{w}");
-        let (a, b) = (narrow(w, a), narrow(w, b));
-        assert_eq!(rt; binary(op, NONE, w, a, b), plain, "{op:?} i{w} {a}, {b}");
-        assert_eq!(rt;
-            binary(op, ALL, w, a, b),
-            flagged,
-            "{op:?} i{w} {a}, {b} with flags"
-        );
-    }
-}
-
-#[test]
-fn bitwise_operations_agree_with_outside_vectors(rt: HostRuntime) {
-    for &(op, w, a, b, plain, flagged) in &BITWISE {
+fn operations_agree_with_outside_vectors(rt: HostRuntime) {
+    for &(op, w, a, b, plain, flagged) in &OPERATIONS {
         assert!(rt; w >= 1 && w <= 64, "{w}");
         let (a, b) = (narrow(w, a), narrow(w, b));
         assert_eq!(rt; binary(op, NONE, w, a, b), plain, "{op:?} i{w} {a}, {b}");

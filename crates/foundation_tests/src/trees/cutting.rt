@@ -4,135 +4,187 @@ use std::alloc::{AllocError, Global};
 use std::fmt::Write;
 use std::string::String;
 
-/// The tokens in one line, each with its kind, its line and whether it ends that, and then the
-/// end, or the bad token.
-fn shown(alloc: Global, text: &str) -> Result<String, AllocError> {
+/// The tokens in one line: each with its kind, its line and whether it ends that, and then the end, or the bad token; or the class
+/// of each alone.
+fn shown(alloc: Global, text: &str, by_class: bool) -> Result<String, AllocError> {
     let lexed = lex(alloc, text.as_bytes())?;
     let mut out = String::new(alloc);
     for token in &lexed.tokens {
-        let slice = str::from_utf8(token.text).unwrap_or("?");
-        let end = if token.ends_line { "/" } else { "" };
-        let _written = write!(out, "{:?} {} {}{}, ", token.kind, slice, token.line, end);
+        if by_class {
+            let _written = write!(out, "{:?} ", token.head);
+        } else {
+            let slice = str::from_utf8(token.text).unwrap_or("?");
+            let end = if token.ends_line { "/" } else { "" };
+            let _written = write!(out, "{:?} {} {}{}, ", token.kind, slice, token.line, end);
+        }
     }
-    let end = if lexed.whole { "end" } else { "bad" };
-    let _written = write!(out, "{} {}", end, lexed.line);
+    if !by_class {
+        let end = if lexed.whole { "end" } else { "bad" };
+        let _written = write!(out, "{} {}", end, lexed.line);
+    }
     Ok(out)
 }
 
+/// Texts, and their tokens.
+const CUT: [(&str, &str); 37] = [
+    ("", "end 1"),
+    (" \t\r\n\n", "end 3"),
+    ("; a comment", "end 1"),
+    ("; a %b \"\n; c\n", "end 3"),
+    ("a\n;b\nc", "Word a 1/, Word c 3/, end 3"),
+    // Names, numbers and words.
+    (
+        "define i32 @main() {\n  ret i32 -7\n}",
+        "Word define 1, Word i32 1, Global @main 1, Other ( 1, Other ) 1, Other { 1/, Word ret 2, Word i32 2, Number -7 2/, Other } 3/, end 3",
+    ),
+    (
+        "%x %12 %-a.$_9 %\"a b\" @7x",
+        "Local %x 1, Local %12 1, Local %-a.$_9 1, Local %\"a b\" 1, Global @7 1, Word x 1/, end 1",
+    ),
+    (
+        "@\"\" $f $\"g\" $",
+        "Global @\"\" 1, Comdat $f 1, Comdat $\"g\" 1, Other $ 1/, end 1",
+    ),
+    (
+        "12ab -5-6 - 5 0x1F 5.0",
+        "Number 12 1, Word ab 1, Number -5 1, Number -6 1, Other - 1, Number 5 1, Number 0 1, Word x1F 1, Number 5 1, Other . 1, Number 0 1/, end 1",
+    ),
+    (
+        "a.b_c9 _x a-b a$b",
+        "Word a.b_c9 1, Word _x 1, Word a 1, Other - 1, Word b 1, Word a 1, Comdat $b 1/, end 1",
+    ),
+    (
+        "%007 %99999999999 i032",
+        "Local %007 1, Local %99999999999 1, Word i032 1/, end 1",
+    ),
+    // Labels.
+    (
+        "entry: 7: -1: $.x: 01:",
+        "Label entry: 1, Label 7: 1, Label -1: 1, Label $.x: 1, Label 01: 1/, end 1",
+    ),
+    (
+        "\"a b\": \"abc\" : a :",
+        "Label \"a b\": 1, Str \"abc\" 1, Other : 1, Word a 1, Other : 1/, end 1",
+    ),
+    (
+        "c\"x\": %a: a:b:",
+        "CStr c\"x\" 1, Other : 1, Local %a 1, Other : 1, Label a: 1, Label b: 1/, end 1",
+    ),
+    // Metadata, attribute groups, dots and other bytes.
+    (
+        "!dbg !3 ! !{!\"s\"} !a\\5Cb",
+        "Meta !dbg 1, Meta !3 1, Meta ! 1, Meta ! 1, Other { 1, Meta ! 1, Str \"s\" 1, Other } 1, Meta !a\\5Cb 1/, end 1",
+    ),
+    (
+        "#0 #x # ... .. ....",
+        "Group #0 1, Other # 1, Word x 1, Other # 1, Dots ... 1, Other . 1, Other . 1, Dots ... 1, Other . 1/, end 1",
+    ),
+    (
+        "...: .a: x=<~>",
+        "Label ...: 1, Label .a: 1, Word x 1, Other = 1, Other < 1, Other ~ 1, Other > 1/, end 1",
+    ),
+    // Strings: the next quote ends one, whatever stands before it.
+    (
+        "c\"a\\00\" c \"a\\\" c",
+        "CStr c\"a\\00\" 1, Word c 1, Str \"a\\\" 1, Word c 1/, end 1",
+    ),
+    ("xc\"a\"", "Word xc 1, Str \"a\" 1/, end 1"),
+    (
+        "\"a\nb\" c\n\"\n\": d",
+        "Str \"a\nb\" 1, Word c 2/, Label \"\n\": 3, Word d 4/, end 4",
+    ),
+    ("a;b\"\n\"c;\nd\";", "Word a 1/, Str \"c;\nd\" 2/, end 3"),
+    // No token stands at an open string, also behind its sigil, nor at some bytes.
+    ("a\n\"b", "Word a 1/, bad 2"),
+    ("a @\"b\nc", "Word a 1, bad 1"),
+    ("%\"", "bad 1"),
+    ("$\"x", "bad 1"),
+    ("\n\nc\"x", "bad 3"),
+    ("ac\"x", "Word ac 1, bad 1"),
+    ("!\"x", "Meta ! 1, bad 1"),
+    ("a \u{7F} b", "Word a 1, bad 1"),
+    ("a\n\u{1} b", "Word a 1/, bad 2"),
+    ("a é", "Word a 1, bad 1"),
+    ("\"é\" ; é\n", "Str \"é\" 1/, end 2"),
+    // A name that holds a zero byte is no token, and a string may hold one.
+    ("a @\"b\\00c\"", "Word a 1, bad 1"),
+    ("%\"b\0\" c", "bad 1"),
+    ("$\"\\00\"", "bad 1"),
+    ("x\n\"a\n\\00\": c", "Word x 1/, bad 2"),
+    (
+        "\"a\\00\" c\"\0\" @\"b\\\\00\" @\"\\0\"",
+        "Str \"a\\00\" 1, CStr c\"\0\" 1, Global @\"b\\\\00\" 1, Global @\"\\0\" 1/, end 1",
+    ),
+];
+
+/// Texts, and the classes of their tokens.
+const CLASSES: [(&str, &str); 8] = [
+    (
+        "i0 i1 i7 i8 i32 i64 i65 i128 i032 i00 i i8x",
+        "RefusedInteger RegisterInteger RegisterInteger MemoryInteger MemoryInteger MemoryInteger RefusedInteger RefusedInteger Word Word Word Word ",
+    ),
+    (
+        "@f @5 @\"5\" @llvm @llvmx @llvm.x",
+        "Global NumberedGlobal Global ReservedGlobal Global ReservedGlobal ",
+    ),
+    (
+        "@llvm.lifetime.start.p0 @\"llvm.lifetime.end.p0\" @\"\\6clvm\" @\"llvm\\2Ey\" @\"llv\"",
+        "LifetimeMarker LifetimeMarker ReservedGlobal ReservedGlobal Global ",
+    ),
+    (
+        "@5 = internal @5=;c\nprivate @5 = global @5 = internal: @6",
+        "NumberedDefinition Equals Internal NumberedDefinition Equals Private NumberedGlobal Equals GlobalVariable NumberedGlobal Equals Label NumberedGlobal ",
+    ),
+    (
+        "#0 #dbg_value # x ... ^",
+        "Group RefusedMark Word Mark Times RefusedMark RefusedMark ",
+    ),
+    (
+        "! !0 !dbg $f comdat e:",
+        "Bang Meta Meta ComdatName Comdat Label ",
+    ),
+    (
+        "x label %x 7 \"s\" c\"s\" ( ) [ ] { } < > , =",
+        "Times LabelType Local Number Str CStr OpenParen CloseParen OpenBracket CloseBracket OpenBrace CloseBrace OpenAngle CloseAngle Comma Equals ",
+    ),
+    (
+        "undef null_pointer_is_valid token alwaysinline dereferenceable_or_null",
+        "RefusedWord RefusedAttribute RefusedType Word ParameterGroup ",
+    ),
+];
+
 #[test]
-fn cuts_texts(rt: HostRuntime) -> Result<(), AllocError> {
-    for (text, want) in [
-        ("", "end 1"),
-        (" \t\r\n\n", "end 3"),
-        ("; a comment", "end 1"),
-        ("; a %b \"\n; c\n", "end 3"),
-        ("a\n;b\nc", "Word a 1/, Word c 3/, end 3"),
-        // Names, numbers and words.
-        (
-            "define i32 @main() {\n  ret i32 -7\n}",
-            "Word define 1, Word i32 1, Global @main 1, Other ( 1, Other ) 1, Other { 1/, Word ret 2, Word i32 2, Number -7 2/, Other } 3/, end 3",
-        ),
-        (
-            "%x %12 %-a.$_9 %\"a b\" @7x",
-            "Local %x 1, Local %12 1, Local %-a.$_9 1, Local %\"a b\" 1, Global @7 1, Word x 1/, end 1",
-        ),
-        (
-            "@\"\" $f $\"g\" $",
-            "Global @\"\" 1, Comdat $f 1, Comdat $\"g\" 1, Other $ 1/, end 1",
-        ),
-        (
-            "12ab -5-6 - 5 0x1F 5.0",
-            "Number 12 1, Word ab 1, Number -5 1, Number -6 1, Other - 1, Number 5 1, Number 0 1, Word x1F 1, Number 5 1, Other . 1, Number 0 1/, end 1",
-        ),
-        (
-            "a.b_c9 _x a-b a$b",
-            "Word a.b_c9 1, Word _x 1, Word a 1, Other - 1, Word b 1, Word a 1, Comdat $b 1/, end 1",
-        ),
-        (
-            "%007 %99999999999 i032",
-            "Local %007 1, Local %99999999999 1, Word i032 1/, end 1",
-        ),
-        // Labels.
-        (
-            "entry: 7: -1: $.x: 01:",
-            "Label entry: 1, Label 7: 1, Label -1: 1, Label $.x: 1, Label 01: 1/, end 1",
-        ),
-        (
-            "\"a b\": \"abc\" : a :",
-            "Label \"a b\": 1, Str \"abc\" 1, Other : 1, Word a 1, Other : 1/, end 1",
-        ),
-        (
-            "c\"x\": %a: a:b:",
-            "CStr c\"x\" 1, Other : 1, Local %a 1, Other : 1, Label a: 1, Label b: 1/, end 1",
-        ),
-        // Metadata, attribute groups, dots and other bytes.
-        (
-            "!dbg !3 ! !{!\"s\"} !a\\5Cb",
-            "Meta !dbg 1, Meta !3 1, Meta ! 1, Meta ! 1, Other { 1, Meta ! 1, Str \"s\" 1, Other } 1, Meta !a\\5Cb 1/, end 1",
-        ),
-        (
-            "#0 #x # ... .. ....",
-            "Group #0 1, Other # 1, Word x 1, Other # 1, Dots ... 1, Other . 1, Other . 1, Dots ... 1, Other . 1/, end 1",
-        ),
-        (
-            "...: .a: x=<~>",
-            "Label ...: 1, Label .a: 1, Word x 1, Other = 1, Other < 1, Other ~ 1, Other > 1/, end 1",
-        ),
-        // Strings: the next quote ends one, whatever stands before it.
-        (
-            "c\"a\\00\" c \"a\\\" c",
-            "CStr c\"a\\00\" 1, Word c 1, Str \"a\\\" 1, Word c 1/, end 1",
-        ),
-        ("xc\"a\"", "Word xc 1, Str \"a\" 1/, end 1"),
-        (
-            "\"a\nb\" c\n\"\n\": d",
-            "Str \"a\nb\" 1, Word c 2/, Label \"\n\": 3, Word d 4/, end 4",
-        ),
-        ("a;b\"\n\"c;\nd\";", "Word a 1/, Str \"c;\nd\" 2/, end 3"),
-        // No token stands at an open string, also behind its sigil, nor at some bytes.
-        ("a\n\"b", "Word a 1/, bad 2"),
-        ("a @\"b\nc", "Word a 1, bad 1"),
-        ("%\"", "bad 1"),
-        ("$\"x", "bad 1"),
-        ("\n\nc\"x", "bad 3"),
-        ("ac\"x", "Word ac 1, bad 1"),
-        ("!\"x", "Meta ! 1, bad 1"),
-        ("a \u{7F} b", "Word a 1, bad 1"),
-        ("a\n\u{1} b", "Word a 1/, bad 2"),
-        ("a é", "Word a 1, bad 1"),
-        ("\"é\" ; é\n", "Str \"é\" 1/, end 2"),
-        // A name that holds a zero byte is no token, and a string may hold one.
-        ("a @\"b\\00c\"", "Word a 1, bad 1"),
-        ("%\"b\0\" c", "bad 1"),
-        ("$\"\\00\"", "bad 1"),
-        ("x\n\"a\n\\00\": c", "Word x 1/, bad 2"),
-        (
-            "\"a\\00\" c\"\0\" @\"b\\\\00\" @\"\\0\"",
-            "Str \"a\\00\" 1, CStr c\"\0\" 1, Global @\"b\\\\00\" 1, Global @\"\\0\" 1/, end 1",
-        ),
-    ] {
-        let got = shown(rt.alloc(), text)?;
+fn texts_are_cut(rt: HostRuntime) -> Result<(), AllocError> {
+    for (text, want) in CUT {
+        let got = shown(rt.alloc(), text, false)?;
+        assert_eq!(rt; got.as_str(), want);
+    }
+    for (text, want) in CLASSES {
+        let got = shown(rt.alloc(), text, true)?;
         assert_eq!(rt; got.as_str(), want);
     }
     Ok(())
 }
 
+/// Texts of one token, and the bytes that it stands for.
+const CONTENTS: [(&str, &str); 12] = [
+    ("%x", "x"),
+    ("@\"a b\"", "a b"),
+    ("@\"\\61\\5c\\5C\"", "a\\\\"),
+    ("$\"\\\\41\"", "\\41"),
+    ("@\"\\4\\g0\\\"", "\\4\\g0\\"),
+    ("entry:", "entry"),
+    ("\"a\\20b\":", "a b"),
+    ("7:", "7"),
+    ("\"\"", ""),
+    ("c\"h\\69\"", "hi"),
+    ("-12", "-12"),
+    ("i32", "i32"),
+];
+
 #[test]
-fn reads_names(rt: HostRuntime) -> Result<(), AllocError> {
-    for (text, want) in [
-        ("%x", "x"),
-        ("@\"a b\"", "a b"),
-        ("@\"\\61\\5c\\5C\"", "a\\\\"),
-        ("$\"\\\\41\"", "\\41"),
-        ("@\"\\4\\g0\\\"", "\\4\\g0\\"),
-        ("entry:", "entry"),
-        ("\"a\\20b\":", "a b"),
-        ("7:", "7"),
-        ("\"\"", ""),
-        ("c\"h\\69\"", "hi"),
-        ("-12", "-12"),
-        ("i32", "i32"),
-    ] {
+fn tokens_are_listed(rt: HostRuntime) -> Result<(), AllocError> {
+    for (text, want) in CONTENTS {
         let lexed = lex(rt.alloc(), text.as_bytes())?;
         assert_eq!(rt; lexed.tokens.len(), 1, "{text}");
         for token in &lexed.tokens {
@@ -144,11 +196,6 @@ fn reads_names(rt: HostRuntime) -> Result<(), AllocError> {
             );
         }
     }
-    Ok(())
-}
-
-#[test]
-fn lists_tokens(rt: HostRuntime) -> Result<(), AllocError> {
     let Ok(list) = tokens(rt.alloc(), b"ret void\n") else {
         return Err(AllocError);
     };
@@ -161,57 +208,5 @@ fn lists_tokens(rt: HostRuntime) -> Result<(), AllocError> {
         )
     );
     assert_eq!(rt; size_of::<Token>(), 24);
-    Ok(())
-}
-
-/// The classes of a text's tokens, in one line.
-fn classes(alloc: Global, text: &str) -> Result<String, AllocError> {
-    let lexed = lex(alloc, text.as_bytes())?;
-    let mut out = String::new(alloc);
-    for token in &lexed.tokens {
-        let _written = write!(out, "{:?} ", token.head);
-    }
-    Ok(out)
-}
-
-#[test]
-fn classes_of_tokens(rt: HostRuntime) -> Result<(), AllocError> {
-    for (text, want) in [
-        (
-            "i0 i1 i7 i8 i32 i64 i65 i128 i032 i00 i i8x",
-            "RefusedInteger RegisterInteger RegisterInteger MemoryInteger MemoryInteger MemoryInteger RefusedInteger RefusedInteger Word Word Word Word ",
-        ),
-        (
-            "@f @5 @\"5\" @llvm @llvmx @llvm.x",
-            "Global NumberedGlobal Global ReservedGlobal Global ReservedGlobal ",
-        ),
-        (
-            "@llvm.lifetime.start.p0 @\"llvm.lifetime.end.p0\" @\"\\6clvm\" @\"llvm\\2Ey\" @\"llv\"",
-            "LifetimeMarker LifetimeMarker ReservedGlobal ReservedGlobal Global ",
-        ),
-        (
-            "@5 = internal @5=;c\nprivate @5 = global @5 = internal: @6",
-            "NumberedDefinition Equals Internal NumberedDefinition Equals Private NumberedGlobal Equals GlobalVariable NumberedGlobal Equals Label NumberedGlobal ",
-        ),
-        (
-            "#0 #dbg_value # x ... ^",
-            "Group RefusedMark Word Mark Times RefusedMark RefusedMark ",
-        ),
-        (
-            "! !0 !dbg $f comdat e:",
-            "Bang Meta Meta ComdatName Comdat Label ",
-        ),
-        (
-            "x label %x 7 \"s\" c\"s\" ( ) [ ] { } < > , =",
-            "Times LabelType Local Number Str CStr OpenParen CloseParen OpenBracket CloseBracket OpenBrace CloseBrace OpenAngle CloseAngle Comma Equals ",
-        ),
-        (
-            "undef null_pointer_is_valid token alwaysinline dereferenceable_or_null",
-            "RefusedWord RefusedAttribute RefusedType Word ParameterGroup ",
-        ),
-    ] {
-        let got = classes(rt.alloc(), text)?;
-        assert_eq!(rt; got.as_str(), want);
-    }
     Ok(())
 }

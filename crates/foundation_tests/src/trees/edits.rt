@@ -1,128 +1,147 @@
 //! Each edit of a loop that counts to its parameter.
-use crate::parts::{UNMARKED, block, empty, function, symbol};
+use crate::parts::UNMARKED;
 use ir_edit::{renumber, shift_numbers, substitute};
+use ir_print::print_function;
 use ir_tree::{
-    Argument, BinaryOp, Block, Function, Incoming, Instr, Line, Operand, Param, Phi, Predicate,
-    Reg, Rows, Terminator,
+    Argument, BinaryOp, Block, Function, Incoming, Instr, Line, Linkage, Operand, Param, Phi,
+    Predicate, Reg, Rows, Symbol, Terminator, Text,
 };
 use std::alloc::{AllocError, Global};
 
-fn one() -> Operand {
-    Operand::Number { width: 32, bits: 1 }
-}
-
-fn lines(alloc: Global, n: [u32; 7], old: Operand) -> Result<Rows<Line>, AllocError> {
-    let mut lines = Rows::new(alloc);
-    lines.push(Line {
-        local: Some(n[4]),
+/// The block of the loop below: its phi is `%2`, the sum `%19`, the comparison `%18`.
+fn body(alloc: Global) -> Result<Block, AllocError> {
+    let first = Incoming {
+        from: 6,
+        value: Operand::Number { width: 32, bits: 1 },
+    };
+    let next = Incoming {
+        from: 3,
+        value: Operand::Local(19),
+    };
+    let phi = Phi {
+        local: 2,
+        reg: Reg::Int(32),
+        incoming: Rows::of(vec![in alloc; first, next]?),
+    };
+    let phis = Rows::of(vec![in alloc; phi]?);
+    let sum = Line {
+        local: Some(19),
         instr: Instr::Binary {
             op: BinaryOp::Add,
             flags: UNMARKED,
             width: 32,
-            left: old,
-            right: one(),
+            left: Operand::Local(2),
+            right: Operand::Number { width: 32, bits: 1 },
         },
-    })?;
-    lines.push(Line {
-        local: Some(n[5]),
+    };
+    let comparison = Line {
+        local: Some(18),
         instr: Instr::Icmp {
             predicate: Predicate::Eq,
             reg: Reg::Int(32),
-            left: Operand::Local(n[4]),
-            right: Operand::Local(n[0]),
+            left: Operand::Local(19),
+            right: Operand::Local(40),
         },
-    })?;
-    Ok(lines)
-}
-
-fn phis(alloc: Global, n: [u32; 7], next: Operand) -> Result<Rows<Phi>, AllocError> {
-    let mut incoming = Rows::new(alloc);
-    incoming.push(Incoming {
-        from: n[1],
-        value: one(),
-    })?;
-    incoming.push(Incoming {
-        from: n[2],
-        value: next,
-    })?;
-    let mut phis = Rows::new(alloc);
-    phis.push(Phi {
-        local: n[3],
-        reg: Reg::Int(32),
-        incoming,
-    })?;
-    Ok(phis)
-}
-
-fn blocks(
-    alloc: Global,
-    n: [u32; 7],
-    next: Operand,
-    old: Operand,
-) -> Result<Rows<Block>, AllocError> {
-    let mut blocks = Rows::new(alloc);
-    blocks.push(empty(alloc, n[1], Terminator::Jump(n[2])))?;
-    let end = Terminator::Branch {
-        condition: Operand::Local(n[5]),
-        if_true: n[6],
-        if_false: n[2],
     };
-    blocks.push(block(n[2], phis(alloc, n, next)?, lines(alloc, n, old)?, end))?;
-    let end = Terminator::Return(Some(Argument {
+    let lines = Rows::of(vec![in alloc; sum, comparison]?);
+    let end = Terminator::Branch {
+        condition: Operand::Local(18),
+        if_true: 17,
+        if_false: 3,
+    };
+    Ok(Block {
+        number: 3,
+        phis,
+        lines,
+        end,
+    })
+}
+
+/// The loop under numbers that don't follow its text, which no text that is read has.
+fn scattered(alloc: Global) -> Result<Function, AllocError> {
+    let name = Text::copied(alloc, b"count")?;
+    let body = body(alloc)?;
+    let entry = Block {
+        number: 6,
+        phis: Rows::new(alloc),
+        lines: Rows::new(alloc),
+        end: Terminator::Jump(3),
+    };
+    let result = Argument {
         reg: Reg::Int(32),
-        operand: Operand::Local(n[3]),
-    }));
-    blocks.push(empty(alloc, n[6], end))?;
-    Ok(blocks)
-}
-
-/// The loop under these numbers, where the phi takes `next` on its edge back, and `old` grows by one.
-fn counting(
-    alloc: Global,
-    n: [u32; 7],
-    next: Operand,
-    old: Operand,
-) -> Result<Function, AllocError> {
-    let mut params = Rows::new(alloc);
-    params.push(Param {
-        local: n[0],
+        operand: Operand::Local(2),
+    };
+    let last = Block {
+        number: 17,
+        phis: Rows::new(alloc),
+        lines: Rows::new(alloc),
+        end: Terminator::Return(Some(result)),
+    };
+    let blocks = Rows::of(vec![in alloc; entry, body, last]?);
+    let param = Param {
+        local: 40,
         reg: Reg::Int(32),
-    })?;
-    let blocks = blocks(alloc, n, next, old)?;
-    let symbol = symbol(alloc, b"count")?;
-    Ok(function(symbol, Some(Reg::Int(32)), params, blocks))
+    };
+    let params = Rows::of(vec![in alloc; param]?);
+    Ok(Function {
+        symbol: Symbol { home: None, name },
+        linkage: Linkage::External,
+        result: Some(Reg::Int(32)),
+        params,
+        noinline: false,
+        optnone: false,
+        blocks,
+    })
 }
 
-fn plain(alloc: Global, n: [u32; 7]) -> Result<Function, AllocError> {
-    counting(alloc, n, Operand::Local(n[4]), Operand::Local(n[3]))
+const COUNTING: &[u8] = b"define i32 @count(i32 %0) {
+  br label %2
+2:
+  %3 = phi i32 [ 1, %1 ], [ %4, %2 ]
+  %4 = add i32 %3, 1
+  %5 = icmp eq i32 %4, %0
+  br i1 %5, label %6, label %2
+6:
+  ret i32 %3
 }
+";
+
+/// Each number is greater by 7.
+const SHIFTED: &[u8] = b"define i32 @count(i32 %7) {
+  br label %9
+9:
+  %10 = phi i32 [ 1, %8 ], [ %11, %9 ]
+  %11 = add i32 %10, 1
+  %12 = icmp eq i32 %11, %7
+  br i1 %12, label %13, label %9
+13:
+  ret i32 %10
+}
+";
+
+/// Each use of the phi is one of the sum, and each of the sum one of the phi.
+const SWAPPED: &[u8] = b"define i32 @count(i32 %0) {
+  br label %2
+2:
+  %3 = phi i32 [ 1, %1 ], [ %3, %2 ]
+  %4 = add i32 %4, 1
+  %5 = icmp eq i32 %3, %0
+  br i1 %5, label %6, label %2
+6:
+  ret i32 %4
+}
+";
 
 #[test]
-fn numbers_are_shifted(rt: HostRuntime) -> Result<(), AllocError> {
-    let f = plain(rt.alloc(), [0, 1, 2, 3, 4, 5, 6])?;
-    let wanted = plain(rt.alloc(), [7, 8, 9, 10, 11, 12, 13])?;
-    assert!(rt; shift_numbers(rt.alloc(), &f, 7)? == wanted);
-    assert!(rt; shift_numbers(rt.alloc(), &f, u32::MAX).is_err());
-    Ok(())
-}
-
-#[test]
-fn numbers_follow_the_text(rt: HostRuntime) -> Result<(), AllocError> {
-    let f = plain(rt.alloc(), [40, 6, 3, 2, 19, 18, 17])?;
-    let wanted = plain(rt.alloc(), [0, 1, 2, 3, 4, 5, 6])?;
-    assert!(rt; renumber(rt.alloc(), &f)? == wanted);
-    Ok(())
-}
-
-#[test]
-fn uses_change_at_once(rt: HostRuntime) -> Result<(), AllocError> {
+fn numbers_and_uses_change(rt: HostRuntime) -> Result<(), AllocError> {
     let alloc = rt.alloc();
-    let n = [0, 1, 2, 3, 4, 5, 6];
-    let f = counting(alloc, n, Operand::Local(9), Operand::Local(8))?;
-    let mut values = Vec::new(alloc);
-    values.push((8, Operand::Local(9)))?;
-    values.push((9, Operand::Local(8)))?;
-    let wanted = counting(alloc, n, Operand::Local(8), Operand::Local(9))?;
-    assert!(rt; substitute(alloc, &f, &values)? == wanted);
+    let f = renumber(alloc, &scattered(alloc)?)?;
+    assert!(rt; print_function(alloc, &f)?.equals(COUNTING));
+    let shifted = shift_numbers(alloc, &f, 7)?;
+    assert!(rt; print_function(alloc, &shifted)?.equals(SHIFTED));
+    assert!(rt; shift_numbers(alloc, &f, u32::MAX).is_err());
+    let others = [(3, Operand::Local(4)), (4, Operand::Local(3))];
+    let swapped = substitute(alloc, &f, &others)?;
+    assert!(rt; print_function(alloc, &swapped)?.equals(SWAPPED));
     Ok(())
 }
