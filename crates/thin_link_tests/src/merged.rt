@@ -1,5 +1,5 @@
 //! The merged programs of links of two modules: their definitions, in order, with the module of each local.
-use crate::texts::files::all_read;
+use crate::files::all_read;
 use ir_tree::{GlobalValue, Rows};
 use merge_meaning::program;
 use std::alloc::Global;

@@ -1,7 +1,6 @@
 //! The summary of a function that calls two others.
-use crate::texts::files::read;
+use crate::files::read;
 use ir_summary::summarise;
-use ir_tree::{Rows, Text};
 
 const CALLER: &str = "define void @main() noinline {
   call void @g()
@@ -13,13 +12,6 @@ declare void @f()
 declare void @g()
 ";
 
-fn are(rows: &Rows<Text>, first: &[u8], second: &[u8]) -> bool {
-    match rows.as_slice() {
-        [one, two] => one.equals(first) && two.equals(second),
-        _ => false,
-    }
-}
-
 #[test]
 fn calls_stand_once(rt: HostRuntime) {
     let module = read(rt.alloc(), CALLER).expect(&rt, "a module");
@@ -30,6 +22,12 @@ fn calls_stand_once(rt: HostRuntime) {
     assert!(rt; summary.name.equals(b"main"));
     assert!(rt; summary.count == Some(4));
     assert!(rt; summary.noinline);
-    assert!(rt; are(&summary.calls, b"g", b"f"));
-    assert!(rt; are(&summary.refs, b"g", b"f"));
+    let [first, second] = summary.calls.as_slice() else {
+        panic!(rt; "two callees");
+    };
+    assert!(rt; first.equals(b"g") && second.equals(b"f"));
+    let [first, second] = summary.refs.as_slice() else {
+        panic!(rt; "two names");
+    };
+    assert!(rt; first.equals(b"g") && second.equals(b"f"));
 }
