@@ -1,11 +1,14 @@
 //! Bytes of entries and names of their files, worked out outside.
 use cache_entry::{decode, encode, file_name};
 
+/// The entry of the key `ab` with the text `c`.
+const KNOWN: &[u8] =
+    b"TLTOENT1\x00\x00\x00\x00\x00\x00\x00\x02\x00\x00\x00\x00\x00\x00\x00\x01abc";
+
 #[test]
 fn known_entries_and_names(rt: HostRuntime) {
     let bytes = encode(rt.alloc(), b"ab", b"c").expect(&rt, "memory");
-    let shown = hex::encode(rt.alloc(), bytes.as_slice()).expect(&rt, "memory");
-    assert!(rt; shown.as_str() == "544c544f454e543100000000000000020000000000000001616263");
+    assert!(rt; bytes.equals(KNOWN));
 
     let Some((key, text)) = decode(bytes.as_slice()) else {
         panic!(rt; "a whole entry");

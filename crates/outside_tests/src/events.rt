@@ -3,17 +3,10 @@ use ir_tree::Text;
 use link_core::{Act, Core, CoreLink, DiskPair, Event, Phase, StepError};
 use std::alloc::{AllocError, Global};
 
-fn text(alloc: Global, bytes: &[u8]) -> Result<Text, AllocError> {
-    Text::copied(alloc, bytes)
-}
-
-// Two links share one disk, which holds `B` under `b`: two workers make `a` and `b`, one makes `a`.
+/// Two links share one disk, which holds `B` under `b`: two workers make `a` and `b`, one makes `a`.
 fn opened(alloc: Global) -> Result<Core, AllocError> {
-    let mut two = Vec::new(alloc);
-    two.push(text(alloc, b"a")?)?;
-    two.push(text(alloc, b"b")?)?;
-    let mut one = Vec::new(alloc);
-    one.push(text(alloc, b"a")?)?;
+    let two = vec![in alloc; Text::copied(alloc, b"a")?, Text::copied(alloc, b"b")?]?;
+    let one = vec![in alloc; Text::copied(alloc, b"a")?]?;
     let links = [
         CoreLink {
             keys: two,
@@ -25,17 +18,17 @@ fn opened(alloc: Global) -> Result<Core, AllocError> {
         },
     ];
     let disk = [DiskPair {
-        key: text(alloc, b"b")?,
-        text: text(alloc, b"B")?,
+        key: Text::copied(alloc, b"b")?,
+        text: Text::copied(alloc, b"B")?,
     }];
     Core::start(alloc, &links, &disk)
 }
 
 #[test]
-fn two_links_over_one_list(rt: HostRuntime) {
+fn two_links_over_one_list_and_an_act_that_is_not_enabled(rt: HostRuntime) {
     let alloc = rt.alloc();
     let mut core = opened(alloc).expect(&rt, "memory");
-    let made = text(alloc, b"A").expect(&rt, "memory");
+    let made = Text::copied(alloc, b"A").expect(&rt, "memory");
     let events = [
         (0, 0, Act::Claim),
         (0, 1, Act::Claim),
@@ -67,11 +60,8 @@ fn two_links_over_one_list(rt: HostRuntime) {
         panic!(rt; "one result");
     };
     assert!(rt; shared.equals(b"A"));
-}
 
-#[test]
-fn an_act_that_is_not_enabled(rt: HostRuntime) {
-    let alloc = rt.alloc();
+    // A worker that has claimed a number claims no other one before it has looked the first one up.
     let mut core = opened(alloc).expect(&rt, "memory");
     let claim = Event {
         link: 1,

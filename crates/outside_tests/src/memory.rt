@@ -2,22 +2,22 @@
 use crate::meaning::Anything;
 use lto_outside::{ByteIn, ByteOut, CacheDisk, FetchFault, Files, Gate, Stage};
 use outside_memory::{Failure, Leaves, MemoryDisk, MemoryFiles, MemoryGate, MemoryIn, MemoryOut};
-use std::test::Fail;
 
 #[test]
-fn objects_in_memory(rt: HostRuntime) -> Result<(), Fail> {
+fn objects_in_memory(rt: HostRuntime) {
     let alloc = rt.alloc();
     let half = Failure {
         call: 2,
         leaves: Leaves::Front(2),
     };
-    let mut files = MemoryFiles::new(alloc, vec![in alloc; half]?);
-    files.with("a", b"old")?;
-    files.put("b", b"new")?;
-    assert_eq!(rt; files.fetch(alloc, "a")?.as_slice(), b"old".as_slice());
+    let mut files = MemoryFiles::new(alloc, vec![in alloc; half].expect(&rt, "memory"));
+    files.with("a", b"old").expect(&rt, "memory");
+    assert!(rt; files.put("b", b"new").is_ok());
+    let fetched = files.fetch(alloc, "a").expect(&rt, "a file");
+    assert!(rt; fetched.equals(b"old"));
     assert!(rt; files.put("a", b"text").is_err());
-    let held = files.content("a").ok_or("a is not held")?;
-    assert_eq!(rt; held.as_slice(), b"te".as_slice());
+    let held = files.content("a").expect(&rt, "a file");
+    assert!(rt; held.equals(b"te"));
     assert!(rt; matches!(files.fetch(alloc, "c"), Err(FetchFault::Fault)));
     assert_eq!(rt; files.faults(), 2);
 
@@ -25,28 +25,31 @@ fn objects_in_memory(rt: HostRuntime) -> Result<(), Fail> {
         call: 1,
         leaves: Leaves::Absent,
     };
-    let mut disk: MemoryDisk<Anything> = MemoryDisk::new(alloc, vec![in alloc; gone]?);
-    disk.with("d", "x", b"entry")?;
-    let found = disk.load(alloc, "d", "x")?.ok_or("x is absent")?;
-    assert_eq!(rt; found.as_slice(), b"entry".as_slice());
+    let failures = vec![in alloc; gone].expect(&rt, "memory");
+    let mut disk: MemoryDisk<Anything> = MemoryDisk::new(alloc, failures);
+    disk.with("d", "x", b"entry").expect(&rt, "memory");
+    let loaded = disk.load(alloc, "d", "x").expect(&rt, "no fault");
+    let found = loaded.expect(&rt, "a file");
+    assert!(rt; found.equals(b"entry"));
     assert!(rt; disk.save("d", "x", b"other").is_err());
-    assert!(rt; disk.load(alloc, "d", "x")?.is_none());
-    disk.save("d", "y", b"last")?;
+    let loaded = disk.load(alloc, "d", "x").expect(&rt, "no fault");
+    assert!(rt; loaded.is_none());
+    assert!(rt; disk.save("d", "y", b"last").is_ok());
     assert!(rt; disk.content("d", "y").is_some());
 
-    let mut input = MemoryIn::new(vec![in alloc; b'x', b'y']?, vec![in alloc; 1]?);
-    assert_eq!(rt; input.next()?, Some(b'x'));
+    let bytes = vec![in alloc; b'x', b'y'].expect(&rt, "memory");
+    let mut input = MemoryIn::new(bytes, vec![in alloc; 1].expect(&rt, "memory"));
+    assert!(rt; input.next() == Ok(Some(b'x')));
     assert!(rt; input.next().is_err());
     assert_eq!(rt; input.left(), b"y".as_slice());
-    let mut out = MemoryOut::new(alloc, vec![in alloc; 1]?);
-    out.push(b'p')?;
+    let mut out = MemoryOut::new(alloc, vec![in alloc; 1].expect(&rt, "memory"));
+    assert!(rt; out.push(b'p').is_ok());
     assert!(rt; out.push(b'q').is_err());
-    out.push(b'r')?;
+    assert!(rt; out.push(b'r').is_ok());
     assert_eq!(rt; out.sent(), b"pr".as_slice());
 
     let gate = MemoryGate::new();
     gate.pass(0, None, Stage::Claim);
     gate.pass(0, Some(3), Stage::Done);
     assert_eq!(rt; (gate.count(Stage::Claim), gate.count(Stage::Keep)), (1, 0));
-    Ok(())
 }

@@ -7,6 +7,7 @@ use lto_outside::{
     ByteIn, ByteOut, CacheDisk, Fault, FetchFault, Files, Gate, LoadFault, Stage, calls_in_a_row,
     disk_stays_honest,
 };
+use outside_real::RealGate;
 use std::alloc::Global;
 
 /// Files, a disk, input and output that fail at each call.
@@ -109,16 +110,8 @@ impl Files for Broken {
     ghost did_tells = { λ a b calls p. tt };
 }
 
-/// A gate that lets each worker through.
-#[derive(Drop)]
-struct Open;
-
-impl Gate for Open {
-    fn pass(&self, _worker: u32, _number: Option<u32>, _stage: Stage) {}
-}
-
 #[test]
-fn each_failure_is_counted(rt: HostRuntime) {
+fn each_failure_is_counted_up_to_the_last_number(rt: HostRuntime) {
     let mut broken = Broken { faults: 0 };
     assert!(rt; broken.next() == Err(Fault));
     assert!(rt; broken.push(65) == Err(Fault));
@@ -135,18 +128,14 @@ fn each_failure_is_counted(rt: HostRuntime) {
     };
     assert!(rt; fetched && loaded);
     assert!(rt; broken.faults == 6);
-}
 
-#[test]
-fn a_full_count_stands_still(rt: HostRuntime) {
-    let mut broken = Broken { faults: u64::MAX };
-    assert!(rt; broken.next() == Err(Fault));
-    assert!(rt; broken.faults == u64::MAX);
-}
+    // A full count stands still.
+    let mut full = Broken { faults: u64::MAX };
+    assert!(rt; full.next() == Err(Fault));
+    assert!(rt; full.faults == u64::MAX);
 
-#[test]
-fn laws_can_be_called() {
+    // A gate that lets each worker through, and the laws can be called.
+    RealGate.pass(0, None, Stage::Claim);
     calls_in_a_row();
     disk_stays_honest::<Anything>();
-    Open.pass(0, None, Stage::Claim);
 }

@@ -39,7 +39,7 @@ pub enum Step {
     Keep(Key, u8),
 }
 
-#[derive(Clone, Copy, Debug, PartialEq, Eq)]
+#[derive(Clone, Copy, PartialEq, Eq)]
 pub enum Answer {
     /// The first byte of a text that was found.
     Found(u8),
