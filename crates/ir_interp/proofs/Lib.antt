@@ -1,2 +1,4 @@
 mod Feeding
+mod Traces
 mod Turns
+mod Endings

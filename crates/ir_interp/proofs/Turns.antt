@@ -1,217 +1,131 @@
 -- Runs, one step more.
-use Rattle.std.proofs.Common.{◌≡◌, ◌≤◌, ℕ, suc, ◌+◌, List, [], ◌∷◌, ◌++◌, drop, replicate, Option, Some, None, Result, Ok, Err, OnErr, refl, sym, ap, subst, ◌∙◌, arith}
-use Rattle.std.proofs.lemmas.List.{append_assoc, append-nil}
-use Rattle.std.specs.Io.KnownBytes.{Appends, Keeps}
+use Rattle.std.proofs.Common.{◌≡◌, ℕ, suc, ◌+◌, List, [], ◌∷◌, ◌++◌, length, drop, replicate, Option, Some, None, refl, sym, ap, subst, ◌∙◌, arith}
+use Rattle.std.proofs.lemmas.List.{append_assoc, length-append}
+use Rattle.std.specs.Io.KnownBytes.{Appends}
 use Rattle.ir_tree.specs.declared.operand.Symbol.{Symbol}
-use Rattle.ir_meaning.specs.Program.{Broken, Done, Next, On, Program, State, Took, step}
-use Rattle.ir_meaning.specs.Run as meaning
+use Rattle.ir_meaning.specs.Program.{On, Program, State, Took, step}
 use Rattle.ir_meaning.specs.Run.{Ran, run, run_on}
 use Rattle.ir_meaning.specs.declared.event.Event.{Event}
-use Rattle.ir_meaning.specs.declared.event.Event.TheVariants.{ReadByte, ReadEnd, Wrote}
-use Rattle.machine_steps.specs.Steps.{IsEnd, IsRunning}
-use Rattle.machine_steps.specs.declared.end.StepEnd.{StepEnd}
+use Rattle.machine_steps.specs.Steps.{IsRunning}
 use Rattle.machine_steps.specs.declared.end.StepEnd.TheVariants as step_end
 use Rattle.machine_steps.specs.declared.machine.Machine.{Machine}
-use Rattle.ir_interp.specs.Runs.{Ends, GoesOn, HasRun, HasSentPart, HasTurned, IsBlamed, IsLast, bytes_read, ending_meant, written}
-use Rattle.ir_interp.specs.declared.end.RunEnd.{RunEnd}
-use Rattle.ir_interp.specs.declared.end.RunFault.{RunFault}
-use Rattle.ir_interp.specs.declared.end.RunFault.TheVariants.{In, NoMemory, Out}
-use Rattle.ir_interp.specs.declared.end.RunEnd.TheVariants.{OutOfSteps}
+use Rattle.ir_interp.specs.Runs.{Agree, bytes_read, reads, run_each, written}
+use Rattle.ir_interp.specs.Turns.{GoesOn, HasAdvanced, HasTurned, Shows}
+use Rattle.ir_interp.proofs.Traces.{agree_behind, agree_front, first_agrees, read_both, reads_both, sent_more, sent_none, written_both}
 
 -- k steps that showed these events, and then the rest of the run
 abbrev pub behind_steps : ℕ → List Event → Ran → Ran
 behind_steps k events r = record { steps = k + r.steps; trace = events ++ r.trace; ending = r.ending }
 
+-- over these bytes, so many steps show these events and lead to where the next n begin
+abbrev pub Passes : Program → List ℕ → State → ℕ → List Event → State → ℕ → Type 0
+Passes p bytes first done events now n = run p bytes (replicate (done + n) 0) first ≡ behind_steps done events (run p bytes (replicate n 0) now)
+
 -- the run has come here in so many steps
-pub record Comes (names : List Symbol) (p : Program) (first : State) (bytes : List ℕ) (before : Option (List ℕ)) (done : ℕ) (left' after : Option (List ℕ)) (m : Machine) : Type 0 where
+pub record Comes (names : List Symbol) (p : Program) (first : State) (left before : Option (List ℕ)) (done : ℕ) (left' after : Option (List ℕ)) (m : Machine) : Type 0 where
   pub now : State
   pub events : List Event
   pub runs : IsRunning names p m now
   pub place : now.place ≡ first.place + bytes_read events
-  pub left : left' ≡ Some (drop now.place bytes)
   pub sent : Appends before after (written events)
-  pub path : (n : ℕ) → run p bytes (replicate (done + n) 0) first ≡ behind_steps done events (run p bytes (replicate n 0) now)
-
--- ---- events
-
-read_both : (es fs : List Event) → bytes_read (es ++ fs) ≡ bytes_read es + bytes_read fs
-read_both [] fs = omega arith
-read_both (ReadByte b ∷ es) fs = omega (arith, read_both es fs)
-read_both (ReadEnd ∷ es) fs = read_both es fs
-read_both (Wrote b ∷ es) fs = read_both es fs
-
-written_both : (es fs : List Event) → written (es ++ fs) ≡ written es ++ written fs
-written_both [] fs = refl
-written_both (ReadByte b ∷ es) fs = written_both es fs
-written_both (ReadEnd ∷ es) fs = written_both es fs
-written_both (Wrote b ∷ es) fs = ap (λ (bs : List ℕ). b ∷ bs) (written_both es fs)
-
--- ---- what was sent
-
-pub sent_none : (sent : Option (List ℕ)) → Appends sent sent []
-sent_none None = tt
-sent_none (Some xs) = sym (append-nil xs)
-
-pub sent_more : (a b c : Option (List ℕ)) (xs ys : List ℕ) → Appends a b xs → Appends b c ys → Appends a c (xs ++ ys)
-sent_more None b c xs ys g h = tt
-sent_more (Some as') None c xs ys g h = absurd g
-sent_more (Some as') (Some bs) None xs ys g h = absurd h
-sent_more (Some as') (Some bs) (Some cs) xs ys g h = h ∙ ap (λ (zs : List ℕ). zs ++ ys) g ∙ append_assoc as' xs ys
-
--- nothing was sent since
-pub sent_still : (a b c : Option (List ℕ)) (xs : List ℕ) → Appends a b xs → Keeps b c → Appends a c xs
-sent_still None b c xs g h = tt
-sent_still (Some as') None c xs g h = absurd g
-sent_still (Some as') (Some bs) None xs g h = absurd h
-sent_still (Some as') (Some bs) (Some cs) xs g h = h ∙ g
-
-pub keeps_same : (sent : Option (List ℕ)) → Keeps sent sent
-keeps_same None = tt
-keeps_same (Some xs) = refl
+  pub inputs : List (List ℕ)
+  pub each : length inputs ≡ done
+  pub path : (rest : List (List ℕ)) → run_each p (inputs ++ rest) first ≡ behind_steps done events (run_each p rest now)
+  pub over : (bytes : List ℕ) (n : ℕ) → Agree (reads (run p bytes (replicate (done + n) 0) first).trace) (reads events) → Passes p bytes first done events now n
+  pub told : (bytes : List ℕ) → left ≡ Some (drop first.place bytes) → (left' ≡ Some (drop now.place bytes)) × ((n : ℕ) → Passes p bytes first done events now n)
 
 -- ---- steps
 
-pub come_first : (names : List Symbol) (p : Program) (s : State) (bytes : List ℕ) (left sent : Option (List ℕ)) (m : Machine) → IsRunning names p m s → left ≡ Some (drop s.place bytes) → Comes names p s bytes sent 0 left sent m
-come_first names p s bytes left sent m r is = record {
+pub come_first : (names : List Symbol) (p : Program) (s : State) (left sent : Option (List ℕ)) (m : Machine) → IsRunning names p m s → Comes names p s left sent 0 left sent m
+come_first names p s left sent m r = record {
   now = s;
   events = [];
   runs = r;
   place = omega arith;
-  left = is;
   sent = sent_none sent;
-  path = λ n. ap (λ (k : ℕ). run p bytes (replicate k 0) s) (omega arith) ∙ same (run p bytes (replicate n 0) s);
+  inputs = [];
+  each = refl;
+  path = λ rest. same (run_each p rest s);
+  over = λ bytes n agree. here bytes n;
+  told = λ bytes is. (is, here bytes);
 }
   where
     same : (r : Ran) → r ≡ behind_steps 0 [] r
     same r = ap (λ (k : ℕ). record { steps = k; trace = r.trace; ending = r.ending }) (omega arith)
+    here : (bytes : List ℕ) (n : ℕ) → Passes p bytes s 0 [] s n
+    here bytes n = ap (λ (k : ℕ). run p bytes (replicate k 0) s) (omega arith) ∙ same (run p bytes (replicate n 0) s)
 
-one_step : (p : Program) (bytes : List ℕ) (s : State) (events : List Event) (next : State) (n : ℕ) → step p bytes s 0 ≡ record { events = events; next = On next } →
+one_step : (p : Program) (bytes : List ℕ) (s : State) (events : List Event) (next : State) (n : ℕ) → Shows p s bytes events (On next) →
     run p bytes (replicate (suc n) 0) s ≡ behind_steps 1 events (run p bytes (replicate n 0) next)
 one_step p bytes s events next n e =
     let go : State → Ran = run p bytes (replicate n 0) in
     ap (λ (t : Took). run_on go t.events t.next) e
     ∙ ap (λ (k : ℕ). record { steps = k; trace = events ++ (go next).trace; ending = (go next).ending }) (omega arith)
 
+one_each : (p : Program) (input : List ℕ) (s : State) (events : List Event) (next : State) (rest : List (List ℕ)) → Shows p s input events (On next) →
+    run_each p (input ∷ rest) s ≡ behind_steps 1 events (run_each p rest next)
+one_each p input s events next rest e =
+    let go : State → Ran = run_each p rest in
+    ap (λ (t : Took). run_on go t.events t.next) e
+    ∙ ap (λ (k : ℕ). record { steps = k; trace = events ++ (go next).trace; ending = (go next).ending }) (omega arith)
+
+behind_one : (done done' : ℕ) (es fs : List Event) (r : Ran) → done' ≡ done + 1 → behind_steps done es (behind_steps 1 fs r) ≡ behind_steps done' (es ++ fs) r
+behind_one done done' es fs r one =
+    ap (λ (k : ℕ). record { steps = k; trace = es ++ (fs ++ r.trace); ending = r.ending }) (omega (arith, one))
+    ∙ ap (λ (gs : List Event). record { steps = done' + r.steps; trace = gs; ending = r.ending }) (sym (append_assoc es fs r.trace))
+
 -- one step more
-pub come_further : (names : List Symbol) (p : Program) (first : State) (bytes : List ℕ) (sent : Option (List ℕ)) (done done' : ℕ) (left left' sent' sent'' : Option (List ℕ)) (m m' : Machine) (sends : List ℕ) → done' ≡ done + 1 →
-    (c : Comes names p first bytes sent done left sent' m) → GoesOn names p c.now bytes left' m' sends → Appends sent' sent'' sends → Comes names p first bytes sent done' left' sent'' m'
-come_further names p first bytes sent done done' left left' sent' sent'' m m' sends one c g a = record {
+pub come_further : (names : List Symbol) (p : Program) (first : State) (left before : Option (List ℕ)) (done done' : ℕ) (left' left'' after after' : Option (List ℕ)) (m m' : Machine) (events : List Event) → done' ≡ done + 1 →
+    (c : Comes names p first left before done left' after m) → GoesOn names p c.now left' left'' m' events → Appends after after' (written events) → Comes names p first left before done' left'' after' m'
+come_further names p first left before done done' left' left'' after after' m m' events one c g sends = record {
   now = g.next;
-  events = c.events ++ g.events;
+  events = c.events ++ events;
   runs = g.runs;
-  place = omega (arith, g.place, c.place, read_both c.events g.events);
-  left = g.left;
-  sent = subst (λ (bs : List ℕ). Appends sent sent'' bs) (ap (λ (bs : List ℕ). written c.events ++ bs) (sym g.sends) ∙ sym (written_both c.events g.events))
-      (sent_more sent sent' sent'' (written c.events) sends c.sent a);
-  path = λ n.
-      let go = run p bytes (replicate n 0) g.next in
-      ap (λ (k : ℕ). run p bytes (replicate k 0) first) (omega (arith, one))
-      ∙ c.path (suc n)
-      ∙ ap (λ (r : Ran). behind_steps done c.events r) (one_step p bytes c.now g.events g.next n g.takes)
-      ∙ ap (λ (k : ℕ). record { steps = k; trace = c.events ++ (g.events ++ go.trace); ending = go.ending }) (omega (arith, one))
-      ∙ ap (λ (es : List Event). record { steps = done' + go.steps; trace = es; ending = go.ending }) (sym (append_assoc c.events g.events go.trace));
-}
-
--- ---- ends
-
-nothing_more : (events : List Event) → written (events ++ []) ≡ written events
-nothing_more events = ap written (append-nil events)
-
-run_over : (names : List Symbol) (p : Program) (first : State) (bytes : List ℕ) (sent : Option (List ℕ)) (done n : ℕ) (left sent' : Option (List ℕ)) (m : Machine) (end : RunEnd) → (c : Comes names p first bytes sent done left sent' m) (left' : Option (List ℕ)) → left' ≡ Some (drop c.now.place bytes) →
-    (run p bytes (replicate n 0) c.now).trace ≡ [] → (run p bytes (replicate n 0) c.now).ending ≡ ending_meant names end → HasRun names p first bytes (done + n) left' sent sent' end
-run_over names p first bytes sent done n left sent' m end c left' is quiet ending = record {
-  ending = ap (λ (r : Ran). r.ending) (c.path n) ∙ ending;
-  sent = subst (λ (es : List Event). Appends sent sent' (written es)) (sym trace) c.sent;
-  left = is ∙ ap (λ (k : ℕ). Some (drop k bytes)) (c.place ∙ ap (λ (es : List Event). first.place + bytes_read es) (sym trace));
+  place = omega (arith, g.place, c.place, read_both c.events events);
+  sent = subst (λ (bs : List ℕ). Appends before after' bs) (sym (written_both c.events events)) (sent_more before after after' (written c.events) (written events) c.sent sends);
+  inputs = c.inputs ++ (g.input ∷ []);
+  each = omega (arith, one, c.each, length-append c.inputs (g.input ∷ []));
+  path = λ rest.
+      ap (λ (inputs : List (List ℕ)). run_each p inputs first) (append_assoc c.inputs (g.input ∷ []) rest)
+      ∙ c.path (g.input ∷ rest)
+      ∙ ap (λ (r : Ran). behind_steps done c.events r) (one_each p g.input c.now events g.next rest g.takes)
+      ∙ behind_one done done' c.events events (run_each p rest g.next) one;
+  over = agreeing;
+  told = λ bytes is.
+      let there = c.told bytes is in
+      let goes = g.told bytes there.0 in
+      (goes.1, λ n. further bytes n (there.1 (suc n)) goes.0);
 }
   where
-    trace : (run p bytes (replicate (done + n) 0) first).trace ≡ c.events
-    trace = ap (λ (r : Ran). r.trace) (c.path n) ∙ ap (λ (es : List Event). c.events ++ es) quiet ∙ append-nil c.events
-
-pub out_of_steps : (names : List Symbol) (p : Program) (first : State) (bytes : List ℕ) (sent : Option (List ℕ)) (budget done : ℕ) (left sent' : Option (List ℕ)) (m : Machine) → done ≡ budget → Comes names p first bytes sent done left sent' m →
-    HasRun names p first bytes budget left sent sent' OutOfSteps
-out_of_steps names p first bytes sent budget done left sent' m e c =
-    let all : done + 0 ≡ budget = omega (arith, e) in
-    subst (λ (k : ℕ). HasRun names p first bytes k left sent sent' OutOfSteps) all (run_over names p first bytes sent done 0 left sent' m OutOfSteps c left c.left refl refl)
-
--- the ending of a run whose next step ends it
-last_ending : (names : List Symbol) (p : Program) (bytes : List ℕ) (s : State) (n : ℕ) (next : Next) (end : RunEnd) (is : meaning.Ending) → step p bytes s 0 ≡ record { events = []; next = next } →
-    (run_on (run p bytes (replicate n 0)) [] next).trace ≡ [] → (run_on (run p bytes (replicate n 0)) [] next).ending ≡ is → is ≡ ending_meant names end →
-    ((run p bytes (replicate (suc n) 0) s).trace ≡ []) × ((run p bytes (replicate (suc n) 0) s).ending ≡ ending_meant names end)
-last_ending names p bytes s n next end is e trace ending same =
-    let one = ap (λ (t : Took). run_on (run p bytes (replicate n 0)) t.events t.next) e in
-    (ap (λ (r : Ran). r.trace) one ∙ trace, ap (λ (r : Ran). r.ending) one ∙ ending ∙ same)
-
-ends_so : (names : List Symbol) (p : Program) (bytes : List ℕ) (s : State) (n : ℕ) (end : StepEnd) (e : RunEnd) (next : Next) → IsLast end e → IsEnd names end next → step p bytes s 0 ≡ record { events = []; next = next } →
-    ((run p bytes (replicate (suc n) 0) s).trace ≡ []) × ((run p bytes (replicate (suc n) 0) s).ending ≡ ending_meant names e)
-ends_so names p bytes s n (step_end.Returned answer) e (Done answer' memory place) same is takes =
-    last_ending names p bytes s n (Done answer' memory place) e (meaning.Returned answer') takes refl refl (ap meaning.Returned is ∙ ap (ending_meant names) (sym same))
-ends_so names p bytes s n (step_end.Returned answer) e (On next) same is takes = absurd is
-ends_so names p bytes s n (step_end.Returned answer) e (Broken failure) same is takes = absurd is
-ends_so names p bytes s n (step_end.Undefined cause at) e (Broken failure) same is takes =
-    last_ending names p bytes s n (Broken failure) e (meaning.Failed failure) takes refl refl (ap meaning.Failed is ∙ ap (ending_meant names) (sym same))
-ends_so names p bytes s n (step_end.Undefined cause at) e (On next) same is takes = absurd is
-ends_so names p bytes s n (step_end.Undefined cause at) e (Done answer' memory place) same is takes = absurd is
-ends_so names p bytes s n (step_end.Uninit at) e (Broken failure) same is takes =
-    last_ending names p bytes s n (Broken failure) e (meaning.Failed failure) takes refl refl (ap meaning.Failed is ∙ ap (ending_meant names) (sym same))
-ends_so names p bytes s n (step_end.Uninit at) e (On next) same is takes = absurd is
-ends_so names p bytes s n (step_end.Uninit at) e (Done answer' memory place) same is takes = absurd is
-ends_so names p bytes s n step_end.Going e next same is takes = absurd same
-ends_so names p bytes s n step_end.Wants e next same is takes = absurd same
-ends_so names p bytes s n (step_end.Wrote byte) e next same is takes = absurd same
-
--- a step that ends the run, where n steps more were allowed
-pub run_ends : (names : List Symbol) (p : Program) (first : State) (bytes : List ℕ) (sent : Option (List ℕ)) (budget done n : ℕ) (left left' sent' : Option (List ℕ)) (m : Machine) (end : StepEnd) (e : RunEnd) → done + suc n ≡ budget → IsLast end e →
-    (c : Comes names p first bytes sent done left sent' m) → Ends names p c.now bytes left' end → HasRun names p first bytes budget left' sent sent' e
-run_ends names p first bytes sent budget done n left left' sent' m end e all same c ends =
-    let got = ends_so names p bytes c.now n end e ends.next same ends.is ends.takes in
-    subst (λ (k : ℕ). HasRun names p first bytes k left' sent sent' e) all (run_over names p first bytes sent done (suc n) left sent' m e c left' ends.left got.0 got.1)
+    all : (n : ℕ) → done' + n ≡ done + suc n
+    all n = omega (arith, one)
+    further : (bytes : List ℕ) (n : ℕ) → Passes p bytes first done c.events c.now (suc n) → Shows p c.now bytes events (On g.next) → Passes p bytes first done' (c.events ++ events) g.next n
+    further bytes n path takes =
+        ap (λ (k : ℕ). run p bytes (replicate k 0) first) (all n)
+        ∙ path
+        ∙ ap (λ (r : Ran). behind_steps done c.events r) (one_step p bytes c.now events g.next n takes)
+        ∙ behind_one done done' c.events events (run p bytes (replicate n 0) g.next) one
+    -- the step's read agrees, since those before it do
+    agreeing : (bytes : List ℕ) (n : ℕ) → Agree (reads (run p bytes (replicate (done' + n) 0) first).trace) (reads (c.events ++ events)) → Passes p bytes first done' (c.events ++ events) g.next n
+    agreeing bytes n agree =
+        let later : List Event = (run p bytes (replicate (suc n) 0) c.now).trace in
+        let whole : List (Option ℕ) = reads (run p bytes (replicate (done + suc n) 0) first).trace in
+        let same : Agree (reads (run p bytes (replicate (done' + n) 0) first).trace) (reads c.events ++ reads events) = subst (λ (rs : List (Option ℕ)). Agree (reads (run p bytes (replicate (done' + n) 0) first).trace) rs) (reads_both c.events events) agree in
+        let so : Agree whole (reads c.events ++ reads events) = subst (λ (k : ℕ). Agree (reads (run p bytes (replicate k 0) first).trace) (reads c.events ++ reads events)) (all n) same in
+        let path : Passes p bytes first done c.events c.now (suc n) = c.over bytes (suc n) (agree_front whole (reads c.events) (reads events) so) in
+        let split : whole ≡ reads c.events ++ reads later = ap (λ (r : Ran). reads r.trace) path ∙ reads_both c.events later in
+        let both : Agree (reads c.events ++ reads later) (reads c.events ++ reads events) = subst (λ (rs : List (Option ℕ)). Agree rs (reads c.events ++ reads events)) split so in
+        further bytes n path
+        (g.over bytes (first_agrees (run p bytes (replicate n 0)) (step p bytes c.now 0).events (step p bytes c.now 0).next (reads events) (agree_behind (reads c.events) (reads later) (reads events) both)))
 
 -- ---- turns
 
+-- a step that wrote nothing
+pub turn_quiet : (names : List Symbol) (p : Program) (s : State) (left left' sent : Option (List ℕ)) (m : Machine) → HasAdvanced names p s left left' m step_end.Going → HasTurned names p s left left' sent sent m None
+turn_quiet names p s left left' sent m (events, (quiet, goes)) = (events, (goes, subst (λ (bs : List ℕ). Appends sent sent bs) (sym quiet) (sent_none sent)))
+
 -- behind a turn that goes on the run has come one step further
-pub turn_further : (names : List Symbol) (p : Program) (first : State) (bytes : List ℕ) (sent : Option (List ℕ)) (done done' : ℕ) (left left' sent' sent'' : Option (List ℕ)) (m m' : Machine) → done' ≡ done + 1 →
-    (c : Comes names p first bytes sent done left sent' m) → HasTurned names p c.now bytes left' sent' sent'' m' None → Comes names p first bytes sent done' left' sent'' m'
-turn_further names p first bytes sent done done' left left' sent' sent'' m m' one c (bs, (goes, sends)) =
-    come_further names p first bytes sent done done' left left' sent' sent'' m m' bs one c goes sends
-
--- a turn that ends the run
-pub turn_ends : (names : List Symbol) (p : Program) (first : State) (bytes : List ℕ) (sent : Option (List ℕ)) (budget done n : ℕ) (left left' sent' sent'' : Option (List ℕ)) (m m' : Machine) (end : RunEnd) → done + suc n ≡ budget →
-    (c : Comes names p first bytes sent done left sent' m) → HasTurned names p c.now bytes left' sent' sent'' m' (Some end) → HasRun names p first bytes budget left' sent sent'' end
-turn_ends names p first bytes sent budget done n left left' sent' sent'' m m' end all c (last, (same, ends, still)) =
-    subst (λ (o : Option (List ℕ)). HasRun names p first bytes budget left' sent o end) (sym still)
-    (run_ends names p first bytes sent budget done n left left' sent' m last end all same c ends)
-
--- ---- runs that are given up
-
--- a run that has come so far and sends nothing more
-pub sent_part : (names : List Symbol) (p : Program) (first : State) (bytes : List ℕ) (sent : Option (List ℕ)) (budget done : ℕ) (left sent' sent'' : Option (List ℕ)) (m : Machine) → done ≤ budget → Comes names p first bytes sent done left sent' m → Keeps sent' sent'' →
-    HasSentPart p first bytes budget sent sent''
-sent_part names p first bytes sent budget done left sent' sent'' m within c keeps = record {
-  steps = done;
-  within = within;
-  sent = subst (λ (es : List Event). Appends sent sent'' (written es)) (sym trace) (sent_still sent sent' sent'' (written c.events) c.sent keeps);
-}
-  where
-    trace : (run p bytes (replicate done 0) first).trace ≡ c.events
-    trace =
-        let all : done ≡ done + 0 = omega arith in
-        ap (λ (k : ℕ). (run p bytes (replicate k 0) first).trace) all ∙ ap (λ (r : Ran). r.trace) (c.path 0) ∙ append-nil c.events
-
-pub on_err : {A E P : Type 0} (r : Result A E) → P → OnErr r P
-on_err (Ok x) h = tt
-on_err (Err e) h = h
-
--- ---- blame
-
--- no output was called
-pub blamed_in : (i i' o o' : ℕ) (f : RunFault) → IsBlamed i i' 0 0 f → IsBlamed i i' o o' f
-blamed_in i i' o o' In h = h
-blamed_in i i' o o' Out h = absurd (omega (arith, h))
-blamed_in i i' o o' NoMemory h = tt
-
--- a count that rose since later rose since earlier
-pub blamed_since : (i j i' o q o' : ℕ) (f : RunFault) → i ≤ j → o ≤ q → IsBlamed j i' q o' f → IsBlamed i i' o o' f
-blamed_since i j i' o q o' In a b h = omega (arith, a, h)
-blamed_since i j i' o q o' Out a b h = omega (arith, b, h)
-blamed_since i j i' o q o' NoMemory a b h = tt
+pub turn_further : (names : List Symbol) (p : Program) (first : State) (left before : Option (List ℕ)) (done done' : ℕ) (left' left'' after after' : Option (List ℕ)) (m m' : Machine) → done' ≡ done + 1 →
+    (c : Comes names p first left before done left' after m) → HasTurned names p c.now left' left'' after after' m' None → Comes names p first left before done' left'' after' m'
+turn_further names p first left before done done' left' left'' after after' m m' one c (events, (goes, sends)) =
+    come_further names p first left before done done' left' left'' after after' m m' events one c goes sends

@@ -5,7 +5,8 @@ ghost use Rattle.ir_tree.specs.declared.operand.Symbol.{Symbol};
 ghost use Rattle.ir_meaning.specs.Program.{Program, State};
 ghost use Rattle.machine_steps.specs.Code.{IsRunnable};
 ghost use Rattle.machine_steps.specs.Steps.{IsRunning, WantsByte};
-ghost use Rattle.ir_interp.specs.Runs.{HasAdvanced, HasRun, HasSentPart, HasTurned, IsBlamed};
+ghost use Rattle.ir_interp.specs.Runs.{HasFedPart, HasFedRun, HasLeft, HasRun, HasSentPart, IsBlamed};
+ghost use Rattle.ir_interp.specs.Turns.{HasAdvanced, HasTurned, Leaves};
 
 use crate::end::{RunEnd, RunFault};
 use lto_outside::{ByteIn, ByteOut};
@@ -15,7 +16,8 @@ use std::alloc::Global;
 /// Gives the machine the next byte of the input, or its end, and takes the step that asks for it.
 fn feed<I: ByteIn>(alloc: Global, machine: &mut Machine, input: &mut I) -> Result<StepEnd, RunFault>
     requires { IsRunnable machine.old.code.now }
-    ensures ok { IfOk result (λ end. (names : List Symbol) (p : Program) (s : State) (bytes : List ℕ) → IsRunning names p machine.old s → WantsByte p s → I.left input.old ≡ Some (drop s.place bytes) → HasAdvanced names p s bytes (I.left input.new) machine.new end) }
+    ensures ok { IfOk result (λ end. (names : List Symbol) (p : Program) (s : State) → IsRunning names p machine.old s → WantsByte p s → HasAdvanced names p s (I.left input.old) (I.left input.new) machine.new end) }
+    ensures left { IfErr result (λ why. (p : Program) (s : State) (bytes : List ℕ) → WantsByte p s → I.left input.old ≡ Some (drop s.place bytes) → HasLeft p s bytes 0 (I.left input.new) why) }
     ensures later { I.faults input.old ≤ I.faults input.new }
     ensures cause { IfErr result (IsBlamed (I.faults input.old) (I.faults input.new) 0 0) }
     ensures code { machine.new.code.now ≡ machine.old.code.now }
@@ -36,7 +38,8 @@ fn advance<I: ByteIn>(
     input: &mut I,
 ) -> Result<StepEnd, RunFault>
     requires { IsRunnable machine.old.code.now }
-    ensures ok { IfOk result (λ end. (names : List Symbol) (p : Program) (s : State) (bytes : List ℕ) → IsRunning names p machine.old s → I.left input.old ≡ Some (drop s.place bytes) → HasAdvanced names p s bytes (I.left input.new) machine.new end) }
+    ensures ok { IfOk result (λ end. (names : List Symbol) (p : Program) (s : State) → IsRunning names p machine.old s → HasAdvanced names p s (I.left input.old) (I.left input.new) machine.new end) }
+    ensures left { IfErr result (Leaves machine.old (I.left input.old) (I.left input.new)) }
     ensures later { I.faults input.old ≤ I.faults input.new }
     ensures cause { IfErr result (IsBlamed (I.faults input.old) (I.faults input.new) 0 0) }
     ensures code { machine.new.code.now ≡ machine.old.code.now }
@@ -58,7 +61,8 @@ fn turn<I: ByteIn, O: ByteOut>(
     out: &mut O,
 ) -> Result<Option<RunEnd>, RunFault>
     requires { IsRunnable machine.old.code.now }
-    ensures ok { IfOk result (λ end. (names : List Symbol) (p : Program) (s : State) (bytes : List ℕ) → IsRunning names p machine.old s → I.left input.old ≡ Some (drop s.place bytes) → HasTurned names p s bytes (I.left input.new) (O.sent out.old) (O.sent out.new) machine.new end) }
+    ensures ok { IfOk result (λ end. (names : List Symbol) (p : Program) (s : State) → IsRunning names p machine.old s → HasTurned names p s (I.left input.old) (I.left input.new) (O.sent out.old) (O.sent out.new) machine.new end) }
+    ensures left { IfErr result (Leaves machine.old (I.left input.old) (I.left input.new)) }
     ensures kept { OnErr result (Keeps (O.sent out.old) (O.sent out.new)) }
     ensures inputs { I.faults input.old ≤ I.faults input.new }
     ensures outputs { O.faults out.old ≤ O.faults out.new }
@@ -81,7 +85,12 @@ fn turn<I: ByteIn, O: ByteOut>(
 
 /// Runs a machine for at most `budget` steps, the last one included.
 ///
-/// Where memory is refused to the step that was given a byte, that byte is taken from the input.
+/// Where the input tells what it has left, the run is the definition's over these bytes. Whatever it tells, the run is
+/// one over what it gave: the definition's over all bytes that answer its reads so, and over any bytes where the
+/// definition's reads nothing.
+///
+/// A run that is given up has taken from the input what its steps read, and where memory was refused to the step that was
+/// given a byte, that byte too.
 pub fn run<I: ByteIn, O: ByteOut>(
     alloc: Global,
     machine: &mut Machine,
@@ -91,7 +100,11 @@ pub fn run<I: ByteIn, O: ByteOut>(
 ) -> Result<RunEnd, RunFault>
     requires { IsRunnable machine.old.code.now }
     ensures ok { IfOk result (λ end. (names : List Symbol) (p : Program) (s : State) (bytes : List ℕ) → IsRunning names p machine.old s → I.left input.old ≡ Some (drop s.place bytes) → HasRun names p s bytes budget (I.left input.new) (O.sent out.old) (O.sent out.new) end) }
-    ensures part { OnErr result ((names : List Symbol) (p : Program) (s : State) (bytes : List ℕ) → IsRunning names p machine.old s → I.left input.old ≡ Some (drop s.place bytes) → HasSentPart p s bytes budget (O.sent out.old) (O.sent out.new)) }
+    ensures fed { IfOk result (λ end. (names : List Symbol) (p : Program) (s : State) → IsRunning names p machine.old s → HasFedRun names p s budget (O.sent out.old) (O.sent out.new) end) }
+    ensures part { IfErr result (λ why. (names : List Symbol) (p : Program) (s : State) (bytes : List ℕ) → IsRunning names p machine.old s → I.left input.old ≡ Some (drop s.place bytes) → HasSentPart p s bytes budget why (I.left input.new) (O.sent out.old) (O.sent out.new)) }
+    ensures fed_part { OnErr result ((names : List Symbol) (p : Program) (s : State) → IsRunning names p machine.old s → HasFedPart p s budget (O.sent out.old) (O.sent out.new)) }
+    ensures inputs { I.faults input.old ≤ I.faults input.new }
+    ensures outputs { O.faults out.old ≤ O.faults out.new }
     ensures cause { IfErr result (IsBlamed (I.faults input.old) (I.faults input.new) (O.faults out.old) (O.faults out.new)) }
     ensures code { machine.new.code.now ≡ machine.old.code.now }
 {

@@ -36,7 +36,9 @@ fn a_sum_is_returned(rt: HostRuntime) -> Result<(), AllocError> {
     let code = code(alloc, blocks)?;
     let mut input = MemoryIn::new(Vec::new(alloc), Vec::new(alloc));
     let mut out = MemoryOut::new(alloc, Vec::new(alloc));
-    let end = run_of(alloc, &code, &mut input, &mut out, 1000)?;
+    let end = run_of(alloc, &code, &mut input, &mut out, 1)?;
+    assert!(rt; matches!(end, Ok(RunEnd::OutOfSteps)));
+    let end = run_of(alloc, &code, &mut input, &mut out, 2)?;
     assert!(rt; matches!(end, Ok(RunEnd::Returned(Some(Scalar::Number(5))))));
     Ok(())
 }
@@ -152,12 +154,13 @@ fn failing_calls(alloc: Global, fails: bool) -> Result<Vec<u64>, AllocError> {
     Ok(calls)
 }
 
-/// A program that reads one byte, writes it and returns it, on these bytes.
+/// A program that reads one byte, writes it and returns it, on these bytes: its end, how many bytes were sent, and how
+/// many are left.
 fn echo(
     rt: &HostRuntime,
     bytes: &[u8],
     fails: Failing,
-) -> Result<(Result<RunEnd, RunFault>, usize), AllocError> {
+) -> Result<(Result<RunEnd, RunFault>, usize, usize), AllocError> {
     let alloc = rt.alloc();
     let mut lines = Vec::new(alloc);
     lines.push(line(1, call(alloc, 1, Reg::Int(32), None)?))?;
@@ -169,28 +172,28 @@ fn echo(
     let mut input = MemoryIn::new(Vec::from_slice(alloc, bytes)?, input_calls);
     let mut out = MemoryOut::new(alloc, failing_calls(alloc, fails == Failing::Output)?);
     let end = run_of(alloc, &code, &mut input, &mut out, 1000)?;
-    Ok((end, out.sent().len()))
+    Ok((end, out.sent().len(), input.left().len()))
 }
 
 #[test]
 fn bytes_are_read_and_written(rt: HostRuntime) -> Result<(), AllocError> {
-    let (end, sent) = echo(&rt, b"A", Failing::Neither)?;
+    let (end, sent, left) = echo(&rt, b"AB", Failing::Neither)?;
     assert!(rt; matches!(end, Ok(RunEnd::Returned(Some(Scalar::Number(65))))));
-    assert!(rt; sent == 1);
-    let (end, sent) = echo(&rt, b"", Failing::Neither)?;
+    assert!(rt; sent == 1 && left == 1);
+    let (end, sent, left) = echo(&rt, b"", Failing::Neither)?;
     assert!(rt;
         matches!(
             end,
             Ok(RunEnd::Returned(Some(Scalar::Number(4_294_967_295))))
         )
     );
-    assert!(rt; sent == 1);
-    let (end, sent) = echo(&rt, b"A", Failing::Output)?;
+    assert!(rt; sent == 1 && left == 0);
+    let (end, sent, left) = echo(&rt, b"AB", Failing::Output)?;
     assert!(rt; matches!(end, Err(RunFault::Out)));
-    assert!(rt; sent == 0);
-    let (end, sent) = echo(&rt, b"A", Failing::Input)?;
+    assert!(rt; sent == 0 && left == 1);
+    let (end, sent, left) = echo(&rt, b"AB", Failing::Input)?;
     assert!(rt; matches!(end, Err(RunFault::In)));
-    assert!(rt; sent == 0);
+    assert!(rt; sent == 0 && left == 2);
     Ok(())
 }
 

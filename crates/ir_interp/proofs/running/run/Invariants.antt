@@ -1,4 +1,4 @@
-use Rattle.std.proofs.Common.{◌≡◌, ◌-◌, ◌≤◌, ℕ, List, Some, drop}
+use Rattle.std.proofs.Common.{◌≡◌, ◌-◌, ◌≤◌, List}
 use Rattle.ir_tree.specs.declared.operand.Symbol.{Symbol}
 use Rattle.ir_meaning.specs.Program.{Program, State}
 use Rattle.machine_steps.specs.Code.{IsRunnable}
@@ -16,6 +16,6 @@ invariant-loop-left g l = record {
   code : l.machine.code.now ≡ l.initial.machine.code.now;
   inputs : g.I.ByteIn.faults l.initial.input ≤ g.I.ByteIn.faults l.input;
   outputs : g.O.ByteOut.faults l.initial.out ≤ g.O.ByteOut.faults l.out;
-  comes : (names : List Symbol) (p : Program) (s : State) (bytes : List ℕ) → IsRunning names p l.initial.machine s → g.I.ByteIn.left l.initial.input ≡ Some (drop s.place bytes) →
-      Comes names p s bytes (g.O.ByteOut.sent l.initial.out) (l.budget - l.left) (g.I.ByteIn.left l.input) (g.O.ByteOut.sent l.out) l.machine;
+  comes : (names : List Symbol) (p : Program) (s : State) → IsRunning names p l.initial.machine s →
+      Comes names p s (g.I.ByteIn.left l.initial.input) (g.O.ByteOut.sent l.initial.out) (l.budget - l.left) (g.I.ByteIn.left l.input) (g.O.ByteOut.sent l.out) l.machine;
 }
