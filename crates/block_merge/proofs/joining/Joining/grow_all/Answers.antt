@@ -1,4 +1,4 @@
-use Rattle.std.proofs.Common.{◌≡◌, ◌<◌, ◌≤◌, ◌∙◌, ℕ, Some, None, length, subst, arith, below_more}
+use Rattle.std.proofs.Common.{◌≡◌, ◌<◌, ◌≤◌, ◌∙◌, Some, None, length, subst, arith, below_more}
 use Rattle.std.specs.Prelude.{slice_get}
 use Rattle.ir_tree.specs.declared.block.Block.{Block}
 use Rattle.block_merge.specs.Working.{next}
