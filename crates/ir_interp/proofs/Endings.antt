@@ -115,7 +115,7 @@ pub turn_ends_told : (names : List Symbol) (p : Program) (first : State) (left b
 turn_ends_told names p first left before done n budget left' left'' after after' m m' end all c (step, (same, ends, still)) bytes is =
     let r = ends_so names p c.now n step end ends.next same ends.is ends.takes in
     subst (λ (o : Option (List ℕ)). HasRun names p first bytes budget left'' before o end) (sym still)
-    (subst (λ (o : Option (List ℕ)). HasRun names p first bytes budget o before after end) (sym ends.left)
+    (subst (λ (o : Option (List ℕ)). HasRun names p first bytes budget o before after end) (sym ends.stays)
     (over_told names p first left before done (suc n) budget left' after m end all c r bytes is))
 
 pub turn_ends_fed : (names : List Symbol) (p : Program) (first : State) (left before : Option (List ℕ)) (done n budget : ℕ) (left' left'' after after' : Option (List ℕ)) (m m' : Machine) (end : RunEnd) → done + suc n ≡ budget →

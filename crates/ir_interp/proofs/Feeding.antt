@@ -41,7 +41,7 @@ advance_wrote : (names : List Symbol) (p : Program) (s : State) (left : Option (
 advance_wrote names p s left m byte (next, (place, leads, runs)) = quiet_step names p s left m (Wrote byte ∷ []) next refl place leads runs
 
 ended : (names : List Symbol) (p : Program) (s : State) (left : Option (List ℕ)) (end : StepEnd) (next : Next) → Leads p s 0 None [] next → IsEnd names end next → Ends names p s left left end
-ended names p s left end next leads e = record { next = next; takes = λ input. leads input tt; is = e; left = refl }
+ended names p s left end next leads e = record { next = next; takes = λ input. leads input tt; is = e; stays = refl }
 
 pub advance_quiet : (names : List Symbol) (p : Program) (s : State) (left : Option (List ℕ)) (m : Machine) (end : StepEnd) → (end ≡ step_end.Wants → ⊥) → IsStep names p s 0 None m end → HasAdvanced names p s left left m end
 advance_quiet names p s left m step_end.Going other h = advance_going names p s left m h

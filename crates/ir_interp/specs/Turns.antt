@@ -37,7 +37,7 @@ pub record Ends (names : List Symbol) (p : Program) (s : State) (left left' : Op
   pub next : Next
   pub takes : (input : List ℕ) → Shows p s input [] next
   pub is : IsEnd names end next
-  pub left : left' ≡ left
+  pub stays : left' ≡ left
 
 -- a step that was given what it asked for
 abbrev pub HasAdvanced : List Symbol → Program → State → Option (List ℕ) → Option (List ℕ) → Machine → StepEnd → Type 0
