@@ -1,7 +1,7 @@
 //! Tests of what the rest stands on, on small examples worked out by hand: operations on numbers and sets (`lto_bits`,
 //! `lto_sets`), trees, tokens, printed forms, edits and data flow (`ir_tree`, `ir_lex`, `ir_print`, `ir_edit`, `ir_flow`),
-//! the verifier (`ir_verify`), functions to a plan (`function_plans`), the interpreter's memory, addresses, registers, calls and
-//! lines (`ir_machine`, `ir_address`, `ir_frames`, `ir_calls`, `ir_lines`), and the words of the command line (`lto_words`).
+//! the verifier (`ir_verify`), the interpreter's memory, addresses, registers, calls and lines (`ir_machine`, `ir_address`,
+//! `ir_frames`, `ir_calls`, `ir_lines`), and the words of the command line (`lto_words`).
 //!
 //! What the clauses of these crates say is not tried again here. Like cases are rows of one table, which one test reads. Modules
 //! come from texts (`ir_parse`): what is printed is read and printed again, and data flow and the verifier are asked of what is

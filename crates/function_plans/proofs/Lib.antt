@@ -1,5 +1,0 @@
-pub mod Forming
-pub mod Shaped
-pub mod Named
-pub mod Numbers
-pub mod Counted

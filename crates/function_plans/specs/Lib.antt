@@ -1,4 +1,0 @@
-pub mod Taken
-pub mod Small
-pub mod Ending
-pub mod Counting

@@ -1,0 +1,6 @@
+; The first of two modules: it calls a function of the other one.
+define i32 @main() {
+  %r = call i32 @tripled(i32 4)
+  ret i32 %r
+}
+declare i32 @tripled(i32)
