@@ -2,8 +2,7 @@
 use cache_entry::{decode, encode, file_name};
 
 /// The entry of the key `ab` with the text `c`.
-const KNOWN: &[u8] =
-    b"TLTOENT1\x00\x00\x00\x00\x00\x00\x00\x02\x00\x00\x00\x00\x00\x00\x00\x01abc";
+const KNOWN: &[u8] = b"TLTOENT1\x00\x00\x00\x00\x00\x00\x00\x02\x00\x00\x00\x00\x00\x00\x00\x01abc";
 
 #[test]
 fn known_entries_and_names(rt: HostRuntime) {

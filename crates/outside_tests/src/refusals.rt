@@ -67,6 +67,9 @@ fn documented_lines(rt: HostRuntime) {
     ];
     for (refusal, number, line) in &refusals {
         let told = text(alloc, refusal).expect(&rt, "memory");
-        assert!(rt; status(refusal) == *number && told.equals(line.as_bytes()), "{line:?}");
+        assert!(rt;
+            status(refusal) == *number && told.equals(line.as_bytes()),
+            "{line:?}"
+        );
     }
 }

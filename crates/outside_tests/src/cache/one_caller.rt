@@ -17,16 +17,13 @@ const A: &str = "86f7e437faa5a7fce15d1ddcb9eaeaea377667b8.tlto";
 const B: &str = "e9d71f5ee7c92d6dc9e92ffdad17b8bd49418f98.tlto";
 
 /// The entry of the key `a` with the text `1`.
-const A_1: &[u8] =
-    b"TLTOENT1\x00\x00\x00\x00\x00\x00\x00\x01\x00\x00\x00\x00\x00\x00\x00\x01a1";
+const A_1: &[u8] = b"TLTOENT1\x00\x00\x00\x00\x00\x00\x00\x01\x00\x00\x00\x00\x00\x00\x00\x01a1";
 
 /// The entry of the key `a` with the text `2`.
-const A_2: &[u8] =
-    b"TLTOENT1\x00\x00\x00\x00\x00\x00\x00\x01\x00\x00\x00\x00\x00\x00\x00\x01a2";
+const A_2: &[u8] = b"TLTOENT1\x00\x00\x00\x00\x00\x00\x00\x01\x00\x00\x00\x00\x00\x00\x00\x01a2";
 
 /// The entry of the key `b` with the text `2`.
-const B_2: &[u8] =
-    b"TLTOENT1\x00\x00\x00\x00\x00\x00\x00\x01\x00\x00\x00\x00\x00\x00\x00\x01b2";
+const B_2: &[u8] = b"TLTOENT1\x00\x00\x00\x00\x00\x00\x00\x01\x00\x00\x00\x00\x00\x00\x00\x01b2";
 
 /// The call of the disk that fails, what the first store of each key answers, and how many faults are counted.
 const CALLS: [(u64, Answer, Answer, u64); 5] = [
@@ -65,8 +62,9 @@ fn each_call_of_the_disk_fails_alone(rt: HostRuntime) {
             let failure = Failure { call, leaves };
             let disk = MemoryDisk::new(alloc, vec![in alloc; failure].expect(&rt, "memory"));
             let dir = String::from_str(alloc, "d").expect(&rt, "memory");
-            let (answers, disk) =
-                on_disk(&rt, alloc, disk, Some(dir), &script).expect(&rt, "memory");
+            let (answers, disk) = on_disk(&rt, alloc, disk, Some(dir), &script).expect(
+                &rt, "memory",
+            );
             let expected = [
                 Answer::Missed,
                 first,
@@ -76,7 +74,10 @@ fn each_call_of_the_disk_fails_alone(rt: HostRuntime) {
                 second,
                 Answer::Found(b'3'),
             ];
-            assert!(rt; answers.as_slice() == expected.as_slice(), "call {call}, {leaves:?}");
+            assert!(rt;
+                answers.as_slice() == expected.as_slice(),
+                "call {call}, {leaves:?}"
+            );
             assert!(rt; disk.faults() == faults, "call {call}, {leaves:?}");
             let wanted = if call == 1 { left } else { Some(A_1) };
             let is_wanted = match (disk.content("d", A), wanted) {
@@ -104,7 +105,10 @@ fn a_cut_entry_is_missed_and_mended(rt: HostRuntime) {
         } else {
             Answer::Missed
         };
-        assert!(rt; answers.as_slice() == [found, NEW].as_slice(), "{len} bytes");
+        assert!(rt;
+            answers.as_slice() == [found, NEW].as_slice(),
+            "{len} bytes"
+        );
         let mended = match disk.content("d", A) {
             Some(bytes) => bytes.equals(A_2),
             None => false,
