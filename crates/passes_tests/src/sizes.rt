@@ -68,12 +68,18 @@ fn backward(alloc: Global, count: u32, first: Terminator) -> Result<Function, Al
 
 #[test]
 fn a_long_chain_becomes_one_block(rt: HostRuntime) -> Result<(), AllocError> {
-    let g = merge(rt.alloc(), &backward(rt.alloc(), 60_000, Terminator::Jump(120_000))?)?;
+    let g = merge(
+        rt.alloc(),
+        &backward(rt.alloc(), 60_000, Terminator::Jump(120_000))?,
+    )?;
     assert!(rt; g.blocks.len() == 1);
     for block in g.blocks.as_slice() {
         assert!(rt; block.lines.len() == 60_001);
     }
-    let h = merge(rt.alloc(), &backward(rt.alloc(), 60_000, Terminator::Unreachable)?)?;
+    let h = merge(
+        rt.alloc(),
+        &backward(rt.alloc(), 60_000, Terminator::Unreachable)?,
+    )?;
     assert!(rt; h.blocks.len() == 2);
     Ok(())
 }

@@ -161,12 +161,7 @@ const REFUSED: [(&[u8], u64, u8, &str); 13] = [
         "thinlto: a.ll:8: name not available\n",
     ),
     // what a link of one file lacks
-    (
-        b"",
-        NONE,
-        4,
-        "thinlto: no definition of exported @main\n",
-    ),
+    (b"", NONE, 4, "thinlto: no definition of exported @main\n"),
     (
         b"declare i32 @g()\ndefine i32 @main() {\n  %x = call i32 @g()\n  ret i32 %x\n}\n",
         NONE,
@@ -323,7 +318,11 @@ const INDICES: [Indexed; 11] = [
         "both define main",
         INDEX,
         (SUM, SUM, NONE, NONE),
-        (4, b"", b"thinlto: duplicate symbol @main in a.ll and b.ll\n"),
+        (
+            4,
+            b"",
+            b"thinlto: duplicate symbol @main in a.ll and b.ll\n",
+        ),
     ),
     (
         "nobody defines what is called",
