@@ -1,5 +1,6 @@
 pub mod Escapes
 pub mod Fits
+pub mod Free
 pub mod Leads
 pub mod Lengths
 pub mod Order

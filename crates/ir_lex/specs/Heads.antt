@@ -1,11 +1,12 @@
 -- What a token is to a grammar: its class, by which a reader chooses.
-use Rattle.std.specs.Prelude.{ℕ, ◌+◌, ◌-◌, ◌*◌, Bool, true, false, ◌&&◌, ◌||◌, not, nat_eq, nat_lt, if◌then◌else◌, List, [], ◌∷◌, length, take, drop, codes}
+use Rattle.std.specs.Prelude.{ℕ, ◌+◌, ◌-◌, ◌*◌, Bool, true, false, ◌&&◌, ◌||◌, not, nat_eq, nat_lt, if◌then◌else◌, List, [], ◌∷◌, length, map, take, drop, codes}
 use Rattle.std.specs.Str.{bytes_eq}
 use Rattle.ir_lex.specs.declared.head.Head.{Head}
 use Rattle.ir_lex.specs.declared.head.Head.TheVariants as heads
 use Rattle.ir_lex.specs.declared.token.Kind.{Kind}
 use Rattle.ir_lex.specs.declared.token.Kind.TheVariants as kinds
 use Rattle.ir_lex.specs.declared.bytes.Set.TheVariants.{Digits, WordBytes}
+use Rattle.ir_lex.specs.declared.words.TheConstants.{WORDS_1, WORDS_2, WORDS_3, WORDS_4, WORDS_5, WORDS_6, WORDS_7, WORDS_8, WORDS_9, WORDS_10, WORDS_11, WORDS_12, WORDS_13, WORDS_14, WORDS_15, WORDS_18, WORDS_20, WORDS_21, WORDS_22, WORDS_23}
 use Rattle.ir_lex.specs.Blanks.{skip}
 use Rattle.ir_lex.specs.Bytes.{run, starts_word}
 use Rattle.ir_lex.specs.Quotes.{content}
@@ -136,296 +137,70 @@ number heads.NumberedDefinition = 119
 
 -- ---- words, by how many bytes they have
 
+-- the class of a word that one of these rows has, a word and its class each
+abbrev pub class_in : List (List ℕ × Head) → List ℕ → Head
+class_in [] text = heads.Word
+class_in (row ∷ rows) text = if bytes_eq text row.0 then row.1 else class_in rows text
+
 unfoldable pub words_1 : List ℕ → Head
-words_1 text =
-    if bytes_eq text (codes "x") then heads.Times
-    else heads.Word
+words_1 = class_in (map (λ row. (row.0.now, row.1)) WORDS_1)
 
 unfoldable pub words_2 : List ℕ → Head
-words_2 text =
-    if bytes_eq text (codes "i8") then heads.MemoryInteger
-    else (if bytes_eq text (codes "gc") then heads.RefusedWord
-    else (if bytes_eq text (codes "or") then heads.Or
-    else (if bytes_eq text (codes "eq") then heads.Eq
-    else (if bytes_eq text (codes "ne") then heads.Ne
-    else (if bytes_eq text (codes "to") then heads.To
-    else (if bytes_eq text (codes "br") then heads.Br
-    else heads.Word))))))
+words_2 = class_in (map (λ row. (row.0.now, row.1)) WORDS_2)
 
 unfoldable pub words_3 : List ℕ → Head
-words_3 text =
-    if bytes_eq text (codes "i16") then heads.MemoryInteger
-    else (if bytes_eq text (codes "i32") then heads.MemoryInteger
-    else (if bytes_eq text (codes "i64") then heads.MemoryInteger
-    else (if bytes_eq text (codes "ptr") then heads.Ptr
-    else (if bytes_eq text (codes "asm") then heads.RefusedWord
-    else (if bytes_eq text (codes "any") then heads.Any
-    else (if bytes_eq text (codes "ccc") then heads.CallingConvention
-    else (if bytes_eq text (codes "nuw") then heads.Nuw
-    else (if bytes_eq text (codes "nsw") then heads.Nsw
-    else (if bytes_eq text (codes "add") then heads.Add
-    else (if bytes_eq text (codes "sub") then heads.Sub
-    else (if bytes_eq text (codes "mul") then heads.Mul
-    else (if bytes_eq text (codes "shl") then heads.Shl
-    else (if bytes_eq text (codes "and") then heads.And
-    else (if bytes_eq text (codes "xor") then heads.Xor
-    else (if bytes_eq text (codes "ugt") then heads.Ugt
-    else (if bytes_eq text (codes "uge") then heads.Uge
-    else (if bytes_eq text (codes "ult") then heads.Ult
-    else (if bytes_eq text (codes "ule") then heads.Ule
-    else (if bytes_eq text (codes "sgt") then heads.Sgt
-    else (if bytes_eq text (codes "sge") then heads.Sge
-    else (if bytes_eq text (codes "slt") then heads.Slt
-    else (if bytes_eq text (codes "sle") then heads.Sle
-    else (if bytes_eq text (codes "phi") then heads.Phi
-    else (if bytes_eq text (codes "ret") then heads.Ret
-    else heads.Word))))))))))))))))))))))))
+words_3 = class_in (map (λ row. (row.0.now, row.1)) WORDS_3)
 
 unfoldable pub words_4 : List ℕ → Head
-words_4 text =
-    if bytes_eq text (codes "void") then heads.Void
-    else (if bytes_eq text (codes "half") then heads.RefusedWord
-    else (if bytes_eq text (codes "nest") then heads.RefusedWord
-    else (if bytes_eq text (codes "fadd") then heads.RefusedWord
-    else (if bytes_eq text (codes "fsub") then heads.RefusedWord
-    else (if bytes_eq text (codes "fmul") then heads.RefusedWord
-    else (if bytes_eq text (codes "fdiv") then heads.RefusedWord
-    else (if bytes_eq text (codes "frem") then heads.RefusedWord
-    else (if bytes_eq text (codes "fneg") then heads.RefusedWord
-    else (if bytes_eq text (codes "fcmp") then heads.RefusedWord
-    else (if bytes_eq text (codes "type") then heads.Type
-    else (if bytes_eq text (codes "weak") then heads.Weak
-    else (if bytes_eq text (codes "true") then heads.True
-    else (if bytes_eq text (codes "null") then heads.Null
-    else (if bytes_eq text (codes "nusw") then heads.Nusw
-    else (if bytes_eq text (codes "nneg") then heads.Nneg
-    else (if bytes_eq text (codes "udiv") then heads.Udiv
-    else (if bytes_eq text (codes "sdiv") then heads.Sdiv
-    else (if bytes_eq text (codes "lshr") then heads.Lshr
-    else (if bytes_eq text (codes "ashr") then heads.Ashr
-    else (if bytes_eq text (codes "urem") then heads.Urem
-    else (if bytes_eq text (codes "srem") then heads.Srem
-    else (if bytes_eq text (codes "icmp") then heads.Icmp
-    else (if bytes_eq text (codes "zext") then heads.Zext
-    else (if bytes_eq text (codes "sext") then heads.Sext
-    else (if bytes_eq text (codes "load") then heads.Load
-    else (if bytes_eq text (codes "tail") then heads.TailMark
-    else (if bytes_eq text (codes "call") then heads.Call
-    else (if bytes_eq text (codes "sret") then heads.ParameterGroup
-    else heads.Word))))))))))))))))))))))))))))
+words_4 = class_in (map (λ row. (row.0.now, row.1)) WORDS_4)
 
 unfoldable pub words_5 : List ℕ → Head
-words_5 text =
-    if bytes_eq text (codes "token") then heads.RefusedType
-    else (if bytes_eq text (codes "naked") then heads.RefusedAttribute
-    else (if bytes_eq text (codes "float") then heads.RefusedWord
-    else (if bytes_eq text (codes "fp128") then heads.RefusedWord
-    else (if bytes_eq text (codes "undef") then heads.RefusedWord
-    else (if bytes_eq text (codes "fence") then heads.RefusedWord
-    else (if bytes_eq text (codes "byval") then heads.RefusedWord
-    else (if bytes_eq text (codes "byref") then heads.RefusedWord
-    else (if bytes_eq text (codes "alias") then heads.RefusedWord
-    else (if bytes_eq text (codes "ifunc") then heads.RefusedWord
-    else (if bytes_eq text (codes "fpext") then heads.RefusedWord
-    else (if bytes_eq text (codes "ghccc") then heads.RefusedWord
-    else (if bytes_eq text (codes "false") then heads.False
-    else (if bytes_eq text (codes "exact") then heads.Exact
-    else (if bytes_eq text (codes "trunc") then heads.Trunc
-    else (if bytes_eq text (codes "store") then heads.Store
-    else (if bytes_eq text (codes "label") then heads.LabelType
-    else (if bytes_eq text (codes "align") then heads.Align
-    else (if bytes_eq text (codes "noext") then heads.ParameterWord
-    else (if bytes_eq text (codes "inreg") then heads.ParameterWord
-    else (if bytes_eq text (codes "range") then heads.ParameterGroup
-    else heads.Word))))))))))))))))))))
+words_5 = class_in (map (λ row. (row.0.now, row.1)) WORDS_5)
 
 unfoldable pub words_6 : List ℕ → Head
-words_6 text =
-    if bytes_eq text (codes "bfloat") then heads.RefusedWord
-    else (if bytes_eq text (codes "double") then heads.RefusedWord
-    else (if bytes_eq text (codes "atomic") then heads.RefusedWord
-    else (if bytes_eq text (codes "invoke") then heads.RefusedWord
-    else (if bytes_eq text (codes "resume") then heads.RefusedWord
-    else (if bytes_eq text (codes "callbr") then heads.RefusedWord
-    else (if bytes_eq text (codes "module") then heads.RefusedWord
-    else (if bytes_eq text (codes "common") then heads.RefusedWord
-    else (if bytes_eq text (codes "prefix") then heads.RefusedWord
-    else (if bytes_eq text (codes "va_arg") then heads.RefusedWord
-    else (if bytes_eq text (codes "fptoui") then heads.RefusedWord
-    else (if bytes_eq text (codes "fptosi") then heads.RefusedWord
-    else (if bytes_eq text (codes "uitofp") then heads.RefusedWord
-    else (if bytes_eq text (codes "sitofp") then heads.RefusedWord
-    else (if bytes_eq text (codes "coldcc") then heads.RefusedWord
-    else (if bytes_eq text (codes "tailcc") then heads.RefusedWord
-    else (if bytes_eq text (codes "target") then heads.Target
-    else (if bytes_eq text (codes "triple") then heads.Triple
-    else (if bytes_eq text (codes "opaque") then heads.Opaque
-    else (if bytes_eq text (codes "comdat") then heads.Comdat
-    else (if bytes_eq text (codes "define") then heads.Define
-    else (if bytes_eq text (codes "global") then heads.GlobalVariable
-    else (if bytes_eq text (codes "hidden") then heads.Visibility
-    else (if bytes_eq text (codes "fastcc") then heads.CallingConvention
-    else (if bytes_eq text (codes "poison") then heads.Poison
-    else (if bytes_eq text (codes "select") then heads.Select
-    else (if bytes_eq text (codes "freeze") then heads.Freeze
-    else (if bytes_eq text (codes "alloca") then heads.Alloca
-    else (if bytes_eq text (codes "notail") then heads.TailMark
-    else (if bytes_eq text (codes "switch") then heads.Switch
-    else (if bytes_eq text (codes "nofree") then heads.ParameterWord
-    else (if bytes_eq text (codes "immarg") then heads.ParameterWord
-    else heads.Word)))))))))))))))))))))))))))))))
+words_6 = class_in (map (λ row. (row.0.now, row.1)) WORDS_6)
 
 unfoldable pub words_7 : List ℕ → Head
-words_7 text =
-    if bytes_eq text (codes "x86_amx") then heads.RefusedWord
-    else (if bytes_eq text (codes "cmpxchg") then heads.RefusedWord
-    else (if bytes_eq text (codes "section") then heads.RefusedWord
-    else (if bytes_eq text (codes "fptrunc") then heads.RefusedWord
-    else (if bytes_eq text (codes "bitcast") then heads.RefusedWord
-    else (if bytes_eq text (codes "swiftcc") then heads.RefusedWord
-    else (if bytes_eq text (codes "largest") then heads.RefusedWord
-    else (if bytes_eq text (codes "declare") then heads.Declare
-    else (if bytes_eq text (codes "private") then heads.Private
-    else (if bytes_eq text (codes "default") then heads.Visibility
-    else (if bytes_eq text (codes "noundef") then heads.ParameterWord
-    else (if bytes_eq text (codes "zeroext") then heads.ParameterWord
-    else (if bytes_eq text (codes "signext") then heads.ParameterWord
-    else (if bytes_eq text (codes "nonnull") then heads.ParameterWord
-    else (if bytes_eq text (codes "noalias") then heads.ParameterWord
-    else (if bytes_eq text (codes "optnone") then heads.Optnone
-    else heads.Word)))))))))))))))
+words_7 = class_in (map (λ row. (row.0.now, row.1)) WORDS_7)
 
 unfoldable pub words_8 : List ℕ → Head
-words_8 text =
-    if bytes_eq text (codes "metadata") then heads.RefusedType
-    else (if bytes_eq text (codes "x86_fp80") then heads.RefusedWord
-    else (if bytes_eq text (codes "volatile") then heads.RefusedWord
-    else (if bytes_eq text (codes "catchpad") then heads.RefusedWord
-    else (if bytes_eq text (codes "catchret") then heads.RefusedWord
-    else (if bytes_eq text (codes "musttail") then heads.RefusedWord
-    else (if bytes_eq text (codes "inalloca") then heads.RefusedWord
-    else (if bytes_eq text (codes "prologue") then heads.RefusedWord
-    else (if bytes_eq text (codes "ptrtoint") then heads.RefusedWord
-    else (if bytes_eq text (codes "inttoptr") then heads.RefusedWord
-    else (if bytes_eq text (codes "samesize") then heads.RefusedWord
-    else (if bytes_eq text (codes "constant") then heads.Constant
-    else (if bytes_eq text (codes "internal") then heads.Internal
-    else (if bytes_eq text (codes "external") then heads.External
-    else (if bytes_eq text (codes "linkonce") then heads.Linkonce
-    else (if bytes_eq text (codes "weak_odr") then heads.WeakOdr
-    else (if bytes_eq text (codes "inbounds") then heads.Inbounds
-    else (if bytes_eq text (codes "disjoint") then heads.Disjoint
-    else (if bytes_eq text (codes "samesign") then heads.Samesign
-    else (if bytes_eq text (codes "readonly") then heads.ParameterWord
-    else (if bytes_eq text (codes "readnone") then heads.ParameterWord
-    else (if bytes_eq text (codes "returned") then heads.ParameterWord
-    else (if bytes_eq text (codes "allocptr") then heads.ParameterWord
-    else (if bytes_eq text (codes "writable") then heads.ParameterWord
-    else (if bytes_eq text (codes "captures") then heads.ParameterGroup
-    else (if bytes_eq text (codes "noinline") then heads.Noinline
-    else heads.Word)))))))))))))))))))))))))
+words_8 = class_in (map (λ row. (row.0.now, row.1)) WORDS_8)
 
 unfoldable pub words_9 : List ℕ → Head
-words_9 text =
-    if bytes_eq text (codes "ppc_fp128") then heads.RefusedWord
-    else (if bytes_eq text (codes "addrspace") then heads.RefusedWord
-    else (if bytes_eq text (codes "atomicrmw") then heads.RefusedWord
-    else (if bytes_eq text (codes "swiftself") then heads.RefusedWord
-    else (if bytes_eq text (codes "partition") then heads.RefusedWord
-    else (if bytes_eq text (codes "appending") then heads.RefusedWord
-    else (if bytes_eq text (codes "dllimport") then heads.RefusedWord
-    else (if bytes_eq text (codes "dllexport") then heads.RefusedWord
-    else (if bytes_eq text (codes "dso_local") then heads.Visibility
-    else (if bytes_eq text (codes "protected") then heads.Visibility
-    else (if bytes_eq text (codes "nocapture") then heads.ParameterWord
-    else (if bytes_eq text (codes "writeonly") then heads.ParameterWord
-    else heads.Word)))))))))))
+words_9 = class_in (map (λ row. (row.0.now, row.1)) WORDS_9)
 
 unfoldable pub words_10 : List ℕ → Head
-words_10 text =
-    if bytes_eq text (codes "landingpad") then heads.RefusedWord
-    else (if bytes_eq text (codes "cleanuppad") then heads.RefusedWord
-    else (if bytes_eq text (codes "cleanupret") then heads.RefusedWord
-    else (if bytes_eq text (codes "indirectbr") then heads.RefusedWord
-    else (if bytes_eq text (codes "swifterror") then heads.RefusedWord
-    else (if bytes_eq text (codes "swiftasync") then heads.RefusedWord
-    else (if bytes_eq text (codes "exactmatch") then heads.RefusedWord
-    else (if bytes_eq text (codes "datalayout") then heads.Datalayout
-    else (if bytes_eq text (codes "attributes") then heads.Attributes
-    else (if bytes_eq text (codes "allocalign") then heads.ParameterWord
-    else heads.Word)))))))))
+words_10 = class_in (map (λ row. (row.0.now, row.1)) WORDS_10)
 
 unfoldable pub words_11 : List ℕ → Head
-words_11 text =
-    if bytes_eq text (codes "catchswitch") then heads.RefusedWord
-    else (if bytes_eq text (codes "elementtype") then heads.RefusedWord
-    else (if bytes_eq text (codes "extern_weak") then heads.RefusedWord
-    else (if bytes_eq text (codes "personality") then heads.RefusedWord
-    else (if bytes_eq text (codes "insertvalue") then heads.RefusedWord
-    else (if bytes_eq text (codes "unreachable") then heads.Unreachable
-    else (if bytes_eq text (codes "initializes") then heads.ParameterGroup
-    else heads.Word))))))
+words_11 = class_in (map (λ row. (row.0.now, row.1)) WORDS_11)
 
 unfoldable pub words_12 : List ℕ → Head
-words_12 text =
-    if bytes_eq text (codes "blockaddress") then heads.RefusedWord
-    else (if bytes_eq text (codes "preallocated") then heads.RefusedWord
-    else (if bytes_eq text (codes "thread_local") then heads.RefusedWord
-    else (if bytes_eq text (codes "extractvalue") then heads.RefusedWord
-    else (if bytes_eq text (codes "uselistorder") then heads.RefusedWord
-    else (if bytes_eq text (codes "noduplicates") then heads.RefusedWord
-    else (if bytes_eq text (codes "linkonce_odr") then heads.LinkonceOdr
-    else (if bytes_eq text (codes "unnamed_addr") then heads.UnnamedAddr
-    else heads.Word)))))))
+words_12 = class_in (map (λ row. (row.0.now, row.1)) WORDS_12)
 
 unfoldable pub words_13 : List ℕ → Head
-words_13 text =
-    if bytes_eq text (codes "insertelement") then heads.RefusedWord
-    else (if bytes_eq text (codes "shufflevector") then heads.RefusedWord
-    else (if bytes_eq text (codes "addrspacecast") then heads.RefusedWord
-    else (if bytes_eq text (codes "nodeduplicate") then heads.RefusedWord
-    else (if bytes_eq text (codes "getelementptr") then heads.GetElementPtr
-    else heads.Word))))
+words_13 = class_in (map (λ row. (row.0.now, row.1)) WORDS_13)
 
 unfoldable pub words_14 : List ℕ → Head
-words_14 text =
-    if bytes_eq text (codes "extractelement") then heads.RefusedWord
-    else (if bytes_eq text (codes "dead_on_unwind") then heads.ParameterWord
-    else heads.Word)
+words_14 = class_in (map (λ row. (row.0.now, row.1)) WORDS_14)
 
 unfoldable pub words_15 : List ℕ → Head
-words_15 text =
-    if bytes_eq text (codes "uselistorder_bb") then heads.RefusedWord
-    else (if bytes_eq text (codes "source_filename") then heads.SourceFilename
-    else (if bytes_eq text (codes "dso_preemptable") then heads.Visibility
-    else (if bytes_eq text (codes "zeroinitializer") then heads.ZeroInitializer
-    else (if bytes_eq text (codes "dereferenceable") then heads.ParameterGroup
-    else heads.Word))))
+words_15 = class_in (map (λ row. (row.0.now, row.1)) WORDS_15)
 
 unfoldable pub words_18 : List ℕ → Head
-words_18 text =
-    if bytes_eq text (codes "local_unnamed_addr") then heads.UnnamedAddr
-    else heads.Word
+words_18 = class_in (map (λ row. (row.0.now, row.1)) WORDS_18)
 
 unfoldable pub words_20 : List ℕ → Head
-words_20 text =
-    if bytes_eq text (codes "available_externally") then heads.AvailableExternally
-    else heads.Word
+words_20 = class_in (map (λ row. (row.0.now, row.1)) WORDS_20)
 
 unfoldable pub words_21 : List ℕ → Head
-words_21 text =
-    if bytes_eq text (codes "null_pointer_is_valid") then heads.RefusedAttribute
-    else heads.Word
+words_21 = class_in (map (λ row. (row.0.now, row.1)) WORDS_21)
 
 unfoldable pub words_22 : List ℕ → Head
-words_22 text =
-    if bytes_eq text (codes "externally_initialized") then heads.RefusedWord
-    else heads.Word
+words_22 = class_in (map (λ row. (row.0.now, row.1)) WORDS_22)
 
 unfoldable pub words_23 : List ℕ → Head
-words_23 text =
-    if bytes_eq text (codes "dereferenceable_or_null") then heads.ParameterGroup
-    else heads.Word
+words_23 = class_in (map (λ row. (row.0.now, row.1)) WORDS_23)
 
 -- by how many bytes the word has
 unfoldable pub listed_head : List ℕ → Head

@@ -1,5 +1,5 @@
 -- A text's tokens: one behind another, with blanks and comments between.
-use Rattle.std.specs.Prelude.{◌≡◌, ℕ, suc, Bool, true, false, ◌&&◌, ◌||◌, not, nat_eq, nat_lt, if◌then◌else◌, Option, Some, None, Result, Ok, Err, List, [], ◌∷◌, ◌++◌, length, take}
+use Rattle.std.specs.Prelude.{◌≡◌, ℕ, Bool, true, false, ◌&&◌, ◌||◌, nat_eq, Result, Ok, Err, List, [], ◌∷◌, ◌++◌, length, take}
 use Rattle.std.specs.Global.{Vec}
 use Rattle.ir_lex.specs.declared.lexer.LexError.{LexError}
 use Rattle.ir_lex.specs.declared.lexer.LexError.TheVariants as errors

@@ -1,5 +1,5 @@
 -- The rows of the table of tokens: at each place the longest that fits counts, and of equals the first.
-use Rattle.std.specs.Prelude.{◌≡◌, ℕ, suc, max, Bool, false, ◌&&◌, not, nat_eq, nat_lt, if◌then◌else◌, List, [], ◌∷◌, drop}
+use Rattle.std.specs.Prelude.{◌≡◌, ℕ, zero, suc, max, Bool, false, ◌&&◌, not, nat_eq, nat_lt, if◌then◌else◌, List, [], ◌∷◌, drop}
 use Rattle.ir_lex.specs.declared.token.Kind.{Kind}
 use Rattle.ir_lex.specs.declared.token.Kind.TheVariants as kinds
 use Rattle.ir_lex.specs.declared.bytes.Set.TheVariants.{Digits, LabelBytes, WordBytes, MetaBytes, Inside}
@@ -31,6 +31,12 @@ before_colon n bs = if nat_lt 0 n && begins 58 (drop n bs) then suc n else 0
 
 unfoldable pub label_len : List ℕ → ℕ
 label_len bs = max (before_colon (run LabelBytes bs) bs) (before_colon (string_len bs) bs)
+
+-- no label begins at any of the first so many places
+abbrev pub LabelFree : ℕ → List ℕ → Type 0
+LabelFree zero bs = Unit {0}
+LabelFree (suc n) [] = Unit {0}
+LabelFree (suc n) (b ∷ bs) = (label_len (b ∷ bs) ≡ 0) × LabelFree n bs
 
 unfoldable pub number_len : List ℕ → ℕ
 number_len bs = max (run Digits bs) (behind 45 (run Digits) bs)

@@ -2,14 +2,14 @@
 
 ghost use Rattle.std.specs.Prelude.{◌≡◌, ◌<◌, ◌≤◌, ◌^◌, ◌+◌, ◌∷◌, length, List, ℕ, IfOk, IfErr, IfSome, is_none};
 ghost use Rattle.ir_lex.specs.Tok.{Tok, toks};
-ghost use Rattle.ir_lex.specs.Rows.{begins, best_fit};
+ghost use Rattle.ir_lex.specs.Rows.{begins, best_fit, label_len};
 ghost use Rattle.ir_lex.specs.Lexing.{AreTokens, AreTokensBefore, IsLexed, IsTokens, IsFaultAt, IfFault, is_bad, opens};
 ghost use Rattle.ir_lex.specs.declared.lexer.LexError.TheVariants.{NoMemory};
 
 use crate::blanks::{ends_before, line_behind, skip};
 use crate::head::head_of;
 use crate::quotes::is_zero_name;
-use crate::rows::{Fit, best_fit, string_len};
+use crate::rows::{Fit, best_fit, label_at, string_len};
 use crate::token::Token;
 use std::alloc::{AllocError, AllocFailed, Global};
 
@@ -69,15 +69,16 @@ fn begins_quote(bytes: &[u8]) -> bool
     }
 }
 
-/// The token at the front, unless none stands there.
+/// The token at the front, where a label takes so many bytes, unless none stands there.
 #[tactic(auto, unfolding(crate::specs::Lexing::is_bad))]
-fn token_at(first: u8, rest: &[u8], bytes: &[u8]) -> Option<Fit>
-    requires { bytes.now ≡ first ∷ rest.now }
+fn token_at(label: usize, first: u8, rest: &[u8], bytes: &[u8]) -> Option<Fit>
+    requires label { label ≡ label_len bytes.now }
+    requires whole { bytes.now ≡ first ∷ rest.now }
     ensures found { IfSome result (λ f. f ≡ best_fit bytes.now) }
     ensures within { IfSome result (λ f. (0 < f.len) × (f.len ≤ length bytes.now)) }
     ensures bad { is_bad bytes.now ≡ is_none result }
 {
-    let fit = best_fit(first, rest, bytes);
+    let fit = best_fit(label, first, rest, bytes);
     if fit.len == 0 || opens(first, rest, bytes) {
         return None;
     }
@@ -104,8 +105,11 @@ pub fn lex<'a>(alloc: Global, bytes: &'a [u8]) -> Result<Lexed<'a>, AllocError>
     let spot = skip(1, bytes);
     let (_blank, mut rest) = bytes.split_at(spot.at);
     let mut line = spot.line;
+    // At this many places no label begins.
+    let mut free = 0;
     'each: while let [first, others @ ..] = rest {
-        let Some(fit) = token_at(*first, others, rest) else {
+        let label = label_at(free, rest);
+        let Some(fit) = token_at(label.len, *first, others, rest) else {
             return Ok(Lexed {
                 tokens,
                 whole: false,
@@ -127,6 +131,7 @@ pub fn lex<'a>(alloc: Global, bytes: &'a [u8]) -> Result<Lexed<'a>, AllocError>
         })?;
         rest = next;
         line = spot.line;
+        free = label.free.saturating_sub(fit.len).saturating_sub(spot.at);
     }
     Ok(Lexed {
         tokens,

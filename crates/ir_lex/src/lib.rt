@@ -18,6 +18,7 @@ mod names;
 mod quotes;
 mod rows;
 mod token;
+mod words;
 
 pub use head::Head;
 pub use laws::{every_text, one_list, slices, written};

@@ -1,7 +1,8 @@
 //! The rows of the table of tokens: the longest that fits at a place.
 
 ghost use Rattle.std.specs.Prelude.{◌≡◌, ◌+◌, ◌≤◌, ◌∷◌, ◌<◌, ◌^◌, nat_lt, if◌then◌else◌, length};
-ghost use Rattle.ir_lex.specs.Rows.{string_len, bare_len, name_len, before_colon, label_len, fit, better, rest_fit, best_fit, dots_len, behind, Plain};
+ghost use Rattle.ir_lex.specs.Rows.{string_len, bare_len, name_len, before_colon, label_len, fit, better, rest_fit, best_fit, dots_len, behind, LabelFree, Plain};
+ghost use Rattle.ir_lex.specs.Rows as spec;
 ghost use Rattle.ir_lex.specs.declared.token.Kind.TheVariants as kinds;
 
 use crate::bytes::{Set, run, starts_name, starts_word};
@@ -86,6 +87,41 @@ pub fn label_len(bytes: &[u8]) -> usize
     let bare = before_colon(run(Set::LabelBytes, bytes), bytes);
     let quoted = before_colon(string_len(bytes), bytes);
     bare.max(quoted)
+}
+
+/// How many bytes a label at the front takes, and at how many places from there on none begins.
+#[derive(Clone, Copy, Debug, PartialEq, Eq)]
+pub struct Labels {
+    pub len: usize,
+    pub free: usize,
+}
+
+/// A label at the front, and how far none begins.
+#[tactic(auto, unfolding(crate::specs::Rows::label_len))]
+fn seek_label(bytes: &[u8]) -> Labels
+    ensures exact { result.len ≡ label_len bytes.now }
+    ensures free { LabelFree result.free bytes.now }
+{
+    let reach = run(Set::LabelBytes, bytes);
+    let bare = before_colon(reach, bytes);
+    let quoted = before_colon(string_len(bytes), bytes);
+    Labels {
+        len: bare.max(quoted),
+        free: if bare == 0 { reach } else { 0 },
+    }
+}
+
+/// The same, where none begins at this many places: a run of bytes is looked over once.
+pub fn label_at(free: usize, bytes: &[u8]) -> Labels
+    requires { LabelFree free bytes.now }
+    ensures exact { result.len ≡ label_len bytes.now }
+    ensures free { LabelFree result.free bytes.now }
+{
+    if free == 0 {
+        seek_label(bytes)
+    } else {
+        Labels { len: 0, free }
+    }
 }
 
 /// One byte, and behind it what takes so many bytes; the byte alone where that is nothing.
@@ -218,15 +254,17 @@ fn unlabelled(first: u8, rest: &[u8], bytes: &[u8]) -> Fit
     }
 }
 
-/// The longest token at the front; its length is 0 where there is none.
+/// The longest token at the front, where a label takes so many bytes; its length is 0 where there
+/// is none.
 #[tactic(auto, unfolding(crate::specs::Rows::best_fit))]
-pub fn best_fit(first: u8, rest: &[u8], bytes: &[u8]) -> Fit
-    requires { bytes.now ≡ first ∷ rest.now }
+pub fn best_fit(label_len: usize, first: u8, rest: &[u8], bytes: &[u8]) -> Fit
+    requires label { label_len ≡ spec.label_len bytes.now }
+    requires whole { bytes.now ≡ first ∷ rest.now }
     ensures { result ≡ best_fit bytes.now }
 {
     let label = Fit {
         kind: Kind::Label,
-        len: label_len(bytes),
+        len: label_len,
     };
     better(label, unlabelled(first, rest, bytes))
 }

@@ -3,6 +3,7 @@ use Rattle.std.proofs.lemmas.List.{map_push}
 use Rattle.ir_lex.specs.Tok.{Tok, tok, toks}
 use Rattle.ir_lex.specs.Blanks.{place}
 use Rattle.ir_lex.specs.Lexing.{Lead, Stands}
+use Rattle.ir_lex.proofs.Free.{free_on}
 use Rattle.ir_lex.proofs.Leads.{goes_on}
 use Rattle.ir_lex.proofs.lexer.lex.Goals as goal
 
@@ -14,6 +15,7 @@ each-init c = record {
     rest = c.skip-spot.ensures.exact ∙ ap (λ (x : List ℕ). place c.skip-spot.result.line x) (sym c.split_at.ensures.back);
   };
   lines = omega (arith, c.skip-spot.ensures.lines, c.skip-spot.ensures.within, c.split_at.ensures.back_len);
+  free = tt;
 }
 
 pub each-smaller : goal.each-smaller
@@ -30,4 +32,5 @@ each-preserved c =
     record {
       so_far = subst (λ (ts : List Tok). Stands c.args.bytes.now ts c.skip-spot-in-len1-up.result.line c.split_at-in-len1-up-2.result.1.now) (sym e) s;
       lines = omega (arith, c.each.invariant.lines, c.skip-spot-in-len1-up.ensures.lines, c.skip-spot-in-len1-up.ensures.within, c.line_behind-end.ensures.within, c.split_at-in-len1-up.ensures.front_len, c.split_at-in-len1-up.ensures.back_len, c.split_at-in-len1-up-2.ensures.back_len, c.in-Some.ensures.within.1);
+      free = free_on _ _ _ _ _ c.each.rest.now c.split_at-in-len1-up.result.1.now _ c.label_at-label.ensures.free c.split_at-in-len1-up.ensures.back c.split_at-in-len1-up-2.ensures.back c.saturating_sub.ensures c.saturating_sub-free.ensures;
     }
