@@ -101,11 +101,23 @@ pub enum Instr<'a> {
 }
 
 /// An instruction, the name that its result is given, and the line of its first token.
-#[derive(Drop)]
 pub struct Line<'a> {
     pub name: Option<Name<'a>>,
     pub instr: Instr<'a>,
     pub line: u32,
+}
+
+// Written out, so that it is one call wherever a line is dropped.
+impl<'a> Drop for Line<'a> {
+    fn drop(self) {
+        let Line {
+            name,
+            instr,
+            line: _,
+        } = self;
+        drop(name);
+        drop(instr);
+    }
 }
 
 /// A case of a `switch`: the type that is written, a number of `width` bits, and its target.
@@ -138,12 +150,26 @@ pub enum Terminator<'a> {
 
 /// A basic block: its label, where it has one, its instructions, its terminator, and the line of the
 /// terminator's first token.
-#[derive(Drop)]
 pub struct Block<'a> {
     pub label: Option<Name<'a>>,
     pub lines: Rows<Line<'a>>,
     pub end: Terminator<'a>,
     pub end_line: u32,
+}
+
+// Written out, so that it is one call wherever a block is dropped.
+impl<'a> Drop for Block<'a> {
+    fn drop(self) {
+        let Block {
+            label,
+            lines,
+            end,
+            end_line: _,
+        } = self;
+        drop(label);
+        drop(lines);
+        drop(end);
+    }
 }
 
 /// A parameter: its type and its name.
@@ -208,7 +234,6 @@ pub struct Variable<'a> {
 
 /// What a module is made of. Metadata, comdats and the name of the source are read and not kept; a
 /// type without a shape is opaque.
-#[derive(Drop)]
 pub enum Item<'a> {
     Datalayout(Name<'a>),
     Triple(Name<'a>),
@@ -221,4 +246,29 @@ pub enum Item<'a> {
     Variable(Variable<'a>),
     Declaration(Head<'a>),
     Definition(Head<'a>, Rows<Block<'a>>),
+}
+
+// Written out, so that it is one call wherever an item is dropped.
+impl<'a> Drop for Item<'a> {
+    fn drop(self) {
+        match self {
+            Item::Datalayout(text) => drop(text),
+            Item::Triple(text) => drop(text),
+            Item::Attributes {
+                group,
+                noinline: _,
+                optnone: _,
+            } => drop(group),
+            Item::Type(name, typed) => {
+                drop(name);
+                drop(typed);
+            }
+            Item::Variable(variable) => drop(variable),
+            Item::Declaration(head) => drop(head),
+            Item::Definition(head, blocks) => {
+                drop(head);
+                drop(blocks);
+            }
+        }
+    }
 }
