@@ -1,5 +1,6 @@
 pub mod BlockRules
 pub mod CallRules
+pub mod FirstWords
 pub mod LineRules
 pub mod Loops
 pub mod Samples

@@ -98,7 +98,6 @@ fn giving_means(t: &Token) -> Result<Opcode, FaultKind>
     }
 }
 
-#[tactic(auto, unfolding(lto_forms::specs::Rules::is_among))]
 fn begun_means(t: &Token) -> Result<Begun, FaultKind>
     ensures { result ≡ is_among tokens refusal OPCODES begun_of (tok t.now) }
 {
