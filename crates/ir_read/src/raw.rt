@@ -29,15 +29,22 @@ pub struct Argument<'a> {
 }
 
 /// An entry of a phi: a value, and the block that it comes from.
-#[derive(Drop)]
 pub struct Incoming<'a> {
     pub value: Operand<'a>,
     pub from: Name<'a>,
 }
 
+// Written out, so that it is one call wherever an entry is dropped.
+impl<'a> Drop for Incoming<'a> {
+    fn drop(self) {
+        let Incoming { value, from } = self;
+        drop(value);
+        drop(from);
+    }
+}
+
 /// An instruction that is no terminator. Widths are in bits, alignments in bytes; an alignment that
 /// isn't written is `None`, and the count of an `alloca` that isn't is 1.
-#[derive(Drop)]
 pub enum Instr<'a> {
     Binary {
         op: BinaryOp,
@@ -100,6 +107,87 @@ pub enum Instr<'a> {
     },
 }
 
+// Written out, so that it is one call wherever an instruction is dropped.
+impl<'a> Drop for Instr<'a> {
+    fn drop(self) {
+        match self {
+            Instr::Binary {
+                op: _,
+                flags: _,
+                width: _,
+                left,
+                right,
+            } => {
+                drop(left);
+                drop(right);
+            }
+            Instr::Icmp {
+                predicate: _,
+                reg: _,
+                left,
+                right,
+            } => {
+                drop(left);
+                drop(right);
+            }
+            Instr::Cast {
+                op: _,
+                from: _,
+                value,
+                to: _,
+            } => drop(value),
+            Instr::Select {
+                condition,
+                if_true,
+                if_false,
+            } => {
+                drop(condition);
+                drop(if_true);
+                drop(if_false);
+            }
+            Instr::Freeze { reg: _, value } => drop(value),
+            Instr::Phi { reg: _, incoming } => drop(incoming),
+            Instr::Alloca {
+                typed,
+                count: _,
+                align: _,
+            } => drop(typed),
+            Instr::Load {
+                reg: _,
+                address,
+                align: _,
+            } => drop(address),
+            Instr::Store {
+                reg: _,
+                value,
+                address,
+                align: _,
+            } => {
+                drop(value);
+                drop(address);
+            }
+            Instr::Address {
+                inbounds: _,
+                typed,
+                base,
+                indices,
+            } => {
+                drop(typed);
+                drop(base);
+                drop(indices);
+            }
+            Instr::Call {
+                result: _,
+                callee,
+                arguments,
+            } => {
+                drop(callee);
+                drop(arguments);
+            }
+        }
+    }
+}
+
 /// An instruction, the name that its result is given, and the line of its first token.
 pub struct Line<'a> {
     pub name: Option<Name<'a>>,
@@ -130,7 +218,6 @@ pub struct Case<'a> {
 }
 
 /// How a block ends.
-#[derive(Drop)]
 pub enum Terminator<'a> {
     Return(Option<Argument<'a>>),
     Jump(Name<'a>),
@@ -146,6 +233,36 @@ pub enum Terminator<'a> {
         cases: Rows<Case<'a>>,
     },
     Unreachable,
+}
+
+// Written out, so that it is one call wherever a terminator is dropped.
+impl<'a> Drop for Terminator<'a> {
+    fn drop(self) {
+        match self {
+            Terminator::Return(argument) => drop(argument),
+            Terminator::Jump(target) => drop(target),
+            Terminator::Branch {
+                condition,
+                if_true,
+                if_false,
+            } => {
+                drop(condition);
+                drop(if_true);
+                drop(if_false);
+            }
+            Terminator::Switch {
+                width: _,
+                value,
+                default,
+                cases,
+            } => {
+                drop(value);
+                drop(default);
+                drop(cases);
+            }
+            Terminator::Unreachable => {}
+        }
+    }
 }
 
 /// A basic block: its label, where it has one, its instructions, its terminator, and the line of the
@@ -203,13 +320,25 @@ pub enum InitHead<'a> {
 }
 
 /// A part of an initialiser with its shape, or the end of the parts of one that began before.
-#[derive(Drop)]
 pub enum InitPart<'a> {
     Typed {
         typed: Typed<'a>,
         head: InitHead<'a>,
     },
     End,
+}
+
+// Written out, so that it is one call wherever a part is dropped.
+impl<'a> Drop for InitPart<'a> {
+    fn drop(self) {
+        match self {
+            InitPart::Typed { typed, head } => {
+                drop(typed);
+                drop(head);
+            }
+            InitPart::End => {}
+        }
+    }
 }
 
 /// An initialiser: its beginning, and its parts in the order of the text, each before its own parts,
@@ -221,7 +350,6 @@ pub struct Init<'a> {
 }
 
 /// A global variable, and the line of its first token. One without `init` is a declaration.
-#[derive(Drop)]
 pub struct Variable<'a> {
     pub name: Name<'a>,
     pub linkage: Linkage,
@@ -230,6 +358,24 @@ pub struct Variable<'a> {
     pub init: Option<Init<'a>>,
     pub align: Option<u64>,
     pub line: u32,
+}
+
+// Written out, so that it is one call wherever a variable is dropped.
+impl<'a> Drop for Variable<'a> {
+    fn drop(self) {
+        let Variable {
+            name,
+            linkage: _,
+            constant: _,
+            typed,
+            init,
+            align: _,
+            line: _,
+        } = self;
+        drop(name);
+        drop(typed);
+        drop(init);
+    }
 }
 
 /// What a module is made of. Metadata, comdats and the name of the source are read and not kept; a
