@@ -1,16 +1,25 @@
 -- What is made of a function has its interface.
-use Rattle.std.proofs.Common.{◌≡◌, ◌∙◌, ℕ, zero, suc, Bool, true, false, List, [], ◌∷◌, length, map, Option, refl, ap, sym, subst}
+use Rattle.std.proofs.Common.{◌≡◌, ◌∙◌, ◌<◌, ℕ, zero, suc, nat_eq, Bool, true, false, if◌then◌else◌, List, [], ◌∷◌, length, map, Option, Some, refl, ap, sym, subst, arith}
+use Rattle.std.specs.Prelude.{◌≢◌, slice_get}
+use Rattle.std.proofs.lemmas.Bool.{ne_eqb}
+use Rattle.ir_tree.specs.Flow.{edges}
 use Rattle.ir_tree.specs.declared.block.Block.{Block}
 use Rattle.ir_tree.specs.declared.function.Function.{Function}
 use Rattle.ir_tree.specs.declared.function.Param.{Param}
 use Rattle.ir_tree.specs.declared.operand.Operand.{Operand}
 use Rattle.ir_better.specs.Facts.{Facts, blocks_replaced}
-use Rattle.ir_better.specs.Needed.{needed, needed_blocks}
+use Rattle.ir_better.specs.Needed.{needed_blocks}
 use Rattle.ir_edit.specs.Edited.{param_edited}
 use Rattle.ir_edit.specs.Numbered.{in_text_order, new_number, numbers_of}
+use Rattle.block_merge.specs.Merged.{IsMergeOf, Joins, joined_block, joined_blocks}
+use Rattle.block_trim.specs.Trimmed.{AreReached, IsTrimOf, block_in, blocks_in}
+use Rattle.branch_simplify.specs.Simplified.{simplified}
 use Rattle.dead_code.specs.Least.{IsNeededOf}
 use Rattle.ir_facts.specs.Steps.{AreRounds, IsApplied, IsRound, IsStep, ends_of}
-use Rattle.back_end.specs.Laws.{HasInterfaceOf}
+use Rattle.slot_promote.specs.Promoted.{blocks_with, end_at, first_at, next_number, promoted_function}
+use Rattle.slot_promote.specs.Slots.{promoted_slots}
+use Rattle.slot_promote.specs.Values.{placed}
+use Rattle.back_end.specs.Laws.{HasInterfaceOf, has_blocks}
 use Rattle.back_end.specs.Made.{AreTurns, IsMade, IsTurn, MadeWhere}
 
 pub itself : (f : Function) → HasInterfaceOf f f
@@ -31,20 +40,20 @@ both f g h a b = record {
   blocks = b.blocks ∙ a.blocks;
 }
 
--- only the blocks are others, and they are as many
-in_place : (f : Function) (bs : List Block) → length bs ≡ length f.blocks → HasInterfaceOf f (record f { blocks = bs })
+-- only the blocks are others, and there are some where there were
+in_place : (f : Function) (bs : List Block) → has_blocks bs ≡ has_blocks f.blocks → HasInterfaceOf f (record f { blocks = bs })
 in_place f bs e = record { symbol = refl; linkage = refl; result = refl; params = refl; noinline = refl; optnone = refl; blocks = e }
 
 -- ---- the passes
 
-replaced_length : (candidate : ℕ → Option Operand) (starts ends : ℕ → Facts) (bs : List Block) → length (blocks_replaced candidate starts ends bs) ≡ length bs
-replaced_length candidate starts ends [] = refl
-replaced_length candidate starts ends (b ∷ bs) = ap suc (replaced_length candidate starts ends bs)
+replaced_stay : (candidate : ℕ → Option Operand) (starts ends : ℕ → Facts) (bs : List Block) → has_blocks (blocks_replaced candidate starts ends bs) ≡ has_blocks bs
+replaced_stay candidate starts ends [] = refl
+replaced_stay candidate starts ends (b ∷ bs) = refl
 
 step_interface : (candidate : ℕ → Option Operand) (f g : Function) → IsStep candidate f g → HasInterfaceOf f g
 step_interface candidate f g step =
     subst (HasInterfaceOf f) (sym (step.most step.starts step.solution (λ n x v has. has)))
-    (in_place f (blocks_replaced candidate step.starts (ends_of candidate step.starts f) f.blocks) (replaced_length candidate step.starts (ends_of candidate step.starts f) f.blocks))
+    (in_place f (blocks_replaced candidate step.starts (ends_of candidate step.starts f) f.blocks) (replaced_stay candidate step.starts (ends_of candidate step.starts f) f.blocks))
 
 round_interface : (f g : Function) → IsRound f g → HasInterfaceOf f g
 round_interface f g (h, one, other) = both f h g (step_interface _ f h one) (step_interface _ h g other)
@@ -54,20 +63,20 @@ unfolding AreRounds
 rounds_interface zero f g e = is_itself f g e
 rounds_interface (suc n) f g (h, one, rest) = both f h g (round_interface f h one) (rounds_interface n h g rest)
 
-needed_length : (keeps : ℕ → Bool) (bs : List Block) → length (needed_blocks keeps bs) ≡ length bs
-needed_length keeps [] = refl
-needed_length keeps (b ∷ bs) = ap suc (needed_length keeps bs)
+needed_stay : (keeps : ℕ → Bool) (bs : List Block) → has_blocks (needed_blocks keeps bs) ≡ has_blocks bs
+needed_stay keeps [] = refl
+needed_stay keeps (b ∷ bs) = refl
 
 needed_interface : (f g : Function) → IsNeededOf f g → HasInterfaceOf f g
-needed_interface f g (keeps, least, e) = subst (HasInterfaceOf f) (sym e) (in_place f (needed_blocks keeps f.blocks) (needed_length keeps f.blocks))
+needed_interface f g (keeps, least, e) = subst (HasInterfaceOf f) (sym e) (in_place f (needed_blocks keeps f.blocks) (needed_stay keeps f.blocks))
 
 regs_stay : (new : ℕ → ℕ) (ps : List Param) → map (λ p. p.reg) (map (param_edited new) ps) ≡ map (λ p. p.reg) ps
 regs_stay new [] = refl
 regs_stay new (p ∷ ps) = ap (λ l. p.reg ∷ l) (regs_stay new ps)
 
-mapped_length : (f : Block → Block) (bs : List Block) → length (map f bs) ≡ length bs
-mapped_length f [] = refl
-mapped_length f (b ∷ bs) = ap suc (mapped_length f bs)
+mapped_stay : (f : Block → Block) (bs : List Block) → has_blocks (map f bs) ≡ has_blocks bs
+mapped_stay f [] = refl
+mapped_stay f (b ∷ bs) = refl
 
 numbered_interface : (f : Function) → HasInterfaceOf f (in_text_order f)
 numbered_interface f = record {
@@ -77,16 +86,70 @@ numbered_interface f = record {
   params = regs_stay (new_number (numbers_of f)) f.params;
   noinline = refl;
   optnone = refl;
-  blocks = mapped_length _ f.blocks;
+  blocks = mapped_stay _ f.blocks;
 }
 
-simplified_interface : (f g : Function) → IsApplied f g → HasInterfaceOf f g
-simplified_interface f g rounds = rounds_interface 16 f g rounds
+applied_interface : (f g : Function) → IsApplied f g → HasInterfaceOf f g
+applied_interface f g rounds = rounds_interface 16 f g rounds
+
+simplified_interface : (f : Function) → HasInterfaceOf f (simplified f)
+simplified_interface f = in_place f (simplified f).blocks (mapped_stay _ f.blocks)
+
+promoted_interface : (f : Function) → HasInterfaceOf f (promoted_function f)
+promoted_interface f = in_place f (promoted_function f).blocks (some_stay f.blocks)
+  where
+    some_stay : (bs : List Block)
+        → has_blocks (blocks_with (placed 0 (promoted_slots f)) (promoted_slots f) (end_at f (promoted_slots f) (next_number f)) (edges f) (first_at f (promoted_slots f) (next_number f)) 0 bs) ≡ has_blocks bs
+    some_stay [] = refl
+    some_stay (b ∷ bs) = refl
+
+-- the entry is reached
+trimmed_stay : (f : Function) (reached : ℕ → Bool) → AreReached f reached → (bs : List Block) → f.blocks ≡ bs → has_blocks (blocks_in reached bs) ≡ has_blocks bs
+trimmed_stay f reached are [] e = refl
+trimmed_stay f reached are (b ∷ bs) e = ap (λ (t : Bool). has_blocks (if t then block_in reached b ∷ blocks_in reached bs else blocks_in reached bs)) entry
+  where
+    some : 0 < length f.blocks
+    some = subst (λ (cs : List Block). 0 < length cs) (sym e) (omega arith)
+
+    entry : reached b.number ≡ true
+    entry = (are b.number).1 (0, b, ap (λ (cs : List Block). slice_get cs 0) e, refl, ([], (refl, some)))
+
+trim_interface : (f g : Function) → IsTrimOf f g → HasInterfaceOf f g
+trim_interface f g (reached, are, e) = subst (HasInterfaceOf f) (sym e) (in_place f (blocks_in reached f.blocks) (trimmed_stay f reached are f.blocks refl))
+
+-- a block that takes another one stays
+taker_stays : (n : ℕ) (a y : Block) → y.number ≢ a.number → (bs : List Block) (i : ℕ) → slice_get bs i ≡ Some a → has_blocks (joined_blocks n y bs) ≡ has_blocks bs
+taker_stays n a y other [] i e = refl
+taker_stays n a y other (b ∷ bs) zero e =
+    let same : b ≡ a = cc e in
+    ap (λ (t : Bool). has_blocks (if t then joined_blocks n y bs else joined_block n y b ∷ joined_blocks n y bs)) (ne_eqb y.number b.number (λ k. other (k ∙ ap (λ (c : Block). c.number) same)))
+taker_stays n a y other (b ∷ bs) (suc i) e = by (nat_eq y.number b.number) (taker_stays n a y other bs i e ∙ some bs i e)
+  where
+    some : (cs : List Block) (j : ℕ) → slice_get cs j ≡ Some a → has_blocks cs ≡ true
+    some [] j e = absurd cc
+    some (c ∷ cs) j e = refl
+
+    by : (t : Bool) → has_blocks (joined_blocks n y bs) ≡ true → has_blocks (if t then joined_blocks n y bs else joined_block n y b ∷ joined_blocks n y bs) ≡ true
+    by true h = h
+    by false h = refl
+
+joins_interface : (k : ℕ) (f g : Function) → Joins k f g → HasInterfaceOf f g
+joins_interface zero f g e = is_itself f g e
+joins_interface (suc k) f g (h, a, y, before, can, first, e) =
+    both f h g (joins_interface k f h before)
+    (subst (HasInterfaceOf h) (sym e) (in_place h (joined_blocks a.number y h.blocks) (taker_stays a.number a y can.other h.blocks can.first.0 can.first.1)))
+
+merge_interface : (f g : Function) → IsMergeOf f g → HasInterfaceOf f g
+merge_interface f g (k, joins, none) = joins_interface k f g joins
 
 -- ---- their order
 
 turn_interface : (f g : Function) → IsTurn f g → HasInterfaceOf f g
-turn_interface f g turn = both f turn.simplified g (simplified_interface f turn.simplified turn.facts) (needed_interface turn.simplified g turn.needed)
+turn_interface f g turn =
+    both f turn.propagated g (applied_interface f turn.propagated turn.facts)
+    (both turn.propagated (simplified turn.propagated) g (simplified_interface turn.propagated)
+    (both (simplified turn.propagated) turn.trimmed g (trim_interface (simplified turn.propagated) turn.trimmed turn.trim)
+    (both turn.trimmed turn.merged g (merge_interface turn.trimmed turn.merged turn.merge) (needed_interface turn.merged g turn.needed))))
 
 turns_interface : (n : ℕ) (f g : Function) → AreTurns n f g → HasInterfaceOf f g
 unfolding AreTurns
@@ -95,7 +158,10 @@ turns_interface (suc n) f g (h, one, rest) = both f h g (turn_interface f h one)
 
 where_interface : (b : Bool) (f g : Function) → MadeWhere b f g → HasInterfaceOf f g
 where_interface true f g e = is_itself f g e
-where_interface false f g (h, turns, e) = subst (HasInterfaceOf f) (sym e) (both f h (in_text_order h) (turns_interface 3 f h turns) (numbered_interface h))
+where_interface false f g (h, turns, e) =
+    subst (HasInterfaceOf f) (sym e)
+    (both f (promoted_function f) (in_text_order h) (promoted_interface f)
+    (both (promoted_function f) h (in_text_order h) (turns_interface 3 (promoted_function f) h turns) (numbered_interface h)))
 
 pub made_interface : (f g : Function) → IsMade f g → HasInterfaceOf f g
 made_interface f g made = where_interface f.optnone f g made

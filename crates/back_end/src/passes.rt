@@ -3,30 +3,37 @@ ghost use Rattle.std.specs.Prelude.{◌≡◌, IfOk};
 ghost use Rattle.ir_tree.specs.Rules.{Sound};
 ghost use Rattle.back_end.specs.Made.{AreTurns, IsBetterEverywhere, IsMade, IsOptimised, IsTurn};
 
+use crate::laws::{made_is_better, turn_is_better};
+use block_merge::merge;
+use block_trim::trim;
+use branch_simplify::branches;
 use dead_code::needed;
-use ir_edit::{renumber, text_order_is_sound};
+use ir_edit::renumber;
 use ir_facts::apply;
 use ir_tree::{Duplicate, Function};
+use slot_promote::promote;
 use std::alloc::{AllocError, Global};
 
-/// Copies and constants propagated, and then what nobody needs gone.
+/// Copies and constants propagated, decided branches as jumps, what isn't reached gone, blocks joined, and then what
+/// nobody needs gone.
 fn turn(alloc: Global, f: &Function) -> Result<Function, AllocError>
     requires sound { Sound f.now }
     ensures made { IfOk result (λ g. IsTurn f.now g) }
-    ensures better { IfOk result (λ g. IsBetterEverywhere g f.now) }
     ensures sound { IfOk result (λ g. Sound g) }
 {
-    let simplified = apply(alloc, f)?;
-    let g = needed(alloc, &simplified)?;
+    turn_is_better();
+    let propagated = apply(alloc, f)?;
+    let simplified = branches(alloc, &propagated)?;
+    let trimmed = trim(alloc, &simplified)?;
+    let merged = merge(alloc, &trimmed)?;
+    let g = needed(alloc, &merged)?;
     Ok(g)
 }
 
 /// Three turns.
 fn turns(alloc: Global, f: &Function) -> Result<Function, AllocError>
     requires sound { Sound f.now }
-    ensures made { IfOk result (λ g. AreTurns 3 f.now g) }
-    ensures better { IfOk result (λ g. IsBetterEverywhere g f.now) }
-    ensures sound { IfOk result (λ g. Sound g) }
+    ensures { IfOk result (λ g. AreTurns 3 f.now g) }
 {
     let once = turn(alloc, f)?;
     let twice = turn(alloc, &once)?;
@@ -34,16 +41,26 @@ fn turns(alloc: Global, f: &Function) -> Result<Function, AllocError>
     Ok(g)
 }
 
+/// Stack slots as values, three turns, and then numbers in the order of the text.
 fn optimised(alloc: Global, f: &Function) -> Result<Function, AllocError>
     requires sound { Sound f.now }
-    ensures made { IfOk result (λ g. IsOptimised f.now g) }
-    ensures better { IfOk result (λ g. IsBetterEverywhere g f.now) }
-    ensures sound { IfOk result (λ g. Sound g) }
+    ensures { IfOk result (λ g. IsOptimised f.now g) }
 {
-    text_order_is_sound();
-    let turned = turns(alloc, f)?;
+    let promoted = promote(alloc, f)?;
+    let turned = turns(alloc, &promoted)?;
     let g = renumber(alloc, &turned)?;
     Ok(g)
+}
+
+fn made(alloc: Global, f: &Function) -> Result<Function, AllocError>
+    requires sound { Sound f.now }
+    ensures { IfOk result (λ g. IsMade f.now g) }
+{
+    if f.optnone {
+        f.duplicate(alloc)
+    } else {
+        optimised(alloc, f)
+    }
 }
 
 /// What the back end makes of a sound function: optimised, unless it is `optnone` (LangRef, "Function Attributes").
@@ -55,9 +72,7 @@ pub fn compile(alloc: Global, f: &Function) -> Result<Function, AllocError>
     ensures better { IfOk result (λ g. IsBetterEverywhere g f.now) }
     ensures sound { IfOk result (λ g. Sound g) }
 {
-    if f.optnone {
-        f.duplicate(alloc)
-    } else {
-        optimised(alloc, f)
-    }
+    made_is_better();
+    let g = made(alloc, f)?;
+    Ok(g)
 }

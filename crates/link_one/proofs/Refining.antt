@@ -1,5 +1,5 @@
 -- The linked program refines the program: what others see of a function stays, and each function is better.
-use Rattle.std.proofs.Common.{◌≡◌, ◌∙◌, ℕ, Bool, true, false, cond, List, [], ◌∷◌, length, map, Option, Some, None, refl, ap, ap₂, sym, subst}
+use Rattle.std.proofs.Common.{◌≡◌, ◌∙◌, ℕ, Bool, true, false, cond, List, [], ◌∷◌, map, Option, Some, None, refl, ap, ap₂, sym, subst}
 use Rattle.std.specs.List.{AllZip}
 use Rattle.std.specs.Prelude.{IsTrue}
 use Rattle.ir_tree.specs.Initials.{Initial}
@@ -26,7 +26,7 @@ use Rattle.ir_better.proofs.Runs.WholeRuns.{congruent}
 use Rattle.ir_program.specs.Programs.{Body, Definition, Storage, behind, body_of, code_of, defined, definition_from, definition_of, kind_of, opening_from, or_else, program_of, regs_of, signature_of, storage_in, storage_of, symbol_of}
 use Rattle.ir_program.proofs.Inside.{programs_inside}
 use Rattle.ir_program.proofs.Numbered.{programs_formed}
-use Rattle.back_end.specs.Laws.{HasInterfaceOf}
+use Rattle.back_end.specs.Laws.{HasInterfaceOf, has_blocks}
 use Rattle.back_end.proofs.Interface.{made_interface}
 use Rattle.link_one.specs.Accepted.{Accepts}
 use Rattle.link_one.specs.Bettered.{GlobalBetter}
@@ -43,7 +43,7 @@ Follows bound (Some (Body f)) (Some (Body g)) = HasInterfaceOf f g × Within bou
 Follows bound (Some (Storage n v init)) (Some (Storage k w other)) = (k ≡ n) × (w ≡ v) × (other ≡ init)
 Follows bound _ _ = ⊥
 
-bodies : (bound : ℕ) (f g : Function) → HasInterfaceOf f g → Within bound (global.Function f) (global.Function g) → (bs cs : List Block) → length cs ≡ length bs
+bodies : (bound : ℕ) (f g : Function) → HasInterfaceOf f g → Within bound (global.Function f) (global.Function g) → (bs cs : List Block) → has_blocks cs ≡ has_blocks bs
     → Follows bound (body_of bs f) (body_of cs g)
 bodies bound f g same better [] [] e = tt
 bodies bound f g same better [] (c ∷ cs) e = absurd (cc e)

@@ -23,5 +23,5 @@ mod slots;
 mod uses;
 mod values;
 
-pub use laws::promoted_is_better;
+pub use laws::{promoted_is_better, promoted_is_sound};
 pub use promotion::promote;

@@ -84,7 +84,7 @@ const SUM: &[u8] = b"define i32 @main() {\n  %x = add i32 2, 3\n  ret i32 %x\n}\
 const FIVE: &[u8] = b"define i32 @main() {\n  ret i32 5\n}\n";
 
 /// The name of a row, a text, and what it links to.
-const LINKED: [(&str, &[u8], &[u8]); 6] = [
+const LINKED: [(&str, &[u8], &[u8]); 10] = [
     ("a sum of constants", SUM, FIVE),
     (
         "comments, blanks, names in quotes and by number",
@@ -110,6 +110,26 @@ const LINKED: [(&str, &[u8], &[u8]); 6] = [
         "variables, attributes, metadata, target lines and an `optnone` function",
         b"source_filename = \"t.c\"\ntarget triple = \"x86_64-pc-linux-gnu\"\n@g = internal global { i32, i8 } { i32 5, i8 7 }\ndefine dso_local noundef i32 @main() local_unnamed_addr #0 {\n  %1 = load i32, ptr @g, align 4, !tbaa !5\n  %2 = add i32 %1, 0\n  ret i32 %2\n}\ndefine void @f() noinline optnone { %x = add i32 1, 2 ret void }\nattributes #0 = { nounwind \"frame-pointer\"=\"all\" }\n!0 = !{i32 1}\n",
         b"target triple = \"x86_64-pc-linux-gnu\"\n@g = internal global { i32, i8 } { i32 5, i8 7 }, align 4\ndefine i32 @main() {\n  %1 = load i32, ptr @g, align 4\n  ret i32 %1\n}\ndefine void @f() noinline optnone {\n  %1 = add i32 1, 2\n  ret void\n}\n",
+    ),
+    (
+        "a slot that is read before it is written gives poison",
+        b"define i32 @main() {\n  %s = alloca i32, align 4\n  %v = load i32, ptr %s, align 4\n  ret i32 %v\n}\n",
+        b"define i32 @main() {\n  ret i32 poison\n}\n",
+    ),
+    (
+        "a slot in a loop becomes phis",
+        b"define i32 @main() {\nentry:\n  %s = alloca i32, align 4\n  store i32 0, ptr %s, align 4\n  br label %loop\nloop:\n  %i = phi i32 [ 0, %entry ], [ %j, %next ]\n  %c = icmp eq i32 %i, 5\n  br i1 %c, label %add, label %next\nadd:\n  store i32 %i, ptr %s, align 4\n  br label %next\nnext:\n  %j = add i32 %i, 1\n  %d = icmp eq i32 %j, 10\n  br i1 %d, label %done, label %loop\ndone:\n  %v = load i32, ptr %s, align 4\n  ret i32 %v\n}\n",
+        b"define i32 @main() {\n  br label %1\n1:\n  %2 = phi i32 [ 0, %0 ], [ %7, %6 ]\n  %3 = phi i32 [ 0, %0 ], [ %8, %6 ]\n  %4 = icmp eq i32 %3, 5\n  br i1 %4, label %5, label %6\n5:\n  br label %6\n6:\n  %7 = phi i32 [ %2, %1 ], [ %3, %5 ]\n  %8 = add i32 %3, 1\n  %9 = icmp eq i32 %8, 10\n  br i1 %9, label %10, label %1\n10:\n  ret i32 %7\n}\n",
+    ),
+    (
+        "a decided branch, the block that isn't reached, and blocks that are joined",
+        b"define i32 @main() {\n  br i1 true, label %a, label %b\na:\n  br label %j\nb:\n  br label %j\nj:\n  %x = phi i32 [ 1, %a ], [ 2, %b ]\n  ret i32 %x\n}\n",
+        b"define i32 @main() {\n  ret i32 1\n}\n",
+    ),
+    (
+        "a slot with its lifetime, as clang writes it",
+        b"; ModuleID = 't.c'\nsource_filename = \"t.c\"\ntarget datalayout = \"e-m:e-i64:64\"\ntarget triple = \"x86_64-pc-linux-gnu\"\n\ndefine dso_local noundef i32 @main() local_unnamed_addr #0 {\n  %1 = alloca i32, align 4\n  call void @llvm.lifetime.start.p0(i64 4, ptr nonnull %1) #2\n  store i32 7, ptr %1, align 4, !tbaa !5\n  %2 = load i32, ptr %1, align 4, !tbaa !5\n  call void @llvm.lifetime.end.p0(i64 4, ptr nonnull %1) #2\n  ret i32 %2\n}\ndeclare void @llvm.lifetime.start.p0(i64 immarg, ptr captures(none)) #1\ndeclare void @llvm.lifetime.end.p0(i64 immarg, ptr captures(none)) #1\nattributes #0 = { nounwind uwtable \"frame-pointer\"=\"all\" }\nattributes #1 = { nocallback nofree memory(argmem: readwrite) }\n!llvm.module.flags = !{!0}\n!0 = !{i32 1, !\"wchar_size\", i32 4}\n",
+        b"target datalayout = \"e-m:e-i64:64\"\ntarget triple = \"x86_64-pc-linux-gnu\"\ndefine i32 @main() {\n  ret i32 7\n}\n",
     ),
 ];
 

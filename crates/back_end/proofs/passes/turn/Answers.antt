@@ -1,21 +1,24 @@
-use Rattle.std.proofs.Common.{ℕ, ◌+◌, ◌≤◌, arith}
+use Rattle.std.proofs.Common.{subst}
+use Rattle.ir_tree.specs.Rules.{Sound}
 use Rattle.ir_tree.specs.declared.function.Function.{Function}
-use Rattle.ir_meaning.specs.Near.{BetterThan}
-use Rattle.ir_meaning.specs.Program.{Program}
-use Rattle.ir_better.specs.Formed.{IsFormed}
-use Rattle.dead_code.specs.Laws.{longest}
-use Rattle.back_end.specs.Made.{IsBetterEverywhere}
-use Rattle.back_end.proofs.Bettering.{behind}
+use Rattle.edge_counts.proofs.Entries.{apart}
+use Rattle.block_trim.specs.Trimmed.{IsTrimOf}
+use Rattle.back_end.specs.Made.{IsTurn}
 use Rattle.back_end.proofs.passes.turn.Goals as goal
 
-within : (f g : Function) (bound : ℕ) → 1 ≤ bound → ((p : Program) → IsFormed p → BetterThan p bound g f) → IsBetterEverywhere g f
-within f g bound some better = record { bound = bound; some = some; better = better }
+pub returns : goal.returns
+returns c = record { made = made; sound = (c.turn_is_better.ensures c.args.f.now c.in_ok-g.g c.requires.sound made).0 }
+  where
+    trimmed_sound : Sound c.in_ok-trimmed.trimmed
+    trimmed_sound = c.in_ok-trimmed.ensures.sound (c.in_ok-simplified.ensures.sound c.in_ok-propagated.ensures.sound)
 
-pub returns-clause-made : goal.returns-clause-made
-returns-clause-made c = record { simplified = c.in_ok-simplified.simplified; facts = c.in_ok-simplified.ensures.made; needed = c.in_ok-g.ensures.needed }
-
-pub returns-clause-better : goal.returns-clause-better
-returns-clause-better c =
-    behind c.args.f.now c.in_ok-simplified.simplified c.in_ok-g.g
-    (within c.in_ok-simplified.simplified c.in_ok-g.g (longest c.in_ok-simplified.simplified.blocks + 1) (omega arith) c.in_ok-g.ensures.better)
-    (within c.args.f.now c.in_ok-simplified.simplified 1 (omega arith) c.in_ok-simplified.ensures.better)
+    made : IsTurn c.args.f.now c.in_ok-g.g
+    made = record {
+      propagated = c.in_ok-propagated.propagated;
+      facts = c.in_ok-propagated.ensures.made;
+      trimmed = c.in_ok-trimmed.trimmed;
+      trim = subst (λ (s : Function). IsTrimOf s c.in_ok-trimmed.trimmed) c.in_ok-simplified.ensures.simplified c.in_ok-trimmed.ensures.trimmed;
+      merged = c.in_ok-merged.merged;
+      merge = c.in_ok-merged.ensures.merged (apart c.in_ok-trimmed.trimmed trimmed_sound.formed);
+      needed = c.in_ok-g.ensures.needed;
+    }
