@@ -1,5 +1,5 @@
 -- The bytes that a value is stored as, and the value that bytes are read as (LangRef, "load" and "store
--- Instruction"). Numbers are little endian. A pointer is kept as its eight parts in a row, but null as the number zero.
+-- Instruction"). Numbers are little endian. Null is eight zero bytes, another pointer eight ordered fragments.
 use Rattle.std.specs.Prelude.{ℕ, zero, suc, ◌+◌, ◌*◌, ◌/◌, ◌%◌, Bool, true, false, ◌&&◌, ◌==◌, if◌then◌else◌, List, [], ◌∷◌, replicate, Option, Some, None}
 use Rattle.ir_tree.specs.declared.operand.Reg.{Reg}
 use Rattle.ir_tree.specs.declared.operand.Reg.TheVariants.{Int, Ptr}
