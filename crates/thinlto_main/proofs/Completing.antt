@@ -17,11 +17,12 @@ use Rattle.lto_words.specs.declared.request.Command.TheVariants.{Link, Batch, In
 use Rattle.thin_link.specs.Laws.{RefusalIsOne, ReportedIsNotRefused}
 use Rattle.thin_link.specs.Refusing.{IsRefused}
 use Rattle.thinlto_main.specs.Causes.{Causes, never}
-use Rattle.thinlto_main.specs.Copies.{program_read}
+use Rattle.run_parts.specs.Copies.{program_read}
 use Rattle.thinlto_main.specs.Linking.{HasThinLink}
-use Rattle.thinlto_main.specs.Running.{CannotSend, CannotTake, DidReturn, EndedOtherwise, EndsSo, IsUnfit, OfModule, RunEnds, ending_refusal, only}
+use Rattle.thinlto_main.specs.Running.{CannotSend, CannotTake, DidReturn, EndedOtherwise, EndsSo, IsUnfit, OfModule, RunEnds, only}
+use Rattle.run_parts.specs.Said.{ending_refusal}
 use Rattle.thinlto_main.specs.Seen.{InputSeen, Seen, Streams, streams_of}
-use Rattle.thinlto_main.specs.Starting.{beginning}
+use Rattle.run_parts.specs.Starting.{beginning}
 use Rattle.thinlto_main.specs.Telling.{CanDo, CanLink, EndsOver, Held, HoldFirstBad, HoldReport, HoldUnlinked, HoldsModule, IsTold, LinkHeld, MustNotBegin, MustNotLink, MustNotReturn, MustRefuse, RunComesTo, told}
 use Rattle.thinlto_main.proofs.Causes.{Implies}
 use Rattle.thinlto_main.proofs.Held.{none_bad, one_first_bad, one_list}

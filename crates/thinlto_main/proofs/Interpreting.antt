@@ -16,46 +16,39 @@ use Rattle.ir_interp.specs.declared.end.RunEnd.{RunEnd}
 use Rattle.ir_interp.specs.declared.end.RunFault.{RunFault}
 use Rattle.ir_interp.specs.declared.end.RunFault.TheVariants as fault
 use Rattle.ir_program.specs.Programs.{program_of}
+use Rattle.lto_fault.specs.declared.cause.Cause.{Cause}
 use Rattle.lto_fault.specs.declared.refusal.Refusal.{Refusal}
+use Rattle.lto_fault.specs.declared.refusal.Refusal.TheVariants.{Undefined, Uninit}
 use Rattle.lto_notes.specs.declared.returned.Returned as line
 use Rattle.lto_words.specs.declared.list.Decimal.{Decimal}
-use Rattle.machine_memory.proofs.Naming.{same_symbol}
 use Rattle.machine_steps.specs.Steps.{HasBegun, IsRunning, numbers_meant}
 use Rattle.machine_steps.specs.declared.machine.Machine.{Machine}
-use Rattle.thinlto_main.specs.Causes.{Because, Comes, never}
-use Rattle.thinlto_main.specs.Endings.{IsSaid, Unbegun, given_up, name_in}
+use Rattle.run_parts.specs.Said.{IsTold}
+use Rattle.thinlto_main.specs.Causes.{Because, Causes, Comes, never}
+use Rattle.thinlto_main.specs.Endings.{IsSaid, Unbegun, given_up}
 use Rattle.thinlto_main.specs.Reporting.{OUTPUT}
-use Rattle.thinlto_main.specs.Running.{EndsSo, GaveUp, INPUT, ReturnsSo, RunEnds, StopsSo, answer_said, ending_refusal, run_causes}
+use Rattle.thinlto_main.specs.Running.{EndsSo, GaveUp, INPUT, ReturnsSo, RunEnds, StopsSo, run_causes}
+use Rattle.run_parts.specs.Said.{answer_said, ending_refusal}
 use Rattle.thinlto_main.specs.Seen.{Streams}
-use Rattle.thinlto_main.specs.Starting.{beginning, result_of, root_of}
+use Rattle.run_parts.specs.Starting.{beginning, result_of, root_of}
 use Rattle.thinlto_main.specs.declared.streams.StreamNames.{StreamNames}
 use Rattle.thinlto_main.proofs.Causes.{because_map}
-use Rattle.thinlto_main.proofs.Lists.{none_dropped}
+use Rattle.run_parts.proofs.Lists.{none_dropped}
 use Rattle.thinlto_main.proofs.Mapping.{if_some_map}
 
 -- ---- where it failed
 
-pub named_at : (gs : List GlobalValue) (i : ℕ) → name_in (slice_get gs i) ≡ (symbol_at (symbols gs) i).name
-named_at [] i = refl
-named_at (g ∷ gs) zero = ap (λ (s : Symbol). s.name) (sym (same_symbol g))
-named_at (g ∷ gs) (suc i) = named_at gs i
+-- what tells an ending, unless memory runs out
+abbrev pub Telling : Option Refusal → Causes
+Telling ending = record never { unreturned = λ w. ending ≡ Some w; memory = Unit {0} }
 
--- a refusal that is this one tells the ending that is told so
-pub tells : (told : Refusal) (ending : Option Refusal) → ending ≡ Some told → (why : Refusal) → Because (record never { unreturned = λ w. w ≡ told; memory = Unit {0} }) why
-    → Because (record never { unreturned = λ w. ending ≡ Some w; memory = Unit {0} }) why
-tells told ending e why h =
-    because_map {k = record never { unreturned = λ w. w ≡ told; memory = Unit {0} }} {l = record never { unreturned = λ w. ending ≡ Some w; memory = Unit {0} }} (record {
-      done = λ x. x;
-      usage = λ x. x;
-      unread = λ n x. x;
-      refused = λ f l k x. x;
-      unlinked = λ w x. x;
-      unfit = λ n x. x;
-      unwritten = λ n x. x;
-      unreturned = λ w x. e ∙ ap (λ (r : Refusal). Some r) (sym x);
-      memory = λ x. x;
-      other = λ x. x;
-    }) why h
+pub tells_undefined : (function file : List ℕ) (instruction : ℕ) (cause : Cause) (ending : Option Refusal) → ending ≡ Some (Undefined function file instruction cause) → (why : Refusal) → IsTold (Undefined function file instruction cause) why → Because (Telling ending) why
+tells_undefined function file instruction cause ending e why (inl same) = subst (λ (w : Refusal). Because (Telling ending) w) (sym same) e
+tells_undefined function file instruction cause ending e why (inr lacking) = subst (λ (w : Refusal). Because (Telling ending) w) (sym lacking) tt
+
+pub tells_uninit : (function file : List ℕ) (instruction : ℕ) (ending : Option Refusal) → ending ≡ Some (Uninit function file instruction) → (why : Refusal) → IsTold (Uninit function file instruction) why → Because (Telling ending) why
+tells_uninit function file instruction ending e why (inl same) = subst (λ (w : Refusal). Because (Telling ending) w) (sym same) e
+tells_uninit function file instruction ending e why (inr lacking) = subst (λ (w : Refusal). Because (Telling ending) w) (sym lacking) tt
 
 -- ---- from its first state on
 
@@ -91,9 +84,9 @@ module _ (gs : List GlobalValue) (root : ℕ) (numbers : List ℕ) (m : Machine)
 
   pub begun_ran : (r : Result RunEnd RunFault)
       → IfOk r (λ end. (names : List Symbol) (p : Program) (s : State) (bytes : List ℕ) → IsRunning names p m s → t.input.told ≡ Some (drop s.place bytes)
-          → HasRun names p s bytes budget t.input.told_now t.out.told t.out.told_now end)
+      → HasRun names p s bytes budget t.input.told_now t.out.told t.out.told_now end)
       → IfOk r (λ end. (first : State) → start (program_of gs) (symbol_at (symbols gs) root) (numbers_meant numbers) ≡ Some first
-          → IfSome t.input.told (λ bytes. HasRun (symbols gs) (program_of gs) first bytes steps t.input.told_now t.out.told t.out.told_now end))
+      → IfSome t.input.told (λ bytes. HasRun (symbols gs) (program_of gs) first bytes steps t.input.told_now t.out.told t.out.told_now end))
   begun_ran (Ok end) ran = λ first begins.
       over_input (λ (bytes : List ℕ). HasRun (symbols gs) (program_of gs) first bytes steps t.input.told_now t.out.told t.out.told_now end) t.input.told first (begun_at first begins)
       (λ bytes here. subst (λ (n : ℕ). HasRun (symbols gs) (program_of gs) first bytes n t.input.told_now t.out.told t.out.told_now end) all (ran (symbols gs) (program_of gs) first bytes (begun_runs first begins) here))
@@ -108,7 +101,7 @@ module _ (gs : List GlobalValue) (root : ℕ) (numbers : List ℕ) (m : Machine)
 
   pub begun_stops : (r : Result RunEnd RunFault)
       → IfErr r (λ why. (names : List Symbol) (p : Program) (s : State) (bytes : List ℕ) → IsRunning names p m s → t.input.told ≡ Some (drop s.place bytes)
-          → HasSentPart p s bytes budget why t.input.told_now t.out.told t.out.told_now)
+      → HasSentPart p s bytes budget why t.input.told_now t.out.told t.out.told_now)
       → OnErr r ((names : List Symbol) (p : Program) (s : State) → IsRunning names p m s → HasFedPart p s budget t.out.told t.out.told_now)
       → IfErr r (λ why. Unbegun why t ⊎ ((first : State) → start (program_of gs) (symbol_at (symbols gs) root) (numbers_meant numbers) ≡ Some first → StopsSo (program_of gs) first steps t why))
   begun_stops (Ok end) part fed = tt

@@ -1,13 +1,9 @@
-mod Lists
 mod Mapping
 mod Causes
 mod Reading
 mod Unlinked
 mod Linking
 mod Reporting
-mod Owning
-mod Widths
-mod Taking
 mod Rooting
 mod Interpreting
 mod Single

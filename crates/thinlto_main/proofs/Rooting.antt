@@ -28,11 +28,11 @@ use Rattle.machine_memory.proofs.Naming.{code_is, got_symbol, symbol_is}
 use Rattle.machine_memory.specs.Tables.{number_at}
 use Rattle.machine_steps.specs.Steps.{CanBegin, numbers_meant}
 use Rattle.machine_steps.specs.declared.code.Code.{Code}
-use Rattle.thinlto_main.specs.Arguments.{IsGiven, IsTyped}
+use Rattle.run_parts.specs.Arguments.{IsGiven, IsTyped}
 use Rattle.thinlto_main.specs.Roots.{IsBegun, IsRoot, NoRoot, begun_with, function_in}
-use Rattle.thinlto_main.specs.Starting.{arguments, result_of, root_of, shared, started, taken_by}
+use Rattle.run_parts.specs.Starting.{arguments, result_of, root_of, shared, started, taken_by}
 use Rattle.thinlto_main.specs.declared.root.Begun.{Begun}
-use Rattle.thinlto_main.proofs.Taking.{as_many_taken, integers_taken, params_typed, reg_typed}
+use Rattle.run_parts.proofs.Taking.{as_many_taken, integers_taken, params_typed, reg_typed}
 
 -- ---- the program's function at a place
 

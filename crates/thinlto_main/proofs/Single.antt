@@ -9,7 +9,7 @@ use Rattle.lto_outside.specs.Seen.{FilesSeen}
 use Rattle.lto_words.specs.declared.list.Decimal.{Decimal}
 use Rattle.thin_link.specs.Refusing.{IsRefused}
 use Rattle.thinlto_main.specs.Causes.{never}
-use Rattle.thinlto_main.specs.Copies.{program_read}
+use Rattle.run_parts.specs.Copies.{program_read}
 use Rattle.thinlto_main.specs.Linking.{HasThinLink}
 use Rattle.thinlto_main.specs.Modules.{AreRead, reading}
 use Rattle.thinlto_main.specs.Running.{OfModule, ReturnsSo, SaysReturned, module_causes, only, running}

@@ -10,14 +10,9 @@ use Rattle.ir_program.specs.Programs.{symbol_of}
 use Rattle.lto_fault.specs.declared.refusal.Refusal.{Refusal}
 use Rattle.lto_fault.specs.declared.refusal.Refusal.TheVariants.{NoMemory, ReadFault, WriteFault}
 use Rattle.lto_notes.specs.declared.returned.Returned as line
-use Rattle.thinlto_main.specs.Running.{answer_said}
+use Rattle.run_parts.specs.Said.{answer_said}
 use Rattle.thinlto_main.specs.Seen.{Streams}
 use Rattle.thinlto_main.specs.declared.streams.StreamNames.{StreamNames}
-
--- the name of a global value, if there is one
-abbrev pub name_in : Option GlobalValue → List ℕ
-name_in None = []
-name_in (Some g) = (symbol_of g).name
 
 -- the run returned, and this is said of its answer
 pub record IsSaid (gives : Option Reg) (ending : Ending) (r : line.Returned) : Type 0 where

@@ -5,9 +5,6 @@ pub mod Seen
 pub mod Modules
 pub mod Linking
 pub mod Reporting
-pub mod Copies
-pub mod Starting
-pub mod Arguments
 pub mod Roots
 pub mod Running
 pub mod Endings

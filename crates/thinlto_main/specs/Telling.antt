@@ -21,11 +21,12 @@ use Rattle.thin_link.specs.Linking.{IsIndexReport}
 use Rattle.thin_link.specs.Refusing.{IsRefused}
 use Rattle.thinlto_main.specs.Asking.{Asked}
 use Rattle.thinlto_main.specs.Causes.{Causes, free, never}
-use Rattle.thinlto_main.specs.Copies.{program_read}
+use Rattle.run_parts.specs.Copies.{program_read}
 use Rattle.thinlto_main.specs.Linking.{HasThinLink}
-use Rattle.thinlto_main.specs.Running.{OfModule, ending_refusal, module_causes, only, running_by}
+use Rattle.thinlto_main.specs.Running.{OfModule, module_causes, only, running_by}
+use Rattle.run_parts.specs.Said.{ending_refusal}
 use Rattle.thinlto_main.specs.Seen.{InputSeen, Seen, streams_of}
-use Rattle.thinlto_main.specs.Starting.{beginning}
+use Rattle.run_parts.specs.Starting.{beginning}
 
 -- ---- what a file holds
 

@@ -17,15 +17,12 @@
 //! byte is moved once; a module with copies of other modules' definitions is copied once before it runs.
 #![tactic(auto)]
 
-mod arguments;
 mod cache;
 mod command;
-mod copies;
 mod ending;
 mod entry;
 mod index;
 mod link;
-mod literals;
 mod modules;
 mod root;
 mod run;

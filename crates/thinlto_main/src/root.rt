@@ -2,13 +2,13 @@
 ghost use Rattle.std.specs.Prelude.{◌≡◌, All, IfOk, IfSome, None, length, option_copied, slice_get};
 ghost use Rattle.machine_code.specs.Lowered.{IsMadeOf};
 ghost use Rattle.machine_steps.specs.Steps.{CanBegin};
-ghost use Rattle.thinlto_main.specs.Arguments.{IsGiven, IsTyped};
+ghost use Rattle.run_parts.specs.Arguments.{IsGiven, IsTyped};
 ghost use Rattle.thinlto_main.specs.Roots.{IsBegun, IsRoot, NoRoot, begun_with, function_in};
 
-use crate::arguments::arguments;
 use ir_tree::{Function, GlobalValue, Reg, Rows, Text, Verified};
 use lto_words::Decimal;
 use machine_code::Lowered;
+use run_parts::arguments;
 use std::alloc::{AllocError, Global};
 
 /// What a run is asked for.
@@ -21,6 +21,7 @@ pub(crate) struct RunOptions {
 }
 
 /// A function in which a run can begin, with the index of its symbol.
+#[derive(Drop)]
 struct RootFunction<'a> {
     index: u32,
     function: &'a Function,

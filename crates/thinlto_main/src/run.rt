@@ -11,16 +11,15 @@ ghost use Rattle.lto_outside.specs.Seen.{files_seen};
 ghost use Rattle.machine_code.specs.Lowered.{IsLowered, IsMadeOf};
 ghost use Rattle.machine_steps.specs.Steps.{CanBegin, numbers_meant};
 ghost use Rattle.thin_link.specs.Refusing.{IsRefused};
-ghost use Rattle.thinlto_main.specs.Arguments.{IsGiven};
+ghost use Rattle.run_parts.specs.Arguments.{IsGiven};
 ghost use Rattle.thinlto_main.specs.Causes.{Because, Comes, never};
-ghost use Rattle.thinlto_main.specs.Copies.{program_read};
+ghost use Rattle.run_parts.specs.Copies.{program_read};
 ghost use Rattle.thinlto_main.specs.Endings.{Unbegun};
 ghost use Rattle.thinlto_main.specs.Modules.{AreRead};
 ghost use Rattle.thinlto_main.specs.Roots.{BeginsSo};
 ghost use Rattle.thinlto_main.specs.Running.{ReturnsSo, SaysReturned, StopsSo, only, run_causes, running};
 ghost use Rattle.thinlto_main.specs.Seen.{notes_seen, streams_seen};
 
-use crate::copies::{has_copies, without_copies};
 use crate::ending::ended;
 use crate::link::{decided, first};
 use crate::modules::modules;
@@ -35,6 +34,7 @@ use lto_words::FileName;
 use machine_code::{Lowered, lower};
 use machine_memory::opening;
 use machine_steps::Machine;
+use run_parts::{has_copies, without_copies};
 use std::alloc::{AllocError, Global};
 
 /// The import limit where none is given; no run is changed by it.

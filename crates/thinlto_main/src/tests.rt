@@ -169,12 +169,7 @@ const REFUSED: [(&[u8], u64, u8, &str); 13] = [
         "thinlto: a.ll:8: name not available\n",
     ),
     // what a link of one file lacks
-    (
-        b"",
-        NONE,
-        4,
-        "thinlto: no definition of exported @main\n",
-    ),
+    (b"", NONE, 4, "thinlto: no definition of exported @main\n"),
     (
         b"declare i32 @g()\ndefine i32 @main() {\n  %x = call i32 @g()\n  ret i32 %x\n}\n",
         NONE,
@@ -256,7 +251,10 @@ fn words_are_a_link_or_usage(rt: HostRuntime) -> Result<(), AllocError> {
     for (words, status, held, noted) in WORDS {
         let outside = (SUM, NOTHING, NONE, NONE);
         let end = (status, held, NOTHING, noted);
-        assert!(rt; ends_so(&rt, alloc, words, outside, EMPTY, end)?, "{words:?}");
+        assert!(rt;
+            ends_so(&rt, alloc, words, outside, EMPTY, end)?,
+            "{words:?}"
+        );
     }
     Ok(())
 }
@@ -331,7 +329,11 @@ const INDICES: [Indexed; 11] = [
         "both define main",
         INDEX,
         (SUM, SUM, NONE, NONE),
-        (4, b"", b"thinlto: duplicate symbol @main in a.ll and b.ll\n"),
+        (
+            4,
+            b"",
+            b"thinlto: duplicate symbol @main in a.ll and b.ll\n",
+        ),
     ),
     (
         "nobody defines what is called",
@@ -483,7 +485,10 @@ fn a_run_tells_how_it_ends(rt: HostRuntime) -> Result<(), AllocError> {
     for (name, text, status, line) in ENDINGS {
         let outside = (text, NOTHING, NONE, NONE);
         let end = (status, BEFORE, NOTHING, line);
-        assert!(rt; ends_so(&rt, alloc, THOUSAND_STEPS, outside, EMPTY, end)?, "{name}");
+        assert!(rt;
+            ends_so(&rt, alloc, THOUSAND_STEPS, outside, EMPTY, end)?,
+            "{name}"
+        );
     }
     Ok(())
 }
@@ -577,7 +582,10 @@ fn a_run_takes_words_and_streams(rt: HostRuntime) -> Result<(), AllocError> {
         let outside = (text, NOTHING, NONE, stuck);
         let (status, printed, noted) = end;
         let end = (status, BEFORE, printed, noted);
-        assert!(rt; ends_so(&rt, alloc, words, outside, input, end)?, "{words:?}");
+        assert!(rt;
+            ends_so(&rt, alloc, words, outside, input, end)?,
+            "{words:?}"
+        );
     }
     Ok(())
 }

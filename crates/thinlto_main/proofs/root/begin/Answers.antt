@@ -3,9 +3,9 @@ use Rattle.std.specs.Prelude.{All}
 use Rattle.ir_tree.specs.declared.function.Param.{Param}
 use Rattle.lto_words.specs.declared.list.Decimal.{Decimal}
 use Rattle.machine_steps.specs.Steps.{CanBegin}
-use Rattle.thinlto_main.specs.Arguments.{IsGiven, IsTyped}
+use Rattle.run_parts.specs.Arguments.{IsGiven, IsTyped}
 use Rattle.thinlto_main.specs.Roots.{IsBegun, IsRoot, NoRoot}
-use Rattle.thinlto_main.specs.Starting.{arguments}
+use Rattle.run_parts.specs.Starting.{arguments}
 use Rattle.thinlto_main.specs.declared.root.Begun.{Begun}
 use Rattle.thinlto_main.proofs.Rooting.{begun_gives, can_begin, none_begins, root_begins}
 use Rattle.thinlto_main.proofs.root.begin.Goals as goal

@@ -3,7 +3,7 @@ use Rattle.ir_tree.specs.declared.module.Module.{Module}
 use Rattle.lto_outside.specs.Calls.{Call}
 use Rattle.lto_outside.specs.Seen.{files_seen}
 use Rattle.thinlto_main.specs.Causes.{Because}
-use Rattle.thinlto_main.specs.Copies.{program_read}
+use Rattle.run_parts.specs.Copies.{program_read}
 use Rattle.thinlto_main.specs.Modules.{AreRead}
 use Rattle.thinlto_main.specs.Running.{DidReturn, run_causes}
 use Rattle.thinlto_main.specs.Seen.{notes_seen, streams_seen}

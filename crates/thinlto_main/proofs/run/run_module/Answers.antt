@@ -4,10 +4,10 @@ use Rattle.ir_tree.specs.declared.module.GlobalValue.{GlobalValue}
 use Rattle.ir_tree.specs.declared.module.Module.{Module}
 use Rattle.ir_program.specs.Programs.{program_of}
 use Rattle.thinlto_main.specs.Causes.{Comes}
-use Rattle.thinlto_main.specs.Copies.{is_copy}
+use Rattle.run_parts.specs.Copies.{is_copy}
 use Rattle.thinlto_main.specs.Running.{ReturnsSo, run_causes}
 use Rattle.thinlto_main.specs.Seen.{streams_seen}
-use Rattle.thinlto_main.proofs.Owning.{own_same}
+use Rattle.run_parts.proofs.Owning.{own_same}
 use Rattle.thinlto_main.proofs.run.run_module.Goals as goal
 
 pub returns-else-has_copies-clause-answer : goal.returns-else-has_copies-clause-answer

@@ -1,7 +1,7 @@
 use Rattle.std.proofs.Common.{Option, IfSome, length, refl, inl, subst}
 use Rattle.ir_program.specs.Programs.{program_of}
 use Rattle.machine_steps.specs.Steps.{CanBegin}
-use Rattle.thinlto_main.specs.Arguments.{IsGiven}
+use Rattle.run_parts.specs.Arguments.{IsGiven}
 use Rattle.thinlto_main.specs.Roots.{IsBegun}
 use Rattle.thinlto_main.specs.Seen.{streams_seen}
 use Rattle.thinlto_main.specs.declared.root.Begun.{Begun}
