@@ -1,5 +1,5 @@
 -- A run of a program, from where it begins to how it is told.
-use Rattle.std.proofs.Common.{◌≡◌, ◌∙◌, ◌+◌, ◌⊎◌, ℕ, zero, suc, List, [], ◌∷◌, drop, replicate, slice_get, Option, Some, None, IfErr, IfOk, IfSome, OnErr, Result, Ok, Err, refl, ap, sym, subst, inl, inr, arith}
+use Rattle.std.proofs.Common.{◌≡◌, ◌∙◌, ◌+◌, ◌⊎◌, ℕ, List, [], ◌∷◌, drop, replicate, Option, Some, None, IfErr, IfOk, IfSome, OnErr, Result, Ok, Err, ap, sym, subst, inl, inr, arith}
 use Rattle.ir_tree.specs.Wholes.{symbols}
 use Rattle.ir_tree.specs.declared.function.Function.{Function}
 use Rattle.ir_tree.specs.declared.module.GlobalValue.{GlobalValue}

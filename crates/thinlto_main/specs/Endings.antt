@@ -1,12 +1,10 @@
 -- How the machine's ending of a run is told.
-use Rattle.std.specs.Prelude.{◌≡◌, ℕ, List, [], Option, Some, None}
-use Rattle.ir_tree.specs.declared.module.GlobalValue.{GlobalValue}
+use Rattle.std.specs.Prelude.{◌≡◌, ℕ, [], Option}
 use Rattle.ir_tree.specs.declared.operand.Reg.{Reg}
 use Rattle.ir_meaning.specs.Run.{Ending, Returned}
 use Rattle.ir_meaning.specs.declared.value.Value.{Value}
 use Rattle.ir_interp.specs.declared.end.RunFault.{RunFault}
 use Rattle.ir_interp.specs.declared.end.RunFault.TheVariants as fault
-use Rattle.ir_program.specs.Programs.{symbol_of}
 use Rattle.lto_fault.specs.declared.refusal.Refusal.{Refusal}
 use Rattle.lto_fault.specs.declared.refusal.Refusal.TheVariants.{NoMemory, ReadFault, WriteFault}
 use Rattle.lto_notes.specs.declared.returned.Returned as line

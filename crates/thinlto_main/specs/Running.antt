@@ -1,28 +1,17 @@
 -- A run of one module: how it ends, and what its outside saw.
-use Rattle.std.specs.Prelude.{◌≡◌, ◌⊎◌, ◌-◌, ◌^◌, ℕ, true, false, not, if◌then◌else◌, nat_eq, nat_lt, List, [], ◌∷◌, drop, replicate, slice_index_or, Option, Some, None, IfSome, codes}
+use Rattle.std.specs.Prelude.{◌≡◌, ◌⊎◌, ◌-◌, ◌^◌, ℕ, if◌then◌else◌, List, [], ◌∷◌, drop, replicate, slice_index_or, Option, Some, None, IfSome, codes}
 use Rattle.std.specs.Io.KnownBytes.{Appends}
 use Rattle.ir_tree.specs.declared.module.Module.{Module}
-use Rattle.ir_tree.specs.declared.operand.Reg.{Reg}
-use Rattle.ir_tree.specs.declared.operand.Reg.TheVariants.{Int, Ptr}
-use Rattle.ir_meaning.specs.Fault as fault
-use Rattle.ir_meaning.specs.Operate.{bits_of}
 use Rattle.ir_meaning.specs.Program.{Program, State}
-use Rattle.ir_meaning.specs.Run.{Ending, Failed, Ran, Returned, Running, run}
-use Rattle.ir_meaning.specs.declared.fault.Cause as meaning
-use Rattle.ir_meaning.specs.declared.fault.Cause.TheVariants as meant
+use Rattle.ir_meaning.specs.Run.{Ending, Ran, Returned, run}
 use Rattle.ir_meaning.specs.declared.value.Value.{Value}
-use Rattle.ir_meaning.specs.declared.value.Value.TheVariants as value
 use Rattle.ir_interp.specs.Runs.{HasFedPart, HasSentPart, IsFed, bytes_read, written}
 use Rattle.ir_interp.specs.declared.end.RunFault.{RunFault}
 use Rattle.ir_interp.specs.declared.end.RunFault.TheVariants as lack
-use Rattle.lto_fault.specs.declared.cause.Cause as told
-use Rattle.lto_fault.specs.declared.cause.Cause.TheVariants as cause
 use Rattle.lto_fault.specs.declared.refusal.Refusal.{Refusal}
-use Rattle.lto_fault.specs.declared.refusal.Refusal.TheVariants.{OutOfSteps, Undefined, Uninit}
 use Rattle.lto_notes.specs.Pushing.{Hears}
 use Rattle.lto_notes.specs.Returned.{returned_text}
 use Rattle.lto_notes.specs.declared.returned.Returned as line
-use Rattle.lto_notes.specs.declared.returned.Returned.TheVariants as said
 use Rattle.lto_outside.specs.Cause.{Rose}
 use Rattle.lto_outside.specs.Seen.{FilesSeen}
 use Rattle.lto_words.specs.declared.list.Decimal.{Decimal}
@@ -32,6 +21,7 @@ use Rattle.run_parts.specs.Copies.{program_read}
 use Rattle.thinlto_main.specs.Modules.{AreRead, deciding}
 use Rattle.thinlto_main.specs.Reporting.{OUTPUT}
 use Rattle.thinlto_main.specs.Seen.{Notes, Streams}
+use Rattle.run_parts.specs.Said.{answer_said, ending_refusal}
 use Rattle.run_parts.specs.Starting.{beginning, result_of, root_of}
 
 -- the one file
