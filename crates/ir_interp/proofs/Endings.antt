@@ -148,10 +148,12 @@ has_left names p first left before done left' left'' after m why c bytes is h = 
     none =
         let all : done + 0 ≡ done = omega arith in
         left_since names p first left before done left' after m c bytes is 0 ∙ ap (λ (k : ℕ). left_behind p first bytes k) all
+
     one : left_behind p c.now bytes 1 ≡ left_behind p first bytes (suc done)
     one =
         let all : done + 1 ≡ suc done = omega arith in
         left_since names p first left before done left' after m c bytes is 1 ∙ ap (λ (k : ℕ). left_behind p first bytes k) all
+
     by : (f : RunFault) → HasLeft p c.now bytes 0 left'' f → HasLeft p first bytes done left'' f
     by In e = e ∙ none
     by Out e = e ∙ none

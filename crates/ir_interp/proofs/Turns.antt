@@ -52,6 +52,7 @@ come_first names p s left sent m r = record {
   where
     same : (r : Ran) → r ≡ behind_steps 0 [] r
     same r = ap (λ (k : ℕ). record { steps = k; trace = r.trace; ending = r.ending }) (omega arith)
+
     here : (bytes : List ℕ) (n : ℕ) → Passes p bytes s 0 [] s n
     here bytes n = ap (λ (k : ℕ). run p bytes (replicate k 0) s) (omega arith) ∙ same (run p bytes (replicate n 0) s)
 
@@ -99,12 +100,14 @@ come_further names p first left before done done' left' left'' after after' m m'
   where
     all : (n : ℕ) → done' + n ≡ done + suc n
     all n = omega (arith, one)
+
     further : (bytes : List ℕ) (n : ℕ) → Passes p bytes first done c.events c.now (suc n) → Shows p c.now bytes events (On g.next) → Passes p bytes first done' (c.events ++ events) g.next n
     further bytes n path takes =
         ap (λ (k : ℕ). run p bytes (replicate k 0) first) (all n)
         ∙ path
         ∙ ap (λ (r : Ran). behind_steps done c.events r) (one_step p bytes c.now events g.next n takes)
         ∙ behind_one done done' c.events events (run p bytes (replicate n 0) g.next) one
+
     -- the step's read agrees, since those before it do
     agreeing : (bytes : List ℕ) (n : ℕ) → Agree (reads (run p bytes (replicate (done' + n) 0) first).trace) (reads (c.events ++ events)) → Passes p bytes first done' (c.events ++ events) g.next n
     agreeing bytes n agree =

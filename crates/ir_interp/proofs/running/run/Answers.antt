@@ -104,7 +104,7 @@ returns-in_err-end-clause-part g c =
     let same : c.from_residual.result ≡ Err e = exit.1 ∙ ap (λ (x : RunFault). Err x) exit.2 in
     err_so
     (λ (why : RunFault). (names : List Symbol) (p : Program) (s : State) (bytes : List ℕ) → IsRunning names p c.args.machine.now s → g.I.ByteIn.left c.args.input.now ≡ Some (drop s.place bytes) →
-        HasSentPart p s bytes c.args.budget why (g.I.ByteIn.left c.turn.new.input) (g.O.ByteOut.sent c.args.out.now) (g.O.ByteOut.sent c.turn.new.out))
+    HasSentPart p s bytes c.args.budget why (g.I.ByteIn.left c.turn.new.input) (g.O.ByteOut.sent c.args.out.now) (g.O.ByteOut.sent c.turn.new.out))
     c.from_residual.result e same (λ names p s bytes runs is.
     let come = i.comes names p s runs in
     part_told names p s (g.I.ByteIn.left c.args.input.now) (g.O.ByteOut.sent c.args.out.now) c.args.budget (c.args.budget - c.loop-left.left) (g.I.ByteIn.left c.loop-left.input) (g.I.ByteIn.left c.turn.new.input)
