@@ -8,4 +8,4 @@ mod Parts
 mod Sounding
 mod Meaning
 mod Whole
-mod Rooting
+pub mod Rooting

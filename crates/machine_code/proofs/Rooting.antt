@@ -59,7 +59,7 @@ long_locals : (ps : List Param) → length (locals_of ps) ≡ length ps
 long_locals [] = refl
 long_locals (p ∷ ps) = omega (arith, long_locals ps)
 
-long_types : (ps : List Param) → length (regs_of ps) ≡ length ps
+pub long_types : (ps : List Param) → length (regs_of ps) ≡ length ps
 long_types [] = refl
 long_types (p ∷ ps) = omega (arith, long_types ps)
 

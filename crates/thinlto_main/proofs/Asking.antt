@@ -1,5 +1,5 @@
 -- From a command to the words that ask for it, and back.
-use Rattle.std.proofs.Common.{ℕ, ◌≡◌, Bool, true, false, List, [], ◌∷◌, ◌++◌, Err, ap, refl, subst}
+use Rattle.std.proofs.Common.{ℕ, ◌≡◌, Bool, true, false, List, [], ◌∷◌, ◌++◌, OnErr, OnOk, Result, Ok, Err, ap, inl, inr, refl, subst}
 use Rattle.std.specs.Prelude.{◌&&◌, is_some, length, nat_eq, not}
 use Rattle.std.proofs.lemmas.Bool.{eqb-true}
 use Rattle.lto_fault.specs.declared.kind.Kind.{Kind}
@@ -9,31 +9,46 @@ use Rattle.lto_outside.specs.Calls.{Call, DidNoPut, Fetched, NoPut, Put}
 use Rattle.lto_outside.specs.declared.fault.FetchFault.TheVariants.{Fault}
 use Rattle.lto_words.specs.Commands.{IsCommand}
 use Rattle.lto_words.specs.Laws.{OneCommand}
+use Rattle.lto_words.specs.declared.list.Decimal.{Decimal}
 use Rattle.lto_words.specs.declared.request.Command.{Command}
 use Rattle.lto_words.specs.declared.request.Command.TheVariants.{Link, Batch, Index, Run, Gen}
 use Rattle.lto_words.specs.declared.request.LinkOptions.{LinkOptions}
-use Rattle.thinlto_main.specs.Answers.{causes, causes_of, obeyed, reporting}
-use Rattle.thinlto_main.specs.Asking.{AskNothing, Asked, is_offered, is_offered_link}
-use Rattle.thinlto_main.specs.Causes.{Causes, always}
+use Rattle.thinlto_main.specs.Answers.{Says, causes, causes_of, obeyed, reporting}
+use Rattle.thinlto_main.specs.Asking.{Asked, is_offered, is_offered_link, is_offered_run}
+use Rattle.thinlto_main.specs.Causes.{Causes, Comes, always}
 use Rattle.thinlto_main.specs.Linking.{linking}
-use Rattle.thinlto_main.specs.Seen.{Seen, Unwritten}
+use Rattle.thinlto_main.specs.Running.{running}
+use Rattle.thinlto_main.specs.Seen.{InputSeen, Notes, Seen, Untouched, streams_of}
 use Rattle.thinlto_main.specs.Telling.{told, told_of}
 use Rattle.thinlto_main.proofs.Causes.{Implies}
 use Rattle.thinlto_main.proofs.Completing.{telling}
 use Rattle.thinlto_main.proofs.Reading.{fetched_no_put, no_put_fetches}
 
 -- an answer for a command is one for its words
-pub asked_for : OneCommand → (words : List (List ℕ)) (c : Command) (s : Seen) → IsCommand words c → Implies (obeyed c s) (causes_of words s)
-asked_for one words c s is = record {
+pub asked_for : OneCommand → (words : List (List ℕ)) (c : Command) (s : Seen) (i : InputSeen) → IsCommand words c → Implies (obeyed c s i) (causes_of words s i)
+asked_for one words c s i is = record {
   done = λ x. record { command = c; is = is; offered = x.1; so = x.0 };
-  usage = λ x. (λ d asked offered. let same : is_offered d ≡ is_offered c = ap is_offered (one words d c asked is) in let no : ⊥ = cc (same, offered, x.0) in no, x.1);
+  usage = λ x. (λ d asked offered. let same : is_offered d ≡ is_offered c = ap is_offered (one words d c asked is) in let no : ⊥ = cc (same, offered, x.0) in no, x.1, x.2);
   unread = λ name x. record { command = c; is = is; offered = x.1; so = x.0 };
   refused = λ file line kind x. record { command = c; is = is; offered = x.1; so = x.0 };
   unlinked = λ why x. record { command = c; is = is; offered = x.1; so = x.0 };
+  unfit = λ name x. record { command = c; is = is; offered = x.1; so = x.0 };
   unwritten = λ name x. record { command = c; is = is; offered = x.1; so = x.0 };
-  memory = λ x. x;
+  unreturned = λ why x. record { command = c; is = is; offered = x.1; so = x.0 };
+  memory = λ x. inr (record { command = c; is = is; offered = x.1; so = x.0 });
   other = λ x. x;
 }
+
+-- and so is what is said
+pub said_for : {A : Type 0} (words : List (List ℕ)) (c : Command) (s : Seen) (i : InputSeen) (notes : Notes) → IsCommand words c → (r : Result A Refusal) → Comes (obeyed c s i) r → OnOk r (Says c s i notes)
+    → OnOk r (Asked words (λ d. Says d s i notes))
+said_for words c s i notes is (Ok x) come says = record { command = c; is = is; offered = come.1; so = says }
+said_for words c s i notes is (Err why) come says = tt
+
+-- what holds whatever the answer is
+pub on_each : {A : Type 0} (r : Result A Refusal) (P : Type 0) → P → OnOk r P × OnErr r P
+on_each (Ok x) P h = (h, tt)
+on_each (Err why) P h = (tt, h)
 
 -- a link that the program does is of one file
 last_true : (a b c d : Bool) → a && (b && (c && d)) ≡ true → d ≡ true
@@ -46,33 +61,56 @@ pub offered_one : (options : LinkOptions) (names : List (List ℕ)) → is_offer
 offered_one options names e =
     eqb-true (length names) 1 (last_true (nat_eq options.jobs 1) (not (is_some options.cache)) (nat_eq options.inline_limit 40) (nat_eq (length names) 1) e)
 
--- what a link answers is what the command does, and so of an index
-pub link_obeyed : (options : LinkOptions) (out : List ℕ) (names : List (List ℕ)) (s : Seen) → is_offered_link options names ≡ true → s.unprinted
-    → Implies (linking options.exports options.import_limit out names s.files) (obeyed (Link options out names) s)
-link_obeyed options out names s offered same = record {
-  done = λ x. ((x, same), offered);
+-- and so is a run
+pub offered_run : (names : List (List ℕ)) → is_offered_run names ≡ true → length names ≡ 1
+offered_run names e = eqb-true (length names) 1 e
+
+-- what a link answers is what the command does, and so of an index and of a run
+pub link_obeyed : (options : LinkOptions) (out : List ℕ) (names : List (List ℕ)) (s : Seen) (i : InputSeen) → is_offered_link options names ≡ true → s.unprinted → i.untaken
+    → Implies (linking options.exports options.import_limit out names s.files) (obeyed (Link options out names) s i)
+link_obeyed options out names s i offered same untaken = record {
+  done = λ x. (((x, same), untaken), offered);
   usage = λ x. absurd x;
-  unread = λ name x. ((x, same), offered);
-  refused = λ file line kind x. ((x, same), offered);
-  unlinked = λ why x. ((x, same), offered);
-  unwritten = λ name x. ((x, same), offered);
-  memory = λ x. (x, same);
+  unread = λ name x. (((x, same), untaken), offered);
+  refused = λ file line kind x. (((x, same), untaken), offered);
+  unlinked = λ why x. (((x, same), untaken), offered);
+  unfit = λ name x. absurd x;
+  unwritten = λ name x. (((x, same), untaken), offered);
+  unreturned = λ why x. absurd x;
+  memory = λ x. (((x, same), untaken), offered);
   other = λ x. x;
 }
 
-pub index_obeyed : (exports : List (List ℕ)) (limit : ℕ) (names : List (List ℕ)) (s : Seen) → Implies (reporting exports limit names s) (obeyed (Index exports limit names) s)
-index_obeyed exports limit names s = record {
-  done = λ x. (x, refl);
+pub index_obeyed : (exports : List (List ℕ)) (limit : ℕ) (names : List (List ℕ)) (s : Seen) (i : InputSeen) → i.untaken → Implies (reporting exports limit names s) (obeyed (Index exports limit names) s i)
+index_obeyed exports limit names s i untaken = record {
+  done = λ x. ((x, untaken), refl);
   usage = λ x. absurd x.0;
-  unread = λ name x. (x, refl);
-  refused = λ file line kind x. (x, refl);
-  unlinked = λ why x. (x, refl);
-  unwritten = λ name x. (x, refl);
-  memory = λ x. x;
+  unread = λ name x. ((x, untaken), refl);
+  refused = λ file line kind x. ((x, untaken), refl);
+  unlinked = λ why x. ((x, untaken), refl);
+  unfit = λ name x. absurd x.0;
+  unwritten = λ name x. ((x, untaken), refl);
+  unreturned = λ why x. absurd x.0;
+  memory = λ x. ((x, untaken), refl);
   other = λ x. x.0;
 }
 
--- ---- before anything is put or pushed
+pub run_obeyed : (root : List ℕ) (args : List Decimal) (steps : ℕ) (names : List (List ℕ)) (s : Seen) (i : InputSeen) → is_offered_run names ≡ true
+    → Implies (running root args steps names s.files (streams_of s i)) (obeyed (Run root args steps names) s i)
+run_obeyed root args steps names s i offered = record {
+  done = λ x. (x, offered);
+  usage = λ x. absurd x;
+  unread = λ name x. (x, offered);
+  refused = λ file line kind x. (x, offered);
+  unlinked = λ why x. (x, offered);
+  unfit = λ name x. (x, offered);
+  unwritten = λ name x. (x, offered);
+  unreturned = λ why x. (x, offered);
+  memory = λ x. (x, offered);
+  other = λ x. x;
+}
+
+-- ---- before anything is put
 
 no_put_behind : (calls : List Call) (name : List ℕ) → NoPut calls → NoPut (calls ++ Fetched name (Err Fault) ∷ [])
 no_put_behind [] name h = tt
@@ -82,70 +120,141 @@ no_put_behind (Put other bytes done ∷ calls) name h = absurd h
 failed_no_put : (did : List Call → Type 0) (names : List (List ℕ)) (name : List ℕ) → FetchFailed did names name → DidNoPut did
 failed_no_put did names name f = record { calls = fetch_calls f.before f.given ++ Fetched name (Err Fault) ∷ []; made = f.calls; no_put = no_put_behind (fetch_calls f.before f.given) name (no_put_fetches f.before f.given) }
 
+untouched_no_put : (s : Seen) → Untouched s → DidNoPut s.files.did
+untouched_no_put s u = record { calls = []; made = u.0; no_put = tt }
+
 abbrev pub calmly : Type 0 → Causes
 calmly P = record (always P) { done = Unit {0}; unwritten = λ name. Unit {0} }
 
-calm : (s : Seen) (c : Command) → Implies (causes c s) (calmly (Unwritten s))
-calm s (Link options out names) = record {
-  done = λ x. tt;
-  usage = λ x. absurd x.0;
-  unread = λ name x. (failed_no_put s.files.did names name x.0.failed, x.1);
-  refused = λ file line kind x. (fetched_no_put names x.0.given s.files.did x.0.fetched, x.1);
-  unlinked = λ why x. (fetched_no_put names x.0.read.given s.files.did x.0.read.fetched, x.1);
-  unwritten = λ name x. tt;
-  memory = λ x. x;
-  other = λ x. absurd x.0;
-}
-calm s (Index exports limit names) = record {
-  done = λ x. tt;
-  usage = λ x. absurd x.0;
-  unread = λ name x. (failed_no_put s.files.did names name x.0.failed, x.1);
-  refused = λ file line kind x. (fetched_no_put names x.0.given s.files.did x.0.fetched, x.1);
-  unlinked = λ why x. (fetched_no_put names x.0.read.given s.files.did x.0.read.fetched, x.1);
-  unwritten = λ name x. tt;
-  memory = λ x. x;
-  other = λ x. absurd x.0;
-}
-calm s (Batch options list) = record { done = λ x. tt; usage = λ x. absurd x; unread = λ n x. absurd x; refused = λ f l k x. absurd x; unlinked = λ w x. absurd x; unwritten = λ n x. tt; memory = λ x. absurd x; other = λ x. absurd x }
-calm s (Run root args steps names) = record { done = λ x. tt; usage = λ x. absurd x; unread = λ n x. absurd x; refused = λ f l k x. absurd x; unlinked = λ w x. absurd x; unwritten = λ n x. tt; memory = λ x. absurd x; other = λ x. absurd x }
-calm s (Gen seed modules jobs) = record { done = λ x. tt; usage = λ x. absurd x; unread = λ n x. absurd x; refused = λ f l k x. absurd x; unlinked = λ w x. absurd x; unwritten = λ n x. tt; memory = λ x. absurd x; other = λ x. absurd x }
+module _ (root : List ℕ) (args : List Decimal) (steps : ℕ) (names : List (List ℕ)) (s : Seen) (i : InputSeen) where
+  run_unread : (name : List ℕ) → (causes (Run root args steps names) s i).unread name → DidNoPut s.files.did
+  run_unread name (inl x) = failed_no_put s.files.did names name x.0.failed
+  run_unread name (inr o) = fetched_no_put names o.is.given s.files.did o.is.fetched
 
-pub calm_before : (words : List (List ℕ)) (s : Seen) → Implies (causes_of words s) (calmly (Unwritten s))
-calm_before words s = record {
+  run_memory : (causes (Run root args steps names) s i).memory → DidNoPut s.files.did
+  run_memory (inl x) = x.0
+  run_memory (inr o) = fetched_no_put names o.is.given s.files.did o.is.fetched
+
+calm : (s : Seen) (i : InputSeen) (c : Command) → Implies (causes c s i) (calmly (DidNoPut s.files.did))
+calm s i (Link options out names) = record {
   done = λ x. tt;
-  usage = λ x. (record { calls = []; made = x.1.0; no_put = tt }, x.1.1);
-  unread = λ name x. (calm s x.command).unread name x.so;
-  refused = λ file line kind x. (calm s x.command).refused file line kind x.so;
-  unlinked = λ why x. (calm s x.command).unlinked why x.so;
+  usage = λ x. absurd x.0.0;
+  unread = λ name x. failed_no_put s.files.did names name x.0.0.failed;
+  refused = λ file line kind x. fetched_no_put names x.0.0.given s.files.did x.0.0.fetched;
+  unlinked = λ why x. fetched_no_put names x.0.0.read.given s.files.did x.0.0.read.fetched;
+  unfit = λ name x. absurd x.0.0;
   unwritten = λ name x. tt;
-  memory = λ x. x;
+  unreturned = λ why x. absurd x.0.0;
+  memory = λ x. x.0.0;
+  other = λ x. absurd x.0.0;
+}
+calm s i (Index exports limit names) = record {
+  done = λ x. tt;
+  usage = λ x. absurd x.0.0;
+  unread = λ name x. failed_no_put s.files.did names name x.0.0.failed;
+  refused = λ file line kind x. fetched_no_put names x.0.0.given s.files.did x.0.0.fetched;
+  unlinked = λ why x. fetched_no_put names x.0.0.read.given s.files.did x.0.0.read.fetched;
+  unfit = λ name x. absurd x.0.0;
+  unwritten = λ name x. tt;
+  unreturned = λ why x. absurd x.0.0;
+  memory = λ x. x.0.0;
+  other = λ x. absurd x.0.0;
+}
+calm s i (Batch options list) = record { done = λ x. tt; usage = λ x. absurd x; unread = λ n x. absurd x; refused = λ f l k x. absurd x; unlinked = λ w x. absurd x; unfit = λ n x. absurd x; unwritten = λ n x. tt; unreturned = λ w x. absurd x; memory = λ x. absurd x; other = λ x. absurd x }
+calm s i (Run root args steps names) = record {
+  done = λ x. tt;
+  usage = λ x. absurd x;
+  unread = λ name x. run_unread root args steps names s i name x;
+  refused = λ file line kind x. fetched_no_put names x.0.given s.files.did x.0.fetched;
+  unlinked = λ why x. fetched_no_put names x.0.read.given s.files.did x.0.read.fetched;
+  unfit = λ name x. fetched_no_put names x.is.given s.files.did x.is.fetched;
+  unwritten = λ name x. tt;
+  unreturned = λ why x. fetched_no_put names x.is.given s.files.did x.is.fetched;
+  memory = λ x. run_memory root args steps names s i x;
   other = λ x. absurd x;
 }
+calm s i (Gen seed modules jobs) = record { done = λ x. tt; usage = λ x. absurd x; unread = λ n x. absurd x; refused = λ f l k x. absurd x; unlinked = λ w x. absurd x; unfit = λ n x. absurd x; unwritten = λ n x. tt; unreturned = λ w x. absurd x; memory = λ x. absurd x; other = λ x. absurd x }
+
+module _ (words : List (List ℕ)) (s : Seen) (i : InputSeen) where
+  memory_no_put : (causes_of words s i).memory → DidNoPut s.files.did
+  memory_no_put (inl x) = untouched_no_put s x.0
+  memory_no_put (inr x) = (calm s i x.command).memory x.so
+
+  pub calm_before : Implies (causes_of words s i) (calmly (DidNoPut s.files.did))
+  calm_before = record {
+    done = λ x. tt;
+    usage = λ x. untouched_no_put s x.1;
+    unread = λ name x. (calm s i x.command).unread name x.so;
+    refused = λ file line kind x. (calm s i x.command).refused file line kind x.so;
+    unlinked = λ why x. (calm s i x.command).unlinked why x.so;
+    unfit = λ name x. (calm s i x.command).unfit name x.so;
+    unwritten = λ name x. tt;
+    unreturned = λ why x. (calm s i x.command).unreturned why x.so;
+    memory = λ x. memory_no_put x;
+    other = λ x. absurd x;
+  }
+
+-- ---- before anything is printed, or taken from the input
+
+module _ (s : Seen) (i : InputSeen) where
+  refused_unused : (c : Command) (file : List ℕ) (line : ℕ) (kind : Kind) → (causes c s i).refused file line kind → i.untaken × s.unprinted
+  refused_unused (Link options out names) file line kind x = (x.1, x.0.1)
+  refused_unused (Index exports limit names) file line kind x = (x.1, x.0.1)
+  refused_unused (Batch options list) file line kind x = absurd x
+  refused_unused (Run root args steps names) file line kind x = x.1
+  refused_unused (Gen seed modules jobs) file line kind x = absurd x
+
+  unlinked_unused : (c : Command) (why : Refusal) → (causes c s i).unlinked why → i.untaken × s.unprinted
+  unlinked_unused (Link options out names) why x = (x.1, x.0.1)
+  unlinked_unused (Index exports limit names) why x = (x.1, x.0.1)
+  unlinked_unused (Batch options list) why x = absurd x
+  unlinked_unused (Run root args steps names) why x = x.1
+  unlinked_unused (Gen seed modules jobs) why x = absurd x
+
+  unfit_unused : (c : Command) (name : List ℕ) → (causes c s i).unfit name → i.untaken × s.unprinted
+  unfit_unused (Link options out names) name x = absurd x.0.0
+  unfit_unused (Index exports limit names) name x = absurd x.0.0
+  unfit_unused (Batch options list) name x = absurd x
+  unfit_unused (Run root args steps names) name x = x.so.unused
+  unfit_unused (Gen seed modules jobs) name x = absurd x
+
+  pub asked_refused : (words : List (List ℕ)) (file : List ℕ) (line : ℕ) (kind : Kind) → (causes_of words s i).refused file line kind → i.untaken × s.unprinted
+  asked_refused words file line kind x = refused_unused x.command file line kind x.so
+
+  pub asked_unlinked : (words : List (List ℕ)) (why : Refusal) → (causes_of words s i).unlinked why → i.untaken × s.unprinted
+  asked_unlinked words why x = unlinked_unused x.command why x.so
+
+  pub asked_unfit : (words : List (List ℕ)) (name : List ℕ) → (causes_of words s i).unfit name → i.untaken × s.unprinted
+  asked_unfit words name x = unfit_unused x.command name x.so
 
 -- ---- where the files tell
 
-module _ (words : List (List ℕ)) (s : Seen) (tell : (c : Command) → Implies (causes c s) (told c s)) where
-  pub told_so : Implies (causes_of words s) (told_of words s)
+module _ (words : List (List ℕ)) (s : Seen) (i : InputSeen) (tell : (c : Command) → Implies (causes c s i) (told c s i)) where
+  pub told_so : Implies (causes_of words s i) (told_of words s i)
   told_so = record {
     done = λ x. record { command = x.command; is = x.is; offered = x.offered; so = (tell x.command).done x.so };
     usage = λ x. tt;
     unread = λ name x. tt;
     refused = λ file line kind x. record { command = x.command; is = x.is; offered = x.offered; so = (tell x.command).refused file line kind x.so };
     unlinked = λ why x. record { command = x.command; is = x.is; offered = x.offered; so = (tell x.command).unlinked why x.so };
+    unfit = λ name x. record { command = x.command; is = x.is; offered = x.offered; so = (tell x.command).unfit name x.so };
     unwritten = λ name x. record { command = x.command; is = x.is; offered = x.offered; so = (tell x.command).unwritten name x.so };
+    unreturned = λ why x. record { command = x.command; is = x.is; offered = x.offered; so = (tell x.command).unreturned why x.so };
     memory = λ x. tt;
     other = λ x. tt;
   }
 
   -- an answer for words is one for the command that they ask for
-  pub of_command : OneCommand → (c : Command) → IsCommand words c → is_offered c ≡ true → Implies (causes_of words s) (telling c s)
+  pub of_command : OneCommand → (c : Command) → IsCommand words c → is_offered c ≡ true → Implies (causes_of words s i) (telling c s i)
   of_command one c is offered = record {
-    done = λ x. subst (λ (d : Command). (told d s).done) (one words x.command c x.is is) ((tell x.command).done x.so);
+    done = λ x. subst (λ (d : Command). (told d s i).done) (one words x.command c x.is is) ((tell x.command).done x.so);
     usage = λ x. x.0 c is offered;
-    unread = λ name x. subst (λ (d : Command). (told d s).unread name) (one words x.command c x.is is) ((tell x.command).unread name x.so);
-    refused = λ file line kind x. subst (λ (d : Command). (told d s).refused file line kind) (one words x.command c x.is is) ((tell x.command).refused file line kind x.so);
-    unlinked = λ why x. subst (λ (d : Command). (told d s).unlinked why) (one words x.command c x.is is) ((tell x.command).unlinked why x.so);
-    unwritten = λ name x. subst (λ (d : Command). (told d s).unwritten name) (one words x.command c x.is is) ((tell x.command).unwritten name x.so);
+    unread = λ name x. subst (λ (d : Command). (told d s i).unread name) (one words x.command c x.is is) ((tell x.command).unread name x.so);
+    refused = λ file line kind x. subst (λ (d : Command). (told d s i).refused file line kind) (one words x.command c x.is is) ((tell x.command).refused file line kind x.so);
+    unlinked = λ why x. subst (λ (d : Command). (told d s i).unlinked why) (one words x.command c x.is is) ((tell x.command).unlinked why x.so);
+    unfit = λ name x. subst (λ (d : Command). (told d s i).unfit name) (one words x.command c x.is is) ((tell x.command).unfit name x.so);
+    unwritten = λ name x. subst (λ (d : Command). (told d s i).unwritten name) (one words x.command c x.is is) ((tell x.command).unwritten name x.so);
+    unreturned = λ why x. subst (λ (d : Command). (told d s i).unreturned why) (one words x.command c x.is is) ((tell x.command).unreturned why x.so);
     memory = λ x. tt;
     other = λ x. x;
   }

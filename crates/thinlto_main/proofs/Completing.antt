@@ -1,39 +1,50 @@
 -- When a command has to be done, and when refused.
-use Rattle.std.proofs.Common.{ℕ, ◌≡◌, ◌∙◌, Bool, true, false, List, [], ◌∷◌, Option, Some, None, refl, sym, subst}
+use Rattle.std.proofs.Common.{ℕ, ◌≡◌, ◌⊎◌, ◌∙◌, Bool, true, false, List, [], ◌∷◌, get_or, replicate, Option, Some, None, ap, inl, inr, sym, subst}
 use Rattle.std.specs.List.{AllZip}
 use Rattle.std.specs.Prelude.{IfSome}
 use Rattle.ir_tree.specs.declared.module.Module.{Module}
+use Rattle.ir_meaning.specs.Program.{Program, State}
+use Rattle.ir_meaning.specs.Run.{Ending, Returned, run}
+use Rattle.ir_meaning.specs.declared.value.Value.{Value}
 use Rattle.link_one.specs.Laws.{AcceptedIsNotRefused, AcceptedIsOne, RefusedIsOne}
 use Rattle.lto_fault.specs.declared.kind.Kind.{Kind}
 use Rattle.lto_fault.specs.declared.refusal.Refusal.{Refusal}
 use Rattle.lto_outside.specs.Cause.{Rose}
 use Rattle.lto_outside.specs.Store.{Store}
+use Rattle.lto_words.specs.declared.list.Decimal.{Decimal}
 use Rattle.lto_words.specs.declared.request.Command.{Command}
 use Rattle.lto_words.specs.declared.request.Command.TheVariants.{Link, Batch, Index, Run, Gen}
 use Rattle.thin_link.specs.Laws.{RefusalIsOne, ReportedIsNotRefused}
-use Rattle.thin_link.specs.Linking.{IsIndexReport}
 use Rattle.thin_link.specs.Refusing.{IsRefused}
 use Rattle.thinlto_main.specs.Causes.{Causes, never}
+use Rattle.run_parts.specs.Copies.{program_read}
 use Rattle.thinlto_main.specs.Linking.{HasThinLink}
-use Rattle.thinlto_main.specs.Seen.{Seen}
-use Rattle.thinlto_main.specs.Telling.{CanDo, CanLink, HoldFirstBad, HoldReport, HoldUnlinked, HoldsModule, IsTold, LinkHeld, MustNotLink, MustRefuse, told}
+use Rattle.thinlto_main.specs.Running.{CannotSend, CannotTake, DidReturn, EndedOtherwise, EndsSo, IsUnfit, OfModule, RunEnds, only}
+use Rattle.run_parts.specs.Said.{ending_refusal}
+use Rattle.thinlto_main.specs.Seen.{InputSeen, Seen, Streams, streams_of}
+use Rattle.run_parts.specs.Starting.{beginning}
+use Rattle.thinlto_main.specs.Telling.{CanDo, CanLink, EndsOver, Held, HoldFirstBad, HoldReport, HoldUnlinked, HoldsModule, IsTold, LinkHeld, MustNotBegin, MustNotLink, MustNotReturn, MustRefuse, RunComesTo, told}
 use Rattle.thinlto_main.proofs.Causes.{Implies}
 use Rattle.thinlto_main.proofs.Held.{none_bad, one_first_bad, one_list}
 use Rattle.thinlto_main.proofs.Unlinked.{thin_is_not_refused}
 
 -- what is told, of a command that is asked for
-abbrev pub telling : Command → Seen → Causes
-telling c s = record (told c s) { usage = ⊥; memory = Unit {0}; other = ⊥ }
+abbrev pub telling : Command → Seen → InputSeen → Causes
+telling c s i = record (told c s i) { usage = ⊥; memory = Unit {0}; other = ⊥ }
 
 -- ---- of the files that tell
 
-of_told : {A : Type 0} (P Q : Store → Type 0) → ((held : Store) → P held → Q held → A) → (o : Option Store) → IsTold o P → IfSome o Q → A
+of_told : {X A : Type 0} (P Q : X → Type 0) → ((x : X) → P x → Q x → A) → (o : Option X) → IsTold o P → IfSome o Q → A
 of_told P Q f None p q = absurd p
-of_told P Q f (Some held) p q = f held p q
+of_told P Q f (Some x) p q = f x p q
 
-told_fact : {A : Type 0} (P : Store → Type 0) → ((held : Store) → P held → A) → (o : Option Store) → IsTold o P → A
+told_fact : {X A : Type 0} (P : X → Type 0) → ((x : X) → P x → A) → (o : Option X) → IsTold o P → A
 told_fact P f None p = absurd p
-told_fact P f (Some held) p = f held p
+told_fact P f (Some x) p = f x p
+
+either : {A B C : Type 0} → A ⊎ B → (A → C) → (B → C) → C
+either (inl a) f g = f a
+either (inr b) f g = g b
 
 -- ---- a link
 
@@ -52,7 +63,28 @@ link_told put exports limit out names (Some old) (Some new) h = record {
   thin = h.thin;
 }
 
-module _ (apart : AcceptedIsNotRefused) (accepted : AcceptedIsOne) (s : Seen) where
+-- ---- a run
+
+-- what holds of one module
+record Both (P Q : Module → Type 0) : Type 0 where
+  m : Module
+  first : P m
+  second : Q m
+
+-- a run over the same bytes has one ending
+one_ending : (p : Program) (root : List ℕ) (args : List Decimal) (steps : ℕ) (t : Streams) (a b : Ending) → IsTold t.input.told (λ bytes. EndsOver p root args steps bytes a) → RunEnds p root args steps t b → b ≡ a
+one_ending p root args steps t a b can r = of_told (λ (bytes : List ℕ). EndsOver p root args steps bytes a) (λ (bytes : List ℕ). EndsSo (run p bytes (replicate steps 0) r.first) t bytes b) by t.input.told can r.over
+  where
+    by : (bytes : List ℕ) → EndsOver p root args steps bytes a → EndsSo (run p bytes (replicate steps 0) r.first) t bytes b → b ≡ a
+    by bytes e so =
+        let firsts : Some r.first ≡ Some e.first = sym r.begins ∙ e.begins in
+        let same : r.first ≡ e.first = cc firsts in
+        sym so.ended ∙ ap (λ (f : State). (run p bytes (replicate steps 0) f).ending) same ∙ e.ended
+
+begins_not : (p : Program) (root : List ℕ) (args : List Decimal) (first : State) → beginning p root args ≡ None → beginning p root args ≡ Some first → ⊥
+begins_not p root args first none some = let never : None ≡ Some first = sym none ∙ some in cc never
+
+module _ (apart : AcceptedIsNotRefused) (accepted : AcceptedIsOne) (s : Seen) (i : InputSeen) where
   linked_bad : (exports names : List (List ℕ)) (limit : ℕ) (file : List ℕ) (line : ℕ) (kind : Kind) (held : Store) → HoldFirstBad held names file line kind → HoldLinked exports limit names held → ⊥
   linked_bad exports names limit file line kind held bad linked = none_bad held apart names (linked.m ∷ []) file line kind linked.modules bad
 
@@ -86,16 +118,108 @@ module _ (apart : AcceptedIsNotRefused) (accepted : AcceptedIsOne) (s : Seen) wh
   fine : (exports names : List (List ℕ)) → IsTold s.files.held (CanLink exports names s.files) → ¬ (Rose s.files.faults s.files.faults_now)
   fine exports names can = told_fact (CanLink exports names s.files) (λ held c. c.fine) s.files.held can
 
+  -- ---- the module of a run
+
+  module _ (root : List ℕ) (names : List (List ℕ)) (P : Module → Type 0) where
+    module_bad : (file : List ℕ) (line : ℕ) (kind : Kind) → IsTold s.files.held (λ held. HoldFirstBad held names file line kind) → OfModule (Held names s.files) root names P → ⊥
+    module_bad file line kind bad o =
+        of_told (λ (held : Store). HoldFirstBad held names file line kind) (λ (held : Store). AllZip (HoldsModule held) names (o.m ∷ []))
+        (λ held b good. none_bad held apart names (o.m ∷ []) file line kind good b) s.files.held bad o.is
+
+    bad_module : (file : List ℕ) (line : ℕ) (kind : Kind) → IsTold s.files.held (λ held. OfModule (AllZip (HoldsModule held) names) root names P) → IfSome s.files.held (λ held. HoldFirstBad held names file line kind) → ⊥
+    bad_module file line kind can bad =
+        of_told (λ (held : Store). OfModule (AllZip (HoldsModule held) names) root names P) (λ (held : Store). HoldFirstBad held names file line kind)
+        (λ held o b. none_bad held apart names (o.m ∷ []) file line kind o.is b) s.files.held can bad
+
+    module_unlinked : (why : Refusal) → IsTold s.files.held (λ held. HoldUnlinked (root ∷ []) names held why) → OfModule (Held names s.files) root names P → ⊥
+    module_unlinked why clash o =
+        of_told (λ (held : Store). HoldUnlinked (root ∷ []) names held why) (λ (held : Store). AllZip (HoldsModule held) names (o.m ∷ []))
+        (λ held u good. o.linked why (subst (λ (l : List Module). IsRefused names l (root ∷ []) why) (one_list held accepted names u.ms (o.m ∷ []) u.modules good) u.refused)) s.files.held clash o.is
+
+    unlinked_module : (why : Refusal) → IsTold s.files.held (λ held. OfModule (AllZip (HoldsModule held) names) root names P) → IfSome s.files.held (λ held. HoldUnlinked (root ∷ []) names held why) → ⊥
+    unlinked_module why can clash =
+        of_told (λ (held : Store). OfModule (AllZip (HoldsModule held) names) root names P) (λ (held : Store). HoldUnlinked (root ∷ []) names held why)
+        (λ held o u. o.linked why (subst (λ (l : List Module). IsRefused names l (root ∷ []) why) (one_list held accepted names u.ms (o.m ∷ []) u.modules o.is) u.refused)) s.files.held can clash
+
+    same_module : (Q : Module → Type 0) → IsTold s.files.held (λ held. OfModule (AllZip (HoldsModule held) names) root names P) → OfModule (Held names s.files) root names Q → Both P Q
+    same_module Q can o = of_told (λ (held : Store). OfModule (AllZip (HoldsModule held) names) root names P) (λ (held : Store). AllZip (HoldsModule held) names (o.m ∷ [])) by s.files.held can o.is
+      where
+        by : (held : Store) → OfModule (AllZip (HoldsModule held) names) root names P → AllZip (HoldsModule held) names (o.m ∷ []) → Both P Q
+        by held c good =
+            let lists : o.m ∷ [] ≡ c.m ∷ [] = one_list held accepted names (o.m ∷ []) (c.m ∷ []) good c.is in
+            let same : o.m ≡ c.m = ap (λ (l : List Module). get_or l 0 c.m) lists in
+            record { m = c.m; first = c.so; second = subst Q same o.so }
+
+  -- ---- the run of the module
+
+  module _ (root : List ℕ) (args : List Decimal) (steps : ℕ) (names : List (List ℕ)) where
+    abbrev comes_to : Ending → Module → Type 0
+    comes_to ending m = IsTold i.stream.told (λ bytes. EndsOver (program_read m) root args steps bytes ending)
+
+    abbrev begins_nowhere : Module → Type 0
+    begins_nowhere m = beginning (program_read m) root args ≡ None
+
+    abbrev returns : Module → Type 0
+    returns m = DidReturn (program_read m) root args steps (streams_of s i)
+
+    abbrev ends_otherwise : Refusal → Module → Type 0
+    ends_otherwise why m = EndedOtherwise (program_read m) root args (only names) steps (streams_of s i) why
+
+    -- a run that returns doesn't end otherwise
+    returned_not : (answer : Option Value) (why : Refusal) → RunComesTo root args steps names s i (Returned answer) → OfModule (Held names s.files) root names (ends_otherwise why) → ⊥
+    returned_not answer why can o =
+        let b : Both (comes_to (Returned answer)) (ends_otherwise why) = same_module root names (comes_to (Returned answer)) (ends_otherwise why) can o in
+        let same : b.second.ending ≡ Returned answer = one_ending (program_read b.m) root args steps (streams_of s i) (Returned answer) b.second.ending b.first b.second.ended in
+        let never : None ≡ Some why = sym (ap (λ (e : Ending). ending_refusal (only names) steps e) same) ∙ b.second.told in
+        cc never
+
+    -- and one that ends otherwise doesn't return, and is told one way
+    otherwise_not : (ending : Ending) (why : Refusal) → ending_refusal (only names) steps ending ≡ Some why → RunComesTo root args steps names s i ending → OfModule (Held names s.files) root names returns → ⊥
+    otherwise_not ending why is can o =
+        let b : Both (comes_to ending) returns = same_module root names (comes_to ending) returns can o in
+        let same : Returned b.second.answer ≡ ending = one_ending (program_read b.m) root args steps (streams_of s i) ending (Returned b.second.answer) b.first b.second.ended in
+        let never : None ≡ Some why = ap (λ (e : Ending). ending_refusal (only names) steps e) same ∙ is in
+        cc never
+
+    otherwise_so : (ending : Ending) (why other : Refusal) → ending_refusal (only names) steps ending ≡ Some why → RunComesTo root args steps names s i ending → OfModule (Held names s.files) root names (ends_otherwise other) → other ≡ why
+    otherwise_so ending why other is can o =
+        let b : Both (comes_to ending) (ends_otherwise other) = same_module root names (comes_to ending) (ends_otherwise other) can o in
+        let same : b.second.ending ≡ ending = one_ending (program_read b.m) root args steps (streams_of s i) ending b.second.ending b.first b.second.ended in
+        let both : Some other ≡ Some why = sym b.second.told ∙ ap (λ (e : Ending). ending_refusal (only names) steps e) same ∙ is in
+        cc both
+
+    -- where it has an ending it begins
+    fits : (ending : Ending) (name : List ℕ) → RunComesTo root args steps names s i ending → OfModule (Held names s.files) root names (λ m. IsUnfit (program_read m) root args (streams_of s i) name) → ⊥
+    fits ending name can o =
+        let b : Both (comes_to ending) (λ (m : Module). IsUnfit (program_read m) root args (streams_of s i) name) = same_module root names (comes_to ending) (λ (m : Module). IsUnfit (program_read m) root args (streams_of s i) name) can o in
+        told_fact (λ (bytes : List ℕ). EndsOver (program_read b.m) root args steps bytes ending) (λ bytes e. begins_not (program_read b.m) root args e.first b.second.none e.begins) i.stream.told b.first
+
+    -- and where it doesn't begin it has none
+    ends_not : (Q : Module → Type 0) → IsTold s.files.held (λ held. OfModule (AllZip (HoldsModule held) names) root names begins_nowhere)
+        → ((m : Module) → Q m → (first : State) × (beginning (program_read m) root args ≡ Some first)) → OfModule (Held names s.files) root names Q → ⊥
+    ends_not Q none begins o =
+        let b : Both begins_nowhere Q = same_module root names begins_nowhere Q none o in
+        let f = begins b.m b.second in
+        begins_not (program_read b.m) root args f.0 b.first f.1
+
+    abbrev takes : List ℕ → Module → Type 0
+    takes name m = CannotTake (program_read m) root args steps (streams_of s i) name
+
+    abbrev sends : List ℕ → Module → Type 0
+    sends name m = CannotSend (program_read m) root args steps (streams_of s i) name
+
   -- ---- nothing is in the way
 
-  pub completes : (c : Command) → CanDo c s → Implies (telling c s) (record never { done = Unit {0}; memory = Unit {0} })
+  pub completes : (c : Command) → CanDo c s i → Implies (telling c s i) (record never { done = Unit {0}; memory = Unit {0} })
   completes (Link options out names) can = record {
     done = λ x. tt;
     usage = λ x. x;
     unread = λ name x. absurd (fine options.exports names can x);
     refused = λ file line kind x. of_told _ _ (can_bad options.exports names file line kind) s.files.held can x;
     unlinked = λ why x. of_told _ _ (can_unlinked options.exports names why) s.files.held can x;
+    unfit = λ name x. x;
     unwritten = λ name x. absurd (fine options.exports names can x.1);
+    unreturned = λ why x. x;
     memory = λ x. tt;
     other = λ x. x;
   }
@@ -105,25 +229,40 @@ module _ (apart : AcceptedIsNotRefused) (accepted : AcceptedIsOne) (s : Seen) wh
     unread = λ name x. absurd (fine exports names can.0 x);
     refused = λ file line kind x. of_told _ _ (can_bad exports names file line kind) s.files.held can.0 x;
     unlinked = λ why x. of_told _ _ (can_unlinked exports names why) s.files.held can.0 x;
+    unfit = λ name x. x;
     unwritten = λ name x. of_told (CanLink exports names s.files) (HoldReport exports names limit s false) (λ held c report. can.1 report.sent.4) s.files.held can.0 x.1;
+    unreturned = λ why x. x;
     memory = λ x. tt;
     other = λ x. x;
   }
   completes (Batch options list) can = absurd can
-  completes (Run root args steps names) can = absurd can
+  completes (Run root args steps names) can = record {
+    done = λ x. tt;
+    usage = λ x. x;
+    unread = λ name x. either x (λ a. can.work.files a.0) (λ o. can.work.input o.so.rose);
+    refused = λ file line kind x. bad_module root names (comes_to root args steps names (Returned can.answer)) file line kind can.comes x.0;
+    unlinked = λ why x. unlinked_module root names (comes_to root args steps names (Returned can.answer)) why can.comes x.0;
+    unfit = λ name x. fits root args steps names (Returned can.answer) name can.comes x;
+    unwritten = λ name x. can.work.out x.1.so.rose;
+    unreturned = λ why x. returned_not root args steps names can.answer why can.comes x;
+    memory = λ x. tt;
+    other = λ x. x;
+  }
   completes (Gen seed modules jobs) can = absurd can
 
   -- ---- nothing but a file
 
   pub refuses : RefusedIsOne → (c : Command) (file : List ℕ) (line : ℕ) (kind : Kind) → MustRefuse c s file line kind
-      → Implies (telling c s) (record never { refused = λ f l k. (f ≡ file) × (l ≡ line) × (k ≡ kind); memory = Unit {0} })
+      → Implies (telling c s i) (record never { refused = λ f l k. (f ≡ file) × (l ≡ line) × (k ≡ kind); memory = Unit {0} })
   refuses one (Link options out names) file line kind must = record {
     done = λ x. of_told _ _ (linked_bad options.exports names options.import_limit file line kind) s.files.held must.0 (link_told _ options.exports options.import_limit out names s.files.held s.files.holds x);
     usage = λ x. x;
     unread = λ name x. absurd (must.1 x);
     refused = λ f l k x. of_told _ _ (λ held a b. one_first_bad held apart one names f file l line k kind b a) s.files.held must.0 x;
     unlinked = λ why x. of_told _ _ (λ held bad u. unlinked_bad options.exports names why file line kind held u bad) s.files.held must.0 x;
+    unfit = λ name x. x;
     unwritten = λ name x. absurd (must.1 x.1);
+    unreturned = λ why x. x;
     memory = λ x. tt;
     other = λ x. x;
   }
@@ -133,25 +272,40 @@ module _ (apart : AcceptedIsNotRefused) (accepted : AcceptedIsOne) (s : Seen) wh
     unread = λ name x. absurd (must.1 x);
     refused = λ f l k x. of_told _ _ (λ held a b. one_first_bad held apart one names f file l line k kind b a) s.files.held must.0 x;
     unlinked = λ why x. of_told _ _ (λ held bad u. unlinked_bad exports names why file line kind held u bad) s.files.held must.0 x;
+    unfit = λ name x. x;
     unwritten = λ name x. of_told _ _ (reported_bad exports names limit false file line kind) s.files.held must.0 x.1;
+    unreturned = λ why x. x;
     memory = λ x. tt;
     other = λ x. x;
   }
   refuses one (Batch options list) file line kind must = absurd must
-  refuses one (Run root args steps names) file line kind must = absurd must
+  refuses one (Run root args steps names) file line kind must = record {
+    done = λ x. module_bad root names _ file line kind must.0 x.1;
+    usage = λ x. x;
+    unread = λ name x. either x (λ a. must.1 a.0) (λ o. module_bad root names _ file line kind must.0 o);
+    refused = λ f l k x. of_told _ _ (λ held a b. one_first_bad held apart one names f file l line k kind b a) s.files.held must.0 x.0;
+    unlinked = λ why x. of_told _ _ (λ held bad u. unlinked_bad (root ∷ []) names why file line kind held u bad) s.files.held must.0 x.0;
+    unfit = λ name x. module_bad root names _ file line kind must.0 x;
+    unwritten = λ name x. module_bad root names _ file line kind must.0 x.1;
+    unreturned = λ why x. module_bad root names _ file line kind must.0 x;
+    memory = λ x. tt;
+    other = λ x. x;
+  }
   refuses one (Gen seed modules jobs) file line kind must = absurd must
 
   -- ---- nothing but the modules
 
   pub clashes : ReportedIsNotRefused → RefusalIsOne → (c : Command) (why : Refusal) → MustNotLink c s why
-      → Implies (telling c s) (record never { unlinked = λ other. other ≡ why; memory = Unit {0} })
+      → Implies (telling c s i) (record never { unlinked = λ other. other ≡ why; memory = Unit {0} })
   clashes reported one (Link options out names) why must = record {
     done = λ x. of_told _ _ (linked_unlinked options.exports names options.import_limit why) s.files.held must.0 (link_told _ options.exports options.import_limit out names s.files.held s.files.holds x);
     usage = λ x. x;
     unread = λ name x. absurd (must.1 x);
     refused = λ file line kind x. of_told _ _ (unlinked_bad options.exports names why file line kind) s.files.held must.0 x;
     unlinked = λ other x. of_told _ _ (one_unlinked one options.exports names why other) s.files.held must.0 x;
+    unfit = λ name x. x;
     unwritten = λ name x. absurd (must.1 x.1);
+    unreturned = λ w x. x;
     memory = λ x. tt;
     other = λ x. x;
   }
@@ -161,10 +315,63 @@ module _ (apart : AcceptedIsNotRefused) (accepted : AcceptedIsOne) (s : Seen) wh
     unread = λ name x. absurd (must.1 x);
     refused = λ file line kind x. of_told _ _ (unlinked_bad exports names why file line kind) s.files.held must.0 x;
     unlinked = λ other x. of_told _ _ (one_unlinked one exports names why other) s.files.held must.0 x;
+    unfit = λ name x. x;
     unwritten = λ name x. of_told _ _ (reported_unlinked reported exports names limit false why) s.files.held must.0 x.1;
+    unreturned = λ w x. x;
     memory = λ x. tt;
     other = λ x. x;
   }
   clashes reported one (Batch options list) why must = absurd must
-  clashes reported one (Run root args steps names) why must = absurd must
+  clashes reported one (Run root args steps names) why must = record {
+    done = λ x. module_unlinked root names _ why must.0 x.1;
+    usage = λ x. x;
+    unread = λ name x. either x (λ a. must.1 a.0) (λ o. module_unlinked root names _ why must.0 o);
+    refused = λ file line kind x. of_told _ _ (unlinked_bad (root ∷ []) names why file line kind) s.files.held must.0 x.0;
+    unlinked = λ other x. of_told _ _ (one_unlinked one (root ∷ []) names why other) s.files.held must.0 x.0;
+    unfit = λ name x. module_unlinked root names _ why must.0 x;
+    unwritten = λ name x. module_unlinked root names _ why must.0 x.1;
+    unreturned = λ w x. module_unlinked root names _ why must.0 x;
+    memory = λ x. tt;
+    other = λ x. x;
+  }
   clashes reported one (Gen seed modules jobs) why must = absurd must
+
+  -- ---- nothing but that the root doesn't take the arguments
+
+  pub begins_none : (c : Command) (name : List ℕ) → MustNotBegin c s name → Implies (telling c s i) (record never { unfit = λ other. other ≡ name; memory = Unit {0} })
+  begins_none (Link options out names) name must = absurd must
+  begins_none (Index exports limit names) name must = absurd must
+  begins_none (Batch options list) name must = absurd must
+  begins_none (Run root args steps names) name must = record {
+    done = λ x. ends_not root args steps names (returns root args steps names) must.none (λ m r. (r.ended.first, r.ended.begins)) x.1;
+    usage = λ x. x;
+    unread = λ n x. either x (λ a. must.fine a.0) (λ o. ends_not root args steps names (takes root args steps names n) must.none (λ m r. (r.gave_up.first, r.gave_up.begins)) o);
+    refused = λ file line kind x. bad_module root names (begins_nowhere root args steps names) file line kind must.none x.0;
+    unlinked = λ why x. unlinked_module root names (begins_nowhere root args steps names) why must.none x.0;
+    unfit = λ n x. x.so.named ∙ sym must.named;
+    unwritten = λ n x. ends_not root args steps names (sends root args steps names n) must.none (λ m r. (r.gave_up.first, r.gave_up.begins)) x.1;
+    unreturned = λ why x. ends_not root args steps names (ends_otherwise root args steps names why) must.none (λ m r. (r.ended.first, r.ended.begins)) x;
+    memory = λ x. tt;
+    other = λ x. x;
+  }
+  begins_none (Gen seed modules jobs) name must = absurd must
+
+  -- ---- nothing but how the run ends
+
+  pub returns_none : (c : Command) (why : Refusal) → MustNotReturn c s i why → Implies (telling c s i) (record never { unreturned = λ other. other ≡ why; memory = Unit {0} })
+  returns_none (Link options out names) why must = absurd must
+  returns_none (Index exports limit names) why must = absurd must
+  returns_none (Batch options list) why must = absurd must
+  returns_none (Run root args steps names) why must = record {
+    done = λ x. otherwise_not root args steps names must.ending why must.told must.comes x.1;
+    usage = λ x. x;
+    unread = λ name x. either x (λ a. must.work.files a.0) (λ o. must.work.input o.so.rose);
+    refused = λ file line kind x. bad_module root names (comes_to root args steps names must.ending) file line kind must.comes x.0;
+    unlinked = λ w x. unlinked_module root names (comes_to root args steps names must.ending) w must.comes x.0;
+    unfit = λ name x. fits root args steps names must.ending name must.comes x;
+    unwritten = λ name x. must.work.out x.1.so.rose;
+    unreturned = λ other x. otherwise_so root args steps names must.ending why other must.told must.comes x;
+    memory = λ x. tt;
+    other = λ x. x;
+  }
+  returns_none (Gen seed modules jobs) why must = absurd must

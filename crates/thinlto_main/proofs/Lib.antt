@@ -1,9 +1,14 @@
+mod Mapping
 mod Causes
 mod Reading
 mod Unlinked
 mod Linking
 mod Reporting
+mod Rooting
+mod Interpreting
+mod Single
 mod Held
 mod Telling
 mod Completing
 mod Asking
+mod Saying

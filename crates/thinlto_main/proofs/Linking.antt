@@ -25,7 +25,9 @@ reading_links exports limit out names files = record {
   unread = λ name x. x;
   refused = λ file line kind x. x;
   unlinked = λ why x. absurd x;
+  unfit = λ name x. absurd x;
   unwritten = λ name x. absurd x;
+  unreturned = λ why x. absurd x;
   memory = λ x. x;
   other = λ x. x;
 }
@@ -39,15 +41,17 @@ unlinked_links exports limit out names files ms r = record {
   unread = λ name x. absurd x;
   refused = λ file line kind x. absurd x;
   unlinked = λ why x. record { ms = ms; read = r; refused = x };
+  unfit = λ name x. absurd x;
   unwritten = λ name x. absurd x;
+  unreturned = λ why x. absurd x;
   memory = λ x. fetched_no_put names r.given files.did r.fetched;
   other = λ x. x;
 }
 
--- what the thin link decides, for the exported names that were asked for
-pub has_thin_link : (ms : List Module) (limit : ℕ) (given exports : List (List ℕ)) → given ≡ exports → (index : Combined) (live : List Bool) (imports : List (List ℕ)) → IsThinLink ms given limit index live imports
+-- what the thin link decides
+pub has_thin_link : (ms : List Module) (limit : ℕ) (exports : List (List ℕ)) (index : Combined) (live : List Bool) (imports : List (List ℕ)) → IsThinLink ms exports limit index live imports
     → HasThinLink ms exports limit
-has_thin_link ms limit given exports e index live imports h = record { index = index; live = live; imports = imports; is = subst (λ (es : List (List ℕ)). IsThinLink ms es limit index live imports) e h }
+has_thin_link ms limit exports index live imports h = record { index = index; live = live; imports = imports; is = h }
 
 -- one file, one module
 record One (names : List (List ℕ)) (given : List (Option (List ℕ))) (ms : List Module) : Type 0 where

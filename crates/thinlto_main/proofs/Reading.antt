@@ -60,7 +60,9 @@ bad_because name bytes line kind bad why h =
       unread = λ n x. x;
       refused = λ file at told x. (x.0, subst (λ (n : ℕ). IsBad bytes n told) (sym x.1) (subst (λ (k : Kind). IsBad bytes line k) (sym x.2) bad));
       unlinked = λ w x. x;
+      unfit = λ n x. x;
       unwritten = λ n x. x;
+      unreturned = λ w x. x;
       memory = λ x. x;
       other = λ x. x;
     }) why h
@@ -77,7 +79,9 @@ first_because names given ms i name bytes each lt name_is bytes_is read why h =
       unread = λ n x. x;
       refused = λ file line kind x. first_bad names given ms i name bytes file line kind each lt name_is bytes_is read x;
       unlinked = λ w x. x;
+      unfit = λ n x. x;
       unwritten = λ n x. x;
+      unreturned = λ w x. x;
       memory = λ x. x;
       other = λ x. x;
     }) why h
@@ -99,7 +103,9 @@ read_because names given files fetched (Err why) h =
       unread = λ name x. absurd x;
       refused = λ file line kind first. record { given = given; fetched = fetched; first = first };
       unlinked = λ w x. x;
+      unfit = λ n x. x;
       unwritten = λ name x. x;
+      unreturned = λ w x. x;
       memory = λ x. fetched_no_put names given files.did fetched;
       other = λ x. x;
     }) why h

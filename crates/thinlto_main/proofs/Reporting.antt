@@ -25,7 +25,9 @@ reading_reports exports names limit s same = record {
   unread = λ name x. (x, same);
   refused = λ file line kind x. (x, same);
   unlinked = λ why x. absurd x;
+  unfit = λ name x. absurd x;
   unwritten = λ name x. absurd x;
+  unreturned = λ why x. absurd x;
   memory = λ x. (x, same);
   other = λ x. absurd x;
 }
@@ -39,7 +41,9 @@ module _ (exports names : List (List ℕ)) (limit : ℕ) (s : Seen) (ms : List M
     unread = λ name x. absurd x;
     refused = λ file line kind x. absurd x;
     unlinked = λ why x. (record { ms = ms; read = r; refused = x }, same);
+    unfit = λ name x. absurd x;
     unwritten = λ name x. absurd x;
+    unreturned = λ why x. absurd x;
     memory = λ x. (fetched_no_put names r.given s.files.did r.fetched, same);
     other = λ x. absurd x;
   }

@@ -11,23 +11,23 @@ use Rattle.lto_outside.specs.Calls.{Call, Fetched, Put}
 use Rattle.lto_outside.specs.Replay.{Follows}
 use Rattle.lto_outside.specs.Seen.{FilesSeen}
 use Rattle.lto_outside.specs.Store.{HasPart, HasPut, IsPart, SameFiles, Stays, Store}
+use Rattle.lto_words.specs.declared.list.Decimal.{Decimal}
 use Rattle.lto_words.specs.declared.request.Command.{Command}
 use Rattle.lto_words.specs.declared.request.Command.TheVariants.{Link, Batch, Index, Run, Gen}
 use Rattle.thin_link.specs.Laws.{ReportIsOne}
 use Rattle.thin_link.specs.Linking.{IsIndexReport}
 use Rattle.thinlto_main.specs.Answers.{causes}
+use Rattle.thinlto_main.specs.Causes.{Causes}
 use Rattle.thinlto_main.specs.Linking.{DidLink}
-use Rattle.thinlto_main.specs.Modules.{AreFetched, CannotLink, CannotRead, IsRead}
+use Rattle.thinlto_main.specs.Modules.{AreFetched, AreRead, CannotLink, CannotRead, IsRead}
 use Rattle.thinlto_main.specs.Reporting.{DidReport}
-use Rattle.thinlto_main.specs.Seen.{Seen}
-use Rattle.thinlto_main.specs.Telling.{HoldFirstBad, HoldReport, HoldUnlinked, HoldsModule, LinkHeld, told}
+use Rattle.thinlto_main.specs.Running.{OfModule, module_causes, running, running_by}
+use Rattle.thinlto_main.specs.Seen.{InputSeen, Seen, Streams, streams_of}
+use Rattle.thinlto_main.specs.Telling.{Held, HoldFirstBad, HoldReport, HoldUnlinked, HoldsModule, LinkHeld, told, told_files}
 use Rattle.thinlto_main.proofs.Causes.{Implies}
 use Rattle.thinlto_main.proofs.Held.{Gives, fetches_give, follows_same, held_first_bad, held_modules, one_list}
+use Rattle.thinlto_main.proofs.Mapping.{if_some_map}
 use Rattle.thinlto_main.proofs.Reading.{no_put_fetches}
-
-if_some_map : {X : Type 0} (P Q : X → Type 0) → ((x : X) → P x → Q x) → (o : Option X) → IfSome o P → IfSome o Q
-if_some_map P Q f None h = tt
-if_some_map P Q f (Some x) h = f x h
 
 -- ---- fetches
 
@@ -46,6 +46,15 @@ module _ (files : FilesSeen) (tells : (calls : List Call) → files.did calls �
 
   pub bad_told : (names : List (List ℕ)) (file : List ℕ) (line : ℕ) (kind : Kind) → CannotRead names files file line kind → IfSome files.held (λ held. HoldFirstBad held names file line kind)
   bad_told names file line kind r = if_some_map _ _ (λ held gives. held_first_bad held names r.given file line kind gives r.first) files.held (fetched_told names r.given r.fetched)
+
+  held_told : (names : List (List ℕ)) (ms : List Module) → AreRead names files.did ms → Held names files ms
+  held_told names ms r = if_some_map _ _ (λ held gives. held_modules held names r.given ms gives r.read) files.held (fetched_told names r.given r.fetched)
+
+  pub module_told : (root : List ℕ) (names : List (List ℕ)) (P : Module → Type 0) → OfModule (AreRead names files.did) root names P → OfModule (Held names files) root names P
+  module_told root names P o = record { m = o.m; is = held_told names (o.m ∷ []) o.is; linked = o.linked; so = o.so }
+
+  pub module_stays : (root : List ℕ) (names : List (List ℕ)) (P : Module → Type 0) → OfModule (AreRead names files.did) root names P → Stays files.held files.holds
+  module_stays root names P o = fetched_stay names o.is.given o.is.fetched
 
   pub unlinked_told : (exports names : List (List ℕ)) (why : Refusal) → CannotLink exports names files why → IfSome files.held (λ held. HoldUnlinked exports names held why)
   unlinked_told exports names why r =
@@ -110,27 +119,59 @@ module _ (accepted : AcceptedIsOne) (one : ReportIsOne) (s : Seen) (tells : (cal
         sent = d.sent;
       }
 
-  pub tell : (c : Command) → Implies (causes c s) (told c s)
-  tell (Link options out names) = record {
-    done = λ x. held_done options.exports options.import_limit out names s.files x.0 s.files.held s.files.holds (tells _ x.0.calls);
-    usage = λ x. absurd x.0;
-    unread = λ name x. x.0.rose;
-    refused = λ file line kind x. bad_told s.files tells names file line kind x.0;
-    unlinked = λ why x. unlinked_told s.files tells options.exports names why x.0;
-    unwritten = λ name x. (held_part options.exports options.import_limit out names s.files x.0.did_link s.files.held s.files.holds (tells _ x.0.did_link.calls), x.0.rose);
+  -- ---- a run
+
+  module _ (root : List ℕ) (args : List Decimal) (steps : ℕ) (names : List (List ℕ)) (t : Streams) where
+    abbrev comes_to : (Causes → Type 0) → Module → Type 0
+    comes_to fact m = fact (module_causes root args steps names t m)
+
+    moved : (fact : Causes → Type 0) → OfModule (AreRead names s.files.did) root names (comes_to fact) → OfModule (Held names s.files) root names (comes_to fact)
+    moved fact o = module_told s.files tells root names (comes_to fact) o
+
+    unread_told : (name : List ℕ) → (running root args steps names s.files t).unread name → (running_by (Held names s.files) (told_files (root ∷ []) names s.files) root args steps names t).unread name
+    unread_told name (inl x) = inl (x.0.rose, x.1)
+    unread_told name (inr o) = inr (moved (λ (k : Causes). k.unread name) o)
+
+    memory_told : (running root args steps names s.files t).memory → (running_by (Held names s.files) (told_files (root ∷ []) names s.files) root args steps names t).memory
+    memory_told (inl x) = inl (tt, x.1)
+    memory_told (inr o) = inr (moved (λ (k : Causes). k.memory) o)
+
+  pub tell : (i : InputSeen) (c : Command) → Implies (causes c s i) (told c s i)
+  tell i (Link options out names) = record {
+    done = λ x. held_done options.exports options.import_limit out names s.files x.0.0 s.files.held s.files.holds (tells _ x.0.0.calls);
+    usage = λ x. absurd x.0.0;
+    unread = λ name x. x.0.0.rose;
+    refused = λ file line kind x. bad_told s.files tells names file line kind x.0.0;
+    unlinked = λ why x. unlinked_told s.files tells options.exports names why x.0.0;
+    unfit = λ name x. absurd x.0.0;
+    unwritten = λ name x. (held_part options.exports options.import_limit out names s.files x.0.0.did_link s.files.held s.files.holds (tells _ x.0.0.did_link.calls), x.0.0.rose);
+    unreturned = λ why x. absurd x.0.0;
     memory = λ x. tt;
-    other = λ x. absurd x.0;
+    other = λ x. absurd x.0.0;
   }
-  tell (Index exports limit names) = record {
-    done = λ x. report_told exports names limit true x;
-    usage = λ x. absurd x.0;
-    unread = λ name x. x.0.rose;
-    refused = λ file line kind x. bad_told s.files tells names file line kind x.0;
-    unlinked = λ why x. unlinked_told s.files tells exports names why x.0;
-    unwritten = λ name x. report_told exports names limit false x.did_report;
+  tell i (Index exports limit names) = record {
+    done = λ x. report_told exports names limit true x.0;
+    usage = λ x. absurd x.0.0;
+    unread = λ name x. x.0.0.rose;
+    refused = λ file line kind x. bad_told s.files tells names file line kind x.0.0;
+    unlinked = λ why x. unlinked_told s.files tells exports names why x.0.0;
+    unfit = λ name x. absurd x.0.0;
+    unwritten = λ name x. report_told exports names limit false x.0.did_report;
+    unreturned = λ why x. absurd x.0.0;
     memory = λ x. tt;
-    other = λ x. absurd x.0;
+    other = λ x. absurd x.0.0;
   }
-  tell (Batch options list) = record { done = λ x. x; usage = λ x. x; unread = λ n x. x; refused = λ f l k x. x; unlinked = λ w x. x; unwritten = λ n x. x; memory = λ x. x; other = λ x. x }
-  tell (Run root args steps names) = record { done = λ x. x; usage = λ x. x; unread = λ n x. x; refused = λ f l k x. x; unlinked = λ w x. x; unwritten = λ n x. x; memory = λ x. x; other = λ x. x }
-  tell (Gen seed modules jobs) = record { done = λ x. x; usage = λ x. x; unread = λ n x. x; refused = λ f l k x. x; unlinked = λ w x. x; unwritten = λ n x. x; memory = λ x. x; other = λ x. x }
+  tell i (Batch options list) = record { done = λ x. x; usage = λ x. x; unread = λ n x. x; refused = λ f l k x. x; unlinked = λ w x. x; unfit = λ n x. x; unwritten = λ n x. x; unreturned = λ w x. x; memory = λ x. x; other = λ x. x }
+  tell i (Run root args steps names) = record {
+    done = λ x. (module_stays s.files tells root names _ x, moved root args steps names (streams_of s i) (λ (k : Causes). k.done) x);
+    usage = λ x. x;
+    unread = λ name x. unread_told root args steps names (streams_of s i) name x;
+    refused = λ file line kind x. (bad_told s.files tells names file line kind x.0, x.1);
+    unlinked = λ why x. (unlinked_told s.files tells (root ∷ []) names why x.0, x.1);
+    unfit = λ name x. moved root args steps names (streams_of s i) (λ (k : Causes). k.unfit name) x;
+    unwritten = λ name x. (module_stays s.files tells root names _ x, moved root args steps names (streams_of s i) (λ (k : Causes). k.unwritten name) x);
+    unreturned = λ why x. moved root args steps names (streams_of s i) (λ (k : Causes). k.unreturned why) x;
+    memory = λ x. memory_told root args steps names (streams_of s i) x;
+    other = λ x. x;
+  }
+  tell i (Gen seed modules jobs) = record { done = λ x. x; usage = λ x. x; unread = λ n x. x; refused = λ f l k x. x; unlinked = λ w x. x; unfit = λ n x. x; unwritten = λ n x. x; unreturned = λ w x. x; memory = λ x. x; other = λ x. x }

@@ -9,11 +9,15 @@ use Rattle.lto_words.specs.declared.request.LinkOptions.{LinkOptions}
 abbrev pub is_offered_link : LinkOptions → List (List ℕ) → Bool
 is_offered_link options names = nat_eq options.jobs 1 && (not (is_some options.cache) && (nat_eq options.inline_limit 40 && nat_eq (length names) 1))
 
+-- a run of one file
+abbrev pub is_offered_run : List (List ℕ) → Bool
+is_offered_run names = nat_eq (length names) 1
+
 abbrev pub is_offered : Command → Bool
 is_offered (Link options out names) = is_offered_link options names
 is_offered (Batch options list) = false
 is_offered (Index exports limit names) = true
-is_offered (Run root args steps names) = false
+is_offered (Run root args steps names) = is_offered_run names
 is_offered (Gen seed modules jobs) = false
 
 -- the words are a command that the program does, and this holds of it

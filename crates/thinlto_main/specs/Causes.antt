@@ -11,7 +11,11 @@ pub record Causes : Type 1 where
   pub unread : List ℕ → Type 0
   pub refused : List ℕ → ℕ → Kind → Type 0
   pub unlinked : Refusal → Type 0
+  -- the root of a run isn't a function that takes the arguments
+  pub unfit : List ℕ → Type 0
   pub unwritten : List ℕ → Type 0
+  -- a run ended otherwise than by returning
+  pub unreturned : Refusal → Type 0
   pub memory : Type 0
   pub other : Type 0
 
@@ -25,12 +29,12 @@ Because k (KindClash name function variable) = k.unlinked (KindClash name functi
 Because k (UndefinedSymbol name file) = k.unlinked (UndefinedSymbol name file)
 Because k (NoExport name) = k.unlinked (NoExport name)
 Because k (NameTaken name) = k.other
-Because k (BadArguments name) = k.other
+Because k (BadArguments name) = k.unfit name
 Because k (WriteFault name) = k.unwritten name
 Because k NoMemory = k.memory
-Because k (Undefined function file instruction cause) = k.other
-Because k (Uninit function file instruction) = k.other
-Because k (OutOfSteps steps) = k.other
+Because k (Undefined function file instruction cause) = k.unreturned (Undefined function file instruction cause)
+Because k (Uninit function file instruction) = k.unreturned (Uninit function file instruction)
+Because k (OutOfSteps steps) = k.unreturned (OutOfSteps steps)
 
 -- the fact of the answer that came
 abbrev pub Comes : {A : Type 0} → Causes → Result A Refusal → Type 0
@@ -45,7 +49,9 @@ always P = record {
   unread = λ name. P;
   refused = λ file line kind. P;
   unlinked = λ why. P;
+  unfit = λ name. P;
   unwritten = λ name. P;
+  unreturned = λ why. P;
   memory = P;
   other = P;
 }
@@ -73,10 +79,23 @@ OnUnlinked r P = Comes (record free { unlinked = P }) r
 abbrev pub OnWriteFault : {A : Type 0} → Result A Refusal → (List ℕ → Type 0) → Type 0
 OnWriteFault r P = Comes (record free { unwritten = P }) r
 
+abbrev pub OnUnfit : {A : Type 0} → Result A Refusal → (List ℕ → Type 0) → Type 0
+OnUnfit r P = Comes (record free { unfit = P }) r
+
+abbrev pub OnUnreturned : {A : Type 0} → Result A Refusal → (Refusal → Type 0) → Type 0
+OnUnreturned r P = Comes (record free { unreturned = P }) r
+
+abbrev pub OnNoMemory : {A : Type 0} → Result A Refusal → Type 0 → Type 0
+OnNoMemory r P = Comes (record free { memory = P }) r
+
 -- for each answer that no command has
 abbrev pub OnOther : {A : Type 0} → Result A Refusal → Type 0 → Type 0
 OnOther r P = Comes (record free { other = P }) r
 
--- for each answer that comes before anything was put or pushed
+-- for each answer that comes before anything was put, pushed or taken from the input
+abbrev pub OnUnused : {A : Type 0} → Result A Refusal → Type 0 → Type 0
+OnUnused r P = Comes (record free { usage = P; refused = λ file line kind. P; unlinked = λ why. P; unfit = λ name. P }) r
+
+-- for each answer with which nothing was put
 abbrev pub OnUnwritten : {A : Type 0} → Result A Refusal → Type 0 → Type 0
 OnUnwritten r P = Comes (record (always P) { done = ⊤; unwritten = λ name. ⊤ }) r

@@ -5,6 +5,9 @@ pub mod Seen
 pub mod Modules
 pub mod Linking
 pub mod Reporting
+pub mod Roots
+pub mod Running
+pub mod Endings
 pub mod Asking
 pub mod Answers
 pub mod Telling

@@ -1,13 +1,17 @@
 -- The same of files that tell what they hold.
-use Rattle.std.specs.Prelude.{◌≡◌, ◌⊎◌, ◌<◌, ◌≤◌, ◌^◌, ℕ, Bool, true, false, List, [], ◌∷◌, length, Option, Some, None, IfSome, MatchOption, ⊤}
+use Rattle.std.specs.Prelude.{◌≡◌, ◌⊎◌, ◌<◌, ◌≤◌, ◌^◌, ℕ, Bool, true, false, List, [], ◌∷◌, length, replicate, Option, Some, None, IfSome, MatchOption, ⊤}
 use Rattle.std.specs.List.{AllZip}
 use Rattle.ir_tree.specs.declared.module.Module.{Module}
+use Rattle.ir_meaning.specs.Program.{Program, State}
+use Rattle.ir_meaning.specs.Run.{Ending, Returned, run}
+use Rattle.ir_meaning.specs.declared.value.Value.{Value}
 use Rattle.lto_outside.specs.Cause.{Rose}
 use Rattle.lto_outside.specs.Seen.{FilesSeen}
 use Rattle.lto_outside.specs.Store.{Store, HasPut, HasPart, Stays}
 use Rattle.lto_fault.specs.declared.kind.Kind.{Kind}
 use Rattle.lto_fault.specs.declared.kind.Kind.TheVariants.{Limit}
 use Rattle.lto_fault.specs.declared.refusal.Refusal.{Refusal}
+use Rattle.lto_words.specs.declared.list.Decimal.{Decimal}
 use Rattle.lto_words.specs.declared.request.Command.{Command}
 use Rattle.lto_words.specs.declared.request.Command.TheVariants.{Link, Batch, Index, Run, Gen}
 use Rattle.lto_notes.specs.Pushing.{Pushes}
@@ -17,8 +21,12 @@ use Rattle.thin_link.specs.Linking.{IsIndexReport}
 use Rattle.thin_link.specs.Refusing.{IsRefused}
 use Rattle.thinlto_main.specs.Asking.{Asked}
 use Rattle.thinlto_main.specs.Causes.{Causes, free, never}
+use Rattle.run_parts.specs.Copies.{program_read}
 use Rattle.thinlto_main.specs.Linking.{HasThinLink}
-use Rattle.thinlto_main.specs.Seen.{Seen}
+use Rattle.thinlto_main.specs.Running.{OfModule, module_causes, only, running_by}
+use Rattle.run_parts.specs.Said.{ending_refusal}
+use Rattle.thinlto_main.specs.Seen.{InputSeen, Seen, streams_of}
+use Rattle.run_parts.specs.Starting.{beginning}
 
 -- ---- what a file holds
 
@@ -49,6 +57,10 @@ pub record HoldUnlinked (exports names : List (List ℕ)) (held : Store) (why : 
   pub ms : List Module
   pub modules : AllZip (HoldsModule held) names ms
   pub refused : IsRefused names ms exports why
+
+-- these modules, in order
+abbrev pub Held : List (List ℕ) → FilesSeen → List Module → Type 0
+Held names files ms = IfSome files.held (λ held. AllZip (HoldsModule held) names ms)
 
 -- ---- what a command did to them
 
@@ -88,29 +100,36 @@ told_files exports names files = record free {
   unread = λ name. Rose files.faults files.faults_now;
   refused = λ file line kind. IfSome files.held (λ held. HoldFirstBad held names file line kind);
   unlinked = λ why. IfSome files.held (λ held. HoldUnlinked exports names held why);
+  unfit = λ name. ⊥;
+  unreturned = λ why. ⊥;
   other = ⊥;
 }
 
-abbrev pub told : Command → Seen → Causes
-told (Link options out names) s = record (told_files options.exports names s.files) {
+abbrev pub told : Command → Seen → InputSeen → Causes
+told (Link options out names) s i = record (told_files options.exports names s.files) {
   done = LinkHeld HasPut options.exports options.import_limit out names s.files.held s.files.holds;
   unwritten = λ name. LinkHeld HasPart options.exports options.import_limit out names s.files.held s.files.holds × Rose s.files.faults s.files.faults_now;
 }
-told (Index exports limit names) s = record (told_files exports names s.files) {
+told (Index exports limit names) s i = record (told_files exports names s.files) {
   done = Stays s.files.held s.files.holds × IfSome s.files.held (HoldReport exports names limit s true);
   unwritten = λ name. Stays s.files.held s.files.holds × IfSome s.files.held (HoldReport exports names limit s false);
 }
-told (Batch options list) s = never
-told (Run root args steps names) s = never
-told (Gen seed modules jobs) s = never
+told (Batch options list) s i = never
+told (Run root args steps names) s i = record (running_by (Held names s.files) (told_files (root ∷ []) names s.files) root args steps names (streams_of s i)) {
+  done = Stays s.files.held s.files.holds × OfModule (Held names s.files) root names (λ m. (module_causes root args steps names (streams_of s i) m).done);
+  unwritten = λ name. Stays s.files.held s.files.holds × OfModule (Held names s.files) root names (λ m. (module_causes root args steps names (streams_of s i) m).unwritten name);
+}
+told (Gen seed modules jobs) s i = never
 
 -- the same of the words
-abbrev pub told_of : List (List ℕ) → Seen → Causes
-told_of words s = record free {
-  done = Asked words (λ c. (told c s).done);
-  refused = λ file line kind. Asked words (λ c. (told c s).refused file line kind);
-  unlinked = λ why. Asked words (λ c. (told c s).unlinked why);
-  unwritten = λ name. Asked words (λ c. (told c s).unwritten name);
+abbrev pub told_of : List (List ℕ) → Seen → InputSeen → Causes
+told_of words s i = record free {
+  done = Asked words (λ c. (told c s i).done);
+  refused = λ file line kind. Asked words (λ c. (told c s i).refused file line kind);
+  unlinked = λ why. Asked words (λ c. (told c s i).unlinked why);
+  unfit = λ name. Asked words (λ c. (told c s i).unfit name);
+  unwritten = λ name. Asked words (λ c. (told c s i).unwritten name);
+  unreturned = λ why. Asked words (λ c. (told c s i).unreturned why);
 }
 
 -- ---- when a command has to be done, and when refused
@@ -122,16 +141,39 @@ pub record CanLink (exports names : List (List ℕ)) (files : FilesSeen) (held :
   pub linked : (why : Refusal) → IsRefused names ms exports why → ⊥
   pub fine : ¬ (Rose files.faults files.faults_now)
 
-abbrev pub IsTold : Option Store → (Store → Type 0) → Type 0
+abbrev pub IsTold : {X : Type 0} → Option X → (X → Type 0) → Type 0
 IsTold held P = MatchOption held ⊥ P
 
+-- the run of the program from the root over these bytes ends so
+pub record EndsOver (p : Program) (root : List ℕ) (args : List Decimal) (steps : ℕ) (bytes : List ℕ) (ending : Ending) : Type 0 where
+  pub first : State
+  pub begins : beginning p root args ≡ Some first
+  pub ended : (run p bytes (replicate steps 0) first).ending ≡ ending
+
+-- they hold a module whose run over what the input has ends so
+abbrev pub RunComesTo : List ℕ → List Decimal → ℕ → List (List ℕ) → Seen → InputSeen → Ending → Type 0
+RunComesTo root args steps names s i ending =
+    IsTold s.files.held (λ held. OfModule (AllZip (HoldsModule held) names) root names (λ m. IsTold i.stream.told (λ bytes. EndsOver (program_read m) root args steps bytes ending)))
+
+-- no call of the files, the input or the output failed
+pub record AllWork (s : Seen) (i : InputSeen) : Type 0 where
+  pub files : ¬ (Rose s.files.faults s.files.faults_now)
+  pub input : ¬ (Rose i.stream.faults i.stream.faults_now)
+  pub out : ¬ (Rose s.out.faults s.out.faults_now)
+
+-- they hold a module whose run returns
+pub record CanReturn (root : List ℕ) (args : List Decimal) (steps : ℕ) (names : List (List ℕ)) (s : Seen) (i : InputSeen) : Type 0 where
+  pub answer : Option Value
+  pub comes : RunComesTo root args steps names s i (Returned answer)
+  pub work : AllWork s i
+
 -- nothing is in the way
-abbrev pub CanDo : Command → Seen → Type 0
-CanDo (Link options out names) s = IsTold s.files.held (CanLink options.exports names s.files)
-CanDo (Index exports limit names) s = IsTold s.files.held (CanLink exports names s.files) × ¬ (Rose s.out.faults s.out.faults_now)
-CanDo (Batch options list) s = ⊥
-CanDo (Run root args steps names) s = ⊥
-CanDo (Gen seed modules jobs) s = ⊥
+abbrev pub CanDo : Command → Seen → InputSeen → Type 0
+CanDo (Link options out names) s i = IsTold s.files.held (CanLink options.exports names s.files)
+CanDo (Index exports limit names) s i = IsTold s.files.held (CanLink exports names s.files) × ¬ (Rose s.out.faults s.out.faults_now)
+CanDo (Batch options list) s i = ⊥
+CanDo (Run root args steps names) s i = CanReturn root args steps names s i
+CanDo (Gen seed modules jobs) s i = ⊥
 
 -- nothing but a file is in the way, the first that holds no module
 abbrev pub FileIsBad : List (List ℕ) → FilesSeen → List ℕ → ℕ → Kind → Type 0
@@ -141,7 +183,7 @@ abbrev pub MustRefuse : Command → Seen → List ℕ → ℕ → Kind → Type 
 MustRefuse (Link options out names) s = FileIsBad names s.files
 MustRefuse (Index exports limit names) s = FileIsBad names s.files
 MustRefuse (Batch options list) s = λ file line kind. ⊥
-MustRefuse (Run root args steps names) s = λ file line kind. ⊥
+MustRefuse (Run root args steps names) s = FileIsBad names s.files
 MustRefuse (Gen seed modules jobs) s = λ file line kind. ⊥
 
 -- nothing but that the modules have no thin link
@@ -152,5 +194,32 @@ abbrev pub MustNotLink : Command → Seen → Refusal → Type 0
 MustNotLink (Link options out names) s = ModulesClash options.exports names s.files
 MustNotLink (Index exports limit names) s = ModulesClash exports names s.files
 MustNotLink (Batch options list) s = λ why. ⊥
-MustNotLink (Run root args steps names) s = λ why. ⊥
+MustNotLink (Run root args steps names) s = ModulesClash (root ∷ []) names s.files
 MustNotLink (Gen seed modules jobs) s = λ why. ⊥
+
+-- nothing but that the root of a run isn't a function that takes the arguments
+pub record CannotBegin (root : List ℕ) (args : List Decimal) (names : List (List ℕ)) (files : FilesSeen) (name : List ℕ) : Type 0 where
+  pub named : name ≡ root
+  pub none : IsTold files.held (λ held. OfModule (AllZip (HoldsModule held) names) root names (λ m. beginning (program_read m) root args ≡ None))
+  pub fine : ¬ (Rose files.faults files.faults_now)
+
+abbrev pub MustNotBegin : Command → Seen → List ℕ → Type 0
+MustNotBegin (Link options out names) s = λ name. ⊥
+MustNotBegin (Index exports limit names) s = λ name. ⊥
+MustNotBegin (Batch options list) s = λ name. ⊥
+MustNotBegin (Run root args steps names) s = CannotBegin root args names s.files
+MustNotBegin (Gen seed modules jobs) s = λ name. ⊥
+
+-- nothing but that a run ends otherwise than by returning
+pub record CannotReturn (root : List ℕ) (args : List Decimal) (steps : ℕ) (names : List (List ℕ)) (s : Seen) (i : InputSeen) (why : Refusal) : Type 0 where
+  pub ending : Ending
+  pub comes : RunComesTo root args steps names s i ending
+  pub work : AllWork s i
+  pub told : ending_refusal (only names) steps ending ≡ Some why
+
+abbrev pub MustNotReturn : Command → Seen → InputSeen → Refusal → Type 0
+MustNotReturn (Link options out names) s i = λ why. ⊥
+MustNotReturn (Index exports limit names) s i = λ why. ⊥
+MustNotReturn (Batch options list) s i = λ why. ⊥
+MustNotReturn (Run root args steps names) s i = CannotReturn root args steps names s i
+MustNotReturn (Gen seed modules jobs) s i = λ why. ⊥

@@ -1,15 +1,17 @@
 //! The words of the command line are read, and their command is done.
-ghost use Rattle.std.specs.Prelude.{◌≡◌, ◌≤◌, map, string_bytes};
-ghost use Rattle.thinlto_main.specs.Answers.{causes_of, obeyed};
-ghost use Rattle.thinlto_main.specs.Asking.{is_offered_link};
+ghost use Rattle.std.specs.Prelude.{◌≡◌, ◌≤◌, OnErr, OnOk, map, string_bytes};
+ghost use Rattle.thinlto_main.specs.Answers.{Says, causes_of, obeyed};
+ghost use Rattle.thinlto_main.specs.Asking.{Asked, is_offered_link, is_offered_run};
 ghost use Rattle.thinlto_main.specs.Causes.{Comes};
-ghost use Rattle.thinlto_main.specs.Seen.{seen};
+ghost use Rattle.thinlto_main.specs.Seen.{input_seen, notes_seen, seen};
 
 use crate::index::index;
 use crate::link::link;
+use crate::root::RunOptions;
+use crate::run::run;
 use crate::status::Status;
 use lto_fault::Refusal;
-use lto_outside::{ByteOut, Files};
+use lto_outside::{ByteIn, ByteOut, Files};
 use lto_words::{Command, FileName, LinkOptions, WordsError, command, one_command};
 use std::alloc::Global;
 
@@ -26,9 +28,25 @@ fn is_offered_link(options: &LinkOptions, names: &[FileName]) -> bool
         && names.len() == 1
 }
 
-/// Does a command.
-fn obey<F: Files, O: ByteOut>(alloc: Global, files: &mut F, out: &mut O, command: Command) -> Status
-    ensures answer { Comes (obeyed command (seen F.did F.held F.faults O.sent O.faults files.old files.new out.old out.new)) result }
+/// Whether the program does such a run: of one file.
+fn is_offered_run(names: &[FileName]) -> bool
+    ensures { result ≡ is_offered_run names.now }
+{
+    names.len() == 1
+}
+
+/// Does a command. Where it is done, the notes get what it says.
+fn obey<F: Files, I: ByteIn, O: ByteOut, N: ByteOut>(
+    alloc: Global,
+    files: &mut F,
+    input: &mut I,
+    out: &mut O,
+    notes: &mut N,
+    command: Command,
+) -> Status
+    ensures answer { Comes (obeyed command (seen F.did F.held F.faults O.sent O.faults files.old files.new out.old out.new) (input_seen I.left I.faults input.old input.new)) result }
+    ensures says { OnOk result (Says command (seen F.did F.held F.faults O.sent O.faults files.old files.new out.old out.new) (input_seen I.left I.faults input.old input.new) (notes_seen N.sent N.faults notes.old notes.new)) }
+    ensures silent { OnErr result (notes.new ≡ notes.old) }
     ensures later { F.faults files.old ≤ F.faults files.new }
 {
     match command {
@@ -55,24 +73,39 @@ fn obey<F: Files, O: ByteOut>(alloc: Global, files: &mut F, out: &mut O, command
             names.as_slice(),
         ),
         Command::Batch { .. } => Err(Refusal::Usage),
-        Command::Run { .. } => Err(Refusal::Usage),
+        Command::Run {
+            root,
+            args,
+            steps,
+            files: names,
+        } => {
+            if !is_offered_run(names.as_slice()) {
+                return Err(Refusal::Usage);
+            }
+            let options = RunOptions { root, args, steps };
+            run(alloc, files, input, out, notes, &options, names.as_slice())
+        }
         Command::Gen { .. } => Err(Refusal::Usage),
     }
 }
 
-/// Does the command that the words are.
-pub(crate) fn do_command<F: Files, O: ByteOut>(
+/// Does the command that the words are. Where it is done, the notes get what it says.
+pub(crate) fn do_command<F: Files, I: ByteIn, O: ByteOut, N: ByteOut>(
     alloc: Global,
     words: &[String],
     files: &mut F,
+    input: &mut I,
     out: &mut O,
+    notes: &mut N,
 ) -> Status
-    ensures answer { Comes (causes_of (map string_bytes words.now) (seen F.did F.held F.faults O.sent O.faults files.old files.new out.old out.new)) result }
+    ensures answer { Comes (causes_of (map string_bytes words.now) (seen F.did F.held F.faults O.sent O.faults files.old files.new out.old out.new) (input_seen I.left I.faults input.old input.new)) result }
+    ensures says { OnOk result (Asked (map string_bytes words.now) (λ c. Says c (seen F.did F.held F.faults O.sent O.faults files.old files.new out.old out.new) (input_seen I.left I.faults input.old input.new) (notes_seen N.sent N.faults notes.old notes.new))) }
+    ensures silent { OnErr result (notes.new ≡ notes.old) }
     ensures later { F.faults files.old ≤ F.faults files.new }
 {
     one_command();
     match command(alloc, words) {
-        Ok(command) => obey(alloc, files, out, command),
+        Ok(command) => obey(alloc, files, input, out, notes, command),
         Err(WordsError::Usage) => Err(Refusal::Usage),
         Err(WordsError::NoMemory) => Err(Refusal::NoMemory),
     }

@@ -36,7 +36,7 @@ fn report(
 }
 
 /// The output as it is named in a refusal.
-fn output(alloc: Global) -> Result<Text, AllocError>
+pub(crate) fn output(alloc: Global) -> Result<Text, AllocError>
     ensures { IfOk result (λ name. name ≡ OUTPUT) }
 {
     Text::copied(alloc, b"output")

@@ -6,7 +6,7 @@ ghost use Rattle.thinlto_main.specs.Causes.{Because, Comes, never};
 ghost use Rattle.thinlto_main.specs.Linking.{HasThinLink, linking};
 
 use crate::modules::{modules, texts};
-use ir_tree::Verified;
+use ir_tree::{Text, Verified};
 use link_one::{accepted_is_not_refused, link_text};
 use lto_fault::Refusal;
 use lto_outside::Files;
@@ -15,26 +15,21 @@ use std::alloc::Global;
 use thin_link::thin_link;
 
 /// That the modules have a thin link, or why they have none.
-fn decided(
+pub(crate) fn decided(
     alloc: Global,
     names: &[FileName],
     modules: &[Verified],
-    options: &LinkOptions,
+    exports: &[Text],
+    import_limit: u32,
 ) -> Result<(), Refusal>
     requires { length names.now ≡ length modules.now }
-    ensures done { OnOk result (HasThinLink modules.now options.now.exports options.now.import_limit) }
-    ensures because { IfErr result (Because (record never { unlinked = IsRefused names.now modules.now options.now.exports; memory = Unit {0} })) }
+    ensures done { OnOk result (HasThinLink modules.now exports.now import_limit) }
+    ensures because { IfErr result (Because (record never { unlinked = IsRefused names.now modules.now exports.now; memory = Unit {0} })) }
 {
     let Ok(files) = texts(alloc, names) else {
         return Err(Refusal::NoMemory);
     };
-    match thin_link(
-        alloc,
-        files.as_slice(),
-        modules,
-        options.exports.as_slice(),
-        options.import_limit,
-    ) {
+    match thin_link(alloc, files.as_slice(), modules, exports, import_limit) {
         Ok(_link) => {}
         Err(why) => return Err(why),
     }
@@ -42,7 +37,7 @@ fn decided(
 }
 
 /// The first of these modules.
-fn first(modules: &[Verified]) -> &Verified
+pub(crate) fn first(modules: &[Verified]) -> &Verified
     requires { 0 < length modules.now }
     ensures { result.now ≡ slice_index_or modules.now 0 result.now }
 {
@@ -67,7 +62,8 @@ pub(crate) fn link<F: Files>(
         Err(why) => return Err(why),
     };
     let all = modules.as_slice();
-    match decided(alloc, names, all, options) {
+    let exports = options.exports.as_slice();
+    match decided(alloc, names, all, exports, options.import_limit) {
         Ok(()) => {}
         Err(why) => return Err(why),
     }

@@ -1,5 +1,5 @@
-//! The one call over the outside in memory, by tables: texts and what they link to or are refused for, words, and files of
-//! which there is an index or none.
+//! The one call over the outside in memory, by tables: texts and what they link to or are refused for, words, files of which
+//! there is an index or none, and modules that run.
 
 use crate::{LinkMakes, status_of, top};
 use outside_memory::{Failure, Leaves, MemoryDisk, MemoryFiles, MemoryGate, MemoryIn, MemoryOut};
@@ -10,6 +10,9 @@ use std::thread::Threads;
 /// What `a.ll` and `b.ll` hold, and the numbers of the call of the files and of the push to the output that fail, counted
 /// from 0.
 type Outside<'a> = (&'a [u8], &'a [u8], u64, u64);
+
+/// What the input has, and the number of the read that fails.
+type Input<'a> = (&'a [u8], u64);
 
 /// What a run ends with: its status, what `o` holds, what was printed and what the notes got.
 type End<'a> = (u8, &'a [u8], &'a [u8], &'a [u8]);
@@ -47,13 +50,15 @@ fn ends_so<'a, R: Threads + Wait + Sync>(
     alloc: Global,
     given: &[&str],
     outside: Outside<'a>,
+    input: Input<'a>,
     end: End<'a>,
 ) -> Result<bool, AllocError> {
     let (first, second, failing, stuck) = outside;
+    let (bytes, lacking) = input;
     let words = words_of(alloc, given)?;
     let mut files = files_of(alloc, first, second, failing)?;
     let mut out = MemoryOut::new(alloc, vec![in alloc; stuck]?);
-    let mut input = MemoryIn::new(Vec::new(alloc), Vec::new(alloc));
+    let mut input = MemoryIn::new(Vec::from_slice(alloc, bytes)?, vec![in alloc; lacking]?);
     let mut notes = MemoryOut::new(alloc, Vec::new(alloc));
     let disk: MemoryDisk<LinkMakes> = MemoryDisk::new(alloc, Vec::new(alloc));
     let gate = MemoryGate::new();
@@ -73,6 +78,9 @@ fn ends_so<'a, R: Threads + Wait + Sync>(
 const NONE: u64 = 9_999;
 
 const NOTHING: &[u8] = b"";
+
+/// An input that is at its end.
+const EMPTY: Input<'static> = (b"", NONE);
 
 /// What `o` holds before a run.
 const BEFORE: &[u8] = b"-";
@@ -199,12 +207,12 @@ fn a_link_puts_its_text_or_tells_why(rt: HostRuntime) -> Result<(), AllocError> 
     for (name, text, linked) in LINKED {
         let outside = (text, NOTHING, NONE, NONE);
         let end = (0_u8, linked, NOTHING, NOTHING);
-        assert!(rt; ends_so(&rt, alloc, LINK, outside, end)?, "{name}");
+        assert!(rt; ends_so(&rt, alloc, LINK, outside, EMPTY, end)?, "{name}");
     }
     for (text, failing, status, line) in REFUSED {
         let outside = (text, NOTHING, failing, NONE);
         let end = (status, BEFORE, NOTHING, line.as_bytes());
-        assert!(rt; ends_so(&rt, alloc, LINK, outside, end)?, "{line:?}");
+        assert!(rt; ends_so(&rt, alloc, LINK, outside, EMPTY, end)?, "{line:?}");
     }
     Ok(())
 }
@@ -241,7 +249,7 @@ const WORDS: [(&[&str], u8, &[u8], &[u8]); 12] = [
         BEFORE,
         USAGE,
     ),
-    (&["run", "a.ll"], 1, BEFORE, USAGE),
+    (&["run", "a.ll", "b.ll"], 1, BEFORE, USAGE),
     (&[""], 1, BEFORE, USAGE),
     (
         &["link", "--export", "main,g", "-o", "o", "a.ll"],
@@ -263,7 +271,10 @@ fn words_are_a_link_or_usage(rt: HostRuntime) -> Result<(), AllocError> {
     for (words, status, held, noted) in WORDS {
         let outside = (SUM, NOTHING, NONE, NONE);
         let end = (status, held, NOTHING, noted);
-        assert!(rt; ends_so(&rt, alloc, words, outside, end)?, "{words:?}");
+        assert!(rt;
+            ends_so(&rt, alloc, words, outside, EMPTY, end)?,
+            "{words:?}"
+        );
     }
     Ok(())
 }
@@ -390,7 +401,211 @@ fn an_index_is_printed_or_told_why_not(rt: HostRuntime) -> Result<(), AllocError
     for (name, words, outside, end) in INDICES {
         let (status, printed, noted) = end;
         let end = (status, BEFORE, printed, noted);
-        assert!(rt; ends_so(&rt, alloc, words, outside, end)?, "{name}");
+        assert!(rt; ends_so(&rt, alloc, words, outside, EMPTY, end)?, "{name}");
+    }
+    Ok(())
+}
+
+const RUN: &[&str] = &["run", "a.ll"];
+
+const THOUSAND_STEPS: &[&str] = &["run", "--steps=1000", "a.ll"];
+
+/// The name of a row, a module, and how its run from `main` ends: the status, and the line that is told.
+const ENDINGS: [(&str, &[u8], u8, &[u8]); 15] = [
+    ("a number", SUM, 0, b"returned 5\n"),
+    (
+        "no value",
+        b"define void @main() {\n  ret void\n}\n",
+        0,
+        b"returned\n",
+    ),
+    (
+        "a truth value",
+        b"define i1 @main() {\n  ret i1 true\n}\n",
+        0,
+        b"returned true\n",
+    ),
+    (
+        "the least number of 64 bits",
+        b"define i64 @main() {\n  ret i64 -9223372036854775808\n}\n",
+        0,
+        b"returned -9223372036854775808\n",
+    ),
+    (
+        "a pointer",
+        b"define ptr @main() {\n  ret ptr @main\n}\n",
+        0,
+        b"returned pointer\n",
+    ),
+    (
+        "poison",
+        b"define i32 @main() {\n  ret i32 poison\n}\n",
+        0,
+        b"returned poison\n",
+    ),
+    (
+        "a division that overflows",
+        b"define i32 @main() {\n  %q = sdiv i32 -2147483648, -1\n  ret i32 %q\n}\n",
+        7,
+        b"thinlto: undefined behaviour in @main of a.ll at instruction 1: division overflow\n",
+    ),
+    (
+        "past the end comes before misaligned",
+        b"define i32 @main() {\n  %s = alloca i32, align 4\n  %p = getelementptr i8, ptr %s, i64 1\n  %v = load i32, ptr %p, align 4\n  ret i32 %v\n}\n",
+        7,
+        b"thinlto: undefined behaviour in @main of a.ll at instruction 3: out of bounds\n",
+    ),
+    (
+        "misaligned",
+        b"define i32 @main() {\n  %s = alloca i64, align 8\n  %p = getelementptr i8, ptr %s, i64 1\n  store i32 1, ptr %p, align 4\n  ret i32 0\n}\n",
+        7,
+        b"thinlto: undefined behaviour in @main of a.ll at instruction 3: misaligned\n",
+    ),
+    (
+        "in a function that was called, behind the first",
+        b"define i32 @main() {\n  call void @f()\n  ret i32 0\n}\ndefine internal void @f() {\n  br label %l\nl:\n  unreachable\n}\n",
+        7,
+        b"thinlto: undefined behaviour in @f of a.ll at instruction 2: unreachable reached\n",
+    ),
+    (
+        "an uninitialised byte",
+        b"define i32 @main() {\n  %s = alloca i32, align 4\n  %v = load i32, ptr %s, align 4\n  ret i32 %v\n}\n",
+        8,
+        b"thinlto: uninitialised byte read in @main of a.ll at instruction 2\n",
+    ),
+    (
+        "an endless loop",
+        b"define i32 @main() {\n  br label %l\nl:\n  br label %l\n}\n",
+        9,
+        b"thinlto: out of steps after 1000\n",
+    ),
+    (
+        "a root that is a variable",
+        b"@main = global i32 5\n",
+        4,
+        b"thinlto: wrong arguments for @main\n",
+    ),
+    (
+        "a root that takes a pointer",
+        b"define i32 @main(ptr %p) {\n  ret i32 0\n}\n",
+        4,
+        b"thinlto: wrong arguments for @main\n",
+    ),
+    (
+        "a root that nobody defines, as in a link",
+        b"define void @f() {\n  ret void\n}\n",
+        4,
+        b"thinlto: no definition of exported @main\n",
+    ),
+];
+
+#[test]
+fn a_run_tells_how_it_ends(rt: HostRuntime) -> Result<(), AllocError> {
+    let alloc = rt.alloc();
+    for (name, text, status, line) in ENDINGS {
+        let outside = (text, NOTHING, NONE, NONE);
+        let end = (status, BEFORE, NOTHING, line);
+        assert!(rt;
+            ends_so(&rt, alloc, THOUSAND_STEPS, outside, EMPTY, end)?,
+            "{name}"
+        );
+    }
+    Ok(())
+}
+
+/// What the input has is written, and its end is -1.
+const ECHO: &[u8] =
+    b"declare i32 @getchar()\ndeclare i32 @putchar(i32)\ndefine i32 @main() {\ne:\n  br label %l\nl:\n  %c = call i32 @getchar()\n  %t = icmp slt i32 %c, 0\n  br i1 %t, label %o, label %w\nw:\n  %d = call i32 @putchar(i32 %c)\n  br label %l\no:\n  ret i32 %c\n}\n";
+
+/// A copy of another module's definition, which is passed over.
+const COPY: &[u8] =
+    b"define available_externally i32 @putchar(i32 %c) {\n  ret i32 7\n}\ndefine i32 @main() {\n  %r = call i32 @putchar(i32 65)\n  ret i32 %r\n}\n";
+
+const GIVES_FIRST: &[u8] = b"define i8 @f(i8 %x, i1 %y) {\n  ret i8 %x\n}\n";
+
+/// The words of a run, its module, the input, which push fails, and the status, what is printed and what is told.
+type Ran = (
+    &'static [&'static str],
+    &'static [u8],
+    Input<'static>,
+    u64,
+    (u8, &'static [u8], &'static [u8]),
+);
+
+const RUNS: [Ran; 10] = [
+    (RUN, ECHO, (b"ab", NONE), NONE, (0, b"ab", b"returned -1\n")),
+    // the second read fails, and then the second push
+    (
+        RUN,
+        ECHO,
+        (b"ab", 1),
+        NONE,
+        (2, b"a", b"thinlto: cannot read input\n"),
+    ),
+    (
+        RUN,
+        ECHO,
+        (b"ab", NONE),
+        1,
+        (5, b"a", b"thinlto: cannot write output\n"),
+    ),
+    (RUN, COPY, EMPTY, NONE, (0, b"A", b"returned 65\n")),
+    // arguments are literals of their widths
+    (
+        &["run", "--root=f", "--args=-128,1", "a.ll"],
+        GIVES_FIRST,
+        EMPTY,
+        NONE,
+        (0, b"", b"returned -128\n"),
+    ),
+    (
+        &["run", "--args=255,0", "--root", "f", "--steps=1", "a.ll"],
+        GIVES_FIRST,
+        EMPTY,
+        NONE,
+        (0, b"", b"returned -1\n"),
+    ),
+    (
+        &["run", "--root=f", "--args=-129,1", "a.ll"],
+        GIVES_FIRST,
+        EMPTY,
+        NONE,
+        (4, b"", b"thinlto: wrong arguments for @f\n"),
+    ),
+    (
+        &["run", "--root=f", "--args=1,2", "a.ll"],
+        GIVES_FIRST,
+        EMPTY,
+        NONE,
+        (4, b"", b"thinlto: wrong arguments for @f\n"),
+    ),
+    (
+        &["run", "--root=f", "--args=1,1,1", "a.ll"],
+        GIVES_FIRST,
+        EMPTY,
+        NONE,
+        (4, b"", b"thinlto: wrong arguments for @f\n"),
+    ),
+    (
+        &["run", "--root=g", "a.ll"],
+        GIVES_FIRST,
+        EMPTY,
+        NONE,
+        (4, b"", b"thinlto: no definition of exported @g\n"),
+    ),
+];
+
+#[test]
+fn a_run_takes_words_and_streams(rt: HostRuntime) -> Result<(), AllocError> {
+    let alloc = rt.alloc();
+    for (words, text, input, stuck, end) in RUNS {
+        let outside = (text, NOTHING, NONE, stuck);
+        let (status, printed, noted) = end;
+        let end = (status, BEFORE, printed, noted);
+        assert!(rt;
+            ends_so(&rt, alloc, words, outside, input, end)?,
+            "{words:?}"
+        );
     }
     Ok(())
 }

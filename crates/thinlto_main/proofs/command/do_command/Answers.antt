@@ -1,17 +1,20 @@
-use Rattle.std.proofs.Common.{[], map, refl}
+use Rattle.std.proofs.Common.{inl, map, refl}
 use Rattle.std.specs.Prelude.{string_bytes}
-use Rattle.thinlto_main.specs.Seen.{seen}
-use Rattle.thinlto_main.proofs.Asking.{asked_for}
+use Rattle.thinlto_main.specs.Seen.{input_seen, notes_seen, seen}
+use Rattle.thinlto_main.proofs.Asking.{asked_for, said_for}
 use Rattle.thinlto_main.proofs.Causes.{comes_map}
 use Rattle.thinlto_main.proofs.command.do_command.Goals as goal
 
 pub returns-in-Ok-clause-answer : goal.returns-in-Ok-clause-answer
-returns-in-Ok-clause-answer g c = comes_map (asked_for c.one_command.ensures (map string_bytes c.args.words.now) c.in-Ok.command (seen g.F.Files.did g.F.Files.held g.F.Files.faults g.O.ByteOut.sent g.O.ByteOut.faults c.args.files.now c.obey.new.files c.args.out.now c.obey.new.out) c.in-Ok.ensures) c.obey.result c.obey.ensures.answer
+returns-in-Ok-clause-answer g c = comes_map (asked_for c.one_command.ensures (map string_bytes c.args.words.now) c.in-Ok.command (seen g.F.Files.did g.F.Files.held g.F.Files.faults g.O.ByteOut.sent g.O.ByteOut.faults c.args.files.now c.obey.new.files c.args.out.now c.obey.new.out) (input_seen g.I.ByteIn.left g.I.ByteIn.faults c.args.input.now c.obey.new.input) c.in-Ok.ensures) c.obey.result c.obey.ensures.answer
+
+pub returns-in-Ok-clause-says : goal.returns-in-Ok-clause-says
+returns-in-Ok-clause-says g c = said_for (map string_bytes c.args.words.now) c.in-Ok.command (seen g.F.Files.did g.F.Files.held g.F.Files.faults g.O.ByteOut.sent g.O.ByteOut.faults c.args.files.now c.obey.new.files c.args.out.now c.obey.new.out) (input_seen g.I.ByteIn.left g.I.ByteIn.faults c.args.input.now c.obey.new.input) (notes_seen g.N.ByteOut.sent g.N.ByteOut.faults c.args.notes.now c.obey.new.notes) c.in-Ok.ensures c.obey.result c.obey.ensures.answer c.obey.ensures.says
 
 pub returns-in-Err-Usage-clause-answer : goal.returns-in-Err-Usage-clause-answer
 returns-in-Err-Usage-clause-answer g c =
     let none = rw c.in-Err-Usage.field-0-is at c.in-Err-Usage.ensures in
-    (λ d asked offered. none d asked, (g.met.F.Files.did_none _, refl))
+    (λ d asked offered. none d asked, (g.met.F.Files.did_none _, refl), refl)
 
 pub returns-in-Err-NoMemory-clause-answer : goal.returns-in-Err-NoMemory-clause-answer
-returns-in-Err-NoMemory-clause-answer g c = (record { calls = []; made = g.met.F.Files.did_none _; no_put = tt }, refl)
+returns-in-Err-NoMemory-clause-answer g c = inl ((g.met.F.Files.did_none _, refl), refl)

@@ -1,18 +1,21 @@
-use Rattle.std.proofs.Common.{◌≡◌, ◌∙◌, ℕ, List, ap, refl, subst, sym, true}
+use Rattle.std.proofs.Common.{◌≡◌, ◌∙◌, ℕ, List, OnOk, ap, refl, subst, sym, true}
+use Rattle.lto_outside.specs.Calls.{Call}
 use Rattle.lto_outside.specs.Seen.{files_seen}
 use Rattle.lto_words.specs.declared.request.Command.{Command}
-use Rattle.thinlto_main.specs.Answers.{obeyed, reporting}
-use Rattle.thinlto_main.specs.Asking.{is_offered, is_offered_link}
+use Rattle.thinlto_main.specs.Answers.{Says, obeyed, reporting}
+use Rattle.thinlto_main.specs.Asking.{is_offered, is_offered_link, is_offered_run}
 use Rattle.thinlto_main.specs.Causes.{Comes}
 use Rattle.thinlto_main.specs.Linking.{linking}
-use Rattle.thinlto_main.specs.Seen.{seen}
-use Rattle.thinlto_main.proofs.Asking.{index_obeyed, link_obeyed, offered_one}
+use Rattle.thinlto_main.specs.Modules.{AreRead}
+use Rattle.thinlto_main.specs.Running.{SaysReturned, running}
+use Rattle.thinlto_main.specs.Seen.{input_seen, notes_seen, seen, streams_seen}
+use Rattle.thinlto_main.proofs.Asking.{index_obeyed, link_obeyed, offered_one, offered_run, on_each, run_obeyed}
 use Rattle.thinlto_main.proofs.Causes.{comes_map}
 use Rattle.thinlto_main.proofs.command.obey.Goals as goal
 
 pub returns-then-not-is_offered_link-clause-answer : goal.returns-then-not-is_offered_link-clause-answer
 returns-then-not-is_offered_link-clause-answer g c =
-    (ap is_offered c.in-Link.is ∙ ap (λ (ns : List (List ℕ)). is_offered_link c.in-Link.options ns) (sym c.as_slice.ensures) ∙ sym c.is_offered_link.ensures ∙ c.if-not-is_offered_link.true, (g.met.F.Files.did_none _, refl))
+    (ap is_offered c.in-Link.is ∙ ap (λ (ns : List (List ℕ)). is_offered_link c.in-Link.options ns) (sym c.as_slice.ensures) ∙ sym c.is_offered_link.ensures ∙ c.if-not-is_offered_link.true, (g.met.F.Files.did_none _, refl), refl)
 
 pub link-requires : goal.link-requires
 link-requires g c = offered_one c.in-Link.options c.as_slice-in-Link.result.now
@@ -22,22 +25,56 @@ pub returns-in-Link-clause-answer : goal.returns-in-Link-clause-answer
 returns-in-Link-clause-answer g c =
     let offered : is_offered_link c.in-Link.options c.in-Link.names ≡ true =
     ap (λ (ns : List (List ℕ)). is_offered_link c.in-Link.options ns) (sym c.as_slice.ensures) ∙ sym c.is_offered_link.ensures ∙ c.if-not-is_offered_link.false in
-    subst (λ (k : Command). Comes (obeyed k (seen g.F.Files.did g.F.Files.held g.F.Files.faults g.O.ByteOut.sent g.O.ByteOut.faults c.args.files.now c.link.new.files c.args.out.now c.args.out.now)) c.link.result) (sym c.in-Link.is)
-    (comes_map (link_obeyed c.in-Link.options c.in-Link.name c.in-Link.names (seen g.F.Files.did g.F.Files.held g.F.Files.faults g.O.ByteOut.sent g.O.ByteOut.faults c.args.files.now c.link.new.files c.args.out.now c.args.out.now) offered refl) c.link.result
+    subst (λ (k : Command). Comes (obeyed k (seen g.F.Files.did g.F.Files.held g.F.Files.faults g.O.ByteOut.sent g.O.ByteOut.faults c.args.files.now c.link.new.files c.args.out.now c.args.out.now) (input_seen g.I.ByteIn.left g.I.ByteIn.faults c.args.input.now c.args.input.now)) c.link.result) (sym c.in-Link.is)
+    (comes_map (link_obeyed c.in-Link.options c.in-Link.name c.in-Link.names (seen g.F.Files.did g.F.Files.held g.F.Files.faults g.O.ByteOut.sent g.O.ByteOut.faults c.args.files.now c.link.new.files c.args.out.now c.args.out.now) (input_seen g.I.ByteIn.left g.I.ByteIn.faults c.args.input.now c.args.input.now) offered refl refl) c.link.result
     (subst (λ (ns : List (List ℕ)). Comes (linking c.in-Link.options.exports c.in-Link.options.import_limit c.in-Link.name ns (files_seen g.F.Files.did g.F.Files.held g.F.Files.faults c.args.files.now c.link.new.files)) c.link.result) c.as_slice-in-Link.ensures c.link.ensures.answer))
+
+pub returns-in-Link-clause-says : goal.returns-in-Link-clause-says
+returns-in-Link-clause-says g c =
+    subst (λ (k : Command). OnOk c.link.result (Says k (seen g.F.Files.did g.F.Files.held g.F.Files.faults g.O.ByteOut.sent g.O.ByteOut.faults c.args.files.now c.link.new.files c.args.out.now c.args.out.now) (input_seen g.I.ByteIn.left g.I.ByteIn.faults c.args.input.now c.args.input.now) (notes_seen g.N.ByteOut.sent g.N.ByteOut.faults c.args.notes.now c.args.notes.now))) (sym c.in-Link.is) (on_each c.link.result (c.args.notes.now ≡ c.args.notes.now) refl).0
+
+pub returns-in-Link-clause-silent : goal.returns-in-Link-clause-silent
+returns-in-Link-clause-silent g c = (on_each c.link.result (c.args.notes.now ≡ c.args.notes.now) refl).1
 
 pub returns-in-Index-clause-answer : goal.returns-in-Index-clause-answer
 returns-in-Index-clause-answer g c =
-    subst (λ (k : Command). Comes (obeyed k (seen g.F.Files.did g.F.Files.held g.F.Files.faults g.O.ByteOut.sent g.O.ByteOut.faults c.args.files.now c.index.new.files c.args.out.now c.index.new.out)) c.index.result) (sym c.in-Index.is)
-    (comes_map (index_obeyed c.in-Index.exports c.in-Index.import_limit c.in-Index.names (seen g.F.Files.did g.F.Files.held g.F.Files.faults g.O.ByteOut.sent g.O.ByteOut.faults c.args.files.now c.index.new.files c.args.out.now c.index.new.out)) c.index.result
+    subst (λ (k : Command). Comes (obeyed k (seen g.F.Files.did g.F.Files.held g.F.Files.faults g.O.ByteOut.sent g.O.ByteOut.faults c.args.files.now c.index.new.files c.args.out.now c.index.new.out) (input_seen g.I.ByteIn.left g.I.ByteIn.faults c.args.input.now c.args.input.now)) c.index.result) (sym c.in-Index.is)
+    (comes_map (index_obeyed c.in-Index.exports c.in-Index.import_limit c.in-Index.names (seen g.F.Files.did g.F.Files.held g.F.Files.faults g.O.ByteOut.sent g.O.ByteOut.faults c.args.files.now c.index.new.files c.args.out.now c.index.new.out) (input_seen g.I.ByteIn.left g.I.ByteIn.faults c.args.input.now c.args.input.now) refl) c.index.result
     (subst (λ (es : List (List ℕ)). Comes (reporting es c.in-Index.import_limit c.in-Index.names (seen g.F.Files.did g.F.Files.held g.F.Files.faults g.O.ByteOut.sent g.O.ByteOut.faults c.args.files.now c.index.new.files c.args.out.now c.index.new.out)) c.index.result) c.as_slice-in-Index.ensures
     (subst (λ (ns : List (List ℕ)). Comes (reporting c.as_slice-in-Index.result.now c.in-Index.import_limit ns (seen g.F.Files.did g.F.Files.held g.F.Files.faults g.O.ByteOut.sent g.O.ByteOut.faults c.args.files.now c.index.new.files c.args.out.now c.index.new.out)) c.index.result) c.as_slice-in-Index-2.ensures c.index.ensures.answer)))
 
+pub returns-in-Index-clause-says : goal.returns-in-Index-clause-says
+returns-in-Index-clause-says g c =
+    subst (λ (k : Command). OnOk c.index.result (Says k (seen g.F.Files.did g.F.Files.held g.F.Files.faults g.O.ByteOut.sent g.O.ByteOut.faults c.args.files.now c.index.new.files c.args.out.now c.index.new.out) (input_seen g.I.ByteIn.left g.I.ByteIn.faults c.args.input.now c.args.input.now) (notes_seen g.N.ByteOut.sent g.N.ByteOut.faults c.args.notes.now c.args.notes.now))) (sym c.in-Index.is) (on_each c.index.result (c.args.notes.now ≡ c.args.notes.now) refl).0
+
+pub returns-in-Index-clause-silent : goal.returns-in-Index-clause-silent
+returns-in-Index-clause-silent g c = (on_each c.index.result (c.args.notes.now ≡ c.args.notes.now) refl).1
+
 pub returns-in-Batch-clause-answer : goal.returns-in-Batch-clause-answer
-returns-in-Batch-clause-answer g c = (ap is_offered c.in-Batch.is, (g.met.F.Files.did_none _, refl))
+returns-in-Batch-clause-answer g c = (ap is_offered c.in-Batch.is, (g.met.F.Files.did_none _, refl), refl)
+
+pub returns-then-not-is_offered_run-clause-answer : goal.returns-then-not-is_offered_run-clause-answer
+returns-then-not-is_offered_run-clause-answer g c =
+    (ap is_offered c.in-Run.is ∙ ap (λ (ns : List (List ℕ)). is_offered_run ns) (sym c.as_slice-in-Run.ensures) ∙ sym c.is_offered_run.ensures ∙ c.if-not-is_offered_run.true, (g.met.F.Files.did_none _, refl), refl)
+
+pub run-requires : goal.run-requires
+run-requires g c = offered_run c.as_slice-in-Run-2.result.now
+    (ap (λ (ns : List (List ℕ)). is_offered_run ns) (c.as_slice-in-Run-2.ensures ∙ sym c.as_slice-in-Run.ensures) ∙ sym c.is_offered_run.ensures ∙ c.if-not-is_offered_run.false)
 
 pub returns-in-Run-clause-answer : goal.returns-in-Run-clause-answer
-returns-in-Run-clause-answer g c = (ap is_offered c.in-Run.is, (g.met.F.Files.did_none _, refl))
+returns-in-Run-clause-answer g c =
+    let offered : is_offered_run c.in-Run.names ≡ true =
+    ap (λ (ns : List (List ℕ)). is_offered_run ns) (sym c.as_slice-in-Run.ensures) ∙ sym c.is_offered_run.ensures ∙ c.if-not-is_offered_run.false in
+    subst (λ (k : Command). Comes (obeyed k (seen g.F.Files.did g.F.Files.held g.F.Files.faults g.O.ByteOut.sent g.O.ByteOut.faults c.args.files.now c.run.new.files c.args.out.now c.run.new.out) (input_seen g.I.ByteIn.left g.I.ByteIn.faults c.args.input.now c.run.new.input)) c.run.result) (sym c.in-Run.is)
+    (comes_map (run_obeyed c.in-Run.root c.in-Run.args c.in-Run.steps c.in-Run.names (seen g.F.Files.did g.F.Files.held g.F.Files.faults g.O.ByteOut.sent g.O.ByteOut.faults c.args.files.now c.run.new.files c.args.out.now c.run.new.out) (input_seen g.I.ByteIn.left g.I.ByteIn.faults c.args.input.now c.run.new.input) offered) c.run.result
+    (subst (λ (ns : List (List ℕ)). Comes (running c.in-Run.root c.in-Run.args c.in-Run.steps ns (files_seen g.F.Files.did g.F.Files.held g.F.Files.faults c.args.files.now c.run.new.files) (streams_seen g.I.ByteIn.left g.I.ByteIn.faults g.O.ByteOut.sent g.O.ByteOut.faults c.args.input.now c.run.new.input c.args.out.now c.run.new.out)) c.run.result)
+    c.as_slice-in-Run-2.ensures c.run.ensures.answer))
+
+pub returns-in-Run-clause-says : goal.returns-in-Run-clause-says
+returns-in-Run-clause-says g c =
+    subst (λ (k : Command). OnOk c.run.result (Says k (seen g.F.Files.did g.F.Files.held g.F.Files.faults g.O.ByteOut.sent g.O.ByteOut.faults c.args.files.now c.run.new.files c.args.out.now c.run.new.out) (input_seen g.I.ByteIn.left g.I.ByteIn.faults c.args.input.now c.run.new.input) (notes_seen g.N.ByteOut.sent g.N.ByteOut.faults c.args.notes.now c.run.new.notes))) (sym c.in-Run.is)
+    (subst (λ (ns : List (List ℕ)). OnOk c.run.result (SaysReturned (AreRead ns (λ (calls : List Call). g.F.Files.did c.args.files.now calls c.run.new.files)) c.in-Run.root c.in-Run.args c.in-Run.steps ns (streams_seen g.I.ByteIn.left g.I.ByteIn.faults g.O.ByteOut.sent g.O.ByteOut.faults c.args.input.now c.run.new.input c.args.out.now c.run.new.out) (notes_seen g.N.ByteOut.sent g.N.ByteOut.faults c.args.notes.now c.run.new.notes)))
+    c.as_slice-in-Run-2.ensures c.run.ensures.says)
 
 pub returns-clause-answer : goal.returns-clause-answer
-returns-clause-answer g c = (ap is_offered c.in-Gen.is, (g.met.F.Files.did_none _, refl))
+returns-clause-answer g c = (ap is_offered c.in-Gen.is, (g.met.F.Files.did_none _, refl), refl)

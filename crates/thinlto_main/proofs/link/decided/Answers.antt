@@ -1,5 +1,4 @@
 use Rattle.std.proofs.Common.{◌≢◌, ◌∙◌, ℕ, List, subst}
-use Rattle.lto_fault.specs.declared.refusal.Refusal.{Refusal}
 use Rattle.lto_fault.specs.declared.refusal.Refusal.TheVariants.{NoMemory}
 use Rattle.thin_link.specs.Refusing.{IsRefused}
 use Rattle.thinlto_main.specs.Causes.{never}
@@ -9,11 +8,10 @@ use Rattle.thinlto_main.proofs.link.decided.Goals as goal
 
 pub returns-in-Err-clause-because : goal.returns-in-Err-clause-because
 returns-in-Err-clause-because c =
-    let refused : c.in-Err.why ≢ NoMemory → IsRefused c.args.names.now c.args.modules.now c.args.options.now.exports c.in-Err.why = λ other.
-    subst (λ (fs : List (List ℕ)). IsRefused fs c.args.modules.now c.args.options.now.exports c.in-Err.why) (c.as_slice.ensures ∙ c.in-Ok.ensures)
-    (subst (λ (es : List (List ℕ)). IsRefused c.as_slice.result.now c.args.modules.now es c.in-Err.why) c.as_slice-2.ensures (c.in-Err.ensures.refused other)) in
-    unlinked_because c.args.names.now c.args.options.now.exports c.args.modules.now (record never { unlinked = IsRefused c.args.names.now c.args.modules.now c.args.options.now.exports; memory = Unit {0} })
+    let refused : c.in-Err.why ≢ NoMemory → IsRefused c.args.names.now c.args.modules.now c.args.exports.now c.in-Err.why = λ other.
+    subst (λ (fs : List (List ℕ)). IsRefused fs c.args.modules.now c.args.exports.now c.in-Err.why) (c.as_slice.ensures ∙ c.in-Ok.ensures) (c.in-Err.ensures.refused other) in
+    unlinked_because c.args.names.now c.args.exports.now c.args.modules.now (record never { unlinked = IsRefused c.args.names.now c.args.modules.now c.args.exports.now; memory = Unit {0} })
     (λ why x. x) c.in-Err.why refused tt
 
 pub returns-clause-done : goal.returns-clause-done
-returns-clause-done c = has_thin_link c.args.modules.now c.args.options.now.import_limit _ _ c.as_slice-2.ensures _ _ _ c.in-Ok-thin_link.ensures.done
+returns-clause-done c = has_thin_link c.args.modules.now c.args.import_limit c.args.exports.now _ _ _ c.in-Ok-thin_link.ensures.done

@@ -1,0 +1,5 @@
+pub mod Lists
+pub mod Owning
+mod Widths
+pub mod Taking
+mod Naming

@@ -1,0 +1,4 @@
+pub mod Copies
+pub mod Starting
+pub mod Arguments
+pub mod Said
