@@ -9,8 +9,9 @@ BUILT = os.path.join(HOME, "crates", "thinlto_main", "out", "thinlto_main")
 
 def linker():
     """The program that is named on the command line, else the one of this repository, built if need be."""
-    if len(sys.argv) > 1:
-        return os.path.abspath(sys.argv[1])
+    named = [word for word in sys.argv[1:] if not word.startswith("--")]
+    if named:
+        return os.path.abspath(named[0])
     # the launcher proves and builds where that is due; the checks then call the program itself, often
     done = subprocess.run([os.path.join(HOME, "thinlto"), "link", "-o", os.devnull, os.path.join(HOME, "examples", "sum.ll")])
     if done.returncode != 0:
