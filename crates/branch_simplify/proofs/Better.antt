@@ -1,6 +1,6 @@
 -- A sound function with its decided terminators as jumps is better in every program.
 use Rattle.std.proofs.Common.{◌≡◌, ℕ, zero, suc, ◌+◌, ◌≤◌, ◌<◌, nat_eq, ◌==◌, Bool, true, false, List, [], ◌∷◌, ◌++◌, Option, Some, None, map, option_map, ◌⊎◌, inl, inr, refl, sym, ◌∙◌, ap, subst, arith, if◌then◌else◌, append-nil}
-use Rattle.std.specs.Prelude.{All, nat_le, slice_get}
+use Rattle.std.specs.Prelude.{All, nat_le, nat_lt, ◌^◌, slice_get}
 use Rattle.std.proofs.lemmas.Bool.{eqb-true, eq-eqb, leb-true, leb-false}
 use Rattle.std.proofs.lemmas.List.Elements.{All-head, All-tail}
 use Rattle.ir_tree.specs.Flow.{targets}
@@ -18,12 +18,13 @@ use Rattle.ir_tree.specs.declared.instr.Phi.{Phi}
 use Rattle.ir_tree.specs.declared.operand.Operand.{Operand}
 use Rattle.ir_tree.specs.declared.operand.Operand.TheVariants.{Local, Null, Number as Constant, Poison as PoisonOf, Symbol as Named}
 use Rattle.ir_tree.specs.declared.rule.Rule.TheVariants.{PhiEdges}
-use Rattle.ir_meaning.specs.Act.{Exit, Leads', Stuck, by_value, case_target, exit_of, find_block, incoming_value, phis_bound, side}
+use Rattle.ir_meaning.specs.Act.{Exit, Leads', Stuck, by_bits, by_value, case_target, exit_of, find_block, incoming_value, phis_bound, side}
 use Rattle.ir_meaning.specs.Frame.{Locals, Signature, value_of}
 use Rattle.ir_meaning.specs.Near.{BetterThan}
+use Rattle.ir_meaning.specs.Operate.{bits_of}
 use Rattle.ir_meaning.specs.Program.{Program}
 use Rattle.ir_meaning.specs.declared.value.Value.{Value}
-use Rattle.ir_meaning.specs.declared.value.Value.TheVariants.{Number, Pointer, Poison}
+use Rattle.ir_meaning.specs.declared.value.Value.TheVariants.{Number}
 use Rattle.ir_better.specs.Formed.{IsFormed}
 use Rattle.ir_better.specs.Reshape.{GoesQuietly, IsShape, IsStuck, Layout, LeavesAlike, Spot, laid, spot_of}
 use Rattle.ir_better.proofs.Alike.Itself.{same_better}
@@ -44,16 +45,28 @@ use Rattle.branch_simplify.proofs.Kept.{step}
 abbrev DoesAlike : (Operand → Value) → Terminator → Type 0
 DoesAlike value t = IsStuck (exit_of value t) ⊎ (exit_of value (straight t) ≡ exit_of value t)
 
-one_side : (v : Value) (t f : ℕ) → t ≡ f → IsStuck (by_value (side t f) v) ⊎ (Leads' t ≡ by_value (side t f) v)
-one_side (Number zero) t f e = inr (ap Leads' e)
-one_side (Number (suc n)) t f e = inr refl
-one_side (Pointer x i) t f e = inl tt
-one_side Poison t f e = inl tt
+one_side : (v : Value) (t f : ℕ) → t ≡ f → IsStuck (by_value 1 (side t f) v) ⊎ (Leads' t ≡ by_value 1 (side t f) v)
+one_side v t f e = by (bits_of 1 v)
+  where
+    by : (o : Option ℕ) → IsStuck (by_bits (side t f) o) ⊎ (Leads' t ≡ by_bits (side t f) o)
+    by (Some zero) = inr (ap Leads' e)
+    by (Some (suc n)) = inr refl
+    by None = inl tt
 
-no_case : (v : Value) (d : ℕ) → IsStuck (by_value (case_target [] d) v) ⊎ (Leads' d ≡ by_value (case_target [] d) v)
-no_case (Number n) d = inr refl
-no_case (Pointer x i) d = inl tt
-no_case Poison d = inl tt
+no_case : (w : ℕ) (v : Value) (d : ℕ) → IsStuck (by_value w (case_target [] d) v) ⊎ (Leads' d ≡ by_value w (case_target [] d) v)
+no_case w v d = by (bits_of w v)
+  where
+    by : (o : Option ℕ) → IsStuck (by_bits (case_target [] d) o) ⊎ (Leads' d ≡ by_bits (case_target [] d) o)
+    by (Some n) = inr refl
+    by None = inl tt
+
+-- a constant that is a number of the width, and else it is undefined
+of_constant : (w : ℕ) (target : ℕ → ℕ) (n : ℕ) → IsStuck (by_value w target (Number n)) ⊎ (Leads' (target n) ≡ by_value w target (Number n))
+of_constant w target n = by (nat_lt n (2 ^ w))
+  where
+    by : (b : Bool) → IsStuck (by_bits target (if b then Some n else None)) ⊎ (Leads' (target n) ≡ by_bits target (if b then Some n else None))
+    by true = inr refl
+    by false = inl tt
 
 same_targets : (value : Operand → Value) (c : Operand) (t f : ℕ) → constant c ≡ None → DoesAlike value (Branch c t f)
 same_targets value c t f open' = subst (λ (o : Option ℕ). IsStuck (exit_of value (Branch c t f)) ⊎ (exit_of value (jump_or (branch_target o t f) (Branch c t f)) ≡ exit_of value (Branch c t f))) (sym open') (by (nat_eq t f) refl)
@@ -64,19 +77,19 @@ same_targets value c t f open' = subst (λ (o : Option ℕ). IsStuck (exit_of va
 
 without_cases : (value : Operand → Value) (w : ℕ) (v : Operand) (d : ℕ) (cs : List Case) → constant v ≡ None → DoesAlike value (Switch w v d cs)
 without_cases value w v d [] open' =
-    subst (λ (o : Option ℕ). IsStuck (exit_of value (Switch w v d [])) ⊎ (exit_of value (jump_or (switch_target o d []) (Switch w v d [])) ≡ exit_of value (Switch w v d []))) (sym open') (no_case (value v) d)
+    subst (λ (o : Option ℕ). IsStuck (exit_of value (Switch w v d [])) ⊎ (exit_of value (jump_or (switch_target o d []) (Switch w v d [])) ≡ exit_of value (Switch w v d []))) (sym open') (no_case w (value v) d)
 without_cases value w v d (c ∷ cs) open' =
     subst (λ (o : Option ℕ). IsStuck (exit_of value (Switch w v d (c ∷ cs))) ⊎ (exit_of value (jump_or (switch_target o d (c ∷ cs)) (Switch w v d (c ∷ cs))) ≡ exit_of value (Switch w v d (c ∷ cs)))) (sym open') (inr refl)
 
 does_alike : (sig : Signature) (locals : Locals) (t : Terminator) → DoesAlike (value_of sig locals) t
 does_alike sig locals (Return argument) = inr refl
 does_alike sig locals (Jump t) = inr refl
-does_alike sig locals (Branch (Constant w bits) t f) = inr refl
+does_alike sig locals (Branch (Constant w bits) t f) = of_constant 1 (side t f) bits
 does_alike sig locals (Branch (Local x) t f) = same_targets (value_of sig locals) (Local x) t f refl
 does_alike sig locals (Branch Null t f) = same_targets (value_of sig locals) Null t f refl
 does_alike sig locals (Branch (PoisonOf reg) t f) = same_targets (value_of sig locals) (PoisonOf reg) t f refl
 does_alike sig locals (Branch (Named s o) t f) = same_targets (value_of sig locals) (Named s o) t f refl
-does_alike sig locals (Switch w (Constant k bits) d cs) = inr refl
+does_alike sig locals (Switch w (Constant k bits) d cs) = of_constant w (case_target cs d) bits
 does_alike sig locals (Switch w (Local x) d cs) = without_cases (value_of sig locals) w (Local x) d cs refl
 does_alike sig locals (Switch w Null d cs) = without_cases (value_of sig locals) w Null d cs refl
 does_alike sig locals (Switch w (PoisonOf reg) d cs) = without_cases (value_of sig locals) w (PoisonOf reg) d cs refl

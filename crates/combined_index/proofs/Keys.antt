@@ -10,7 +10,8 @@ use Rattle.std.specs.Str.{bytes_eq}
 use Rattle.indexmap.specs.IndexSet.{insert_key}
 use Rattle.ir_tree.specs.declared.operand.Symbol.{Symbol}
 use Rattle.combined_index.specs.contracts.key.KeyPartialEq.TheImpl as derived
-use Rattle.combined_index.specs.Entries.{same_symbol}
+use Rattle.ir_tree.specs.Symbols.{symbol_eq}
+use Rattle.ir_tree.proofs.Symbols.{symbol_true}
 use Rattle.combined_index.specs.Numbered.{NumbersSymbol, noted, symbol, symbols}
 use Rattle.combined_index.specs.declared.key.Key.{Key}
 
@@ -18,30 +19,10 @@ abbrev pub same_key : Key → Key → Bool
 same_key = derived.eq-value.it
 
 -- equality in the code
-pub same : (a b : Key) → same_key a b ≡ same_symbol (symbol a) (symbol b)
+pub same : (a b : Key) → same_key a b ≡ symbol_eq (symbol a) (symbol b)
 same a b = refl
 
-homes : (a b : Option ℕ) → option_eq nat_eq a b ≡ true → a ≡ b
-homes None None h = refl
-homes (Some m) (Some n) h = ap (λ (k : ℕ). Some k) ((unsigned_Decides m n).0 h)
-homes None (Some n) h = absurd (no h)
-  where
-    no : false ≡ true → ⊥
-    no h = cc
-homes (Some m) None h = absurd (no h)
-  where
-    no : false ≡ true → ⊥
-    no h = cc
-
--- symbols that are the same are equal
-pub equal : (s t : Symbol) → same_symbol s t ≡ true → s ≡ t
-equal s t h =
-    λ i. record {
-      home = homes s.home t.home (first_so (option_eq nat_eq s.home t.home) (bytes_eq s.name t.name) h) i;
-      name = (bytes_eq-Decides s.name t.name).0 (second_so (option_eq nat_eq s.home t.home) (bytes_eq s.name t.name) h) i;
-    }
-
-any_same : (k : Key) (ks : List Key) → list_any (same_key k) ks ≡ list_any (same_symbol (symbol k)) (symbols ks)
+any_same : (k : Key) (ks : List Key) → list_any (same_key k) ks ≡ list_any (symbol_eq (symbol k)) (symbols ks)
 any_same k [] = refl
 any_same k (x ∷ xs) = ap₂ (λ (a b : Bool). a || b) (same k x) (any_same k xs)
 
@@ -62,15 +43,15 @@ pub key_numbered : (ks then : List Key) (k stored : Key) (n : ℕ) → then ≡ 
     → NumbersSymbol (symbols ks) (symbol k) (symbols then) n
 key_numbered ks then k stored n is at alike = record {
   grown = ap symbols is ∙ key_noted ks k;
-  named = slice_get-map symbol then n ∙ ap (option_map symbol) at ∙ ap (λ (s : Symbol). Some s) (sym (equal (symbol k) (symbol stored) (sym (same k stored) ∙ alike)));
+  named = slice_get-map symbol then n ∙ ap (option_map symbol) at ∙ ap (λ (s : Symbol). Some s) (sym (symbol_true (symbol k) (symbol stored) (sym (same k stored) ∙ alike)));
 }
 
-apart : (k : Key) (ks : List Key) → AllByRecursion (λ y. same_key k y ≡ false) ks → AllByRecursion (λ t. same_symbol (symbol k) t ≡ false) (symbols ks)
+apart : (k : Key) (ks : List Key) → AllByRecursion (λ y. same_key k y ≡ false) ks → AllByRecursion (λ t. symbol_eq (symbol k) t ≡ false) (symbols ks)
 apart k [] h = h
 apart k (x ∷ xs) h = (sym (same k x) ∙ h.0, apart k xs h.1)
 
 -- keys that differ are of symbols that do
-pub distinct_symbols : (ks : List Key) → IsDistinct same_key ks → IsDistinct same_symbol (symbols ks)
+pub distinct_symbols : (ks : List Key) → IsDistinct same_key ks → IsDistinct symbol_eq (symbols ks)
 unfolding IsDistinct
 distinct_symbols [] h = h
 distinct_symbols (k ∷ ks) h = (apart k ks h.0, distinct_symbols ks h.1)

@@ -4,7 +4,8 @@ use Rattle.std.proofs.lemmas.List.{map-append, take_more}
 use Rattle.std.proofs.lemmas.List.Concat.{flat_map-append}
 use Rattle.std.specs.List.{list_any}
 use Rattle.ir_tree.specs.declared.operand.Symbol.{Symbol}
-use Rattle.combined_index.specs.Entries.{Entry, same_symbol, stands_in}
+use Rattle.combined_index.specs.Entries.{Entry, stands_in}
+use Rattle.ir_tree.specs.Symbols.{symbol_eq}
 use Rattle.combined_index.specs.Numbered.{Each, NamesEntries, NamesEntry, NamesSymbol, NamesSymbols, Numbers, NumbersEntries, NumbersEntry, NumbersModules, NumbersSymbol, NumbersSymbols, all_noted, noted}
 use Rattle.combined_index.specs.declared.definition.Definition.{Definition}
 
@@ -19,7 +20,7 @@ further (y ∷ xs) ys zero x h = h
 further (y ∷ xs) ys (suc n) x h = further xs ys n x h
 
 one_stays : (ss : List Symbol) (t s : Symbol) (n : ℕ) → NamesSymbol ss s n → NamesSymbol (noted ss t) s n
-one_stays ss t s n h = by (list_any (same_symbol t) ss)
+one_stays ss t s n h = by (list_any (symbol_eq t) ss)
   where
     by : (b : Bool) → NamesSymbol (cond b ss (ss ++ t ∷ [])) s n
     by true = h

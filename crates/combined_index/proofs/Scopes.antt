@@ -5,7 +5,8 @@ use Rattle.std.specs.List.{list_any}
 use Rattle.std.specs.Str.{bytes_eq}
 use Rattle.indexmap.specs.IndexSet.{insert_key}
 use Rattle.ir_summary.specs.declared.summary.Summary.{Summary}
-use Rattle.combined_index.specs.Entries.{is_local, is_own}
+use Rattle.combined_index.specs.Entries.{is_own}
+use Rattle.ir_tree.specs.Linkages.{is_local}
 use Rattle.combined_index.specs.Numbered.{is_kept}
 
 abbrev alike : Bor (List ℕ) → Bor (List ℕ) → Bool

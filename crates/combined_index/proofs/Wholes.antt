@@ -7,7 +7,8 @@ use Rattle.ir_tree.specs.declared.operand.Symbol.{Symbol}
 use Rattle.ir_summary.specs.declared.summary.Summary.{Summary}
 use Rattle.symbol_resolve.specs.Resolved.{Symbols}
 use Rattle.combined_index.specs.Combined.{Combined, IsIndex}
-use Rattle.combined_index.specs.Entries.{Entry, combined, defines, entries, entries_from, stand_in}
+use Rattle.combined_index.specs.Entries.{Entry, combined, entries, entries_from, stand_in}
+use Rattle.ir_tree.specs.Linkages.{defines}
 use Rattle.combined_index.specs.Indexed.{IsCombined, named}
 use Rattle.combined_index.specs.Numbered.{NumbersModules, all_noted, symbol, symbols}
 use Rattle.combined_index.specs.declared.definition.Definition.{Definition}

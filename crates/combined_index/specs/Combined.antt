@@ -3,7 +3,7 @@ use Rattle.std.specs.Prelude.{◌<◌, ◌^◌, ℕ, Bool, ◌&&◌, is_none, na
 use Rattle.std.specs.List.{IsDistinct, position_from}
 use Rattle.std.specs.Str.{bytes_eq}
 use Rattle.ir_tree.specs.declared.operand.Symbol.{Symbol}
-use Rattle.combined_index.specs.Entries.{same_symbol}
+use Rattle.ir_tree.specs.Symbols.{symbol_eq}
 use Rattle.combined_index.specs.declared.definition.Definition.{Definition}
 
 -- all symbols, and the definitions of each module
@@ -43,5 +43,5 @@ AreWithin size ds = All (IsWithin size) ds
 pub record IsIndex (c : Combined) : Type 0 where
   pub within : All (AreWithin (length c.symbols)) c.modules
   -- no symbol has two numbers
-  pub distinct : IsDistinct same_symbol c.symbols
+  pub distinct : IsDistinct symbol_eq c.symbols
   pub small : length c.symbols < 2 ^ 32

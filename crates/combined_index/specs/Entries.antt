@@ -4,6 +4,9 @@ use Rattle.std.specs.List.{list_any}
 use Rattle.std.specs.Option.{option_eq}
 use Rattle.std.specs.Str.{bytes_eq}
 use Rattle.ir_tree.specs.declared.function.Linkage.{Linkage}
+use Rattle.ir_tree.specs.Linkages.{defines, is_local}
+use Rattle.ir_tree.specs.Once.{once_by, without_by}
+use Rattle.ir_tree.specs.Symbols.{symbol_eq}
 use Rattle.ir_tree.specs.declared.function.Linkage.TheVariants as linkage
 use Rattle.ir_tree.specs.declared.operand.Symbol.{Symbol}
 use Rattle.ir_summary.specs.declared.summary.Summary.{Summary}
@@ -19,30 +22,6 @@ pub record Entry : Type 0 where
   pub prevails : Bool
   pub calls : List Symbol
   pub refs : List Symbol
-
--- ---- linkage (LangRef, "Linkage Types")
-
--- not seen by other modules
-abbrev pub is_local : Linkage → Bool
-is_local linkage.Private = true
-is_local linkage.Internal = true
-is_local linkage.External = false
-is_local linkage.Linkonce = false
-is_local linkage.LinkonceOdr = false
-is_local linkage.Weak = false
-is_local linkage.WeakOdr = false
-is_local linkage.AvailableExternally = false
-
--- a body that is available externally counts as a declaration
-abbrev pub defines : Linkage → Bool
-defines linkage.Private = true
-defines linkage.Internal = true
-defines linkage.External = true
-defines linkage.Linkonce = true
-defines linkage.LinkonceOdr = true
-defines linkage.Weak = true
-defines linkage.WeakOdr = true
-defines linkage.AvailableExternally = false
 
 -- ---- symbols
 
@@ -90,9 +69,6 @@ combined table ms = entries_from table 0 ms
 
 -- ---- the symbols that stand in entries
 
-abbrev pub same_symbol : Symbol → Symbol → Bool
-same_symbol s t = option_eq nat_eq s.home t.home && bytes_eq s.name t.name
-
 abbrev pub stands_in : Entry → List Symbol
 stands_in e = e.symbol ∷ (e.calls ++ e.refs)
 
@@ -101,9 +77,8 @@ stand_in modules = flat_map (λ m. flat_map stands_in m) modules
 
 -- the other symbols
 abbrev pub without : Symbol → List Symbol → List Symbol
-without s ss = filter (λ t. not (same_symbol s t)) ss
+without = without_by symbol_eq
 
 -- each symbol once, where it comes first
 abbrev pub once : List Symbol → List Symbol
-once [] = []
-once (s ∷ ss) = s ∷ without s (once ss)
+once = once_by symbol_eq

@@ -4,7 +4,8 @@ use Rattle.std.specs.Borrow.{Bor}
 use Rattle.std.specs.List.{list_any}
 use Rattle.std.specs.Str.{bytes_eq}
 use Rattle.ir_tree.specs.declared.operand.Symbol.{Symbol}
-use Rattle.combined_index.specs.Entries.{Entry, same_symbol, stands_in}
+use Rattle.combined_index.specs.Entries.{Entry, stands_in}
+use Rattle.ir_tree.specs.Symbols.{symbol_eq}
 use Rattle.combined_index.specs.declared.definition.Definition.{Definition}
 use Rattle.combined_index.specs.declared.key.Key.{Key}
 
@@ -17,7 +18,7 @@ symbols = map symbol
 
 -- one more symbol, behind the others where it isn't there
 abbrev pub noted : List Symbol → Symbol → List Symbol
-noted ss s = if list_any (same_symbol s) ss then ss else ss ++ s ∷ []
+noted ss s = if list_any (symbol_eq s) ss then ss else ss ++ s ∷ []
 
 abbrev pub all_noted : List Symbol → List Symbol → List Symbol
 all_noted ss more = fold noted ss more

@@ -5,7 +5,7 @@ ghost use Rattle.combined_index.specs.Numbered.{NumbersEntries, NumbersEntry, Nu
 
 use crate::definition::Definition;
 use crate::key::{Key, number_of};
-use crate::scope::{Scope, defines, own_names};
+use crate::scope::{Scope, own_names};
 use indexmap::IndexSet;
 use ir_summary::Summary;
 use ir_tree::{Rows, Text};
@@ -70,7 +70,7 @@ pub(crate) fn definitions_of<'a>(
     let scope = Scope { number, own };
     let mut rows = Rows::new(alloc);
     for summary in summaries {
-        if defines(summary.linkage) {
+        if summary.linkage.defines() {
             let definition = definition_of(alloc, table, &scope, resolution, summary)?;
             rows.push(definition)?;
         }

@@ -1,46 +1,13 @@
 //! What names stand for in a module (LangRef, "Linkage Types": `private` and `internal`).
 ghost use Rattle.std.specs.Prelude.{◌≡◌, ℕ, List, IfOk};
-ghost use Rattle.combined_index.specs.Entries.{defines, is_local, is_own, prevails_at, symbol_of};
+ghost use Rattle.combined_index.specs.Entries.{is_own, prevails_at, symbol_of};
 ghost use Rattle.combined_index.specs.Numbered.{is_kept, symbol};
 
 use crate::key::Key;
 use indexmap::IndexSet;
 use ir_summary::Summary;
-use ir_tree::Linkage;
 use std::alloc::{AllocError, Global};
 use symbol_resolve::Resolution;
-
-/// Whether a definition of this linkage is seen in its module alone.
-fn is_local(linkage: Linkage) -> bool
-    ensures { result ≡ is_local linkage }
-{
-    match linkage {
-        Linkage::Private | Linkage::Internal => true,
-        Linkage::External
-        | Linkage::Linkonce
-        | Linkage::LinkonceOdr
-        | Linkage::Weak
-        | Linkage::WeakOdr
-        | Linkage::AvailableExternally => false,
-    }
-}
-
-/// Whether a body of this linkage is a definition: one that is available externally counts as a
-/// declaration.
-pub(crate) fn defines(linkage: Linkage) -> bool
-    ensures { result ≡ defines linkage }
-{
-    match linkage {
-        Linkage::AvailableExternally => false,
-        Linkage::Private
-        | Linkage::Internal
-        | Linkage::External
-        | Linkage::Linkonce
-        | Linkage::LinkonceOdr
-        | Linkage::Weak
-        | Linkage::WeakOdr => true,
-    }
-}
 
 /// The names that a module defines for itself.
 pub(crate) fn own_names<'a>(
@@ -51,7 +18,7 @@ pub(crate) fn own_names<'a>(
 {
     let mut own = IndexSet::new(alloc);
     for summary in summaries {
-        if is_local(summary.linkage) {
+        if summary.linkage.is_local() {
             own.insert(summary.name.as_slice())?;
         }
     }

@@ -8,9 +8,9 @@ use Rattle.ir_tree.specs.declared.block.Case.{Case}
 use Rattle.ir_tree.specs.declared.block.Terminator.{Terminator}
 use Rattle.ir_tree.specs.declared.block.Terminator.TheVariants.{Branch, Jump, Return, Switch, Unreachable}
 use Rattle.ir_tree.specs.declared.operand.Operand.{Operand}
-use Rattle.ir_meaning.specs.Act.{Leads', by_value, case_target, exit_of, find_block, side}
+use Rattle.ir_meaning.specs.Act.{Leads', by_bits, by_value, case_target, exit_of, find_block, side}
+use Rattle.ir_meaning.specs.Operate.{bits_of}
 use Rattle.ir_meaning.specs.declared.value.Value.{Value}
-use Rattle.ir_meaning.specs.declared.value.Value.TheVariants.{Number, Pointer, Poison}
 use Rattle.edge_counts.specs.Counted.{times}
 use Rattle.edge_counts.proofs.Counting.{here, later}
 
@@ -37,20 +37,22 @@ pub side_among : (t f bits : ℕ) → 1 ≤ times (side t f bits) (t ∷ f ∷ [
 side_among t f zero = later f t (f ∷ []) (here f f [] refl)
 side_among t f (suc n) = here t t (f ∷ []) refl
 
-by_value_leads : (g : ℕ → ℕ) (v : Value) (target : ℕ) → by_value g v ≡ Leads' target → (n : ℕ) × (g n ≡ target)
-by_value_leads g (Number n) target e = (n, cc e)
-by_value_leads g (Pointer x i) target e = absurd (cc e)
-by_value_leads g Poison target e = absurd (cc e)
+by_value_leads : (w : ℕ) (g : ℕ → ℕ) (v : Value) (target : ℕ) → by_value w g v ≡ Leads' target → (n : ℕ) × (g n ≡ target)
+by_value_leads w g v target e = by (bits_of w v) e
+  where
+    by : (o : Option ℕ) → by_bits g o ≡ Leads' target → (n : ℕ) × (g n ≡ target)
+    by (Some n) h = (n, cc h)
+    by None h = absurd (cc h)
 
 -- a terminator leads to one of its targets
 pub exit_among : (value : Operand → Value) (t : Terminator) (target : ℕ) → exit_of value t ≡ Leads' target → 1 ≤ times target (targets t)
 exit_among value (Return argument) target e = absurd (cc e)
 exit_among value (Jump t) target e = here target t [] (cc e)
 exit_among value (Branch c t f) target e =
-    let x : (n : ℕ) × (side t f n ≡ target) = by_value_leads (side t f) (value c) target e in
+    let x : (n : ℕ) × (side t f n ≡ target) = by_value_leads 1 (side t f) (value c) target e in
     subst (λ (m : ℕ). 1 ≤ times m (t ∷ f ∷ [])) x.1 (side_among t f x.0)
 exit_among value (Switch w v d cs) target e =
-    let x : (n : ℕ) × (case_target cs d n ≡ target) = by_value_leads (case_target cs d) (value v) target e in
+    let x : (n : ℕ) × (case_target cs d n ≡ target) = by_value_leads w (case_target cs d) (value v) target e in
     subst (λ (m : ℕ). 1 ≤ times m (d ∷ map (λ c. c.target) cs)) x.1 (switch_among cs d x.0)
 exit_among value Unreachable target e = absurd (cc e)
 

@@ -1,6 +1,5 @@
 mod Casts
 mod Indices
-mod Names
 mod Ones
 mod Parts
 mod Wraps

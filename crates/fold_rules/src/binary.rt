@@ -1,7 +1,8 @@
 //! Rows of binary operations (LLVM Language Reference, "Binary Operations", "Bitwise Binary Operations").
-ghost use Rattle.std.specs.Prelude.{◌≡◌, ◌≤◌};
+ghost use Rattle.std.specs.Prelude.{◌≡◌, ◌≤◌, ◌<◌, ◌^◌, Some};
+ghost use Rattle.ir_meaning.specs.Operate.{binary_bits};
 ghost use Rattle.ir_meaning.specs.Wrapping.{is_division};
-ghost use Rattle.ir_meaning.specs.Table.{binary_rule, folded, number_of, poisoned, unchanged, zeroed};
+ghost use Rattle.ir_meaning.specs.Table.{binary_rule, constant_answer, poisoned, unchanged, zeroed};
 ghost use Rattle.fold_rules.specs.Folding.{row_of};
 
 use crate::folded::Folded;
@@ -11,19 +12,13 @@ use ir_meaning::{Answer, binary};
 use ir_tree::{BinaryOp, Flags, Operand, Reg};
 
 /// The value of two constants, or poison; none where the operation is undefined.
-fn folded<'a>(
-    op: BinaryOp,
-    flags: Flags,
-    width: u8,
-    left: &'a Operand,
-    right: &'a Operand,
-) -> Option<Folded<'a>>
+fn folded<'a>(op: BinaryOp, flags: Flags, width: u8, left: u64, right: u64) -> Option<Folded<'a>>
     requires some { 1 ≤ width }
     requires within { width ≤ 64 }
-    ensures { row_of result ≡ folded op flags width (number_of width left.now) (number_of width right.now) }
+    requires left { left < 2 ^ width }
+    requires right { right < 2 ^ width }
+    ensures { row_of result ≡ constant_answer width (binary_bits op flags width (Some left) (Some right)) }
 {
-    let left = number_of(width, left)?;
-    let right = number_of(width, right)?;
     match binary(op, flags, width, Some(left), Some(right)) {
         Answer::Value(bits) => Some(Folded::Number { width, bits }),
         Answer::Poison => Some(Folded::Poison(Reg::Int(width))),
@@ -98,7 +93,8 @@ fn zeroed<'a>(op: BinaryOp, width: u8, left: &'a Operand, right: &'a Operand) ->
     }
 }
 
-/// The first row of a binary operation that fits.
+/// The first row of a binary operation that fits. Two constants fit the first row, which has no operand where the
+/// operation is undefined of them.
 pub(crate) fn binary_rule<'a>(
     op: BinaryOp,
     flags: Flags,
@@ -110,8 +106,8 @@ pub(crate) fn binary_rule<'a>(
     requires within { width ≤ 64 }
     ensures { row_of result ≡ binary_rule op flags width left.now right.now }
 {
-    if let Some(constant) = folded(op, flags, width, left, right) {
-        return Some(constant);
+    if let (Some(a), Some(b)) = (number_of(width, left), number_of(width, right)) {
+        return folded(op, flags, width, a, b);
     }
     if let Some(poison) = poisoned(op, width, left, right) {
         return Some(poison);

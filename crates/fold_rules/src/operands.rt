@@ -1,6 +1,7 @@
 //! What the rows ask of operands.
-ghost use Rattle.std.specs.Prelude.{◌≡◌, ◌<◌, ◌≤◌, ◌^◌, ◌-◌, IfSome};
-ghost use Rattle.ir_meaning.specs.Symbols.{home_eq, symbol_eq};
+ghost use Rattle.std.specs.Prelude.{◌≡◌, ◌<◌, ◌≤◌, ◌^◌, ◌-◌, IfSome, nat_eq};
+ghost use Rattle.std.specs.Option.{option_eq};
+ghost use Rattle.ir_tree.specs.Symbols.{symbol_eq};
 ghost use Rattle.ir_meaning.specs.Execute.{reg_eq};
 ghost use Rattle.ir_meaning.specs.Table.{is_number, is_poison, number_of, same};
 
@@ -59,7 +60,7 @@ fn is_same_type(left: Reg, right: Reg) -> bool
 }
 
 fn is_same_home(left: Option<u32>, right: Option<u32>) -> bool
-    ensures { result ≡ home_eq left right }
+    ensures { result ≡ option_eq nat_eq left right }
 {
     match (left, right) {
         (None, None) => true,

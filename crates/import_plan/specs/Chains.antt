@@ -2,23 +2,13 @@
 use Rattle.std.specs.Prelude.{◌≡◌, ◌*◌, ◌/◌, ℕ, zero, suc, Bool, true, false, ◌&&◌, not, nat_le, List, [], Contains, Option, Some, None}
 use Rattle.std.specs.List.{list_any}
 use Rattle.ir_tree.specs.declared.function.Linkage.{Linkage}
+use Rattle.ir_tree.specs.Linkages.{is_replaceable}
 use Rattle.ir_tree.specs.declared.function.Linkage.TheVariants as linkage
 use Rattle.lto_sets.specs.Sets.{contains}
 use Rattle.combined_index.specs.Combined.{Combined, prevailing_of, prevails_for}
 use Rattle.combined_index.specs.declared.definition.Definition.{Definition}
 
 -- ---- what may be imported
-
--- whoever runs the program may put another body in its place (LangRef, "Linkage Types")
-abbrev pub is_replaceable : Linkage → Bool
-is_replaceable linkage.Private = false
-is_replaceable linkage.Internal = false
-is_replaceable linkage.External = false
-is_replaceable linkage.Linkonce = true
-is_replaceable linkage.LinkonceOdr = false
-is_replaceable linkage.Weak = true
-is_replaceable linkage.WeakOdr = false
-is_replaceable linkage.AvailableExternally = false
 
 abbrev pub is_eligible : Definition → Bool
 is_eligible d = not d.noinline && (not d.optnone && not (is_replaceable d.linkage))

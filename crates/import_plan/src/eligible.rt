@@ -1,32 +1,14 @@
 //! The functions that may be imported.
 ghost use Rattle.std.specs.Prelude.{◌≡◌};
-ghost use Rattle.import_plan.specs.Chains.{counts_within, is_eligible, is_importable, is_replaceable};
+ghost use Rattle.import_plan.specs.Chains.{counts_within, is_eligible, is_importable};
 
 use combined_index::{Definition, Index};
-use ir_tree::Linkage;
-
-/// Whether another body may stand in the place of a definition of this linkage when the program runs
-/// (LangRef, "Linkage Types"): `weak` and `linkonce`, but not their `_odr` forms, whose bodies all do
-/// the same.
-fn is_replaceable(linkage: Linkage) -> bool
-    ensures { result ≡ is_replaceable linkage }
-{
-    match linkage {
-        Linkage::Weak | Linkage::Linkonce => true,
-        Linkage::Private
-        | Linkage::Internal
-        | Linkage::External
-        | Linkage::LinkonceOdr
-        | Linkage::WeakOdr
-        | Linkage::AvailableExternally => false,
-    }
-}
 
 /// Whether calls of a function may be inlined at all.
 fn is_eligible(definition: &Definition) -> bool
     ensures { result ≡ is_eligible definition.now }
 {
-    !definition.noinline && !definition.optnone && !is_replaceable(definition.linkage)
+    !definition.noinline && !definition.optnone && !definition.linkage.is_replaceable()
 }
 
 /// Whether this is the count of a function of so many instructions at most.

@@ -16,7 +16,7 @@ use Rattle.ir_meaning.specs.Memory.{MemoryBlock}
 use Rattle.ir_meaning.specs.Program.{Program}
 use Rattle.ir_meaning.specs.Refine.{Naming, RefinesUnder}
 use Rattle.ir_meaning.specs.Run.{Returned, start}
-use Rattle.ir_meaning.specs.Symbols.{symbol_eq}
+use Rattle.ir_tree.specs.Symbols.{symbol_eq}
 use Rattle.ir_meaning.specs.declared.event.Event.TheVariants.{Wrote}
 use Rattle.ir_meaning.specs.declared.value.Base.TheVariants.{Code}
 use Rattle.ir_meaning.specs.declared.value.Byte.TheVariants.{Plain}

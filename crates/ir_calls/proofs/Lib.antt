@@ -1,3 +1,4 @@
 mod Passing
 mod Entering
 mod Lives
+pub mod Widths

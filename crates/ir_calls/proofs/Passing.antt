@@ -3,7 +3,9 @@ use Rattle.std.proofs.Common.{◌≡◌, ℕ, zero, suc, ◌<◌, ◌≤◌, Boo
 use Rattle.std.proofs.Math.Seq.{drop-cons}
 use Rattle.ir_tree.specs.declared.operand.Reg.{Reg}
 use Rattle.ir_tree.specs.declared.operand.Symbol.{Symbol}
-use Rattle.ir_meaning.specs.Execute.{Broke, puts_char, regs_eq}
+use Rattle.ir_meaning.specs.Execute.{Broke, puts_bits, puts_char, regs_eq}
+use Rattle.ir_meaning.specs.Operate.{bits_of}
+use Rattle.std.specs.List.{slice_index_or}
 use Rattle.ir_meaning.specs.Fault as fault
 use Rattle.ir_meaning.specs.Frame.{Locals}
 use Rattle.ir_meaning.specs.Memory.{Memory as MeantMemory}
@@ -52,13 +54,18 @@ valid_more names m memory (w ∷ ws) v h k = (h.0, valid_more names m memory ws 
 
 -- ---- putchar
 
+-- one argument
+pub one_put : (names : List Symbol) (memory : MeantMemory) (place : ℕ) (vs : List Scalar) (d : Scalar) → 1 ≤ length vs → length vs < 2 →
+    puts_char memory place (all_meant names vs) ≡ puts_bits memory place (bits_of 32 (meant names (slice_index_or vs 0 d)))
+one_put names memory place [] d h k = absurd (omega (arith, h))
+one_put names memory place (v ∷ []) d h k = refl
+one_put names memory place (v ∷ w ∷ vs) d h k = absurd (omega (arith, k))
+
 -- more than one argument
 pub many_put : (names : List Symbol) (memory : MeantMemory) (place : ℕ) (vs : List Scalar) → 2 ≤ length vs → puts_char memory place (all_meant names vs) ≡ Broke (fault.Undefined PoisonArgument)
 many_put names memory place [] h = absurd (omega (arith, h))
 many_put names memory place (v ∷ []) h = absurd (omega (arith, h))
-many_put names memory place (scalar.Number n ∷ w ∷ ws) h = refl
-many_put names memory place (scalar.Pointer p ∷ w ∷ ws) h = refl
-many_put names memory place (scalar.Poison ∷ w ∷ ws) h = refl
+many_put names memory place (v ∷ w ∷ ws) h = refl
 
 -- ---- cases
 

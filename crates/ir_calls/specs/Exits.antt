@@ -29,8 +29,8 @@ answer_meant names locals (Some s) = Some (source_meant names locals s)
 abbrev pub exit_meant : List Symbol → Locals → Exit → act.Exit
 exit_meant names locals (Return answer) = Leaves (answer_meant names locals answer)
 exit_meant names locals (Jump target) = Leads' target
-exit_meant names locals (Branch condition t f) = by_value (side t f) (source_meant names locals condition)
-exit_meant names locals (Switch value default cases) = by_value (case_target cases.items default) (source_meant names locals value)
+exit_meant names locals (Branch condition t f) = by_value 1 (side t f) (source_meant names locals condition)
+exit_meant names locals (Switch width value default cases) = by_value width (case_target cases.items default) (source_meant names locals value)
 exit_meant names locals Unreachable = Stuck UnreachableReached
 
 abbrev pub IsExitKnown : List Symbol → Memory → MeantMemory → Exit → Type 0
@@ -38,7 +38,7 @@ IsExitKnown names m memory (Return None) = Unit {0}
 IsExitKnown names m memory (Return (Some s)) = IsKnown names m memory s
 IsExitKnown names m memory (Jump target) = Unit {0}
 IsExitKnown names m memory (Branch condition t f) = IsKnown names m memory condition
-IsExitKnown names m memory (Switch value default cases) = IsKnown names m memory value
+IsExitKnown names m memory (Switch width value default cases) = IsKnown names m memory value
 IsExitKnown names m memory Unreachable = Unit {0}
 
 abbrev pub left_meant : List Symbol → Left → act.Exit
@@ -56,7 +56,7 @@ abbrev pub IsLeft : List Symbol → Memory → MeantMemory → act.Exit → Left
 IsLeft names m memory exit left = (left_meant names left ≡ exit) × IsValidLeft names m memory left
 
 abbrev pub IsBranch : ℕ → ℕ → Scalar → Left → Type 0
-IsBranch t f v left = (names : List Symbol) (m : Memory) (memory : MeantMemory) → IsLeft names m memory (by_value (side t f) (meant names v)) left
+IsBranch t f v left = (names : List Symbol) (m : Memory) (memory : MeantMemory) → IsLeft names m memory (by_value 1 (side t f) (meant names v)) left
 
-abbrev pub IsSwitch : ℕ → List Case → Scalar → Left → Type 0
-IsSwitch default cases v left = (names : List Symbol) (m : Memory) (memory : MeantMemory) → IsLeft names m memory (by_value (case_target cases default) (meant names v)) left
+abbrev pub IsSwitch : ℕ → ℕ → List Case → Scalar → Left → Type 0
+IsSwitch width default cases v left = (names : List Symbol) (m : Memory) (memory : MeantMemory) → IsLeft names m memory (by_value width (case_target cases default) (meant names v)) left

@@ -7,6 +7,7 @@ ghost use Rattle.ir_machine.specs.declared.memory.Memory.{Memory};
 ghost use Rattle.ir_frames.specs.Locals.{AreLocals};
 ghost use Rattle.ir_calls.specs.Exits.{IsBranch, IsExitKnown, IsLeft, IsSwitch, case_target, exit_meant};
 
+use crate::bits::bits_of;
 use ir_frames::{Registers, Source};
 use ir_machine::Scalar;
 use ir_meaning::Cause;
@@ -28,7 +29,9 @@ pub enum Exit {
         if_true: u32,
         if_false: u32,
     },
+    /// On a number of `width` bits.
     Switch {
+        width: u8,
         value: Source,
         default: u32,
         cases: Vec<Case>,
@@ -60,20 +63,20 @@ fn target_of(cases: &[Case], default: u32, number: u64) -> u32
 fn branch(value: Scalar, if_true: u32, if_false: u32) -> Left
     ensures { IsBranch if_true if_false value result }
 {
-    match value {
-        Scalar::Number(0) => Left::To(if_false),
-        Scalar::Number(_) => Left::To(if_true),
-        Scalar::Pointer(_) | Scalar::Poison => Left::Undefined(Cause::BranchOnPoison),
+    match bits_of(1, value) {
+        Some(0) => Left::To(if_false),
+        Some(_) => Left::To(if_true),
+        None => Left::Undefined(Cause::BranchOnPoison),
     }
 }
 
 /// Where a `switch` on a value leads.
-fn switch(value: Scalar, default: u32, cases: &[Case]) -> Left
-    ensures { IsSwitch default cases.now value result }
+fn switch(width: u8, value: Scalar, default: u32, cases: &[Case]) -> Left
+    ensures { IsSwitch width default cases.now value result }
 {
-    match value {
-        Scalar::Number(number) => Left::To(target_of(cases, default, number)),
-        Scalar::Pointer(_) | Scalar::Poison => Left::Undefined(Cause::BranchOnPoison),
+    match bits_of(width, value) {
+        Some(number) => Left::To(target_of(cases, default, number)),
+        None => Left::Undefined(Cause::BranchOnPoison),
     }
 }
 
@@ -91,10 +94,11 @@ pub fn leave(registers: &Registers, exit: &Exit) -> Left
             if_false,
         } => branch(registers.value(*condition), *if_true, *if_false),
         Exit::Switch {
+            width,
             value,
             default,
             cases,
-        } => switch(registers.value(*value), *default, cases),
+        } => switch(*width, registers.value(*value), *default, cases),
         Exit::Unreachable => Left::Undefined(Cause::UnreachableReached),
     }
 }

@@ -5,6 +5,7 @@ ghost use Rattle.ir_meaning.specs.Execute.{puts_char};
 ghost use Rattle.ir_meaning.specs.Memory.{Memory as MeantMemory};
 ghost use Rattle.ir_calls.specs.Calls.{all_meant, put_effect};
 
+use crate::bits::bits_of;
 use ir_machine::Scalar;
 
 /// `i32 @putchar(i32)`, or `i32 @getchar()`.
@@ -19,7 +20,10 @@ pub fn put_char(arguments: &[Scalar]) -> Option<u8>
     ensures { (names : List Symbol) (memory : MeantMemory) (place : ℕ) → puts_char memory place (all_meant names arguments.now) ≡ put_effect memory place result }
 {
     match arguments {
-        [Scalar::Number(number)] => Some((*number % 256) as u8),
+        [value] => match bits_of(32, *value) {
+            Some(number) => Some((number % 256) as u8),
+            None => None,
+        },
         _ => None,
     }
 }

@@ -13,6 +13,7 @@
 //! its arguments, a `switch` to its cases; only a list of arguments takes memory.
 #![tactic(auto)]
 
+mod bits;
 mod call;
 mod entry;
 mod exit;

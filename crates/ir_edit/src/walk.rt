@@ -4,7 +4,8 @@ ghost use Rattle.ir_edit.specs.Edited.{argument_edited, incoming_edited, instr_e
 
 use crate::edit::Edit;
 use ir_tree::{
-    Argument, Block, Case, Duplicate, Function, Incoming, Instr, Line, Param, Phi, Rows, Terminator,
+    Argument, Block, Case, Duplicate, Function, Incoming, Instr, Line, Operand, Param, Phi, Rows,
+    Terminator,
 };
 use std::alloc::{AllocError, Global};
 
@@ -48,6 +49,48 @@ fn edges<E: Edit>(
     Ok(rows)
 }
 
+fn both<E: Edit>(
+    alloc: Global,
+    edit: &E,
+    left: &Operand,
+    right: &Operand,
+) -> Result<(Operand, Operand), AllocError>
+    ensures left { IfOk result (λ both. both.0 ≡ E.operand_of edit.now left.now) }
+    ensures right { IfOk result (λ both. both.1 ≡ E.operand_of edit.now right.now) }
+{
+    let first = edit.operand(alloc, left)?;
+    let second = edit.operand(alloc, right)?;
+    Ok((first, second))
+}
+
+fn arms<E: Edit>(
+    alloc: Global,
+    edit: &E,
+    if_true: &Argument,
+    if_false: &Argument,
+) -> Result<(Argument, Argument), AllocError>
+    ensures if_true { IfOk result (λ both. both.0 ≡ argument_edited (E.operand_of edit.now) if_true.now) }
+    ensures if_false { IfOk result (λ both. both.1 ≡ argument_edited (E.operand_of edit.now) if_false.now) }
+{
+    let first = argument(alloc, edit, if_true)?;
+    let second = argument(alloc, edit, if_false)?;
+    Ok((first, second))
+}
+
+fn applied<E: Edit>(
+    alloc: Global,
+    edit: &E,
+    operand: &Operand,
+    given: &[Argument],
+) -> Result<(Operand, Rows<Argument>), AllocError>
+    ensures operand { IfOk result (λ both. both.0 ≡ E.operand_of edit.now operand.now) }
+    ensures given { IfOk result (λ both. both.1 ≡ map (argument_edited (E.operand_of edit.now)) given.now) }
+{
+    let first = edit.operand(alloc, operand)?;
+    let second = arguments(alloc, edit, given)?;
+    Ok((first, second))
+}
+
 fn instr<E: Edit>(alloc: Global, edit: &E, instr: &Instr) -> Result<Instr, AllocError>
     ensures { IfOk result (λ i. i ≡ instr_edited (E.number_of edit.now) (E.operand_of edit.now) instr.now) }
 {
@@ -59,8 +102,7 @@ fn instr<E: Edit>(alloc: Global, edit: &E, instr: &Instr) -> Result<Instr, Alloc
             left,
             right,
         } => {
-            let left = edit.operand(alloc, left)?;
-            let right = edit.operand(alloc, right)?;
+            let (left, right) = both(alloc, edit, left, right)?;
             Ok(Instr::Binary {
                 op: *op,
                 flags: *flags,
@@ -75,8 +117,7 @@ fn instr<E: Edit>(alloc: Global, edit: &E, instr: &Instr) -> Result<Instr, Alloc
             left,
             right,
         } => {
-            let left = edit.operand(alloc, left)?;
-            let right = edit.operand(alloc, right)?;
+            let (left, right) = both(alloc, edit, left, right)?;
             Ok(Instr::Icmp {
                 predicate: *predicate,
                 reg: *reg,
@@ -104,8 +145,7 @@ fn instr<E: Edit>(alloc: Global, edit: &E, instr: &Instr) -> Result<Instr, Alloc
             if_false,
         } => {
             let condition = edit.operand(alloc, condition)?;
-            let if_true = argument(alloc, edit, if_true)?;
-            let if_false = argument(alloc, edit, if_false)?;
+            let (if_true, if_false) = arms(alloc, edit, if_true, if_false)?;
             Ok(Instr::Select {
                 condition,
                 if_true,
@@ -141,8 +181,7 @@ fn instr<E: Edit>(alloc: Global, edit: &E, instr: &Instr) -> Result<Instr, Alloc
             address,
             align,
         } => {
-            let value = edit.operand(alloc, value)?;
-            let address = edit.operand(alloc, address)?;
+            let (value, address) = both(alloc, edit, value, address)?;
             Ok(Instr::Store {
                 reg: *reg,
                 value,
@@ -157,8 +196,7 @@ fn instr<E: Edit>(alloc: Global, edit: &E, instr: &Instr) -> Result<Instr, Alloc
             indices,
         } => {
             let shape = shape.duplicate(alloc)?;
-            let base = edit.operand(alloc, base)?;
-            let indices = arguments(alloc, edit, indices.as_slice())?;
+            let (base, indices) = applied(alloc, edit, base, indices.as_slice())?;
             Ok(Instr::Address {
                 inbounds: *inbounds,
                 shape,
@@ -171,8 +209,7 @@ fn instr<E: Edit>(alloc: Global, edit: &E, instr: &Instr) -> Result<Instr, Alloc
             callee,
             arguments: given,
         } => {
-            let callee = edit.operand(alloc, callee)?;
-            let given = arguments(alloc, edit, given.as_slice())?;
+            let (callee, given) = applied(alloc, edit, callee, given.as_slice())?;
             Ok(Instr::Call {
                 result: *result,
                 callee,
@@ -206,8 +243,8 @@ fn lines<E: Edit>(alloc: Global, edit: &E, lines: &[Line]) -> Result<Rows<Line>,
 {
     let mut rows = Rows::new(alloc);
     for line in lines {
-        let instr = instr(alloc, edit, &line.instr)?;
         let local = local(edit, line.local)?;
+        let instr = instr(alloc, edit, &line.instr)?;
         rows.push(Line { local, instr })?;
     }
     Ok(rows)
@@ -218,8 +255,8 @@ fn phis<E: Edit>(alloc: Global, edit: &E, phis: &[Phi]) -> Result<Rows<Phi>, All
 {
     let mut rows = Rows::new(alloc);
     for phi in phis {
-        let incoming = edges(alloc, edit, phi.incoming.as_slice())?;
         let local = edit.number(phi.local)?;
+        let incoming = edges(alloc, edit, phi.incoming.as_slice())?;
         rows.push(Phi {
             local,
             reg: phi.reg,
@@ -269,9 +306,9 @@ fn end<E: Edit>(alloc: Global, edit: &E, end: &Terminator) -> Result<Terminator,
             if_true,
             if_false,
         } => {
-            let condition = edit.operand(alloc, condition)?;
             let if_true = edit.number(*if_true)?;
             let if_false = edit.number(*if_false)?;
+            let condition = edit.operand(alloc, condition)?;
             Ok(Terminator::Branch {
                 condition,
                 if_true,
@@ -284,8 +321,8 @@ fn end<E: Edit>(alloc: Global, edit: &E, end: &Terminator) -> Result<Terminator,
             default,
             cases: old,
         } => {
-            let value = edit.operand(alloc, value)?;
             let default = edit.number(*default)?;
+            let value = edit.operand(alloc, value)?;
             let cases = cases(alloc, edit, old.as_slice())?;
             Ok(Terminator::Switch {
                 width: *width,

@@ -18,7 +18,8 @@ use Rattle.ir_tree.specs.declared.operand.Reg.{Reg}
 use Rattle.ir_tree.specs.declared.operand.Reg.TheVariants.{Int, Ptr}
 use Rattle.ir_tree.specs.declared.operand.Symbol.{Symbol}
 use Rattle.ir_meaning.specs.Execute.{reg_eq}
-use Rattle.ir_meaning.specs.Symbols.{home_eq, name_eq, symbol_eq}
+use Rattle.ir_tree.proofs.Symbols.{symbol_self}
+use Rattle.ir_tree.specs.Symbols.{symbol_eq}
 use Rattle.ir_meaning.specs.Table.{same}
 use Rattle.ir_better.specs.Facts.{EdgeFacts, EntryIs, Facts, Has, InCases, IsTarget, behind_lines, behind_local, is_local, is_phi, is_phi_operand, phi_operand, with_fact, without}
 use Rattle.ir_facts.specs.Agreement.{SolutionsAgree, marks_of, starting}
@@ -38,17 +39,6 @@ number_self n = eq-eqb n n refl
 reg_self : (r : Reg) → reg_eq r r ≡ true
 reg_self (Int w) = number_self w
 reg_self Ptr = refl
-
-home_self : (o : Option ℕ) → home_eq o o ≡ true
-home_self None = refl
-home_self (Some m) = number_self m
-
-name_self : (xs : List ℕ) → name_eq xs xs ≡ true
-name_self [] = refl
-name_self (x ∷ xs) = and_from (x == x) (name_eq xs xs) (number_self x) (name_self xs)
-
-symbol_self : (s : Symbol) → symbol_eq s s ≡ true
-symbol_self s = and_from (home_eq s.home s.home) (name_eq s.name s.name) (home_self s.home) (name_self s.name)
 
 same_self : (v : Operand) → same v v ≡ true
 same_self (Local x) = number_self x

@@ -16,10 +16,10 @@ use Rattle.ir_tree.specs.declared.operand.Operand.TheVariants.{Local, Null, Numb
 use Rattle.ir_tree.specs.declared.operand.Reg.{Reg}
 use Rattle.ir_tree.specs.declared.operand.Reg.TheVariants.{Int, Ptr}
 use Rattle.ir_meaning.specs.Operate.{Answer, Is, Never, Unwritten, binary_bits}
-use Rattle.ir_meaning.specs.Symbols.{symbol_eq}
+use Rattle.ir_tree.specs.Symbols.{symbol_eq}
 use Rattle.ir_meaning.specs.Wrapping.{compare, is_division}
 use Rattle.ir_meaning.specs.declared.value.Value.TheVariants.{Number, Pointer, Poison}
-use Rattle.ir_meaning.specs.Table.{address_rule, all_zero, any_poison, binary_rule, cast_constant, cast_numbers, cast_rule, compared_addresses, compared_constants, compared_numbers, comparison_rule, constant_answer, constant_indices, equality, first, folded, freeze_rule, frozen_number, is_number, is_poison, is_reflexive, number_of, poisoned, rule, same, select_rule, selected_number, symbol_at, truth, unchanged, when, zeroed}
+use Rattle.ir_meaning.specs.Table.{address_rule, all_zero, any_poison, binary_rule, cast_constant, cast_numbers, cast_rule, compared_addresses, compared_constants, compared_numbers, comparison_rule, constant_answer, constant_indices, equality, first, folded_or, freeze_rule, frozen_number, is_number, is_poison, is_reflexive, number_of, poisoned, rule, same, select_rule, selected_number, symbol_at, truth, unchanged, when, zeroed}
 use Rattle.ir_better.specs.Needed.{IsKept, Reads}
 use Rattle.ir_facts.specs.Candidates.{may_settle}
 
@@ -72,9 +72,14 @@ module _ (P : Operand → Type 0) where
   zeroed_of Ashr w l r z = tt
   zeroed_of Or w l r z = tt
 
-  pub binary_of : (op : BinaryOp) (f : Flags) (w : ℕ) (l r : Operand) → P l → P r → Of P (folded op f w (number_of w l) (number_of w r)) → P (PoisonOf (Int w)) → P (Constant w 0) → Of P (binary_rule op f w l r)
+  folded_of : (op : BinaryOp) (f : Flags) (w : ℕ) (a b : Option ℕ) (later : Option Operand) → Of P (folded_or op f w a b None) → Of P later → Of P (folded_or op f w a b later)
+  folded_of op f w (Some a) (Some b) later n h = n
+  folded_of op f w (Some a) None later n h = h
+  folded_of op f w None b later n h = h
+
+  pub binary_of : (op : BinaryOp) (f : Flags) (w : ℕ) (l r : Operand) → P l → P r → Of P (folded_or op f w (number_of w l) (number_of w r) None) → P (PoisonOf (Int w)) → P (Constant w 0) → Of P (binary_rule op f w l r)
   binary_of op f w l r h g n p z =
-      first_of P (folded op f w (number_of w l) (number_of w r)) (first (poisoned op w l r) (first (unchanged op w l r) (zeroed op w l r)))
+      folded_of op f w (number_of w l) (number_of w r) (first (poisoned op w l r) (first (unchanged op w l r) (zeroed op w l r)))
       n
       (first_of P (poisoned op w l r) (first (unchanged op w l r) (zeroed op w l r))
       (when_of P (is_poison l || (not (is_division op) && is_poison r)) (PoisonOf (Int w)) p)
@@ -170,7 +175,7 @@ module _ (keeps : ℕ → Bool) where
   answer_kept w (Never why) = tt
   answer_kept w Unwritten = tt
 
-  folded_kept : (op : BinaryOp) (f : Flags) (w : ℕ) (l r : Option ℕ) → Of (IsKept keeps) (folded op f w l r)
+  folded_kept : (op : BinaryOp) (f : Flags) (w : ℕ) (l r : Option ℕ) → Of (IsKept keeps) (folded_or op f w l r None)
   folded_kept op f w (Some a) (Some b) = answer_kept w (binary_bits op f w (Some a) (Some b))
   folded_kept op f w (Some a) None = tt
   folded_kept op f w None r = tt

@@ -23,7 +23,7 @@ use Rattle.ir_tree.specs.declared.operand.Reg.{Reg}
 use Rattle.ir_tree.specs.declared.operand.Reg.TheVariants.{Int, Ptr}
 use Rattle.ir_meaning.specs.Operate.{Is, Never, binary_bits, number_or_poison}
 use Rattle.ir_meaning.specs.Wrapping.{arithmetic, breaks, cast_number, division_cause, is_division}
-use Rattle.ir_meaning.specs.Table.{cast_constant, cast_numbers, constant_answer, folded, frozen_number, number_of, rule, symbol_at, truth}
+use Rattle.ir_meaning.specs.Table.{cast_constant, cast_numbers, constant_answer, folded_or, frozen_number, number_of, rule, symbol_at, truth}
 use Rattle.ir_facts.proofs.RuleReads.{Of, address_of, binary_of, cast_of, comparison_of, freeze_of, of_some, select_of}
 use Rattle.ir_facts.proofs.Words.{Small, arithmetic_small, extended_small, sign_extended_small, truncated_small}
 
@@ -72,7 +72,7 @@ module _ (f : Function) where
       by true false = answer_typed w width (arithmetic op fl w a b) (arithmetic_small op fl w a b p q)
       by false u = answer_typed w width (arithmetic op fl w a b) (arithmetic_small op fl w a b p q)
 
-  folded_typed : (op : BinaryOp) (fl : Flags) (w : ℕ) (l r : Option ℕ) → IsWidth w → Small w l → Small w r → IsTyped (Int w) (folded op fl w l r)
+  folded_typed : (op : BinaryOp) (fl : Flags) (w : ℕ) (l r : Option ℕ) → IsWidth w → Small w l → Small w r → IsTyped (Int w) (folded_or op fl w l r None)
   folded_typed op fl w (Some a) (Some b) width p q = binary_typed op fl w a b width p q
   folded_typed op fl w (Some a) None width p q = tt
   folded_typed op fl w None r width p q = tt

@@ -10,10 +10,10 @@ use Rattle.ir_tree.specs.declared.operand.Operand.TheVariants.{Local, Null, Numb
 use Rattle.ir_tree.specs.declared.operand.Reg.{Reg}
 use Rattle.ir_tree.specs.declared.operand.Reg.TheVariants.{Int, Ptr}
 use Rattle.ir_meaning.specs.Execute.{reg_eq}
-use Rattle.ir_meaning.specs.Symbols.{symbol_eq}
+use Rattle.ir_tree.specs.Symbols.{symbol_eq}
 use Rattle.ir_meaning.specs.Table.{same}
 use Rattle.ir_better.specs.Facts.{is_local, is_phi_operand}
-use Rattle.ir_better.proofs.Names.Moved.{symbol_same}
+use Rattle.ir_tree.proofs.Symbols.{symbol_same}
 use Rattle.ir_facts.specs.Candidates.{first_other, phi_source, sole_source, takes_only}
 use Rattle.ir_facts.specs.Laws.{IsSoleOperand, PhiSourcesAreSole}
 use Rattle.ir_facts.proofs.Standing.{another, not_true, own_local, same_true}

@@ -11,10 +11,10 @@ use Rattle.ir_tree.specs.declared.operand.Reg.{Reg}
 use Rattle.ir_tree.specs.declared.operand.Reg.TheVariants.{Int, Ptr}
 use Rattle.ir_tree.specs.declared.operand.Symbol.{Symbol}
 use Rattle.ir_meaning.specs.Execute.{reg_eq}
-use Rattle.ir_meaning.specs.Symbols.{symbol_eq}
+use Rattle.ir_tree.specs.Symbols.{symbol_eq}
 use Rattle.ir_meaning.specs.Table.{rule, same}
 use Rattle.ir_better.specs.Facts.{Facts, is_local, is_phi, is_phi_operand, edge_operand}
-use Rattle.ir_better.proofs.Names.Moved.{symbol_true}
+use Rattle.ir_tree.proofs.Symbols.{symbol_true}
 use Rattle.ir_better.proofs.Rules.Tabled.{table_right}
 use Rattle.ir_facts.specs.Candidates.{any_candidate, any_line_candidates, first_other, line_candidates, other_than, paired, phi_candidates, phi_source, result_candidate, sole_source, takes_only}
 use Rattle.ir_facts.specs.Membership.{is_member, sole_beside, source_beside}

@@ -3,11 +3,11 @@ use Rattle.std.proofs.Common.{◌≡◌, ◌≢◌, ℕ, Bool, true, false, ◌&
 use Rattle.ir_tree.specs.declared.operand.Symbol.{Symbol}
 use Rattle.ir_meaning.specs.Memory.{Memory as MeantMemory}
 use Rattle.ir_meaning.specs.Pointers.{apart_equal, is_inside, settled_equal, settled_order, unequal_if}
-use Rattle.ir_meaning.specs.Symbols.{symbol_eq}
+use Rattle.ir_tree.specs.Symbols.{symbol_eq}
 use Rattle.ir_meaning.specs.declared.value.Base.TheVariants.{Cell, Code}
 use Rattle.ir_machine.specs.Meant.{base_meant, symbol_at}
 use Rattle.ir_machine.specs.declared.scalar.Base.{Base}
-use Rattle.ir_machine.proofs.Reading.{symbol_self}
+use Rattle.ir_tree.proofs.Symbols.{symbol_self}
 
 pub at_bases : (names : List Symbol) (memory : MeantMemory) (x y x' y' : Base) (i j : ℕ) → x ≡ x' → y ≡ y' →
     settled_equal memory (base_meant names x') i (base_meant names y') j ≡ settled_equal memory (base_meant names x) i (base_meant names y) j

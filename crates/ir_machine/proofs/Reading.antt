@@ -6,7 +6,9 @@ use Rattle.ir_tree.specs.declared.operand.Reg.TheVariants.{Int, Ptr}
 use Rattle.ir_tree.specs.declared.operand.Symbol.{Symbol}
 use Rattle.ir_meaning.specs.Bytes.{are_fragments, are_zero, has_spoilt, has_unset, or_poison, raised, read, read_number, read_pointer}
 use Rattle.ir_meaning.specs.Operate.{Answer, Is, Unwritten}
-use Rattle.ir_meaning.specs.Symbols.{base_eq, home_eq, name_eq, symbol_eq}
+use Rattle.ir_meaning.specs.Symbols.{base_eq}
+use Rattle.ir_tree.proofs.Symbols.{symbol_self}
+use Rattle.ir_tree.specs.Symbols.{symbol_eq}
 use Rattle.ir_meaning.specs.declared.value.Base.{Base as MeantBase}
 use Rattle.ir_meaning.specs.declared.value.Base.TheVariants.{Cell, Code, Nowhere}
 use Rattle.ir_meaning.specs.declared.value.Value.{Value as MeantValue}
@@ -102,17 +104,6 @@ mixed_read names at q w ms h none =
     ∙ same_poison (has_spoilt (marks_meant names at q ms))
 
 -- ---- loads of pointers
-
-name_self : (n : List ℕ) → name_eq n n ≡ true
-name_self [] = refl
-name_self (a ∷ more) = ap (λ (b : Bool). b && name_eq more more) (eq-eqb a a refl) ∙ name_self more
-
-home_self : (h : Option ℕ) → home_eq h h ≡ true
-home_self None = refl
-home_self (Some m) = eq-eqb m m refl
-
-pub symbol_self : (s : Symbol) → symbol_eq s s ≡ true
-symbol_self s = ap (λ (b : Bool). b && name_eq s.name s.name) (home_self s.home) ∙ name_self s.name
 
 pub base_self : (x : MeantBase) → base_eq x x ≡ true
 base_self Nowhere = refl

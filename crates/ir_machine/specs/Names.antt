@@ -1,7 +1,7 @@
 -- The program's symbols in the order of its table.
 use Rattle.std.specs.Prelude.{◌≡◌, ◌≢◌, ℕ, ◌<◌, false, List, length}
 use Rattle.ir_tree.specs.declared.operand.Symbol.{Symbol}
-use Rattle.ir_meaning.specs.Symbols.{symbol_eq}
+use Rattle.ir_tree.specs.Symbols.{symbol_eq}
 use Rattle.ir_machine.specs.Meant.{symbol_at}
 use Rattle.ir_machine.specs.declared.scalar.Base.{Base}
 use Rattle.ir_machine.specs.declared.scalar.Base.TheVariants.{Block, Function, Null}

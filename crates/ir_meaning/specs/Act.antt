@@ -16,11 +16,12 @@ use Rattle.ir_meaning.specs.Execute.{Asked, Broke, Effect, Went, evaluate, execu
 use Rattle.ir_meaning.specs.Fault.{Fault, Undefined}
 use Rattle.ir_meaning.specs.Frame.{Frame, Locals, Signature, bind, value_of}
 use Rattle.ir_meaning.specs.Memory.{Memory, kill}
+use Rattle.ir_meaning.specs.Operate.{bits_of}
 use Rattle.ir_meaning.specs.declared.event.Event.{Event}
 use Rattle.ir_meaning.specs.declared.fault.Cause.{Cause}
 use Rattle.ir_meaning.specs.declared.fault.Cause.TheVariants.{BranchOnPoison, UnreachableReached}
 use Rattle.ir_meaning.specs.declared.value.Value.{Value}
-use Rattle.ir_meaning.specs.declared.value.Value.TheVariants.{Number, Poison}
+use Rattle.ir_meaning.specs.declared.value.Value.TheVariants.{Poison}
 
 -- what a frame does next
 pub data Act : Type 0 where
@@ -88,10 +89,13 @@ pub data Exit : Type 0 where
   Leads' : (target : ℕ) → Exit
   Stuck : (cause : Cause) → Exit
 
--- to branch on a value asks for a number
-abbrev pub by_value : (ℕ → ℕ) → Value → Exit
-by_value target (Number n) = Leads' (target n)
-by_value target _ = Stuck BranchOnPoison
+abbrev pub by_bits : (ℕ → ℕ) → Option ℕ → Exit
+by_bits target (Some n) = Leads' (target n)
+by_bits target None = Stuck BranchOnPoison
+
+-- to branch on a value asks for a number of this width
+abbrev pub by_value : ℕ → (ℕ → ℕ) → Value → Exit
+by_value w target v = by_bits target (bits_of w v)
 
 abbrev pub answer_of : (Operand → Value) → Option Argument → Option Value
 answer_of value None = None
@@ -100,8 +104,8 @@ answer_of value (Some a) = Some (value a.operand)
 abbrev pub exit_of : (Operand → Value) → Terminator → Exit
 exit_of value (Return argument) = Leaves (answer_of value argument)
 exit_of value (Jump target) = Leads' target
-exit_of value (Branch condition t f) = by_value (side t f) (value condition)
-exit_of value (Switch w operand default cases) = by_value (case_target cases default) (value operand)
+exit_of value (Branch condition t f) = by_value 1 (side t f) (value condition)
+exit_of value (Switch w operand default cases) = by_value w (case_target cases default) (value operand)
 exit_of value Unreachable = Stuck UnreachableReached
 
 abbrev pub exits : Signature → Frame → Memory → ℕ → Exit → Act

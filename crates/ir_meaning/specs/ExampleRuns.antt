@@ -24,7 +24,7 @@ use Rattle.ir_meaning.specs.Frame.{AFunction, AHost, AVariable, GetChar, Kind, M
 use Rattle.ir_meaning.specs.Memory.{MemoryBlock}
 use Rattle.ir_meaning.specs.Program.{Program, State}
 use Rattle.ir_meaning.specs.Run.{Failed, Ran, Returned, Running, run, start}
-use Rattle.ir_meaning.specs.Symbols.{symbol_eq}
+use Rattle.ir_tree.specs.Symbols.{symbol_eq}
 use Rattle.ir_meaning.specs.declared.event.Event.TheVariants.{ReadByte, ReadEnd, Wrote}
 use Rattle.ir_meaning.specs.declared.fault.Cause.TheVariants.{BadPointer, BranchOnPoison, CallOfAnotherType, CallOfNoFunction, DivisionByZero, DivisionOverflow, Misaligned, OutOfBounds, PoisonArgument, PoisonDivisor, StoreToConstant, UnreachableReached}
 use Rattle.ir_meaning.specs.declared.value.Byte.TheVariants.{Plain}

@@ -18,7 +18,7 @@ use Rattle.ir_meaning.specs.Address.{address_of}
 use Rattle.ir_meaning.specs.Fault.{Fault, Undefined, Uninit}
 use Rattle.ir_meaning.specs.Frame.{AFunction, AHost, AVariable, GetChar, Host, Kind, Missing, PutChar, Signature, indices_of, regs_of, values_of}
 use Rattle.ir_meaning.specs.Memory.{Memory, fresh}
-use Rattle.ir_meaning.specs.Operate.{Answer, Is, Never, Unwritten, binary, cast, compared, frozen, selected}
+use Rattle.ir_meaning.specs.Operate.{Answer, Is, Never, Unwritten, binary, bits_of, cast, compared, frozen, selected}
 use Rattle.ir_meaning.specs.Pointers.{compared_pointers}
 use Rattle.ir_meaning.specs.declared.event.Event.{Event}
 use Rattle.ir_meaning.specs.declared.event.Event.TheVariants.{ReadByte, ReadEnd, Wrote}
@@ -97,8 +97,13 @@ abbrev pub gets_char : Memory → ℕ → Option ℕ → Effect
 gets_char memory place (Some byte) = Went (Some (Number byte)) None memory (suc place) (ReadByte byte ∷ [])
 gets_char memory place None = Went (Some (Number 4294967295)) None memory place (ReadEnd ∷ [])
 
+abbrev pub puts_bits : Memory → ℕ → Option ℕ → Effect
+puts_bits memory place (Some n) = Went (Some (Number (n % 256))) None memory place (Wrote (n % 256) ∷ [])
+puts_bits memory place None = Broke (Undefined PoisonArgument)
+
+-- putchar: the lowest byte of the one argument, which has 32 bits
 abbrev pub puts_char : Memory → ℕ → List Value → Effect
-puts_char memory place (Number n ∷ []) = Went (Some (Number (n % 256))) None memory place (Wrote (n % 256) ∷ [])
+puts_char memory place (v ∷ []) = puts_bits memory place (bits_of 32 v)
 puts_char memory place _ = Broke (Undefined PoisonArgument)
 
 abbrev pub calls_host : Host → List ℕ → Memory → ℕ → List Value → Effect

@@ -16,7 +16,7 @@ use Rattle.ir_meaning.specs.Frame.{AFunction, AVariable, Kind}
 use Rattle.ir_meaning.specs.Memory.{Memory, MemoryBlock}
 use Rattle.ir_meaning.specs.Program.{Program}
 use Rattle.ir_meaning.specs.Run.{Ran, Returned, start}
-use Rattle.ir_meaning.specs.Symbols.{symbol_eq}
+use Rattle.ir_tree.specs.Symbols.{symbol_eq}
 use Rattle.ir_meaning.specs.declared.event.Event.{Event}
 use Rattle.ir_meaning.specs.declared.event.Event.TheVariants.{ReadByte, ReadEnd, Wrote}
 use Rattle.ir_meaning.specs.declared.value.Byte.{Byte}

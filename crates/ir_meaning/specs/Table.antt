@@ -21,7 +21,7 @@ use Rattle.ir_meaning.specs.Address.{displacements, sum_from}
 use Rattle.ir_meaning.specs.Execute.{reg_eq}
 use Rattle.ir_meaning.specs.Frame.{cons_index}
 use Rattle.ir_meaning.specs.Operate.{Answer, Is, Never, Unwritten, binary_bits}
-use Rattle.ir_meaning.specs.Symbols.{symbol_eq}
+use Rattle.ir_tree.specs.Symbols.{symbol_eq}
 use Rattle.ir_meaning.specs.Wrapping.{cast_number, compare, is_division, signed, wrapped}
 use Rattle.ir_meaning.specs.declared.value.Value.TheVariants.{Number, Pointer, Poison}
 
@@ -70,9 +70,10 @@ constant_answer w (Is (Number n)) = Some (Constant w n)
 constant_answer w (Is Poison) = Some (PoisonOf (Int w))
 constant_answer w a = None
 
-abbrev pub folded : BinaryOp → Flags → ℕ → Option ℕ → Option ℕ → Option Operand
-folded op f w (Some a) (Some b) = constant_answer w (binary_bits op f w (Some a) (Some b))
-folded op f w l r = None
+-- two constants decide alone, whatever the later rows give
+abbrev pub folded_or : BinaryOp → Flags → ℕ → Option ℕ → Option ℕ → Option Operand → Option Operand
+folded_or op f w (Some a) (Some b) later = constant_answer w (binary_bits op f w (Some a) (Some b))
+folded_or op f w l r later = later
 
 -- of a division only the dividend: a poison divisor is undefined
 abbrev pub poisoned : BinaryOp → ℕ → Operand → Operand → Option Operand
@@ -103,7 +104,8 @@ zeroed Srem w l r = when (is_number 1 r) (Constant w 0)
 zeroed op w l r = None
 
 abbrev pub binary_rule : BinaryOp → Flags → ℕ → Operand → Operand → Option Operand
-binary_rule op f w l r = first (folded op f w (number_of w l) (number_of w r)) (first (poisoned op w l r) (first (unchanged op w l r) (zeroed op w l r)))
+binary_rule op f w l r =
+    folded_or op f w (number_of w l) (number_of w r) (first (poisoned op w l r) (first (unchanged op w l r) (zeroed op w l r)))
 
 -- ---- comparisons
 

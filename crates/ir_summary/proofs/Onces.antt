@@ -5,7 +5,8 @@ use Rattle.std.proofs.lemmas.Cmp.{nat_list_eq_equiv}
 use Rattle.std.specs.List.{list_any}
 use Rattle.std.specs.Str.{bytes_eq}
 use Rattle.indexmap.specs.IndexSet.{insert_key}
-use Rattle.ir_summary.specs.Once.{once, texts, without}
+use Rattle.ir_summary.specs.Once.{texts}
+use Rattle.ir_tree.specs.Once.{once, without}
 
 -- what is left, as its first item and the rest
 pub left : {X : Type 0} (xs : List X) (i : ℕ) (d : X) → i < length xs → drop i xs ≡ slice_index_or xs i d ∷ drop (i + 1) xs

@@ -7,7 +7,7 @@ use Rattle.ir_tree.specs.declared.function.Variable.{Variable}
 use Rattle.ir_tree.specs.declared.block.Block.{Block}
 use Rattle.ir_tree.specs.declared.module.GlobalValue.{GlobalValue}
 use Rattle.ir_tree.specs.declared.module.GlobalValue.TheVariants as global
-use Rattle.ir_summary.specs.Once.{once}
+use Rattle.ir_tree.specs.Once.{once}
 use Rattle.ir_summary.specs.References.{body_callees, body_names, initial_names}
 use Rattle.ir_summary.specs.declared.summary.Summary.{Summary}
 

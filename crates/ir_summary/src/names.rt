@@ -1,6 +1,7 @@
 //! Names, each once.
 ghost use Rattle.std.specs.Prelude.{◌≡◌, IfOk};
-ghost use Rattle.ir_summary.specs.Once.{once, texts};
+ghost use Rattle.ir_summary.specs.Once.{texts};
+ghost use Rattle.ir_tree.specs.Once.{once};
 
 use indexmap::IndexSet;
 use ir_tree::{Rows, Text};

@@ -32,11 +32,11 @@ fn variable_summary(alloc: Global, variable: &Variable) -> Result<Summary, Alloc
 pub(crate) fn function_summary(alloc: Global, function: &Function) -> Result<Summary, AllocError>
     ensures { IfOk result (λ s. s ≡ function_summary function.now) }
 {
-    let callees = body_callees(alloc, function)?;
-    let names = body_names(alloc, function)?;
-    let name = function.symbol.name.duplicate(alloc)?;
     let count = count_of(function)?;
+    let name = function.symbol.name.duplicate(alloc)?;
+    let callees = body_callees(alloc, function)?;
     let calls = once(alloc, &callees)?;
+    let names = body_names(alloc, function)?;
     let refs = once(alloc, &names)?;
     Ok(Summary {
         name,

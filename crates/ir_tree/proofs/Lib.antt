@@ -1,3 +1,4 @@
 pub mod Layouts
 pub mod NamesAgain
 pub mod Flows
+pub mod Symbols

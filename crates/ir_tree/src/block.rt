@@ -37,10 +37,25 @@ pub enum Terminator {
 /// A basic block under its number, which it shares one counter with the function's locals for.
 ///
 /// `phis` are the phis that stand first; all other instructions are `lines`.
-#[derive(Drop, PartialEq, Eq)]
+#[derive(PartialEq, Eq)]
 pub struct Block {
     pub number: u32,
     pub phis: Rows<Phi>,
     pub lines: Rows<Line>,
     pub end: Terminator,
+}
+
+// Written out, so that it is one call wherever a block is dropped.
+impl Drop for Block {
+    fn drop(self) {
+        let Block {
+            number: _,
+            phis,
+            lines,
+            end,
+        } = self;
+        drop(phis);
+        drop(lines);
+        drop(end);
+    }
 }

@@ -150,6 +150,45 @@ impl Duplicate for Incoming {
     }
 }
 
+fn copy_both(
+    alloc: Global,
+    left: &Operand,
+    right: &Operand,
+) -> Result<(Operand, Operand), AllocError>
+    ensures left { IfOk result (λ both. both.0 ≡ left.now) }
+    ensures right { IfOk result (λ both. both.1 ≡ right.now) }
+{
+    let first = left.duplicate(alloc)?;
+    let second = right.duplicate(alloc)?;
+    Ok((first, second))
+}
+
+fn copy_arms(
+    alloc: Global,
+    if_true: &Argument,
+    if_false: &Argument,
+) -> Result<(Argument, Argument), AllocError>
+    ensures if_true { IfOk result (λ both. both.0 ≡ if_true.now) }
+    ensures if_false { IfOk result (λ both. both.1 ≡ if_false.now) }
+{
+    let first = if_true.duplicate(alloc)?;
+    let second = if_false.duplicate(alloc)?;
+    Ok((first, second))
+}
+
+fn copy_applied(
+    alloc: Global,
+    operand: &Operand,
+    arguments: &Rows<Argument>,
+) -> Result<(Operand, Rows<Argument>), AllocError>
+    ensures operand { IfOk result (λ both. both.0 ≡ operand.now) }
+    ensures arguments { IfOk result (λ both. both.1 ≡ arguments.now) }
+{
+    let first = operand.duplicate(alloc)?;
+    let second = arguments.duplicate(alloc)?;
+    Ok((first, second))
+}
+
 impl Duplicate for Instr {
     fn duplicate(&self, alloc: Global) -> Result<Instr, AllocError> {
         match self {
@@ -160,8 +199,7 @@ impl Duplicate for Instr {
                 left,
                 right,
             } => {
-                let left = left.duplicate(alloc)?;
-                let right = right.duplicate(alloc)?;
+                let (left, right) = copy_both(alloc, left, right)?;
                 Ok(Instr::Binary {
                     op: *op,
                     flags: *flags,
@@ -176,8 +214,7 @@ impl Duplicate for Instr {
                 left,
                 right,
             } => {
-                let left = left.duplicate(alloc)?;
-                let right = right.duplicate(alloc)?;
+                let (left, right) = copy_both(alloc, left, right)?;
                 Ok(Instr::Icmp {
                     predicate: *predicate,
                     reg: *reg,
@@ -205,8 +242,7 @@ impl Duplicate for Instr {
                 if_false,
             } => {
                 let condition = condition.duplicate(alloc)?;
-                let if_true = if_true.duplicate(alloc)?;
-                let if_false = if_false.duplicate(alloc)?;
+                let (if_true, if_false) = copy_arms(alloc, if_true, if_false)?;
                 Ok(Instr::Select {
                     condition,
                     if_true,
@@ -242,8 +278,7 @@ impl Duplicate for Instr {
                 address,
                 align,
             } => {
-                let value = value.duplicate(alloc)?;
-                let address = address.duplicate(alloc)?;
+                let (value, address) = copy_both(alloc, value, address)?;
                 Ok(Instr::Store {
                     reg: *reg,
                     value,
@@ -258,8 +293,7 @@ impl Duplicate for Instr {
                 indices,
             } => {
                 let shape = shape.duplicate(alloc)?;
-                let base = base.duplicate(alloc)?;
-                let indices = indices.duplicate(alloc)?;
+                let (base, indices) = copy_applied(alloc, base, indices)?;
                 Ok(Instr::Address {
                     inbounds: *inbounds,
                     shape,
@@ -272,8 +306,7 @@ impl Duplicate for Instr {
                 callee,
                 arguments,
             } => {
-                let callee = callee.duplicate(alloc)?;
-                let arguments = arguments.duplicate(alloc)?;
+                let (callee, arguments) = copy_applied(alloc, callee, arguments)?;
                 Ok(Instr::Call {
                     result: *result,
                     callee,

@@ -1,5 +1,8 @@
 //! Functions and variables (LangRef, "Functions", "Global Variables" and "Linkage Types").
 
+ghost use Rattle.std.specs.Prelude.{◌≡◌};
+ghost use Rattle.ir_tree.specs.Linkages.{defines, is_local, is_replaceable};
+
 use crate::block::Block;
 use crate::init::Init;
 use crate::operand::{Reg, Symbol};
@@ -17,6 +20,54 @@ pub enum Linkage {
     Weak,
     WeakOdr,
     AvailableExternally,
+}
+
+impl Linkage {
+    /// Whether the name is seen in its module alone.
+    pub fn is_local(self) -> bool
+        ensures { result ≡ is_local self }
+    {
+        match self {
+            Linkage::Private | Linkage::Internal => true,
+            Linkage::External
+            | Linkage::Linkonce
+            | Linkage::LinkonceOdr
+            | Linkage::Weak
+            | Linkage::WeakOdr
+            | Linkage::AvailableExternally => false,
+        }
+    }
+
+    /// Whether a body is a definition: one that is available externally counts as a declaration.
+    pub fn defines(self) -> bool
+        ensures { result ≡ defines self }
+    {
+        match self {
+            Linkage::AvailableExternally => false,
+            Linkage::Private
+            | Linkage::Internal
+            | Linkage::External
+            | Linkage::Linkonce
+            | Linkage::LinkonceOdr
+            | Linkage::Weak
+            | Linkage::WeakOdr => true,
+        }
+    }
+
+    /// Whether whoever runs the program may put another body in the definition's place.
+    pub fn is_replaceable(self) -> bool
+        ensures { result ≡ is_replaceable self }
+    {
+        match self {
+            Linkage::Weak | Linkage::Linkonce => true,
+            Linkage::Private
+            | Linkage::Internal
+            | Linkage::External
+            | Linkage::LinkonceOdr
+            | Linkage::WeakOdr
+            | Linkage::AvailableExternally => false,
+        }
+    }
 }
 
 /// A parameter: the local that holds it, and its type.

@@ -121,10 +121,18 @@ pub enum Instr {
 }
 
 /// One line of a block: an instruction, and the local that takes its result.
-#[derive(Drop, PartialEq, Eq)]
+#[derive(PartialEq, Eq)]
 pub struct Line {
     pub local: Option<u32>,
     pub instr: Instr,
+}
+
+// Written out, so that it is one call wherever a line is dropped.
+impl Drop for Line {
+    fn drop(self) {
+        let Line { local: _, instr } = self;
+        drop(instr);
+    }
 }
 
 /// What a phi takes on an edge from the block `from`.
@@ -135,9 +143,21 @@ pub struct Incoming {
 }
 
 /// A phi node: the local `local` gets the value of the edge by which its block is entered.
-#[derive(Drop, PartialEq, Eq)]
+#[derive(PartialEq, Eq)]
 pub struct Phi {
     pub local: u32,
     pub reg: Reg,
     pub incoming: Rows<Incoming>,
+}
+
+// Written out, so that it is one call wherever a phi is dropped.
+impl Drop for Phi {
+    fn drop(self) {
+        let Phi {
+            local: _,
+            reg: _,
+            incoming,
+        } = self;
+        drop(incoming);
+    }
 }

@@ -6,7 +6,8 @@ use Rattle.std.specs.Cmp.Lexicographic.{slice_cmp}
 use Rattle.std.specs.Ordering.{nat_cmp, ordering_reverse}
 use Rattle.std.specs.declared.cmp.Ordering.{Ordering}
 use Rattle.std.specs.declared.cmp.Ordering.TheVariants.{Less, Equal, Greater}
-use Rattle.liveness.specs.Best.{AtMost, Found, IsBest, comes_before, is_less, lesser}
+use Rattle.liveness.specs.Best.{AtMost, Found, IsBest, lesser}
+use Rattle.ir_tree.specs.NameOrder.{comes_before, is_less}
 
 -- ---- order
 

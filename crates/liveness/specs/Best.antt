@@ -4,18 +4,11 @@ use Rattle.std.specs.Cmp.Lexicographic.{slice_cmp}
 use Rattle.std.specs.Ordering.{nat_cmp}
 use Rattle.std.specs.declared.cmp.Ordering.{Ordering}
 use Rattle.std.specs.declared.cmp.Ordering.TheVariants.{Less, Equal, Greater}
+use Rattle.ir_tree.specs.NameOrder.{comes_before}
 
 -- a name with its place
 abbrev pub Found : Type 0
 Found = List ℕ × ℕ
-
-abbrev pub is_less : Ordering → Bool
-is_less Less = true
-is_less Equal = false
-is_less Greater = false
-
-abbrev pub comes_before : List ℕ → List ℕ → Bool
-comes_before name other = is_less (slice_cmp nat_cmp name other)
 
 abbrev pub lesser : Option Found → Found → Option Found
 lesser None e = Some e

@@ -1,6 +1,7 @@
 //! The least of the names that a link lacks.
 ghost use Rattle.std.specs.Prelude.{◌≡◌, ◌<◌, ◌^◌, length, option_map};
-ghost use Rattle.liveness.specs.Best.{IsBest, comes_before, lesser, lesser_if};
+ghost use Rattle.liveness.specs.Best.{IsBest, lesser, lesser_if};
+ghost use Rattle.ir_tree.specs.NameOrder.{comes_before};
 ghost use Rattle.liveness.specs.Marks.{IsLackingAt, IsUnexportedAt, is_lacking};
 
 use crate::host::is_host;

@@ -141,13 +141,29 @@ fn program<'a>(alloc: Global) -> Command<'a>
         .subcommand_required(true)
 }
 
+/// The program with the commands that link.
+fn with_links<'a>(program: Command<'a>, alloc: Global) -> Result<Command<'a>, AllocError>
+    ensures { IfOk result (λ new. (a : App) → Builds a program.entry → Builds (with_subcommand (with_subcommand a table.link) table.batch) new) }
+{
+    let program = with_command(program, link(alloc)?)?;
+    let program = with_command(program, batch(alloc)?)?;
+    Ok(program)
+}
+
+/// The program with the commands `index` and `run`.
+fn with_index_and_run<'a>(program: Command<'a>, alloc: Global) -> Result<Command<'a>, AllocError>
+    ensures { IfOk result (λ new. (a : App) → Builds a program.entry → Builds (with_subcommand (with_subcommand a table.index) table.run) new) }
+{
+    let program = with_command(program, index(alloc)?)?;
+    let program = with_command(program, run(alloc)?)?;
+    Ok(program)
+}
+
 /// The program with all its commands.
 pub(crate) fn thinlto<'a>(alloc: Global) -> Result<Command<'a>, AllocError>
     ensures { IfOk result (Builds table.thinlto) }
 {
-    let thinlto = with_command(program(alloc), link(alloc)?)?;
-    let thinlto = with_command(thinlto, batch(alloc)?)?;
-    let thinlto = with_command(thinlto, index(alloc)?)?;
-    let thinlto = with_command(thinlto, run(alloc)?)?;
+    let thinlto = with_links(program(alloc), alloc)?;
+    let thinlto = with_index_and_run(thinlto, alloc)?;
     with_command(thinlto, generate(alloc)?)
 }

@@ -5,7 +5,8 @@ use Rattle.std.specs.List.{list_any}
 use Rattle.std.specs.Str.{bytes_eq}
 use Rattle.indexmap.specs.IndexSet.{insert_key}
 use Rattle.promote_rename.specs.Finals.{IsTaken, NoneTaken}
-use Rattle.promote_rename.specs.Noted.{IsGiven, LeastTaken, Noted, comes_before, lesser, text_of}
+use Rattle.promote_rename.specs.Noted.{IsGiven, LeastTaken, Noted, lesser, text_of}
+use Rattle.ir_tree.specs.NameOrder.{comes_before}
 use Rattle.promote_rename.proofs.Order.{AtMost, at_most_before, at_most_itself, at_most_not_before, at_most_through}
 
 abbrev pub Names : Type 0

@@ -7,16 +7,9 @@ use Rattle.std.specs.Ordering.{nat_cmp}
 use Rattle.std.specs.Str.{bytes_eq}
 use Rattle.std.specs.declared.cmp.Ordering.{Ordering}
 use Rattle.std.specs.declared.cmp.Ordering.TheVariants.{Less, Equal, Greater}
+use Rattle.ir_tree.specs.NameOrder.{comes_before}
 use Rattle.symbol_resolve.specs.Clashes.{IsLeast}
 use Rattle.promote_rename.specs.Finals.{IsTaken, NoneTaken}
-
-abbrev pub is_less : Ordering → Bool
-is_less Less = true
-is_less Equal = false
-is_less Greater = false
-
-abbrev pub comes_before : List ℕ → List ℕ → Bool
-comes_before name other = is_less (slice_cmp nat_cmp name other)
 
 -- the lesser of a name and the best so far
 abbrev pub lesser : Option (List ℕ) → List ℕ → Option (List ℕ)

@@ -1,6 +1,7 @@
 //! The least name that two symbols have.
 ghost use Rattle.std.specs.Prelude.{◌≡◌, ◌∷◌, [], ◌++◌, Some, Option, List, ℕ, IfOk, OnOk, option_map};
-ghost use Rattle.promote_rename.specs.Noted.{LeastTaken, Noted, comes_before, lesser, text_of};
+ghost use Rattle.promote_rename.specs.Noted.{LeastTaken, Noted, lesser, text_of};
+ghost use Rattle.ir_tree.specs.NameOrder.{comes_before};
 
 use indexmap::IndexSet;
 use ir_tree::Text;

@@ -8,7 +8,8 @@ use Rattle.std.specs.Ordering.{nat_cmp, ordering_reverse}
 use Rattle.std.specs.Str.{bytes_eq}
 use Rattle.std.specs.declared.cmp.Ordering.{Ordering}
 use Rattle.std.specs.declared.cmp.Ordering.TheVariants.{Less, Equal, Greater}
-use Rattle.symbol_resolve.specs.Listed.{Entries, Found, Listing, comes_before, conflict, is_less, known, least_from, lesser, lesser_of, or_unknown, pairs, prevails, settled}
+use Rattle.symbol_resolve.specs.Listed.{Entries, Found, Listing, conflict, known, least_from, lesser, lesser_of, or_unknown, pairs, prevails, settled}
+use Rattle.ir_tree.specs.NameOrder.{comes_before, is_less}
 use Rattle.symbol_resolve.specs.Resolved.{module_of}
 use Rattle.symbol_resolve.specs.declared.facts.Facts.{Facts}
 use Rattle.symbol_resolve.specs.declared.least.Rule.{Rule}

@@ -3,7 +3,7 @@ use Rattle.std.proofs.Common.{◌≡◌, ◌∙◌, ◌||◌, ℕ, sym, ap, refl
 use Rattle.std.proofs.lemmas.Cmp.{nat_list_eq_equiv}
 use Rattle.std.specs.List.{list_any}
 use Rattle.std.specs.Str.{bytes_eq}
-use Rattle.symbol_resolve.specs.Resolved.{once, without}
+use Rattle.ir_tree.specs.Once.{once, without}
 
 abbrev pub is_in : List (List ℕ) → List ℕ → Bool
 is_in names n = list_any (bytes_eq n) names

@@ -13,7 +13,7 @@ use Rattle.indexmap.specs.IndexMap.{insert_entry}
 use Rattle.symbol_resolve.specs.Listed.{Entries, Listing, Tabled, facts_of, key_names, known, noted, or_this, or_unknown, pairs, prevails, same_key, second_or, settled}
 use Rattle.symbol_resolve.specs.Mentions.{Mention, as_function, as_variable, is_function, is_strong, is_variable, is_weak, modules_with, names_of, strongly, weakly}
 use Rattle.symbol_resolve.specs.Prevailing.{first, prevailing, second}
-use Rattle.symbol_resolve.specs.Resolved.{once}
+use Rattle.ir_tree.specs.Once.{once}
 use Rattle.symbol_resolve.specs.declared.facts.Facts.{Facts}
 use Rattle.symbol_resolve.specs.declared.mention.Kind.{Kind}
 use Rattle.symbol_resolve.specs.declared.mention.Kind.TheVariants as kinds

@@ -6,7 +6,8 @@ use Rattle.symbol_resolve.specs.Clashes.{Clashes, IsOfTwoKinds, NoDuplicate, One
 use Rattle.symbol_resolve.specs.Listed.{ChecksNames, ChecksTargets, Entries, Found, Tabled, both, conflict, facts_of, least_from, pairs, settled, told}
 use Rattle.symbol_resolve.specs.Mentions.{Mention, is_function, is_strong, is_variable, mentions, modules_with, names_of}
 use Rattle.symbol_resolve.specs.Prevailing.{first, second}
-use Rattle.symbol_resolve.specs.Resolved.{Resolves, Symbols, once}
+use Rattle.symbol_resolve.specs.Resolved.{Resolves, Symbols}
+use Rattle.ir_tree.specs.Once.{once}
 use Rattle.symbol_resolve.specs.declared.clash.Clash.{Clash}
 use Rattle.symbol_resolve.specs.declared.clash.ResolveError.{ResolveError}
 use Rattle.symbol_resolve.specs.declared.clash.ResolveError.TheVariants as error

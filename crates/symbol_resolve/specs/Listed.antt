@@ -8,6 +8,7 @@ use Rattle.std.specs.Ordering.{nat_cmp}
 use Rattle.std.specs.Str.{bytes_eq}
 use Rattle.std.specs.declared.cmp.Ordering.{Ordering}
 use Rattle.std.specs.declared.cmp.Ordering.TheVariants.{Less, Equal, Greater}
+use Rattle.ir_tree.specs.NameOrder.{comes_before}
 use Rattle.ir_tree.specs.declared.module.Module.{Module}
 use Rattle.symbol_resolve.specs.Clashes.{Clashes, OneTarget}
 use Rattle.symbol_resolve.specs.declared.clash.Clash.{Clash}
@@ -16,7 +17,7 @@ use Rattle.symbol_resolve.specs.declared.clash.ResolveError.{ResolveError}
 use Rattle.symbol_resolve.specs.declared.clash.ResolveError.TheVariants as error
 use Rattle.symbol_resolve.specs.Mentions.{Mention, modules_with, is_function, is_variable, is_strong, is_weak, names_of}
 use Rattle.symbol_resolve.specs.Prevailing.{first, second, or_else}
-use Rattle.symbol_resolve.specs.Resolved.{once}
+use Rattle.ir_tree.specs.Once.{once}
 use Rattle.symbol_resolve.specs.declared.facts.Facts.{Facts}
 use Rattle.symbol_resolve.specs.declared.least.Rule.{Rule}
 use Rattle.symbol_resolve.specs.declared.least.Rule.TheVariants as rule
@@ -110,14 +111,6 @@ both None b = None
 abbrev pub conflict : Rule → Facts → Option (ℕ × ℕ)
 conflict rule.OneDefinition f = both f.strong f.second
 conflict rule.OneKind f = both f.function f.variable
-
-abbrev pub is_less : Ordering → Bool
-is_less Less = true
-is_less Equal = false
-is_less Greater = false
-
-abbrev pub comes_before : List ℕ → List ℕ → Bool
-comes_before name other = is_less (slice_cmp nat_cmp name other)
 
 -- a name and two modules
 abbrev pub Found : Type 0

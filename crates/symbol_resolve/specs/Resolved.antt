@@ -1,21 +1,13 @@
 -- What resolution gives of the modules of a link.
 use Rattle.std.specs.Prelude.{◌≡◌, ℕ, not, List, [], ◌∷◌, map, filter, Option, None, Result, Ok, Err, if◌then◌else◌}
 use Rattle.std.specs.Str.{bytes_eq}
+use Rattle.ir_tree.specs.Once.{once}
 use Rattle.ir_tree.specs.declared.module.Module.{Module}
 use Rattle.symbol_resolve.specs.Clashes.{Clashes, NoClash}
 use Rattle.symbol_resolve.specs.Mentions.{mentions, names_of}
 use Rattle.symbol_resolve.specs.Prevailing.{prevailing}
 use Rattle.symbol_resolve.specs.declared.clash.ResolveError.{ResolveError}
 use Rattle.symbol_resolve.specs.declared.clash.ResolveError.TheVariants as error
-
--- the other names
-abbrev pub without : List ℕ → List (List ℕ) → List (List ℕ)
-without name names = filter (λ other. not (bytes_eq name other)) names
-
--- each name once, where it comes first
-abbrev pub once : List (List ℕ) → List (List ℕ)
-once [] = []
-once (name ∷ names) = name ∷ without name (once names)
 
 -- a name with the module whose definition of it prevails
 abbrev pub Symbols : Type 0

@@ -2,7 +2,8 @@
 ghost use Rattle.std.specs.Prelude.{◌≡◌, None, Some, List, ℕ, option_map, slice_get};
 ghost use Rattle.std.specs.Borrow.{Bor};
 ghost use Rattle.symbol_resolve.specs.declared.facts.Facts.{Facts};
-ghost use Rattle.symbol_resolve.specs.Listed.{both, comes_before, conflict, least_from, lesser, lesser_of, pairs};
+ghost use Rattle.symbol_resolve.specs.Listed.{both, conflict, least_from, lesser, lesser_of, pairs};
+ghost use Rattle.ir_tree.specs.NameOrder.{comes_before};
 
 use crate::facts::Facts;
 use indexmap::IndexMap;

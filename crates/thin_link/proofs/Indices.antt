@@ -9,19 +9,18 @@ use Rattle.ir_tree.specs.declared.operand.Symbol.{Symbol}
 use Rattle.ir_summary.specs.declared.summary.Summary.{Summary}
 use Rattle.symbol_resolve.specs.Resolved.{Symbols}
 use Rattle.combined_index.specs.Combined.{AreWithin, Combined, IsWithin}
-use Rattle.combined_index.specs.Entries.{Entry, same_symbol}
+use Rattle.combined_index.specs.Entries.{Entry}
+use Rattle.ir_tree.specs.Symbols.{symbol_eq}
+use Rattle.ir_tree.proofs.Symbols.{symbol_self}
 use Rattle.combined_index.specs.Indexed.{IsCombined, named, symbol_at}
 use Rattle.combined_index.specs.declared.definition.Definition.{Definition}
 use Rattle.thin_link.proofs.Determined.{same_from_map}
 
-alike : (s : Symbol) → same_symbol s s ≡ true
-alike = (and_equiv (on_equiv (λ (s : Symbol). s.home) (options_equiv nat_eq_equiv)) (on_equiv (λ (s : Symbol). s.name) nat_list_eq_equiv)).refl
-
-module _ (ss : List Symbol) (distinct : IsDistinct same_symbol ss) where
+module _ (ss : List Symbol) (distinct : IsDistinct symbol_eq ss) where
   apart : (m n : ℕ) → m < n → n < length ss → symbol_at ss m ≡ symbol_at ss n → ⊥
   apart m n before inside same =
-      let no : same_symbol (symbol_at ss m) (symbol_at ss n) ≡ false = apart_from_distinct same_symbol ss m n (record { home = None; name = [] }) distinct before inside in
-      let yes : same_symbol (symbol_at ss m) (symbol_at ss n) ≡ true = ap (same_symbol (symbol_at ss m)) (sym same) ∙ alike (symbol_at ss m) in
+      let no : symbol_eq (symbol_at ss m) (symbol_at ss n) ≡ false = apart_from_distinct symbol_eq ss m n (record { home = None; name = [] }) distinct before inside in
+      let yes : symbol_eq (symbol_at ss m) (symbol_at ss n) ≡ true = ap (symbol_eq (symbol_at ss m)) (sym same) ∙ symbol_self (symbol_at ss m) in
       let both : true ≡ false = sym yes ∙ no in
       cc
 

@@ -48,6 +48,19 @@ fn resolved<'a>(
     }
 }
 
+/// The index of modules that can be linked with one another.
+fn index_of(alloc: Global, files: &[Text], modules: &[Verified]) -> Result<Index, Refusal>
+    ensures resolved { IfOk result (λ _. NoClash modules.now) }
+    ensures indexed { IfOk result (IsIndex modules.now) }
+    ensures refused { IfErr result (λ why. why ≢ NoMemory → IsClash files.now modules.now why) }
+{
+    let resolution = resolved(alloc, files, modules)?;
+    let Ok(index) = indexed(alloc, modules, &resolution) else {
+        return Err(Refusal::NoMemory);
+    };
+    Ok(index)
+}
+
 /// The live symbols of modules of this index, whose link lacks no definition.
 fn kept(
     alloc: Global,
@@ -92,10 +105,7 @@ pub fn thin_link(
     ensures done { IfOk result (λ link. IsThinLink modules.now exports.now import_limit link.index link.live (rows link.imports.items)) }
     ensures refused { IfErr result (λ why. why ≢ NoMemory → IsRefused files.now modules.now exports.now why) }
 {
-    let resolution = resolved(alloc, files, modules)?;
-    let Ok(index) = indexed(alloc, modules, &resolution) else {
-        return Err(Refusal::NoMemory);
-    };
+    let index = index_of(alloc, files, modules)?;
     let live = kept(alloc, files, modules, &index, exports)?;
     let Ok(imports) = plan(alloc, &index, &live, import_limit) else {
         return Err(Refusal::NoMemory);

@@ -7,7 +7,8 @@ use Rattle.ir_tree.specs.declared.instr.Incoming.{Incoming}
 use Rattle.ir_tree.specs.declared.instr.Line.{Line}
 use Rattle.ir_tree.specs.declared.instr.Phi.{Phi}
 use Rattle.ir_tree.specs.declared.operand.Symbol.{Symbol}
-use Rattle.ir_meaning.specs.Act.{Act, Goes, Calls, Gives, Breaks, with_slot, apply, incoming_value, phis_bound, case_target, side, Exit, Leaves, Leads', Stuck, by_value, exit_of, exits, acts, act, resume}
+use Rattle.ir_meaning.specs.Act.{Act, Goes, Calls, Gives, Breaks, with_slot, apply, incoming_value, phis_bound, case_target, side, Exit, Leaves, Leads', Stuck, by_bits, by_value, exit_of, exits, acts, act, resume}
+use Rattle.ir_meaning.specs.Operate.{bits_of}
 use Rattle.ir_meaning.specs.Execute.{evaluate, Effect, Went, Asked, Broke, execute}
 use Rattle.ir_meaning.specs.Fault.{Fault}
 use Rattle.ir_meaning.specs.Frame.{Locals, Frame, Signature, look_up, bind, value_of}
@@ -21,7 +22,7 @@ use Rattle.ir_meaning.specs.declared.value.Value.TheVariants.{Number, Pointer, P
 use Rattle.ir_better.specs.Formed.{IsFormed}
 pub use Rattle.ir_better.specs.Needed.{EdgesKept, PhisKept, EndReads}
 use Rattle.ir_better.proofs.Alike.Effects.{SlotAgrees, EffectsAlike}
-use Rattle.ir_better.proofs.Alike.Values.{LocalsAgree, Names, if_agrees, value_of_agrees}
+use Rattle.ir_better.proofs.Alike.Values.{LocalsAgree, Names, NoneOrSame, bits_agree, if_agrees, value_of_agrees}
 use Rattle.ir_better.proofs.Runs.Stacks.{answered_map}
 use Rattle.ir_better.proofs.Runs.Steps.{one_step, leads_trans}
 
@@ -327,13 +328,15 @@ ExitsAgree p (Leaves v) (Leaves u) = ValuesAgree p v u
 ExitsAgree p (Leads' a) (Leads' b) = a ≡ b
 ExitsAgree p _ _ = ⊥
 
-pub by_value_agrees : (p : Point) (target : ℕ → ℕ) (v u : Value) → Agrees p.pairing (length p.left) v u →
-    ExitsAgree p (by_value target v) (by_value target u)
-by_value_agrees p target (Number n) (Number m) e = ap target e
-by_value_agrees p target v Poison e = tt
-by_value_agrees p target v (Pointer y j) e = tt
-by_value_agrees p target Poison (Number m) e = absurd e
-by_value_agrees p target (Pointer x i) (Number m) e = absurd e
+by_bits_agrees : (p : Point) (target : ℕ → ℕ) (a b : Option ℕ) → NoneOrSame a b → ExitsAgree p (by_bits target a) (by_bits target b)
+by_bits_agrees p target a None h = tt
+by_bits_agrees p target (Some n) (Some m) (inr e) = let same : n ≡ m = cc e in ap target same
+by_bits_agrees p target None (Some m) (inr e) = absurd (cc e)
+by_bits_agrees p target a (Some m) (inl e) = absurd (cc e)
+
+pub by_value_agrees : (p : Point) (w : ℕ) (target : ℕ → ℕ) (v u : Value) → Agrees p.pairing (length p.left) v u →
+    ExitsAgree p (by_value w target v) (by_value w target u)
+by_value_agrees p w target v u e = by_bits_agrees p target (bits_of w v) (bits_of w u) (bits_agree p.pairing (length p.left) w v u e)
 
 pub exit_agrees : (sig : Signature) (p : Point) → Names sig p.pairing (length p.left) → (keeps : ℕ → Bool) (ls rs : Locals) →
     LocalsAgree keeps p.pairing (length p.left) ls rs → (t : Terminator) → EndReads keeps t →
@@ -342,9 +345,9 @@ exit_agrees sig p c keeps ls rs h (Return None) k = tt
 exit_agrees sig p c keeps ls rs h (Return (Some a)) k = value_of_agrees sig p.pairing (length p.left) c keeps ls rs h a.operand k
 exit_agrees sig p c keeps ls rs h (Jump target) k = refl
 exit_agrees sig p c keeps ls rs h (Branch d t f) k =
-    by_value_agrees p (side t f) _ _ (value_of_agrees sig p.pairing (length p.left) c keeps ls rs h d k)
+    by_value_agrees p 1 (side t f) _ _ (value_of_agrees sig p.pairing (length p.left) c keeps ls rs h d k)
 exit_agrees sig p c keeps ls rs h (Switch w operand default cases) k =
-    by_value_agrees p (case_target cases default) _ _ (value_of_agrees sig p.pairing (length p.left) c keeps ls rs h operand k)
+    by_value_agrees p w (case_target cases default) _ _ (value_of_agrees sig p.pairing (length p.left) c keeps ls rs h operand k)
 exit_agrees sig p c keeps ls rs h Unreachable k = tt
 
 pub names_of : (p : Program) → IsFormed p → (q : Point) → Fixes (variables p) q → Names p.signature q.pairing (length q.left)

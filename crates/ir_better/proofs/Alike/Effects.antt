@@ -15,7 +15,7 @@ use Rattle.ir_tree.specs.declared.operand.Symbol.{Symbol}
 use Rattle.ir_meaning.specs.Access.{reaches, overwritten, store_in, store, store_cause, load}
 use Rattle.ir_meaning.specs.Address.{address_of}
 use Rattle.ir_meaning.specs.Bytes.{reg_size, number_bytes, fragments, pointer_bytes, bits_stored, pointer_stored, stored_bytes}
-use Rattle.ir_meaning.specs.Execute.{regs_eq, result_eq, host_params, Task, ToBinary, ToCompare, ToCast, ToSelect, ToFreeze, ToReserve, ToLoad, ToStore, ToAddress, ToCall, ToPoison, evaluate, Effect, Went, Asked, Broke, gives, stores, compares, gets_char, puts_char, calls_host, calls_kind, calls_value, execute}
+use Rattle.ir_meaning.specs.Execute.{regs_eq, result_eq, host_params, Task, ToBinary, ToCompare, ToCast, ToSelect, ToFreeze, ToReserve, ToLoad, ToStore, ToAddress, ToCall, ToPoison, evaluate, Effect, Went, Asked, Broke, gives, stores, compares, gets_char, puts_bits, puts_char, calls_host, calls_kind, calls_value, execute}
 use Rattle.ir_meaning.specs.Fault.{Fault, Undefined}
 use Rattle.ir_meaning.specs.Frame.{Locals, Host, PutChar, GetChar, Kind, AFunction, AVariable, AHost, Missing, Signature, look_up, value_of}
 use Rattle.ir_meaning.specs.Memory.{MemoryBlock, Memory, fresh}
@@ -348,17 +348,20 @@ store_alike p rel why why' place reg v u (Pointer (Code t) i) (Pointer (Cell r) 
 
 puts_alike : (p : Point) → Related p → (place : ℕ) (vs us : List Value) → AllAgree p.pairing (length p.left) vs us →
     EffectsAlike p (puts_char p.left place vs) (puts_char p.right place us)
-puts_alike p rel place (Number n ∷ []) (Number m ∷ []) h =
-    subst (λ (i : ℕ). EffectsAlike p (puts_char p.left place (Number n ∷ [])) (puts_char p.right place (Number i ∷ []))) h.0
-    (went_still p rel (Some (Number (n % 256))) (Some (Number (n % 256))) place (Wrote (n % 256) ∷ []) refl)
+puts_alike p rel place (v ∷ []) (u ∷ []) h = by (bits_of 32 v) (bits_of 32 u) (bits_agree p.pairing (length p.left) 32 v u h.0)
+  where
+    by : (a b : Option ℕ) → NoneOrSame a b → EffectsAlike p (puts_bits p.left place a) (puts_bits p.right place b)
+    by a None e = tt
+    by (Some n) (Some m) (inr e) =
+        let same : n ≡ m = cc e in
+        subst (λ (i : ℕ). EffectsAlike p (puts_bits p.left place (Some n)) (puts_bits p.right place (Some i))) same
+        (went_still p rel (Some (Number (n % 256))) (Some (Number (n % 256))) place (Wrote (n % 256) ∷ []) refl)
+    by None (Some m) (inr e) = absurd (cc e)
+    by a (Some m) (inl e) = absurd (cc e)
 puts_alike p rel place vs [] h = tt
-puts_alike p rel place vs (Poison ∷ us) h = tt
-puts_alike p rel place vs (Pointer y j ∷ us) h = tt
-puts_alike p rel place vs (Number m ∷ u ∷ us) h = tt
-puts_alike p rel place [] (Number m ∷ []) h = absurd h
-puts_alike p rel place (Poison ∷ vs) (Number m ∷ []) h = absurd h.0
-puts_alike p rel place (Pointer x i ∷ vs) (Number m ∷ []) h = absurd h.0
-puts_alike p rel place (Number n ∷ v ∷ vs) (Number m ∷ []) h = absurd h.1
+puts_alike p rel place vs (u ∷ u' ∷ us) h = tt
+puts_alike p rel place [] (u ∷ []) h = absurd h
+puts_alike p rel place (v ∷ v' ∷ vs) (u ∷ []) h = absurd h.1
 
 gets_char_alike : (p : Point) → Related p → (place : ℕ) (o : Option ℕ) →
     EffectsAlike p (gets_char p.left place o) (gets_char p.right place o)

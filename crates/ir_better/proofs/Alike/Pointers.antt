@@ -14,7 +14,8 @@ use Rattle.ir_meaning.specs.Memory.{MemoryBlock, size_or_zero, object_size}
 use Rattle.ir_meaning.specs.Operate.{Is, Unwritten}
 use Rattle.ir_meaning.specs.Pointers.{lives_with, is_inside, is_at, unequal_if, apart_equal, settled_equal, settled_order, negated, settled, compared_pointers}
 use Rattle.ir_meaning.specs.Relate.{Pairing, Point, Related, SameBase, SameBytes, SameBlock, Agrees}
-use Rattle.ir_meaning.specs.Symbols.{symbol_eq, base_eq}
+use Rattle.ir_meaning.specs.Symbols.{base_eq}
+use Rattle.ir_tree.specs.Symbols.{symbol_eq}
 use Rattle.ir_meaning.specs.declared.value.Base.{Base}
 use Rattle.ir_meaning.specs.declared.value.Base.TheVariants.{Nowhere, Code, Cell}
 use Rattle.ir_meaning.specs.declared.value.Byte.{Byte}

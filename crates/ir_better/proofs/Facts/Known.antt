@@ -13,12 +13,12 @@ use Rattle.ir_tree.specs.declared.instr.Line.{Line}
 use Rattle.ir_tree.specs.declared.operand.Argument.{Argument}
 use Rattle.ir_tree.specs.declared.operand.Operand.{Operand}
 use Rattle.ir_tree.specs.declared.operand.Symbol.{Symbol}
-use Rattle.ir_meaning.specs.Act.{Act, Goes, Calls, with_slot, apply, phis_bound, find_block, enters_block, jumps, case_target, side, Exit, Leaves, Leads', Stuck, by_value, exit_of, exits, act, params_bound, enter_at, enter, resume}
+use Rattle.ir_meaning.specs.Act.{Act, Goes, Calls, with_slot, apply, phis_bound, find_block, enters_block, jumps, case_target, side, Exit, Leaves, Leads', Stuck, by_bits, exit_of, exits, act, params_bound, enter_at, enter, resume}
 use Rattle.ir_meaning.specs.Execute.{Task, evaluate, Effect, Went, Asked, Broke, execute, compares}
 use Rattle.ir_meaning.specs.Frame.{Locals, Frame, Signature, look_up, bind, value_of}
 use Rattle.ir_meaning.specs.Memory.{Memory, kill}
 use Rattle.ir_meaning.specs.Near.{Setting, Against, IsAnswered}
-use Rattle.ir_meaning.specs.Operate.{frozen}
+use Rattle.ir_meaning.specs.Operate.{bits_of, frozen}
 use Rattle.ir_meaning.specs.Program.{variables, State, On, place_of, advance, Leads}
 use Rattle.ir_meaning.specs.Relate.{Pairing, Point, Fixes, Related, Kept, Agrees, AllAgree, ValuesAgree, ArgumentsAgree}
 use Rattle.ir_meaning.specs.declared.event.Event.{Event}
@@ -142,22 +142,20 @@ case_in' cs d n m e = subst (λ (k : ℕ). (d ≡ k) ⊎ InCases cs k) e (case_i
 pub target_in : (value : Operand → Value) (e : Terminator) (n : ℕ) → exit_of value e ≡ Leads' n → IsTarget e n
 target_in value (Return a) n q = absurd (cc q)
 target_in value (Jump t) n q = cc q
-target_in value (Branch c t f) n q = by (value c) q
+target_in value (Branch c t f) n q = by (bits_of 1 (value c)) q
   where
     at : (k m : ℕ) → side t f k ≡ m → (t ≡ m) ⊎ (f ≡ m)
     at zero m e = inr e
     at (suc k) m e = inl e
 
-    by : (v : Value) → by_value (side t f) v ≡ Leads' n → (t ≡ n) ⊎ (f ≡ n)
-    by (Number k) q' = at k n (cc q')
-    by Poison q' = absurd (cc q')
-    by (Pointer x j) q' = absurd (cc q')
-target_in value (Switch w o d cs) n q = by (value o) q
+    by : (o : Option ℕ) → by_bits (side t f) o ≡ Leads' n → (t ≡ n) ⊎ (f ≡ n)
+    by (Some k) q' = at k n (cc q')
+    by None q' = absurd (cc q')
+target_in value (Switch w o d cs) n q = by (bits_of w (value o)) q
   where
-    by : (v : Value) → by_value (case_target cs d) v ≡ Leads' n → (d ≡ n) ⊎ InCases cs n
-    by (Number k) q' = case_in' cs d k n (cc q')
-    by Poison q' = absurd (cc q')
-    by (Pointer x j) q' = absurd (cc q')
+    by : (o : Option ℕ) → by_bits (case_target cs d) o ≡ Leads' n → (d ≡ n) ⊎ InCases cs n
+    by (Some k) q' = case_in' cs d k n (cc q')
+    by None q' = absurd (cc q')
 target_in value Unreachable n q = absurd (cc q)
 
 -- one instruction on each side, with alike effects, and what the right one was
@@ -224,9 +222,9 @@ exit_known sig p c keeps ls rs h fs facts (Return None) k = tt
 exit_known sig p c keeps ls rs h fs facts (Return (Some a)) k = reads_values sig p.pairing (length p.left) c keeps ls rs h (replaced fs)
     (operand_stands sig rs fs facts) a.operand k
 exit_known sig p c keeps ls rs h fs facts (Jump target) k = refl
-exit_known sig p c keeps ls rs h fs facts (Branch d t e) k = by_value_agrees p (side t e) _ _ (reads_values sig p.pairing (length p.left) c
+exit_known sig p c keeps ls rs h fs facts (Branch d t e) k = by_value_agrees p 1 (side t e) _ _ (reads_values sig p.pairing (length p.left) c
     keeps ls rs h (replaced fs) (operand_stands sig rs fs facts) d k)
-exit_known sig p c keeps ls rs h fs facts (Switch w o d cs) k = by_value_agrees p (case_target cs d) _ _
+exit_known sig p c keeps ls rs h fs facts (Switch w o d cs) k = by_value_agrees p w (case_target cs d) _ _
     (reads_values sig p.pairing (length p.left) c keeps ls rs h (replaced fs) (operand_stands sig rs fs facts) o k)
 exit_known sig p c keeps ls rs h fs facts Unreachable k = tt
 

@@ -14,7 +14,8 @@ use Rattle.ir_tree.specs.declared.operand.Argument.{Argument}
 use Rattle.ir_tree.specs.declared.operand.Operand.{Operand}
 use Rattle.ir_tree.specs.declared.operand.Operand.TheVariants.{Local, Symbol as Named}
 use Rattle.ir_tree.specs.declared.operand.Reg.{Reg}
-use Rattle.ir_meaning.specs.Act.{Act, Goes, Calls, Gives, with_slot, apply, incoming_value, phis_bound, find_block, enters_block, jumps, case_target, side, Exit, Leaves, Leads', Stuck, by_value, answer_of, exit_of, exits, act, params_bound, enter_at, enter, resume}
+use Rattle.ir_meaning.specs.Operate.{bits_of}
+use Rattle.ir_meaning.specs.Act.{Act, Goes, Calls, Gives, with_slot, apply, incoming_value, phis_bound, find_block, enters_block, jumps, case_target, side, Exit, Leaves, Leads', Stuck, by_bits, by_value, answer_of, exit_of, exits, act, params_bound, enter_at, enter, resume}
 use Rattle.ir_meaning.specs.Execute.{Task, evaluate, Effect, Asked, Broke, execute, calls_value, calls_kind}
 use Rattle.ir_meaning.specs.Fault.{Undefined}
 use Rattle.ir_meaning.specs.Frame.{Locals, Frame, Signature, look_up, bind, named, value_of, regs_of, values_of, Kind}
@@ -683,10 +684,12 @@ module _ (z : Setting) (one : 1 ≤ z.bound) (formed : IsFormed z.program) (f : 
   inside_leads entry p a c b at choice i (Stuck cause) (Leads' n) h no' e = absurd h
   inside_leads entry p a c b at choice i (Leaves v) (Leads' n) h no' e = absurd h
 
-  by_value_leads : (target : ℕ → ℕ) (u : Value) (v : Option Value) → by_value target u ≡ Leaves v → ⊥
-  by_value_leads target (Number n) v e = cc e
-  by_value_leads target Poison v e = cc e
-  by_value_leads target (Pointer x j) v e = cc e
+  by_value_leads : (w : ℕ) (target : ℕ → ℕ) (u : Value) (v : Option Value) → by_value w target u ≡ Leaves v → ⊥
+  by_value_leads w target u v e = by (bits_of w u) e
+    where
+      by : (o : Option ℕ) → by_bits target o ≡ Leaves v → ⊥
+      by (Some n) h = cc h
+      by None h = cc h
 
   inside_end : (entry p : Point) (a c b : Frame) (at choice : ℕ) → Inside entry p a c b → (end : Terminator) → c.end ≡ end → act z.program.signature z.input c p.right at
       choice ≡ exits z.program.signature c p.right at (exit_of (value_of z.program.signature c.locals) end) → IsAnswered z (Holds entry) entry p.left
@@ -698,12 +701,12 @@ module _ (z : Setting) (one : 1 ≤ z.bound) (formed : IsFormed z.program) (f : 
       let sg = z.program.signature in
       let names = names_of z.program formed p (kept_fixes (variables z.program) entry p i.fixes i.kept) in
       inside_leads entry p a c b at choice i _ _ (moved_exit t p.pairing (length p.left) (value_of sg a.locals) (value_of sg c.locals)
-      (value_moved sg t p.pairing (length p.left) names a.locals c.locals i.callee) (Branch d y x)) (by_value_leads (side y x) (value_of sg c.locals d)) e
+      (value_moved sg t p.pairing (length p.left) names a.locals c.locals i.callee) (Branch d y x)) (by_value_leads 1 (side y x) (value_of sg c.locals d)) e
   inside_end entry p a c b at choice i (Switch w o d cs) q e =
       let sg = z.program.signature in
       let names = names_of z.program formed p (kept_fixes (variables z.program) entry p i.fixes i.kept) in
       inside_leads entry p a c b at choice i _ _ (moved_exit t p.pairing (length p.left) (value_of sg a.locals) (value_of sg c.locals)
-      (value_moved sg t p.pairing (length p.left) names a.locals c.locals i.callee) (Switch w o d cs)) (by_value_leads (case_target cs d) (value_of sg c.locals o)) e
+      (value_moved sg t p.pairing (length p.left) names a.locals c.locals i.callee) (Switch w o d cs)) (by_value_leads w (case_target cs d) (value_of sg c.locals o)) e
   inside_end entry p a c b at choice i Unreachable q e =
       inside_leads entry p a c b at choice i (Stuck UnreachableReached) (Stuck UnreachableReached) tt (λ v w. cc w) e
 

@@ -14,7 +14,8 @@ use Rattle.ir_tree.specs.declared.operand.Argument.{Argument}
 use Rattle.ir_tree.specs.declared.operand.Operand.{Operand}
 use Rattle.ir_tree.specs.declared.operand.Operand.TheVariants.{Local, Number as Constant, Null, Poison as PoisonOf, Symbol as Named}
 use Rattle.ir_tree.specs.declared.operand.Reg.{Reg}
-use Rattle.ir_meaning.specs.Act.{incoming_value, phis_bound, find_block, case_target, side, Exit, Leaves, Leads', Stuck, by_value, exit_of, params_bound}
+use Rattle.ir_meaning.specs.Operate.{bits_of}
+use Rattle.ir_meaning.specs.Act.{incoming_value, phis_bound, find_block, case_target, side, Exit, Leaves, Leads', Stuck, by_bits, by_value, exit_of, params_bound}
 use Rattle.ir_meaning.specs.Execute.{evaluate, ToAddress, ToCall}
 use Rattle.ir_meaning.specs.Frame.{Locals, Signature, look_up, bind, value_of, regs_of, values_of, indices_of, index_of, cons_index}
 use Rattle.ir_meaning.specs.Relate.{Pairing, Agrees, AnswersAgree}
@@ -23,7 +24,7 @@ use Rattle.ir_meaning.specs.declared.value.Value.TheVariants.{Number, Pointer, P
 use Rattle.ir_better.specs.Inline.{Site, argument_of, or_moved, moved, each_moved, with_operands, local_moved, edges_moved, phis_moved, cases_moved, end_moved, return_edge, return_edges, renamed, edges_renamed, phis_renamed, below, EdgesBelow, PhisBelow, IsNoParameter, PhisSparing}
 use Rattle.ir_better.proofs.Alike.Effects.{OperandsAgree}
 use Rattle.ir_better.proofs.Alike.Keeping.{more}
-use Rattle.ir_better.proofs.Alike.Values.{LocalsAgree, IsKept, AllKept, EachAgrees, Names, if_agrees, value_of_agrees}
+use Rattle.ir_better.proofs.Alike.Values.{LocalsAgree, IsKept, AllKept, EachAgrees, Names, NoneOrSame, bits_agree, if_agrees, value_of_agrees}
 
 -- ---- values
 
@@ -311,20 +312,22 @@ MovedExit t (Leads' m) (Leads' n) = m ≡ n + t.by
 MovedExit t (Leads' m) (Leaves v) = m ≡ t.join
 MovedExit t _ _ = ⊥
 
-pub value_exit : (t : Site) (w : Pairing) (n : ℕ) (f g : ℕ → ℕ) → ((k : ℕ) → f k ≡ g k + t.by) → (v u : Value) → Agrees w n v u →
-    MovedExit t (by_value f v) (by_value g u)
-value_exit t w n f g h (Number a) (Number b) e = h a ∙ ap (λ (i : ℕ). g i + t.by) e
-value_exit t w n f g h v Poison e = tt
-value_exit t w n f g h v (Pointer y j) e = tt
-value_exit t w n f g h Poison (Number b) e = absurd e
-value_exit t w n f g h (Pointer x i) (Number b) e = absurd e
+pub value_exit : (t : Site) (w : Pairing) (n k : ℕ) (f g : ℕ → ℕ) → ((i : ℕ) → f i ≡ g i + t.by) → (v u : Value) → Agrees w n v u →
+    MovedExit t (by_value k f v) (by_value k g u)
+value_exit t w n k f g h v u e = by (bits_of k v) (bits_of k u) (bits_agree w n k v u e)
+  where
+    by : (a b : Option ℕ) → NoneOrSame a b → MovedExit t (by_bits f a) (by_bits g b)
+    by a None same = tt
+    by (Some a) (Some b) (inr same) = let is : a ≡ b = cc same in h a ∙ ap (λ (i : ℕ). g i + t.by) is
+    by None (Some b) (inr same) = absurd (cc same)
+    by a (Some b) (inl none) = absurd (cc none)
 
 pub moved_exit : (t : Site) (w : Pairing) (n : ℕ) (a b : Operand → Value) → ((o : Operand) → Agrees w n (a (moved t o)) (b o)) →
     (e : Terminator) → MovedExit t (exit_of a (end_moved t e)) (exit_of b e)
 moved_exit t w n a b h (Return argument) = refl
 moved_exit t w n a b h (Jump target) = refl
-moved_exit t w n a b h (Branch c y x) = value_exit t w n (side (y + t.by) (x + t.by)) (side y x) (side_moved t.by y x) (a (moved t c))
+moved_exit t w n a b h (Branch c y x) = value_exit t w n 1 (side (y + t.by) (x + t.by)) (side y x) (side_moved t.by y x) (a (moved t c))
     (b c) (h c)
-moved_exit t w n a b h (Switch k o d cs) = value_exit t w n (case_target (cases_moved t.by cs) (d + t.by)) (case_target cs d)
+moved_exit t w n a b h (Switch k o d cs) = value_exit t w n k (case_target (cases_moved t.by cs) (d + t.by)) (case_target cs d)
     (cases_target t.by cs d) (a (moved t o)) (b o) (h o)
 moved_exit t w n a b h Unreachable = tt

@@ -19,14 +19,15 @@ use Rattle.ir_meaning.specs.Frame.{Kind, AFunction, AVariable, AHost, Missing}
 use Rattle.ir_meaning.specs.Memory.{MemoryBlock}
 use Rattle.ir_meaning.specs.Program.{Program}
 use Rattle.ir_meaning.specs.Refine.{Naming}
-use Rattle.ir_meaning.specs.Symbols.{symbol_eq}
+use Rattle.ir_tree.specs.Symbols.{symbol_eq}
 use Rattle.ir_meaning.specs.declared.value.Base.TheVariants.{Nowhere, Code, Cell}
 use Rattle.ir_meaning.specs.declared.value.Byte.{Byte}
 use Rattle.ir_meaning.specs.declared.value.Byte.TheVariants.{Unset, Spoilt, Plain, Fragment}
 use Rattle.ir_better.specs.Inline.{with_operands, each_moved}
 use Rattle.ir_better.specs.Rename.{operand_under, line_under, edge_under, phi_under, argument_under, end_under, block_under, CodeUnder, cell_under, byte_under, bytes_under, cells_under, kind_under, OperandNames, ArgumentsName, InstrNames, LinesName, EdgesName, PhisName, EndNames, BlocksName, BytesName, IsKeptOf, IsThere, ByteReaches, BytesReach, IsEmitted, EmittedRefines}
 use Rattle.ir_better.proofs.Names.Kept.{kept_from}
-use Rattle.ir_better.proofs.Names.Moved.{cell_variable, symbol_true, symbol_same}
+use Rattle.ir_better.proofs.Names.Moved.{cell_variable}
+use Rattle.ir_tree.proofs.Symbols.{symbol_true, symbol_same}
 
 -- ---- there and back
 

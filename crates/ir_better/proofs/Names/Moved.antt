@@ -19,7 +19,9 @@ use Rattle.ir_meaning.specs.Memory.{MemoryBlock, Memory, fresh, dead, end_life, 
 use Rattle.ir_meaning.specs.Operate.{Answer, Is, Never, Unwritten, number_or_poison, bits_of, plain_bits, division_bits, binary_bits, binary, compared_bits, compared, cast_bits, cast, selected_bits, selected, frozen_bits, frozen}
 use Rattle.ir_meaning.specs.Pointers.{lives_with, is_inside, is_at, unequal_if, apart_equal, settled_equal, settled_order, negated, settled, chosen, compared_pointers}
 use Rattle.ir_meaning.specs.Refine.{Naming}
-use Rattle.ir_meaning.specs.Symbols.{home_eq, name_eq, symbol_eq, base_eq}
+use Rattle.ir_meaning.specs.Symbols.{base_eq}
+use Rattle.ir_tree.specs.Symbols.{symbol_eq}
+use Rattle.ir_tree.proofs.Symbols.{symbol_same, symbol_true}
 use Rattle.ir_meaning.specs.Wrapping.{division_cause, arithmetic, is_division, may_break, breaks}
 use Rattle.ir_meaning.specs.declared.fault.Cause.{Cause}
 use Rattle.ir_meaning.specs.declared.value.Base.{Base}
@@ -90,43 +92,6 @@ cell_one t r l m e = by (cases_lt l t.count) (cases_lt m t.count)
         omega (arith, x, y, e, a, b)
 
 -- ---- equal bases
-
-home_true : (a b : Option ℕ) → home_eq a b ≡ true → a ≡ b
-home_true None None e = refl
-home_true (Some m) (Some n) e = ap (λ (k : ℕ). Some k) (eqb-true m n e)
-home_true None (Some n) e = absurd (cc e)
-home_true (Some m) None e = absurd (cc e)
-
-name_true : (a b : List ℕ) → name_eq a b ≡ true → a ≡ b
-name_true [] [] e = refl
-name_true (x ∷ a) (y ∷ b) e =
-    let c = and_parts (x == y) (name_eq a b) e in
-    ap (λ (k : ℕ). k ∷ a) (eqb-true x y c.0) ∙ ap (λ (l : List ℕ). y ∷ l) (name_true a b c.1)
-name_true [] (y ∷ b) e = absurd (cc e)
-name_true (x ∷ a) [] e = absurd (cc e)
-
-home_same : (a : Option ℕ) → home_eq a a ≡ true
-home_same None = refl
-home_same (Some n) = eq-eqb n n refl
-
-and_true : (a b : Bool) → a ≡ true → b ≡ true → (a && b) ≡ true
-and_true true true e f = refl
-and_true true false e f = absurd (cc f)
-and_true false b e f = absurd (cc e)
-
-name_same : (a : List ℕ) → name_eq a a ≡ true
-name_same [] = refl
-name_same (x ∷ a) = and_true (x == x) (name_eq a a) (eq-eqb x x refl) (name_same a)
-
-pub symbol_true : (s u : Symbol) → symbol_eq s u ≡ true → s ≡ u
-symbol_true s u e =
-    let c = and_parts (home_eq s.home u.home) (name_eq s.name u.name) e in
-    ap (λ (h : Option ℕ). record { home = h; name = s.name }) (home_true s.home u.home c.0)
-    ∙ ap (λ (n : List ℕ). record { home = u.home; name = n }) (name_true s.name u.name c.1)
-
-pub symbol_same : (s u : Symbol) → s ≡ u → symbol_eq s u ≡ true
-symbol_same s u e = subst (λ (x : Symbol). symbol_eq s x ≡ true) e
-    (and_true (home_eq s.home s.home) (name_eq s.name s.name) (home_same s.home) (name_same s.name))
 
 pub both : (a b : Bool) → (a ≡ true → b ≡ true) → (b ≡ true → a ≡ true) → a ≡ b
 both true true f g = refl

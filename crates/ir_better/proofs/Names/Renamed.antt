@@ -20,13 +20,13 @@ use Rattle.ir_tree.specs.declared.operand.Reg.{Reg}
 use Rattle.ir_tree.specs.declared.operand.Reg.TheVariants.{Int, Ptr}
 use Rattle.ir_tree.specs.declared.operand.Symbol.{Symbol}
 use Rattle.ir_meaning.specs.Access.{store_cause, load, store}
-use Rattle.ir_meaning.specs.Act.{Act, Goes, Calls, Gives, Breaks, with_slot, apply, incoming_value, phis_bound, find_block, enters_block, jumps, case_target, side, Exit, Leaves, Leads', Stuck, by_value, exit_of, exits, act, params_bound, enter_at, enter, resume}
+use Rattle.ir_meaning.specs.Act.{Act, Goes, Calls, Gives, Breaks, with_slot, apply, incoming_value, phis_bound, find_block, enters_block, jumps, case_target, side, Exit, Leaves, Leads', Stuck, by_bits, by_value, exit_of, exits, act, params_bound, enter_at, enter, resume}
 use Rattle.ir_meaning.specs.Address.{address_of}
-use Rattle.ir_meaning.specs.Execute.{regs_eq, result_eq, host_params, Task, ToBinary, ToCompare, ToCast, ToSelect, ToFreeze, ToReserve, ToLoad, ToStore, ToAddress, ToCall, ToPoison, evaluate, Effect, Went, Asked, Broke, gives, stores, compares, gets_char, puts_char, calls_host, calls_kind, calls_value, execute}
+use Rattle.ir_meaning.specs.Execute.{regs_eq, result_eq, host_params, Task, ToBinary, ToCompare, ToCast, ToSelect, ToFreeze, ToReserve, ToLoad, ToStore, ToAddress, ToCall, ToPoison, evaluate, Effect, Went, Asked, Broke, gives, stores, compares, gets_char, puts_bits, puts_char, calls_host, calls_kind, calls_value, execute}
 use Rattle.ir_meaning.specs.Fault.{Fault, Undefined, Uninit}
 use Rattle.ir_meaning.specs.Frame.{Locals, Frame, Host, PutChar, GetChar, Kind, AFunction, AVariable, AHost, Missing, Signature, look_up, bind, named, value_of, values_of, signed_of, index_of, cons_index, indices_of, regs_of}
 use Rattle.ir_meaning.specs.Memory.{Memory, fresh, kill}
-use Rattle.ir_meaning.specs.Operate.{Answer, Is, Never, Unwritten, binary, cast, selected, frozen}
+use Rattle.ir_meaning.specs.Operate.{Answer, Is, Never, Unwritten, binary, bits_of, cast, selected, frozen}
 use Rattle.ir_meaning.specs.Program.{Program, State, Next, On, Done, Broken, Failure, place_of, Took, back, go_in, advance, step}
 use Rattle.ir_meaning.specs.Refine.{Naming, SameCell, MayStandFor, AnswerMayStandFor, SameEnding, Matched, RefinesFrom}
 use Rattle.ir_meaning.specs.Run.{Ending, Running, Returned, Failed, Ran, run_on, run, start_of}
@@ -186,10 +186,12 @@ gets_under t m m' h place None = (m', refl, h)
 puts_under : (t : Naming) (m m' : Memory) → MemoryUnder t m m' → (place : ℕ) (vs : List Value) →
     EffectUnder t (puts_char m place vs) (puts_char m' place (map (value_under t) vs))
 puts_under t m m' h place [] = (Undefined PoisonArgument, refl)
-puts_under t m m' h place (Number n ∷ []) = (m', refl, h)
-puts_under t m m' h place (Number n ∷ v ∷ vs) = (Undefined PoisonArgument, refl)
-puts_under t m m' h place (Pointer x i ∷ vs) = (Undefined PoisonArgument, refl)
-puts_under t m m' h place (Poison ∷ vs) = (Undefined PoisonArgument, refl)
+puts_under t m m' h place (v ∷ []) = subst (λ (o : Option ℕ). EffectUnder t (puts_bits m place (bits_of 32 v)) (puts_bits m' place o)) (sym (bits_same t 32 v)) (by (bits_of 32 v))
+  where
+    by : (o : Option ℕ) → EffectUnder t (puts_bits m place o) (puts_bits m' place o)
+    by (Some n) = (m', refl, h)
+    by None = (Undefined PoisonArgument, refl)
+puts_under t m m' h place (u ∷ v ∷ vs) = (Undefined PoisonArgument, refl)
 
 host_under : (t : Naming) (m m' : Memory) → MemoryUnder t m m' → (host : Host) (input : List ℕ) (place : ℕ) (vs : List Value) →
     EffectUnder t (calls_host host input m place vs) (calls_host host input m' place (map (value_under t) vs))
@@ -397,19 +399,21 @@ exit_under t (Leaves v) = Leaves (maybe_value t v)
 exit_under t (Leads' target) = Leads' target
 exit_under t (Stuck cause) = Stuck cause
 
-by_value_under : (t : Naming) (target : ℕ → ℕ) (v : Value) → by_value target (value_under t v) ≡ exit_under t (by_value target v)
-by_value_under t target (Number n) = refl
-by_value_under t target (Pointer x i) = refl
-by_value_under t target Poison = refl
+by_value_under : (t : Naming) (w : ℕ) (target : ℕ → ℕ) (v : Value) → by_value w target (value_under t v) ≡ exit_under t (by_value w target v)
+by_value_under t w target v = ap (by_bits target) (bits_same t w v) ∙ by (bits_of w v)
+  where
+    by : (o : Option ℕ) → by_bits target o ≡ exit_under t (by_bits target o)
+    by None = refl
+    by (Some n) = refl
 
 exit_same : (t : Naming) (a b : Operand → Value) → ((o : Operand) → b (operand_under t o) ≡ value_under t (a o)) →
     (e : Terminator) → exit_of b (end_under t e) ≡ exit_under t (exit_of a e)
 exit_same t a b h (Return None) = refl
 exit_same t a b h (Return (Some x)) = ap (λ (v : Value). Leaves (Some v)) (h x.operand)
 exit_same t a b h (Jump target) = refl
-exit_same t a b h (Branch c yes' no') = ap (by_value (side yes' no')) (h c) ∙ by_value_under t (side yes' no') (a c)
-exit_same t a b h (Switch w o default cases) = ap (by_value (case_target cases default)) (h o)
-    ∙ by_value_under t (case_target cases default) (a o)
+exit_same t a b h (Branch c yes' no') = ap (by_value 1 (side yes' no')) (h c) ∙ by_value_under t 1 (side yes' no') (a c)
+exit_same t a b h (Switch w o default cases) = ap (by_value w (case_target cases default)) (h o)
+    ∙ by_value_under t w (case_target cases default) (a o)
 exit_same t a b h Unreachable = refl
 
 exits_under : (t : Naming) → Right t → (sig sig' : Signature) → KindsUnder t sig sig' → (m m' : Memory) → MemoryUnder t m m' →

@@ -15,8 +15,9 @@ use Rattle.ir_tree.specs.declared.instr.Line.{Line}
 use Rattle.ir_tree.specs.declared.instr.Phi.{Phi}
 use Rattle.ir_tree.specs.declared.operand.Operand.{Operand}
 use Rattle.ir_tree.specs.declared.operand.Operand.TheVariants.{Local, Number as Constant, Null, Poison as PoisonOf, Symbol as Named}
-use Rattle.ir_meaning.specs.Act.{Act, apply, incoming_value, phis_bound, find_block, enters_block, case_target, side, by_value, Exit, Leaves, Leads', Stuck, exit_of, exits, act, params_bound, enter_at, enter, resume}
+use Rattle.ir_meaning.specs.Act.{Act, apply, incoming_value, phis_bound, find_block, enters_block, case_target, side, by_bits, by_value, Exit, Leaves, Leads', Stuck, exit_of, exits, act, params_bound, enter_at, enter, resume}
 use Rattle.ir_meaning.specs.Execute.{evaluate, execute}
+use Rattle.ir_meaning.specs.Operate.{bits_of}
 use Rattle.ir_meaning.specs.Frame.{Locals, Frame, Signature, look_up, bind, value_of}
 use Rattle.ir_meaning.specs.Memory.{Memory, kill}
 use Rattle.ir_meaning.specs.Near.{Setting, IsAnswered}
@@ -30,7 +31,7 @@ use Rattle.ir_better.proofs.Alike.Answering.{near_by, alone, answered_effects, a
 use Rattle.ir_better.proofs.Alike.Effects.{value_later, answer_later, slots_later, evaluate_agrees, execute_alike}
 use Rattle.ir_better.proofs.Alike.Itself.{slots_more}
 use Rattle.ir_better.proofs.Alike.Keeping.{kept_refl, kept_trans, kept_fixes, SlotsPaired, kill_kept}
-use Rattle.ir_better.proofs.Alike.Values.{Names, if_agrees, value_of_agrees}
+use Rattle.ir_better.proofs.Alike.Values.{Names, NoneOrSame, bits_agree, if_agrees, value_of_agrees}
 use Rattle.ir_better.proofs.Inlining.Values.{evaluate_with, operands_all}
 
 -- ---- numbers
@@ -102,12 +103,14 @@ ExitsUnder new p (Leaves v) (Leaves u) = ValuesAgree p v u
 ExitsUnder new p (Leads' a) (Leads' b) = a ≡ new b
 ExitsUnder new p _ _ = ⊥
 
-by_values : (new : ℕ → ℕ) (p : Point) (to from : ℕ → ℕ) → ((k : ℕ) → to k ≡ new (from k)) → (v u : Value) → Agrees p.pairing (length p.left) v u → ExitsUnder new p (by_value to v) (by_value from u)
-by_values new p to from same (Number k) (Number m) e = ap to e ∙ same m
-by_values new p to from same v Poison e = tt
-by_values new p to from same v (Pointer y j) e = tt
-by_values new p to from same Poison (Number m) e = absurd e
-by_values new p to from same (Pointer x i) (Number m) e = absurd e
+by_values : (new : ℕ → ℕ) (p : Point) (w : ℕ) (to from : ℕ → ℕ) → ((k : ℕ) → to k ≡ new (from k)) → (v u : Value) → Agrees p.pairing (length p.left) v u → ExitsUnder new p (by_value w to v) (by_value w from u)
+by_values new p w to from same v u e = by (bits_of w v) (bits_of w u) (bits_agree p.pairing (length p.left) w v u e)
+  where
+    by : (a b : Option ℕ) → NoneOrSame a b → ExitsUnder new p (by_bits to a) (by_bits from b)
+    by a None h = tt
+    by (Some k) (Some m) (inr h) = let same_bits : k ≡ m = cc h in ap to same_bits ∙ same m
+    by None (Some m) (inr h) = absurd (cc h)
+    by a (Some m) (inl h) = absurd (cc h)
 
 sides : (new : ℕ → ℕ) (t f k : ℕ) → side (new t) (new f) k ≡ new (side t f k)
 sides new t f zero = refl
@@ -125,8 +128,8 @@ exit_agrees : (sig : Signature) (new : ℕ → ℕ) (p : Point) → Names sig p.
 exit_agrees sig new p c ls rs h (Return None) = tt
 exit_agrees sig new p c ls rs h (Return (Some a)) = value_renumbered sig new p.pairing (length p.left) c ls rs h a.operand
 exit_agrees sig new p c ls rs h (Jump target) = refl
-exit_agrees sig new p c ls rs h (Branch d t f) = by_values new p _ _ (sides new t f) _ _ (value_renumbered sig new p.pairing (length p.left) c ls rs h d)
-exit_agrees sig new p c ls rs h (Switch w operand default cases) = by_values new p _ _ (cases_same new cases default) _ _ (value_renumbered sig new p.pairing (length p.left) c ls rs h operand)
+exit_agrees sig new p c ls rs h (Branch d t f) = by_values new p 1 _ _ (sides new t f) _ _ (value_renumbered sig new p.pairing (length p.left) c ls rs h d)
+exit_agrees sig new p c ls rs h (Switch w operand default cases) = by_values new p w _ _ (cases_same new cases default) _ _ (value_renumbered sig new p.pairing (length p.left) c ls rs h operand)
 exit_agrees sig new p c ls rs h Unreachable = tt
 
 -- ---- frames

@@ -14,7 +14,7 @@ use Rattle.ir_meaning.specs.Frame.{Locals, Signature, Kind, AFunction, AVariable
 use Rattle.ir_meaning.specs.Memory.{Memory}
 use Rattle.ir_meaning.specs.Operate.{bits_of, bit, compared_bits}
 use Rattle.ir_meaning.specs.Pointers.{chosen, settled, settled_equal, settled_order, apart_equal, unequal_if, is_at, negated, compared_pointers}
-use Rattle.ir_meaning.specs.Symbols.{symbol_eq}
+use Rattle.ir_tree.specs.Symbols.{symbol_eq}
 use Rattle.ir_meaning.specs.Wrapping.{compare}
 use Rattle.ir_meaning.specs.declared.value.Base.{Base}
 use Rattle.ir_meaning.specs.declared.value.Base.TheVariants.{Cell, Code, Nowhere}
@@ -22,7 +22,7 @@ use Rattle.ir_meaning.specs.declared.value.Value.{Value}
 use Rattle.ir_meaning.specs.declared.value.Value.TheVariants.{Number, Pointer, Poison}
 use Rattle.ir_better.specs.Facts.{Stands}
 use Rattle.ir_meaning.specs.Table.{first, when, is_poison, number_of, same, truth, compared_numbers, compared_constants, is_reflexive, equality, compared_addresses, comparison_rule, is_equality, one_symbol, compares_freely}
-use Rattle.ir_better.proofs.Names.Moved.{symbol_true}
+use Rattle.ir_tree.proofs.Symbols.{symbol_true}
 use Rattle.ir_better.proofs.Rules.Arithmetic.{compare_same, order_same}
 use Rattle.ir_better.proofs.Rules.Operations.{first_cases, when_is, number_bits, poison_is, same_is}
 use Rattle.ir_better.proofs.Rules.Rows.{same_base}

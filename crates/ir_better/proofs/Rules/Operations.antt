@@ -13,14 +13,14 @@ use Rattle.ir_meaning.specs.Execute.{gives}
 use Rattle.ir_meaning.specs.Frame.{Locals, Signature, look_up, value_of}
 use Rattle.ir_meaning.specs.Memory.{Memory}
 use Rattle.ir_meaning.specs.Operate.{Answer, Is, Never, Unwritten, number_or_poison, bits_of, plain_bits, division_bits, binary_bits, binary}
-use Rattle.ir_meaning.specs.Symbols.{symbol_eq}
+use Rattle.ir_tree.specs.Symbols.{symbol_eq}
 use Rattle.ir_meaning.specs.Wrapping.{arithmetic, breaks, may_break, division_cause, is_division}
 use Rattle.ir_meaning.specs.declared.fault.Cause.{Cause}
 use Rattle.ir_meaning.specs.declared.value.Value.{Value}
 use Rattle.ir_meaning.specs.declared.value.Value.TheVariants.{Number, Pointer, Poison}
 use Rattle.ir_better.specs.Facts.{Stands, GivesFor}
-use Rattle.ir_meaning.specs.Table.{first, when, is_poison, is_number, number_of, same, constant_answer, folded, poisoned, unchanged, zeroed, binary_rule}
-use Rattle.ir_better.proofs.Names.Moved.{symbol_true}
+use Rattle.ir_meaning.specs.Table.{first, when, is_poison, is_number, number_of, same, constant_answer, folded_or, poisoned, unchanged, zeroed, binary_rule}
+use Rattle.ir_tree.proofs.Symbols.{symbol_true}
 use Rattle.ir_better.proofs.Rules.Arithmetic.{allowed_stands, add_zero_right, add_zero_left, sub_zero, mul_one_right, mul_one_left, shl_zero, lshr_zero, ashr_zero, and_ones, or_zero, xor_zero, udiv_one, and_same, or_same, mul_zero_right, mul_zero_left, and_zero, sub_same, xor_same, urem_one, sdiv_one, srem_one}
 
 -- ---- choices among rows
@@ -348,18 +348,18 @@ module _ (sig : Signature) (ls : Locals) (f : Flags) (w : ℕ) (l r : Operand) w
           let parts = and_parts (not (is_division op)) (is_poison r) t in
           subst (λ (u : Value). StandsForAnswer Poison (binary op f w x u)) (sym (poison_is sig ls r parts.1)) (poison_on_right op (is_division op) (bits_of w x) parts.0)
 
-  folded_stands : (op : BinaryOp) (v : Operand) → folded op f w (number_of w l) (number_of w r) ≡ Some v → RowStands op v
-  folded_stands op v e = by (number_of w l) (number_of w r) refl refl e
+  folded_stands : (op : BinaryOp) (later : Option Operand) (v : Operand) → (later ≡ Some v → RowStands op v) → folded_or op f w (number_of w l) (number_of w r) later ≡ Some v → RowStands op v
+  folded_stands op later v behind e = by (number_of w l) (number_of w r) refl refl e
     where
-      by : (a b : Option ℕ) → number_of w l ≡ a → number_of w r ≡ b → folded op f w a b ≡ Some v → RowStands op v
+      by : (a b : Option ℕ) → number_of w l ≡ a → number_of w r ≡ b → folded_or op f w a b later ≡ Some v → RowStands op v
       by (Some a) (Some b) ea eb e' =
           let h = constant_stands sig ls w v (binary_bits op f w (Some a) (Some b)) e' in
           subst (λ (o : Option ℕ). StandsForAnswer (value_of sig ls v) (binary_bits op f w o (bits_of w y))) (sym (number_bits sig ls w a l ea)) (subst (λ (o : Option ℕ). StandsForAnswer (value_of sig ls v) (binary_bits op f w (Some a) o)) (sym (number_bits sig ls w b r eb)) h)
-      by None b ea eb e' = absurd (cc e')
-      by (Some a) None ea eb e' = absurd (cc e')
+      by None b ea eb e' = behind e'
+      by (Some a) None ea eb e' = behind e'
 
   pub binary_stands : (op : BinaryOp) (v : Operand) → binary_rule op f w l r ≡ Some v → RowStands op v
   binary_stands op v e =
-      either op (folded op f w (number_of w l) (number_of w r)) (first (poisoned op w l r) (first (unchanged op w l r) (zeroed op w l r))) v (folded_stands op v)
+      folded_stands op (first (poisoned op w l r) (first (unchanged op w l r) (zeroed op w l r))) v
       (either op (poisoned op w l r) (first (unchanged op w l r) (zeroed op w l r)) v (poisoned_stands op v)
       (either op (unchanged op w l r) (zeroed op w l r) v (unchanged_stands op v) (zeroed_stands op v))) e

@@ -12,7 +12,8 @@ use Rattle.ir_meaning.specs.Frame.{value_of}
 use Rattle.ir_meaning.specs.Memory.{Memory}
 use Rattle.ir_meaning.specs.Operate.{Answer, Is, Unwritten, number_or_poison, bits_of, plain_bits, compared_bits, bit, selected_bits}
 use Rattle.ir_meaning.specs.Pointers.{apart_equal, chosen, compared_pointers}
-use Rattle.ir_meaning.specs.Symbols.{home_eq, name_eq, base_eq}
+use Rattle.ir_tree.proofs.Symbols.{symbol_self}
+use Rattle.ir_meaning.specs.Symbols.{base_eq}
 use Rattle.ir_meaning.specs.Wrapping.{arithmetic, allowed, compare}
 use Rattle.ir_meaning.specs.declared.value.Base.{Base}
 use Rattle.ir_meaning.specs.declared.value.Base.TheVariants.{Nowhere, Code, Cell}
@@ -51,17 +52,9 @@ add_stands f w (Number n) = by (nat_lt n (2 ^ w)) refl
 
 -- ---- icmp eq x, x
 
-same_home : (h : Option ℕ) → home_eq h h ≡ true
-same_home None = refl
-same_home (Some n) = eq-eqb n n refl
-
-same_name : (n : List ℕ) → name_eq n n ≡ true
-same_name [] = refl
-same_name (a ∷ more) = both (eq-eqb a a refl) (same_name more)
-
 pub same_base : (x : Base) → base_eq x x ≡ true
 same_base Nowhere = refl
-same_base (Code s) = both (same_home s.home) (same_name s.name)
+same_base (Code s) = symbol_self s
 same_base (Cell l) = eq-eqb l l refl
 
 one_if : (b : Bool) → b ≡ true → Stands (Number 1) (bit b)

@@ -6,12 +6,12 @@ use Rattle.ir_meaning.specs.Act.{act, enter, resume}
 use Rattle.ir_meaning.specs.Frame.{AVariable, Missing}
 use Rattle.ir_meaning.specs.Memory.{MemoryBlock}
 use Rattle.ir_meaning.specs.Refine.{RefinesUnder}
-use Rattle.ir_meaning.specs.Symbols.{symbol_eq}
+use Rattle.ir_tree.specs.Symbols.{symbol_eq}
 use Rattle.ir_meaning.specs.Wrapping.{arithmetic}
 use Rattle.ir_better.specs.ExamplesNamed.{EmissionApplies, adds_sixty, after, back, before, calls_through, codes_after, codes_of, final, final_name, global, kinds_after, kinds_of, live, local, pointer_variable, writes_65_and_returns}
 use Rattle.ir_better.specs.Rename.{BlocksName, BytesReach, CodeUnder, IsEmitted, IsThere, cells_under, kind_under}
 use Rattle.ir_better.proofs.Names.Emitted.{emitted_all}
-use Rattle.ir_better.proofs.Names.Moved.{symbol_true}
+use Rattle.ir_tree.proofs.Symbols.{symbol_true}
 
 -- both write 65 and return it, after six steps
 before_is : writes_65_and_returns before (local 109)

@@ -12,7 +12,7 @@ use Rattle.ir_meaning.specs.ExampleRuns.{adds_60, block, code_in, const, i32, no
 use Rattle.ir_meaning.specs.Frame.{AFunction, AHost, AVariable, GetChar, Locals, Missing, PutChar, Signature, value_of}
 use Rattle.ir_meaning.specs.Near.{Replaces}
 use Rattle.ir_meaning.specs.Refine.{Refines}
-use Rattle.ir_meaning.specs.Symbols.{symbol_eq}
+use Rattle.ir_tree.specs.Symbols.{symbol_eq}
 use Rattle.ir_meaning.specs.Wrapping.{arithmetic}
 use Rattle.ir_better.specs.Examples.{PassesApply, at_end, fuel_at, last_block, layout, leaving, one_block, own_end, plan, putting, site, small, tail_at, two_blocks, without_slot, writes_and_returns}
 use Rattle.ir_better.specs.Facts.{is_local}

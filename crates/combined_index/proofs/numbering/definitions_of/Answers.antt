@@ -1,6 +1,7 @@
 use Rattle.std.proofs.Common.{◌∙◌, ◌+◌, ◌++◌, ◌∷◌, [], ℕ, Bool, List, arith, filter, map, subst, sym, take, take_all}
 use Rattle.ir_summary.specs.declared.summary.Summary.{Summary}
-use Rattle.combined_index.specs.Entries.{Entry, defines, entry_of}
+use Rattle.combined_index.specs.Entries.{Entry, entry_of}
+use Rattle.ir_tree.specs.Linkages.{defines}
 use Rattle.combined_index.specs.Numbered.{NumbersEntries, is_kept, symbols}
 use Rattle.combined_index.specs.declared.definition.Definition.{Definition}
 use Rattle.combined_index.proofs.Numberings.{entry_more}

@@ -1,6 +1,6 @@
 use Rattle.std.proofs.Common.{◌∙◌, ap, arith, sym}
 use Rattle.ir_summary.specs.declared.summary.Summary.{Summary}
-use Rattle.combined_index.specs.Entries.{is_local}
+use Rattle.ir_tree.specs.Linkages.{is_local}
 use Rattle.combined_index.proofs.Scopes.{not_own, own_more}
 use Rattle.combined_index.proofs.scope.own_names.Goals as goal
 use Rattle.combined_index.proofs.scope.own_names.Goals.{then-is_local+in_ok-insert, else-is_local}

@@ -1,5 +1,6 @@
 use Rattle.std.proofs.Common.{◌∙◌, ◌+◌, ◌++◌, ap, arith, drop, List, Bor, ℕ}
-use Rattle.ir_summary.specs.Once.{once, texts}
+use Rattle.ir_summary.specs.Once.{texts}
+use Rattle.ir_tree.specs.Once.{once}
 use Rattle.ir_summary.proofs.Onces.{outside, all_outside, name_more, names_done}
 use Rattle.ir_summary.proofs.names.distinct.Goals as goal
 

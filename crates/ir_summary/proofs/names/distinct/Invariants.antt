@@ -1,5 +1,6 @@
 use Rattle.std.proofs.Common.{◌≡◌, ◌++◌, drop}
-use Rattle.ir_summary.specs.Once.{once, texts}
+use Rattle.ir_summary.specs.Once.{texts}
+use Rattle.ir_tree.specs.Once.{once}
 use Rattle.ir_summary.proofs.Onces.{outside}
 use Rattle.ir_summary.proofs.names.distinct.Given as goal
 
