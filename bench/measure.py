@@ -51,22 +51,22 @@ class Used:
         self.mib = mib
 
 
-def once(command):
+def once(command, status=0):
     with tempfile.TemporaryFile() as notes:
         begin = time.perf_counter()
         child = subprocess.Popen(command, stdin=subprocess.DEVNULL, stdout=subprocess.DEVNULL, stderr=notes)
-        _, status, used = os.wait4(child.pid, 0)
+        _, ended, used = os.wait4(child.pid, 0)
         seconds = time.perf_counter() - begin
-        child.returncode = os.waitstatus_to_exitcode(status)
-        if child.returncode != 0:
+        child.returncode = os.waitstatus_to_exitcode(ended)
+        if child.returncode != status:
             notes.seek(0)
             words = " ".join(command)
             sys.exit(f"bench: {words[:300]}: status {child.returncode}: {notes.read().decode()[:300]}")
     return Used(seconds, used.ru_maxrss / 1024)
 
 
-def least(command, runs=3):
-    done = [once(command) for _ in range(runs)]
+def least(command, runs=3, status=0):
+    done = [once(command, status) for _ in range(runs)]
     return Used(min(run.seconds for run in done), min(run.mib for run in done))
 
 

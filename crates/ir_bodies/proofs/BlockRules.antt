@@ -15,6 +15,7 @@ use Rattle.lto_forms.specs.Rules.{Rule, Opens, IsWithin}
 use Rattle.lto_forms.proofs.Composed.{same_form, widened}
 use Rattle.lto_forms.proofs.Rules as rules
 use Rattle.lto_forms.proofs.Rules.{apart_from, contains-append}
+use Rattle.ir_read.specs.Addressing.{slots_fit, any_slots}
 use Rattle.ir_read.specs.Classes.{tokens, NUMERALS, refusal, the, itself}
 use Rattle.ir_read.specs.declared.function_heads.Role.TheVariants as roles
 use Rattle.ir_read.specs.Operands.{named}
@@ -84,12 +85,12 @@ block_rule room = rules.broader tokens BLOCK BEHIND_BLOCK (rules.alt tokens LABE
 
 -- ---- what begins a block
 
-stars_open : Opens tokens LINE (Star (line any_local any_shape))
+stars_open : Opens tokens LINE (Star (line any_local any_slots any_shape))
 stars_open t h = let o = line_opens t h in (o.0, o.1 ∷ [], (t ∷ o.0, [], sym (append-nil (t ∷ o.0)), o.2, refl), o.3)
 
 lines_open : (room : ℕ) → Opens tokens LINE (any_lines room)
 unfolding any_lines
-lines_open room = rules.opens_seq tokens LINE (Star (line any_local any_shape)) stars_open (λ ls. rules.nothing tokens (fold keep [] ls, room - length ls))
+lines_open room = rules.opens_seq tokens LINE (Star (line any_local any_slots any_shape)) stars_open (λ ls. rules.nothing tokens (fold keep [] ls, room - length ls))
 
 line_begins : (room : ℕ) (name : Option Tok) → Opens tokens LINE (any_block_behind room name)
 unfolding any_block_behind

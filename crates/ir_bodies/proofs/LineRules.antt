@@ -11,6 +11,7 @@ use Rattle.lto_forms.specs.Forms as form
 use Rattle.lto_forms.specs.Rules.{Rule, Opens, in_range, is_among, is_valued}
 use Rattle.lto_forms.proofs.Composed.{same_form}
 use Rattle.lto_forms.proofs.Rules as rules
+use Rattle.ir_read.specs.Addressing.{slots_fit, any_slots}
 use Rattle.ir_read.specs.Classes.{tokens, refusal, one_of, itself}
 use Rattle.ir_read.specs.Decimals.{decimal}
 use Rattle.ir_read.specs.Instructions.{PREDICATES}
@@ -85,7 +86,7 @@ operation_rule operations.Trunc = rules.broader tokens BEGUN [] (narrowing_rule 
 operation_rule operations.Select = rules.broader tokens BEGUN [] selecting_rule refl refl
 operation_rule operations.Freeze = rules.broader tokens BEGUN [] freezing_rule refl refl
 
-behind_rule : (named : Bool) (o : Opcode) → Rule tokens (behind memory_shape named o) (behind any_shape named o) (behind_at named o) BEGUN BEHIND_CALL false
+behind_rule : (named : Bool) (o : Opcode) → Rule tokens (behind slots_fit memory_shape named o) (behind any_slots any_shape named o) (behind_at named o) BEGUN BEHIND_CALL false
 unfolding attended attended_at kept kept_at
 behind_rule named (opcodes.Value o) = rules.broader tokens BEGUN BEHIND_CALL (rules.seq tokens (operation_rule o) (λ i. rules.seq tokens attachments_rule (λ _. rules.nothing tokens (Some i)) refl) refl) refl refl
 behind_rule named opcodes.Phi = rules.broader tokens BEGUN BEHIND_CALL (rules.seq tokens phi_rule (λ i. rules.nothing tokens (Some i)) refl) refl refl
@@ -98,30 +99,30 @@ behind_rule named opcodes.Call = rules.broader tokens BEGUN BEHIND_CALL (calling
 
 -- ---- lines
 
-line_behind_rule : (name : Tok) → Rule tokens (line_behind memory_shape name) (line_behind any_shape name) (line_behind_at name) (number heads.Equals ∷ []) BEHIND_CALL false
+line_behind_rule : (name : Tok) → Rule tokens (line_behind slots_fit memory_shape name) (line_behind any_slots any_shape name) (line_behind_at name) (number heads.Equals ∷ []) BEHIND_CALL false
 unfolding line_behind line_behind_at
 line_behind_rule name = rules.seq tokens equals_rule (λ _. rules.seq tokens (one_rule GIVING opcode_of (word heads.Add (codes "add")) refl add_real) (λ o. rules.seq tokens (behind_rule true o) (λ i. rules.nothing tokens (lined (Some name) name.line i)) refl) refl) refl
 
-named_line_rule : Rule tokens (named_line local memory_shape) (named_line any_local any_shape) named_line_at LOCAL BEHIND_CALL false
+named_line_rule : Rule tokens (named_line local slots_fit memory_shape) (named_line any_local any_slots any_shape) named_line_at LOCAL BEHIND_CALL false
 unfolding named_line named_line_at
 named_line_rule = rules.seq tokens any_local_rule line_behind_rule refl
 
-plain_line_rule : Rule tokens (plain_line memory_shape) (plain_line any_shape) plain_line_at OPCODES BEHIND_CALL false
+plain_line_rule : Rule tokens (plain_line slots_fit memory_shape) (plain_line any_slots any_shape) plain_line_at OPCODES BEHIND_CALL false
 unfolding plain_line plain_line_at
 plain_line_rule = rules.seq tokens (one_rule OPCODES begun_of (word heads.Add (codes "add")) refl add_real) (λ b. rules.seq tokens (behind_rule false b.opcode) (λ i. rules.nothing tokens (lined None b.line i)) refl) refl
 
-pub line_rule : Rule tokens (line local memory_shape) (line any_local any_shape) line_at LINE BEHIND_CALL false
+pub line_rule : Rule tokens (line local slots_fit memory_shape) (line any_local any_slots any_shape) line_at LINE BEHIND_CALL false
 unfolding line line_at
 line_rule = rules.broader tokens LINE BEHIND_CALL (rules.alt tokens LOCAL named_line_rule plain_line_rule refl refl) refl refl
 
-named_line_opens : Opens tokens LOCAL (named_line any_local any_shape)
+named_line_opens : Opens tokens LOCAL (named_line any_local any_slots any_shape)
 unfolding named_line
 named_line_opens = rules.opens_seq tokens LOCAL any_local (one_opens LOCAL itself) line_behind_rule
 
-plain_line_opens : Opens tokens OPCODES (plain_line any_shape)
+plain_line_opens : Opens tokens OPCODES (plain_line any_slots any_shape)
 unfolding plain_line
 plain_line_opens = rules.opens_seq tokens OPCODES (one_of OPCODES begun_of) (one_opens OPCODES begun_of) (λ b. rules.seq tokens (behind_rule false b.opcode) (λ i. rules.nothing tokens (lined None b.line i)) refl)
 
-pub line_opens : Opens tokens LINE (line any_local any_shape)
+pub line_opens : Opens tokens LINE (line any_local any_slots any_shape)
 unfolding line
-line_opens = rules.opens_either tokens LOCAL OPCODES (named_line any_local any_shape) (plain_line any_shape) named_line_opens plain_line_opens
+line_opens = rules.opens_either tokens LOCAL OPCODES (named_line any_local any_slots any_shape) (plain_line any_slots any_shape) named_line_opens plain_line_opens

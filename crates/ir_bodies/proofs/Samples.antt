@@ -14,7 +14,7 @@ use Rattle.ir_read.proofs.Singles.{sample, word, the_rule}
 
 convention_real : IsReal (word heads.CallingConvention (codes "ccc"))
 unfolding best_fit rest_fit label_len number_len word_len name_len meta_len dots_len other_len string_len has is_bad is_zero_name head_of word_head listed_head words_3
-convention_real = record { some = refl; fits = refl; good = refl; class = refl }
+convention_real = record { behind = []; some = refl; fits = refl; good = refl; class = refl }
 
 pub convention_word_rule : Rule tokens (the heads.CallingConvention) (the heads.CallingConvention) (the_at heads.CallingConvention) (number heads.CallingConvention ∷ []) [] false
 unfolding is_class
@@ -22,7 +22,7 @@ convention_word_rule = the_rule heads.CallingConvention (word heads.CallingConve
 
 marker_real : IsReal (sample kinds.Global heads.LifetimeMarker (codes "@llvm.lifetime.end.p0"))
 unfolding best_fit rest_fit label_len number_len word_len name_len meta_len dots_len other_len string_len has is_bad is_zero_name head_of global_head name_head content unescaped
-marker_real = record { some = refl; fits = refl; good = refl; class = refl }
+marker_real = record { behind = []; some = refl; fits = refl; good = refl; class = refl }
 
 pub marker_name_rule : Rule tokens (the heads.LifetimeMarker) (the heads.LifetimeMarker) (the_at heads.LifetimeMarker) (number heads.LifetimeMarker ∷ []) [] false
 unfolding is_class
@@ -30,7 +30,7 @@ marker_name_rule = the_rule heads.LifetimeMarker (sample kinds.Global heads.Life
 
 call_real : IsReal (word heads.Call (codes "call"))
 unfolding best_fit rest_fit label_len number_len word_len name_len meta_len dots_len other_len string_len has is_bad is_zero_name head_of word_head listed_head words_4
-call_real = record { some = refl; fits = refl; good = refl; class = refl }
+call_real = record { behind = []; some = refl; fits = refl; good = refl; class = refl }
 
 pub call_word_rule : Rule tokens (the heads.Call) (the heads.Call) (the_at heads.Call) (number heads.Call ∷ []) [] false
 unfolding is_class
@@ -38,7 +38,7 @@ call_word_rule = the_rule heads.Call (word heads.Call (codes "call")) refl call_
 
 define_real : IsReal (word heads.Define (codes "define"))
 unfolding best_fit rest_fit label_len number_len word_len name_len meta_len dots_len other_len string_len has is_bad is_zero_name head_of word_head listed_head words_6
-define_real = record { some = refl; fits = refl; good = refl; class = refl }
+define_real = record { behind = []; some = refl; fits = refl; good = refl; class = refl }
 
 pub define_word_rule : Rule tokens (the heads.Define) (the heads.Define) (the_at heads.Define) (number heads.Define ∷ []) [] false
 unfolding is_class
@@ -46,8 +46,8 @@ define_word_rule = the_rule heads.Define (word heads.Define (codes "define")) re
 
 pub add_real : IsReal (word heads.Add (codes "add"))
 unfolding best_fit rest_fit label_len number_len word_len name_len meta_len dots_len other_len string_len has is_bad is_zero_name head_of word_head listed_head words_3
-add_real = record { some = refl; fits = refl; good = refl; class = refl }
+add_real = record { behind = []; some = refl; fits = refl; good = refl; class = refl }
 
 pub label_real : IsReal (sample kinds.Label heads.Label (codes "0:"))
 unfolding best_fit rest_fit label_len number_len word_len name_len meta_len dots_len other_len string_len has is_bad is_zero_name head_of content unescaped
-label_real = record { some = refl; fits = refl; good = refl; class = refl }
+label_real = record { behind = []; some = refl; fits = refl; good = refl; class = refl }

@@ -47,7 +47,7 @@ module _ {T S A : Type 0} (alphabet : Alphabet T) (final : S → Bool) (always :
   none_lawful : (s : S) → Lawful alphabet (Successive piece zero s) (Chain final wide s) (successive_at begins one zero s) first after true
   none_lawful s =
       widened alphabet first after
-      (barred_lawful alphabet (Successive piece zero s) (Chain final wide s) (done []) begins (λ _. false) (λ _. false) true (same_form alphabet (gives_lawful alphabet []) (none_there s) (none_back s) (none_over s)) alike (λ t e. absurd (never e)) (chain_opens s))
+      (barred_lawful alphabet (Successive piece zero s) (Chain final wide s) (done []) begins (λ _. false) (λ _. false) true (same_form alphabet (gives_lawful alphabet []) (none_there s) (none_back s) (none_over s)) (λ t u n m. inl (alike t u n m)) (λ t e. absurd (never e)) (chain_opens s))
       (λ t e. absurd (never e)) (λ t e. or_right (more t) (begins t) e)
 
   -- ---- where some may stand

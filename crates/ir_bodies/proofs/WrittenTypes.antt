@@ -1,5 +1,5 @@
 -- Each type of a register is written by some token.
-use Rattle.std.proofs.Common.{◌≡◌, ℕ, zero, suc, ◌+◌, ◌<◌, ◌≤◌, Bool, true, false, cond, ◌&&◌, not, nat_eq, nat_lt, max, min, List, [], ◌∷◌, length, drop, refl, sym, subst, arith}
+use Rattle.std.proofs.Common.{◌≡◌, ℕ, zero, suc, ◌+◌, ◌<◌, ◌≤◌, Bool, true, false, cond, ◌&&◌, not, nat_eq, nat_lt, max, min, List, [], ◌∷◌, ◌++◌, length, drop, refl, sym, subst, arith}
 use Rattle.std.specs.Prelude.{codes, ◌/◌, ◌%◌}
 use Rattle.ir_lex.specs.Bytes.{has}
 use Rattle.ir_lex.specs.declared.head.Head.TheVariants as heads
@@ -76,13 +76,13 @@ abbrev has_bytes : ℕ → Bool
 has_bytes n = nat_lt 0 (length (written n))
 
 abbrev fits_word : ℕ → Bool
-fits_word n = is_word (best_fit (written n)).kind
+fits_word n = is_word (best_fit (written n ++ [])).kind
 
 abbrev fits_whole : ℕ → Bool
-fits_whole n = nat_eq (best_fit (written n)).len (length (written n))
+fits_whole n = nat_eq (best_fit (written n ++ [])).len (length (written n))
 
 abbrev is_good : ℕ → Bool
-is_good n = not (is_bad (written n))
+is_good n = not (is_bad (written n ++ []))
 
 abbrev has_class : ℕ → Bool
 has_class n = among tokens REG (integer n)
@@ -123,9 +123,10 @@ integer_written n lt le = record {
   is_reg = holds_at has_class 64 n all_have_classes lt le;
   same = holds_at has_width 64 n all_have_widths lt le;
   real = record {
+    behind = [];
     some = holds_at has_bytes 64 n all_have_bytes lt le;
-    fits = fit_is (best_fit (written n)) kinds.Word (length (written n)) (word_is (best_fit (written n)).kind (holds_at fits_word 64 n all_fit_words lt le)) (equal (best_fit (written n)).len (length (written n)) (holds_at fits_whole 64 n all_fit_whole lt le));
-    good = not_so (is_bad (written n)) (holds_at is_good 64 n all_are_good lt le);
+    fits = fit_is (best_fit (written n ++ [])) kinds.Word (length (written n)) (word_is (best_fit (written n ++ [])).kind (holds_at fits_word 64 n all_fit_words lt le)) (equal (best_fit (written n ++ [])).len (length (written n)) (holds_at fits_whole 64 n all_fit_whole lt le));
+    good = not_so (is_bad (written n ++ [])) (holds_at is_good 64 n all_are_good lt le);
     class = refl;
   };
 }

@@ -8,6 +8,7 @@ use Rattle.ir_lex.specs.Tok.{Tok}
 use Rattle.lto_forms.specs.Chained.{Chain}
 use Rattle.lto_forms.specs.Forms.{Form, ◌>>=◌, either, gives, token, Many, Star}
 use Rattle.lto_forms.specs.Rules.{is_valued}
+use Rattle.ir_read.specs.Addressing.{slots_fit, any_slots}
 use Rattle.ir_read.specs.Attributes.{definition_attributes}
 use Rattle.ir_read.specs.Classes.{tokens, refusal, the, one_of, itself}
 use Rattle.ir_read.specs.declared.attributes.Kept.{Kept}
@@ -49,7 +50,7 @@ keep front (Some l) = front ++ l ∷ []
 -- {[Local =] instr {att}}, so many at most: those that are kept, and how many more there may be behind them
 unfoldable pub lines : ℕ → Form Tok (List Line × ℕ)
 lines room = do
-  ls ← Many (line local memory_shape) room
+  ls ← Many (line local slots_fit memory_shape) room
   gives (fold keep [] ls, room - length ls)
 
 abbrev pub block_of : Option Tok → List Line → Ended → Block
@@ -73,7 +74,7 @@ block room = either
 -- the same without limits
 unfoldable pub any_lines : ℕ → Form Tok (List Line × ℕ)
 any_lines room = do
-  ls ← Star (line any_local any_shape)
+  ls ← Star (line any_local any_slots any_shape)
   gives (fold keep [] ls, room - length ls)
 
 unfoldable pub any_block_behind : ℕ → Option Tok → Form Tok (Block × ℕ)

@@ -11,6 +11,7 @@ use Rattle.ir_read.specs.AttributesAt.{definition_attributes_at}
 use Rattle.ir_read.specs.Classes.{tokens, refusal, the_at}
 use Rattle.ir_read.specs.declared.function_heads.Role.TheVariants as roles
 use Rattle.ir_read.specs.declared.raw.Block.{Block}
+use Rattle.ir_read.specs.declared.raw.Head.{Head}
 use Rattle.ir_read.specs.declared.raw.Item.{Item}
 use Rattle.ir_read.specs.declared.raw.Item.TheVariants.{Definition}
 use Rattle.ir_read.specs.declared.raw.Line.{Line}
@@ -69,12 +70,17 @@ blocks_at further instructions = do
 abbrev pub DEFINE : List ℕ
 DEFINE = number heads.Define ∷ []
 
+-- behind the attributes of a head
+abbrev pub defined_at : Head → Reader Tok Item
+defined_at h = do
+  _ ← the_at heads.OpenBrace
+  bs ← blocks_at FURTHER_BLOCKS INSTRUCTIONS
+  _ ← the_at heads.CloseBrace
+  done (Definition h bs)
+
 unfoldable pub definition_at : ℕ → Reader Tok Item
 definition_at room = do
   _ ← the_at heads.Define
   h ← head_at roles.Definition room
   k ← definition_attributes_at
-  _ ← the_at heads.OpenBrace
-  bs ← blocks_at FURTHER_BLOCKS INSTRUCTIONS
-  _ ← the_at heads.CloseBrace
-  done (Definition (with_kept h k) bs)
+  defined_at (with_kept h k)

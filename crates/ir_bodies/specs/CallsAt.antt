@@ -179,17 +179,32 @@ callee_at false None = pick (among tokens MARKER) marker_at called_value_at
 abbrev pub maybe_types_at : Reader Tok (Option (List Tok))
 maybe_types_at = optional_at (among tokens PAREN) types_at
 
+-- behind the arguments
+abbrev pub called_at : Option Reg → Option Operand → List Argument → Reader Tok (Option Instr)
+called_at r f as' = do
+  _ ← call_attributes_at
+  _ ← attachments_at
+  done (called r f as')
+
+-- behind the callee
+abbrev pub calling_with_at : Option Reg → Option (List Tok) → Option Operand → Reader Tok (Option Instr)
+calling_with_at r ws f = do
+  _ ← the_at heads.OpenParen
+  as' ← arguments_at ws
+  called_at r f as'
+
+-- behind the result
+abbrev pub calling_of_at : Bool → Option Reg → Reader Tok (Option Instr)
+calling_of_at named r = do
+  ws ← maybe_types_at
+  f ← callee_at named r
+  calling_with_at r ws f
+
 unfoldable pub calling_at : Bool → Reader Tok (Option Instr)
 calling_at named = do
   _ ← conventions_at
   r ← result_at
-  ws ← maybe_types_at
-  f ← callee_at named r
-  _ ← the_at heads.OpenParen
-  as' ← arguments_at ws
-  _ ← call_attributes_at
-  _ ← attachments_at
-  done (called r f as')
+  calling_of_at named r
 
 unfoldable pub tail_calling_at : Bool → Reader Tok (Option Instr)
 tail_calling_at named = do

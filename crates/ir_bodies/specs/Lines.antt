@@ -9,6 +9,7 @@ use Rattle.ir_tree.specs.declared.instr.BinaryOp.TheVariants as ops
 use Rattle.ir_tree.specs.declared.instr.CastOp.TheVariants as casts
 use Rattle.lto_forms.specs.Forms.{Form, ◌>>=◌, either, gives}
 use Rattle.ir_read.specs.Addressing.{reserving, addressing}
+use Rattle.ir_read.specs.Shapes.{Written}
 use Rattle.ir_read.specs.Classes.{the, one_of}
 use Rattle.ir_read.specs.declared.raw.Instr.{Instr}
 use Rattle.ir_read.specs.declared.raw.Line.{Line}
@@ -103,16 +104,17 @@ kept g = do
   i ← g
   gives (Some i)
 
--- of an instruction, with its attachments, with a name before it or not; nothing where it is dropped
-abbrev pub behind : Form Tok Typed → Bool → Opcode → Form Tok (Option Instr)
-behind shape named (opcodes.Value o) = attended (operation shape o)
-behind shape named opcodes.Phi = kept (phi shape)
-behind shape named opcodes.Alloca = kept (reserving shape)
-behind shape named opcodes.Load = kept (loading shape)
-behind shape named opcodes.GetElementPtr = kept (addressing shape)
-behind shape named opcodes.Store = kept (storing shape)
-behind shape named opcodes.Tail = tail_calling shape named
-behind shape named opcodes.Call = calling shape named
+-- of an instruction, with its attachments, with a name before it or not; nothing where it is dropped. It is said over which counts of
+-- a shape fit
+abbrev pub behind : (Written → ℕ → Bool) → Form Tok Typed → Bool → Opcode → Form Tok (Option Instr)
+behind fits shape named (opcodes.Value o) = attended (operation shape o)
+behind fits shape named opcodes.Phi = kept (phi shape)
+behind fits shape named opcodes.Alloca = kept (reserving fits shape)
+behind fits shape named opcodes.Load = kept (loading shape)
+behind fits shape named opcodes.GetElementPtr = kept (addressing shape)
+behind fits shape named opcodes.Store = kept (storing shape)
+behind fits shape named opcodes.Tail = tail_calling shape named
+behind fits shape named opcodes.Call = calling shape named
 
 -- ---- lines
 
@@ -121,26 +123,26 @@ lined name line None = None
 lined name line (Some i) = Some (record { name = name; instr = i; line = line })
 
 -- = instr {att}, behind a name: an instruction that may give a result
-unfoldable pub line_behind : Form Tok Typed → Tok → Form Tok (Option Line)
-line_behind shape name = do
+unfoldable pub line_behind : (Written → ℕ → Bool) → Form Tok Typed → Tok → Form Tok (Option Line)
+line_behind fits shape name = do
   _ ← the heads.Equals
   o ← one_of GIVING opcode_of
-  i ← behind shape true o
+  i ← behind fits shape true o
   gives (lined (Some name) name.line i)
 
 -- Local = instr {att}, over what spells the name
-unfoldable pub named_line : Form Tok Tok → Form Tok Typed → Form Tok (Option Line)
-named_line name shape = do
+unfoldable pub named_line : Form Tok Tok → (Written → ℕ → Bool) → Form Tok Typed → Form Tok (Option Line)
+named_line name fits shape = do
   n ← name
-  line_behind shape n
+  line_behind fits shape n
 
 -- instr {att}
-unfoldable pub plain_line : Form Tok Typed → Form Tok (Option Line)
-plain_line shape = do
+unfoldable pub plain_line : (Written → ℕ → Bool) → Form Tok Typed → Form Tok (Option Line)
+plain_line fits shape = do
   b ← one_of OPCODES begun_of
-  i ← behind shape false b.opcode
+  i ← behind fits shape false b.opcode
   gives (lined None b.line i)
 
 -- [Local =] instr {att}
-unfoldable pub line : Form Tok Tok → Form Tok Typed → Form Tok (Option Line)
-line name shape = either (named_line name shape) (plain_line shape)
+unfoldable pub line : Form Tok Tok → (Written → ℕ → Bool) → Form Tok Typed → Form Tok (Option Line)
+line name fits shape = either (named_line name fits shape) (plain_line fits shape)

@@ -10,7 +10,7 @@ ghost use Rattle.ir_read.specs.FunctionHeadsAt.{end_of_none_at};
 ghost use Rattle.ir_read.specs.Operands.{IsReg, REG, type_refusal, reg_of, classes_of, operand_of};
 ghost use Rattle.ir_tree.specs.declared.operand.Reg.TheVariants.{Ptr};
 ghost use Rattle.ir_bodies.specs.Calls.{same_reg, is_type, marker_refusal, called};
-ghost use Rattle.ir_bodies.specs.CallsAt.{CONVENTIONS, convention_at, conventions_at, written_type_at, further_type_at, types_behind_at, some_types_at, listed_types_at, types_at, argument_behind_at, argument_at, further_argument_at, arguments_behind_at, some_arguments_at, any_arguments_at, type_again_at, argument_of_at, further_of_at, each_behind_at, some_of_at, arguments_of_at, arguments_at, called_value_at, marker_at, unmarked_at, unmarked_value_at, callee_at, maybe_types_at, calling_at, tail_calling_at};
+ghost use Rattle.ir_bodies.specs.CallsAt.{CONVENTIONS, convention_at, conventions_at, written_type_at, further_type_at, types_behind_at, some_types_at, listed_types_at, types_at, argument_behind_at, argument_at, further_argument_at, arguments_behind_at, some_arguments_at, any_arguments_at, type_again_at, argument_of_at, further_of_at, each_behind_at, some_of_at, arguments_of_at, arguments_at, called_value_at, marker_at, unmarked_at, unmarked_value_at, callee_at, maybe_types_at, called_at, calling_with_at, calling_of_at, calling_at, tail_calling_at};
 
 use ir_lex::{Head, Token};
 use ir_read::{
@@ -495,6 +495,50 @@ fn maybe_types_at<'a>(
     }
 }
 
+/// Reads what follows the arguments of a call.
+fn called_at<'a>(
+    alloc: Global,
+    reg: Option<Reg>,
+    callee: Option<Operand<'a>>,
+    arguments: Vec<Argument<'a>>,
+    tokens: &mut Tokens<'_, 'a>,
+) -> Result<Option<Instr<'a>>, ReadError>
+    ensures { Gives (λ x. (x, tokens.new)) result (called_at reg callee.entry arguments.entry.items tokens.old) }
+{
+    call_attributes_at(alloc, tokens)?;
+    attachments_at(alloc, tokens)?;
+    Ok(called(reg, callee, arguments))
+}
+
+/// Reads what follows the callee of a call: arguments of the types that are written, where they are.
+fn calling_with_at<'a>(
+    alloc: Global,
+    reg: Option<Reg>,
+    types: &Option<Rows<Name>>,
+    callee: Option<Operand<'a>>,
+    tokens: &mut Tokens<'_, 'a>,
+) -> Result<Option<Instr<'a>>, ReadError>
+    ensures { Gives (λ x. (x, tokens.new)) result (calling_with_at reg types.now callee.entry tokens.old) }
+{
+    expect(Head::OpenParen, tokens)?;
+    let arguments = arguments_at(alloc, types, tokens)?;
+    called_at(alloc, reg, callee, arguments, tokens)
+}
+
+/// Reads what follows the result of a call.
+fn calling_of_at<'a>(
+    alloc: Global,
+    named: bool,
+    reg: Option<Reg>,
+    tokens: &mut Tokens<'_, 'a>,
+) -> Result<Option<Instr<'a>>, ReadError>
+    ensures { Gives (λ x. (x, tokens.new)) result (calling_of_at named reg tokens.old) }
+{
+    let types = maybe_types_at(alloc, tokens)?;
+    let callee = callee_at(alloc, named, reg, tokens)?;
+    calling_with_at(alloc, reg, &types, callee, tokens)
+}
+
 /// Reads what follows `call`, with the name of a result before it or not: `None` where the callee is a
 /// lifetime marker.
 #[tactic(auto, unfolding(crate::specs::CallsAt::calling_at))]
@@ -507,13 +551,7 @@ pub fn calling_at<'a>(
 {
     conventions_at(alloc, tokens)?;
     let result = result_at(tokens)?;
-    let types = maybe_types_at(alloc, tokens)?;
-    let callee = callee_at(alloc, named, result, tokens)?;
-    expect(Head::OpenParen, tokens)?;
-    let arguments = arguments_at(alloc, &types, tokens)?;
-    call_attributes_at(alloc, tokens)?;
-    attachments_at(alloc, tokens)?;
-    Ok(called(result, callee, arguments))
+    calling_of_at(alloc, named, result, tokens)
 }
 
 /// Reads what follows `tail` or `notail`.

@@ -3,7 +3,7 @@
 ghost use Rattle.std.specs.Prelude.{◌≡◌};
 ghost use Rattle.lto_forms.specs.Readers.{Gives};
 ghost use Rattle.ir_bodies.specs.Blocks.{FURTHER_BLOCKS, INSTRUCTIONS, with_kept};
-ghost use Rattle.ir_bodies.specs.BlocksAt.{definition_at};
+ghost use Rattle.ir_bodies.specs.BlocksAt.{defined_at, definition_at};
 
 use crate::blocks::blocks_at;
 use ir_lex::Head;
@@ -43,6 +43,20 @@ fn with_kept<'a>(head: ir_read::Head<'a>, kept: Kept<'a>) -> ir_read::Head<'a>
     }
 }
 
+/// Reads the blocks of a function, in their braces.
+fn defined_at<'a>(
+    alloc: Global,
+    head: ir_read::Head<'a>,
+    tokens: &mut Tokens<'_, 'a>,
+) -> Result<Item<'a>, ReadError>
+    ensures { Gives (λ x. (x, tokens.new)) result (defined_at head.entry tokens.old) }
+{
+    expect(Head::OpenBrace, tokens)?;
+    let blocks = blocks_at(alloc, further_blocks(), instructions(), tokens)?;
+    expect(Head::CloseBrace, tokens)?;
+    Ok(Item::Definition(head, Rows::of(blocks)))
+}
+
 /// Reads a definition of a function, `define i32 @f(i32 %x) { .. }`. Behind the first parameter `room`
 /// others may stand; there may be 65,535 blocks, and 200,000 instructions, phis and dropped calls among
 /// them and terminators not.
@@ -57,8 +71,5 @@ pub fn definition_at<'a>(
     expect(Head::Define, tokens)?;
     let head = head_at(alloc, Role::Definition, room, tokens)?;
     let kept = definition_attributes_at(alloc, tokens)?;
-    expect(Head::OpenBrace, tokens)?;
-    let blocks = blocks_at(alloc, further_blocks(), instructions(), tokens)?;
-    expect(Head::CloseBrace, tokens)?;
-    Ok(Item::Definition(with_kept(head, kept), Rows::of(blocks)))
+    defined_at(alloc, with_kept(head, kept), tokens)
 }

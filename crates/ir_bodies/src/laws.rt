@@ -7,8 +7,9 @@ ghost use Rattle.ir_bodies.specs.Blocks.{definition, any_definition};
 ghost use Rattle.ir_bodies.specs.BlocksAt.{DEFINE, definition_at};
 
 /// The reader of definitions, which `definition_at` follows, reads exactly their form, and stops at the
-/// first token at which no reading goes on: there a number is out of range exactly where another number
-/// of its class goes on, and a limit is passed only where a reading without limits goes on.
+/// first token at which no reading goes on: there a number is out of range only where another number of
+/// its class goes on, and where one does the fault is that or a limit; a limit is passed only where a
+/// reading without limits goes on.
 pub fn definition_rule()
     ensures rule { (room : ℕ) → Rule tokens (definition room) any_definition (definition_at room) DEFINE [] false }
     ensures opens { Opens tokens DEFINE any_definition }

@@ -3,7 +3,7 @@
 ghost use Rattle.std.specs.Prelude.{◌≡◌};
 ghost use Rattle.lto_forms.specs.Readers.{Gives};
 ghost use Rattle.ir_bodies.specs.Lines.{lined};
-ghost use Rattle.ir_bodies.specs.LinesAt.{operation_at, behind_at, line_behind_at, named_line_at, plain_line_at, line_at};
+ghost use Rattle.ir_bodies.specs.LinesAt.{operation_at, attended_at, behind_at, line_behind_at, named_line_at, plain_line_at, line_at};
 
 use crate::calls::{calling_at, tail_calling_at};
 use crate::opcodes::{Opcode, Operation, begun_at, giving_at};
@@ -46,9 +46,23 @@ fn operation_at<'a>(
     }
 }
 
+/// Reads what follows the first word of an operation on values, its attachments too.
+#[tactic(auto, unfolding(crate::specs::LinesAt::attended_at))]
+fn attended_at<'a>(
+    alloc: Global,
+    operation: Operation,
+    tokens: &mut Tokens<'_, 'a>,
+) -> Result<Option<Instr<'a>>, ReadError>
+    ensures { Gives (λ x. (x, tokens.new)) result (attended_at (operation_at operation) tokens.old) }
+{
+    let instr = operation_at(alloc, operation, tokens)?;
+    attachments_at(alloc, tokens)?;
+    Ok(Some(instr))
+}
+
 /// Reads what follows the first word of an instruction, with the name of a result before it or not:
 /// `None` for a call that is dropped.
-#[tactic(auto, unfolding(crate::specs::LinesAt::attended_at, crate::specs::LinesAt::kept_at))]
+#[tactic(auto, unfolding(crate::specs::LinesAt::kept_at))]
 fn behind_at<'a>(
     alloc: Global,
     named: bool,
@@ -58,11 +72,7 @@ fn behind_at<'a>(
     ensures { Gives (λ x. (x, tokens.new)) result (behind_at named opcode tokens.old) }
 {
     match opcode {
-        Opcode::Value(operation) => {
-            let instr = operation_at(alloc, operation, tokens)?;
-            attachments_at(alloc, tokens)?;
-            Ok(Some(instr))
-        }
+        Opcode::Value(operation) => attended_at(alloc, operation, tokens),
         Opcode::Phi => Ok(Some(phi_at(alloc, tokens)?)),
         Opcode::Alloca => Ok(Some(reserving_at(alloc, tokens)?)),
         Opcode::Load => Ok(Some(loading_at(alloc, tokens)?)),

@@ -13,7 +13,7 @@ use ir_tree::BinaryOp;
 use lto_forms::{Fault, FaultKind, ReadError};
 
 /// An operation on values. Its attachments follow it.
-#[derive(Clone, Copy, Debug, PartialEq, Eq)]
+#[derive(Clone, Copy)]
 pub enum Operation {
     /// `add`, `sub`, `mul`, `shl`: may have `nuw` and `nsw`.
     Wrapping(BinaryOp),
@@ -31,7 +31,7 @@ pub enum Operation {
 }
 
 /// The first word of an instruction.
-#[derive(Clone, Copy, Debug, PartialEq, Eq)]
+#[derive(Clone, Copy)]
 pub enum Opcode {
     Value(Operation),
     Phi,
@@ -45,7 +45,7 @@ pub enum Opcode {
 }
 
 /// The first word of an instruction, and the line that it stands on.
-#[derive(Clone, Copy, Debug, PartialEq, Eq)]
+#[derive(Clone, Copy)]
 pub struct Begun {
     pub opcode: Opcode,
     pub line: u32,

@@ -69,6 +69,21 @@ fn first_block(head: &Head) -> Result<u32, ResolveError>
     }
 }
 
+/// The blocks of a function, whose locals are found first.
+fn blocks_of<'t, 'a>(
+    blocks: &'t [WrittenBlock<'a>],
+    alloc: Global,
+    types: &Types<'t, 'a>,
+    head: &Head<'a>,
+) -> Result<Rows<Block>, ResolveError>
+    ensures { Settles (λ bs. bs) result (definitions.blocks_of types.now head.now.params blocks.now) }
+{
+    let locals = locals_of(alloc, head.params.as_slice(), blocks)?;
+    let first = first_block(head)?;
+    let made = blocks_in(blocks, alloc, types, &locals, first)?;
+    Ok(made)
+}
+
 /// What a definition stands for: parameters are numbered from 0 on, then each block is followed by its
 /// results. `noinline` and `optnone` say what its attributes come to.
 #[tactic(auto, unfolding(ir_names::specs::Blocks::function_in))]
@@ -82,9 +97,7 @@ pub fn function_in<'t, 'a>(
 ) -> Result<Function, ResolveError>
     ensures { Settles (λ f. f) result (definitions.function_in types.now head.now blocks.now noinline optnone) }
 {
-    let locals = locals_of(alloc, head.params.as_slice(), blocks)?;
-    let first = first_block(head)?;
-    let blocks = blocks_in(blocks, alloc, types, &locals, first)?;
+    let blocks = blocks_of(blocks, alloc, types, head)?;
     let symbol = symbol_of(alloc, &head.name)?;
     let params = params_in(alloc, head.params.as_slice())?;
     Ok(Function {

@@ -1,15 +1,17 @@
 //! Initialisers with their names resolved (LangRef, "Constants").
-ghost use Rattle.std.specs.Prelude.{◌≡◌, IfOk};
+ghost use Rattle.std.specs.Prelude.{◌≡◌, None, if◌then◌else◌, IfOk};
 ghost use Rattle.ir_lex.specs.Quotes.{content};
 ghost use Rattle.ir_names.specs.Settled.{Settles, each};
-ghost use Rattle.ir_names.specs.Variables.{constant_type, constant_for, head_in, part_in};
+ghost use Rattle.ir_names.specs.Variables.{constant_type, constant_for, number_for, head_in, part_in};
+ghost use Rattle.ir_names.specs.Types.{is_width};
+ghost use Rattle.ir_read.specs.Literals.{literal};
 ghost use Rattle.ir_names.specs.Variables as definitions;
 ghost use Rattle.ir_definitions.specs.Closing.{tree_in, initial_in};
 ghost use Rattle.ir_tree.specs.Initials.{tree_of, IsFlat};
 
 use crate::collected::{behind, finish, push};
 use ir_names::{Locals, ResolveError, Types, expanded, operand_in};
-use ir_read::{Init as Written, InitHead as WrittenHead, InitPart as WrittenPart, Name};
+use ir_read::{Init as Written, InitHead as WrittenHead, InitPart as WrittenPart, Name, literal};
 use ir_tree::{Init, InitHead, InitPart, Operand, Reg, Rows, Shape, ShapeNode, Text};
 use std::alloc::{AllocError, Global};
 
@@ -42,6 +44,36 @@ fn constant_for(shape: &Shape, constant: Operand) -> Operand
     }
 }
 
+/// The bits of a literal of a width that memory holds, where it is in range.
+fn bits_of(width: u8, number: &Name) -> Option<u64>
+    ensures { result ≡ (if is_width width then literal width number.now.text else None) }
+{
+    if 8 <= width && width <= 64 {
+        literal(width, number.token().text)
+    } else {
+        None
+    }
+}
+
+/// A number for a shape, which may be written as a type name: a literal of an integer, and `false`,
+/// which fits nothing in memory, where it is out of range or for no integer.
+fn number_for(shape: &Shape, number: &Name) -> Operand
+    ensures { result ≡ number_for shape.now number.now }
+{
+    match shape.node() {
+        ShapeNode::Int(width) => match bits_of(*width, number) {
+            Some(bits) => Operand::Number {
+                width: *width,
+                bits,
+            },
+            None => Operand::Number { width: 1, bits: 0 },
+        },
+        ShapeNode::Ptr | ShapeNode::Array(..) | ShapeNode::Struct(..) => {
+            Operand::Number { width: 1, bits: 0 }
+        }
+    }
+}
+
 /// What an initialiser for a shape stands for where it has no parts, or the beginning of one with
 /// parts.
 fn head_in<'t, 'a>(
@@ -63,6 +95,7 @@ fn head_in<'t, 'a>(
             let text = bytes_of(alloc, string)?;
             Ok(InitHead::Bytes(text))
         }
+        WrittenHead::Number(number) => Ok(InitHead::Plain(number_for(shape, number))),
         WrittenHead::Array => Ok(InitHead::Array),
         WrittenHead::Struct { packed } => Ok(InitHead::Struct { packed: *packed }),
     }

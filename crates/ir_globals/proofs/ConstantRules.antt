@@ -16,29 +16,31 @@ use Rattle.ir_read.specs.declared.raw.Operand.TheVariants as operands
 use Rattle.ir_read.specs.Literals.{literal}
 use Rattle.ir_read.specs.ShapeForms.{any_shape, memory_shape}
 use Rattle.ir_read.specs.ValuesAt.{ADDRESS}
-use Rattle.ir_read.proofs.OperandRules.{zero_below}
+use Rattle.ir_read.proofs.OperandRules.{zero_below, zero_global, zero_global_named, numbered_real, definition_real}
 use Rattle.ir_read.proofs.Singles.{sample, word, not_number, not_limit}
 use Rattle.ir_read.proofs.ValueRules.{address_rule}
 use Rattle.ir_read.proofs.Words.{null_real, zero_real}
-use Rattle.ir_globals.specs.Constants.{CONSTANTS, constant_by, constant_of, single, constant}
+use Rattle.ir_globals.specs.Constants.{CONSTANTS, plain, constant_by, constant_of, single, constant}
 use Rattle.ir_globals.specs.ConstantsAt.{single_at, constant_at}
 
 abbrev zero : Tok
 zero = sample kinds.Number heads.Number (codes "0")
 
-zero_fits : (w : ℕ) → constant_of (Some (Int w)) zero ≡ Some (operands.Number w 0)
+zero_fits : (w : ℕ) → constant_of (Some (Int w)) zero ≡ Some (plain (operands.Number w 0))
 unfolding literal
-zero_fits w = ap (λ (b : Bool). option_map (operands.Number w) (cond b (Some 0) None)) (zero_below w)
+zero_fits w = ap (λ (b : Bool). option_map (λ (bits : ℕ). plain (operands.Number w bits)) (cond b (Some 0) None)) (zero_below w)
 
 -- only literals of integers can be out of range
 constant_within : (scalar : Option Reg) (h : Head) (t : Tok) → t.head ≡ h → contains CONSTANTS (number h) ≡ true → constant_by h scalar t ≡ None → IsWithin tokens CONSTANTS (constant_of scalar) t
-constant_within (Some (Int w)) heads.Number t e p q = record { writes = ap (λ (x : Head). contains NUMERALS (number x)) e; other = zero; means = operands.Number w 0; alike = sym (ap number e); has = zero_fits w; real = zero_real }
+constant_within (Some (Int w)) heads.Number t e p q = record { writes = ap (λ (x : Head). contains NUMERALS (number x)) e; other = zero; means = plain (operands.Number w 0); alike = sym (ap number e); has = zero_fits w; real = zero_real }
 constant_within (Some Ptr) heads.Number t e p q = absurd cc
 constant_within None heads.Number t e p q = absurd cc
+constant_within scalar heads.NumberedGlobal t e p q = record { writes = ap (λ (x : Head). contains NUMERALS (number x)) e; other = zero_global heads.NumberedGlobal; means = plain (operands.Global (zero_global heads.NumberedGlobal)); alike = sym (ap number e); has = ap (option_map (λ (name : Tok). plain (operands.Global name))) (zero_global_named heads.NumberedGlobal); real = numbered_real }
+constant_within scalar heads.NumberedDefinition t e p q = record { writes = ap (λ (x : Head). contains NUMERALS (number x)) e; other = zero_global heads.NumberedDefinition; means = plain (operands.Global (zero_global heads.NumberedDefinition)); alike = sym (ap number e); has = ap (option_map (λ (name : Tok). plain (operands.Global name))) (zero_global_named heads.NumberedDefinition); real = definition_real }
 constant_within scalar h t e p q = absurd cc
 
 single_rule : (scalar : Option Reg) → Rule tokens (single scalar) (single scalar) (single_at scalar) CONSTANTS [] false
-single_rule scalar = rules.valued_rule tokens refusal not_number not_limit CONSTANTS (constant_of scalar) (λ t p q. constant_within scalar t.head t refl p q) (word heads.Null (codes "null")) operands.Null refl refl null_real
+single_rule scalar = rules.valued_rule tokens refusal not_number not_limit CONSTANTS (constant_of scalar) (λ t p q. constant_within scalar t.head t refl p q) (word heads.Null (codes "null")) (plain operands.Null) refl refl null_real
 
 -- what a constant begins with
 abbrev pub CONSTANT : List ℕ
@@ -46,4 +48,4 @@ CONSTANT = number heads.GetElementPtr ∷ CONSTANTS
 
 pub constant_rule : (scalar : Option Reg) → Rule tokens (constant memory_shape scalar) (constant any_shape scalar) (constant_at scalar) CONSTANT [] false
 unfolding constant constant_at
-constant_rule scalar = rules.alt tokens ADDRESS address_rule (single_rule scalar) refl refl
+constant_rule scalar = rules.alt tokens ADDRESS (rules.seq tokens address_rule (λ _. rules.nothing tokens _) refl) (single_rule scalar) refl refl

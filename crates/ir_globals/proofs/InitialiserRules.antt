@@ -33,8 +33,8 @@ use Rattle.ir_read.proofs.OperandRules.{memory_not_number, memory_not_limit}
 use Rattle.ir_read.proofs.ShapeRules.{memory_shape_rule}
 use Rattle.ir_read.proofs.Singles.{sample, word, not_number, not_limit, the_rule, one_rule, comma_rule, open_bracket_rule, open_brace_rule, open_angle_rule, close_angle_rule, close_bracket_real, close_brace_real}
 use Rattle.ir_read.proofs.Singles as singles
-use Rattle.ir_globals.specs.Initialisers.{BYTES, zeros, bytes, array_begin, structure_begin, packed_begin, aggregate_begin, plain, beginning, aggregate_of, scalar_of, closing_refusal, mark, angle, brace, closing, Spot, part_shape, part, begun, closed, piece, outermost, listed, is_none, parts, behind, initialiser}
-use Rattle.ir_globals.specs.InitialisersAt.{ZEROS, zeros_at, bytes_at, array_begin_at, structure_begin_at, packed_begin_at, aggregate_begin_at, plain_at, beginning_at, mark_at, angle_at, brace_at, closing_at, part_shape_at, part_at, begun_at, closed_at, CLOSER, piece_at, SHAPE, PART, BEGINNINGS, begins_there, there_at, listed_at, parts_at, behind_at, initialiser_at}
+use Rattle.ir_globals.specs.Initialisers.{BYTES, zeros, bytes, array_begin, structure_begin, packed_begin, aggregate_begin, beginning, aggregate_of, scalar_of, closing_refusal, mark, angle, brace, closing, Spot, part_shape, part, begun, closed, piece, outermost, listed, is_none, parts, behind, initialiser}
+use Rattle.ir_globals.specs.InitialisersAt.{ZEROS, zeros_at, bytes_at, array_begin_at, structure_begin_at, packed_begin_at, aggregate_begin_at, beginning_at, mark_at, angle_at, brace_at, closing_at, part_shape_at, part_at, begun_at, closed_at, CLOSER, piece_at, SHAPE, PART, BEGINNINGS, begins_there, there_at, listed_at, parts_at, behind_at, initialiser_at}
 use Rattle.ir_globals.specs.declared.initialisers.Aggregate.{Aggregate}
 use Rattle.ir_globals.specs.declared.initialisers.Aggregate.TheVariants as aggregates
 use Rattle.ir_globals.proofs.ConstantRules.{CONSTANT, constant_rule}
@@ -43,7 +43,7 @@ use Rattle.ir_globals.proofs.ConstantRules.{CONSTANT, constant_rule}
 
 zeros_real : IsReal (word heads.ZeroInitializer (codes "zeroinitializer"))
 unfolding best_fit rest_fit label_len number_len word_len name_len meta_len dots_len other_len string_len has is_bad is_zero_name head_of word_head listed_head words_15
-zeros_real = record { some = refl; fits = refl; good = refl; class = refl }
+zeros_real = record { behind = []; some = refl; fits = refl; good = refl; class = refl }
 
 zeros_word_rule : Rule tokens (the heads.ZeroInitializer) (the heads.ZeroInitializer) (the_at heads.ZeroInitializer) ZEROS [] false
 unfolding is_class
@@ -55,7 +55,7 @@ zeros_rule = rules.seq tokens zeros_word_rule (λ _. rules.nothing tokens _) ref
 
 bytes_real : IsReal (sample kinds.CStr heads.CStr (codes "c\"\""))
 unfolding best_fit rest_fit label_len number_len word_len name_len meta_len dots_len other_len string_len has is_bad is_zero_name head_of
-bytes_real = record { some = refl; fits = refl; good = refl; class = refl }
+bytes_real = record { behind = []; some = refl; fits = refl; good = refl; class = refl }
 
 bytes_rule : Rule tokens bytes bytes bytes_at BYTES [] false
 unfolding bytes bytes_at
@@ -70,17 +70,13 @@ aggregate_begin_rule =
     refl refl)
     refl refl
 
-plain_rule : (scalar : Option Reg) → Rule tokens (plain memory_shape scalar) (plain any_shape scalar) (plain_at scalar) CONSTANT [] false
-unfolding plain plain_at
-plain_rule scalar = rules.seq tokens (constant_rule scalar) (λ _. rules.nothing tokens _) refl
-
 -- what an initialiser begins with
 abbrev pub INITIALISER : List ℕ
 INITIALISER = number heads.ZeroInitializer ∷ number heads.CStr ∷ BRACKETS ++ CONSTANT
 
 pub beginning_rule : (scalar : Option Reg) → Rule tokens (beginning memory_shape scalar) (beginning any_shape scalar) (beginning_at scalar) INITIALISER [] false
 unfolding beginning beginning_at
-beginning_rule scalar = rules.broader tokens INITIALISER [] (rules.alt tokens ZEROS zeros_rule (rules.alt tokens BYTES bytes_rule (rules.alt tokens BRACKETS aggregate_begin_rule (plain_rule scalar) refl refl) refl refl) refl refl) refl refl
+beginning_rule scalar = rules.broader tokens INITIALISER [] (rules.alt tokens ZEROS zeros_rule (rules.alt tokens BYTES bytes_rule (rules.alt tokens BRACKETS aggregate_begin_rule (constant_rule scalar) refl refl) refl refl) refl refl) refl refl
 
 -- ---- what closes an aggregate
 

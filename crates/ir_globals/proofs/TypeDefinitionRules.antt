@@ -20,7 +20,7 @@ use Rattle.ir_globals.specs.TypeDefinitionsAt.{OPAQUE, defined_at, type_line_at}
 
 type_real : IsReal (word heads.Type (codes "type"))
 unfolding best_fit rest_fit label_len number_len word_len name_len meta_len dots_len other_len string_len has is_bad is_zero_name head_of word_head listed_head words_4
-type_real = record { some = refl; fits = refl; good = refl; class = refl }
+type_real = record { behind = []; some = refl; fits = refl; good = refl; class = refl }
 
 type_rule : Rule tokens (the heads.Type) (the heads.Type) (the_at heads.Type) (number heads.Type ∷ []) [] false
 unfolding is_class
@@ -28,7 +28,7 @@ type_rule = the_rule heads.Type (word heads.Type (codes "type")) refl type_real
 
 opaque_real : IsReal (word heads.Opaque (codes "opaque"))
 unfolding best_fit rest_fit label_len number_len word_len name_len meta_len dots_len other_len string_len has is_bad is_zero_name head_of word_head listed_head words_6
-opaque_real = record { some = refl; fits = refl; good = refl; class = refl }
+opaque_real = record { behind = []; some = refl; fits = refl; good = refl; class = refl }
 
 opaque_rule : Rule tokens (the heads.Opaque) (the heads.Opaque) (the_at heads.Opaque) OPAQUE [] false
 unfolding is_class

@@ -1,5 +1,5 @@
 -- The readers of variables read them.
-use Rattle.std.proofs.Common.{ℕ, Bool, true, false, Option, None, List, [], ◌∷◌, ◌++◌, refl}
+use Rattle.std.proofs.Common.{◌≡◌, ℕ, Bool, true, false, cond, Option, None, Some, List, [], ◌∷◌, ◌++◌, Result, Ok, Err, refl, ap, ◌∙◌}
 use Rattle.std.specs.Prelude.{codes}
 use Rattle.ir_lex.specs.Bytes.{has}
 use Rattle.ir_lex.specs.declared.head.Head.TheVariants as heads
@@ -14,27 +14,49 @@ use Rattle.ir_tree.specs.declared.operand.Reg.{Reg}
 use Rattle.lto_forms.specs.Alphabet.{among}
 use Rattle.lto_forms.specs.Forms as form
 use Rattle.lto_forms.specs.Readers as reader
-use Rattle.lto_forms.specs.Rules.{Rule, Opens, is_class}
+use Rattle.lto_forms.specs.declared.fault.FaultKind.{FaultKind}
+use Rattle.lto_forms.specs.Rules.{Rule, Opens, in_range, is_among, is_class, is_valued}
+use Rattle.lto_forms.proofs.Composed.{same_form}
 use Rattle.lto_forms.proofs.Rules as rules
 use Rattle.ir_read.specs.Classes.{tokens, IsReal, the, the_at, one_of, one_of_at, itself}
 use Rattle.ir_read.specs.FunctionHeads.{LINKAGES, linkage_word, QUALIFIERS, nothing_of, name_refusal}
 use Rattle.ir_read.specs.InstructionsAt.{ALIGN}
 use Rattle.ir_read.specs.MetadataAt.{COMMA, PAREN}
+use Rattle.ir_read.specs.Operands.{global_named}
 use Rattle.ir_read.specs.ShapeForms.{any_shape, memory_shape}
 use Rattle.ir_read.proofs.AttributeRules.{alignment_rule}
-use Rattle.ir_read.proofs.FunctionHeadRules.{external_real, hidden_real, global_real, name_not_number, name_not_limit}
+use Rattle.ir_read.proofs.FunctionHeadRules.{external_real, hidden_real, named_rule}
 use Rattle.ir_read.proofs.Nodes.{attached_rule}
+use Rattle.ir_read.proofs.OperandRules.{global_is}
 use Rattle.ir_read.proofs.ShapeRules.{SHAPE, memory_shape_rule}
 use Rattle.ir_read.proofs.Singles.{sample, word, the_rule, the_opens, one_rule, one_opens, comma_rule, equals_rule, open_paren_rule, close_paren_rule, align_rule}
 use Rattle.ir_globals.specs.Initialisers.{scalar_of}
-use Rattle.ir_globals.specs.Variables.{NAMES, variable_name, qualifiers, linked, KINDS, is_constant, is_declared, value, comdat_name, in_comdat, aligned, marked, further, tail, behind_kind, variable_line}
+use Rattle.ir_globals.specs.Variables.{NAMES, variable_name, any_variable_name, qualifiers, linked, KINDS, is_constant, is_declared, value, comdat_name, in_comdat, aligned, marked, further, tail, behind_kind, variable_line}
 use Rattle.ir_globals.specs.VariablesAt.{variable_name_at, qualifiers_at, linked_at, value_at, comdat_name_at, in_comdat_at, aligned_at, marked_at, COMDAT, further_at, tail_at, behind_kind_at, variable_line_at}
 use Rattle.ir_globals.proofs.InitialiserRules.{INITIALISER, initialiser_rule}
 
 -- ---- before the shape
 
-variable_name_rule : Rule tokens variable_name variable_name variable_name_at NAMES [] false
-variable_name_rule = rules.among_rule tokens name_refusal name_not_number name_not_limit NAMES itself (sample kinds.Global heads.Global (codes "@a")) refl global_real
+abbrev good : Tok → Result Tok FaultKind
+good x = Ok x
+
+-- a name that has a number in range is a name
+any_name : (ts : List Tok) (a : Tok) → variable_name ts a → any_variable_name ts a
+unfolding is_valued is_among
+any_name [] a s = absurd s
+any_name (t ∷ []) a s = by_test (among tokens NAMES t) s
+  where
+    by_name : (o : Option Tok) → global_named t ≡ o → in_range o ≡ good a → good t ≡ good a
+    by_name None q e = absurd cc
+    by_name (Some u) q e = ap good (global_is t.head t u q) ∙ e
+
+    by_test : (b : Bool) → cond b (in_range (global_named t)) (Err (name_refusal (number t.head))) ≡ good a → cond b (good t) (Err (name_refusal (number t.head))) ≡ good a
+    by_test true e = by_name (global_named t) refl e
+    by_test false e = absurd cc
+any_name (t ∷ u ∷ ts) a s = absurd s
+
+variable_name_rule : Rule tokens variable_name any_variable_name variable_name_at NAMES [] false
+variable_name_rule = record { law = same_form tokens (named_rule NAMES refl).law (λ ts a s. s) (λ ts a s. s) any_name }
 
 linkage_word_rule : Rule tokens (one_of LINKAGES linkage_word) (one_of LINKAGES linkage_word) (one_of_at LINKAGES linkage_word) LINKAGES [] false
 linkage_word_rule = one_rule LINKAGES linkage_word (word heads.External (codes "external")) refl external_real
@@ -56,7 +78,7 @@ linked_rule = rules.wider tokens LINKED LINKED (rules.seq tokens (rules.maybe to
 
 constant_real : IsReal (word heads.GlobalVariable (codes "global"))
 unfolding best_fit rest_fit label_len number_len word_len name_len meta_len dots_len other_len string_len has is_bad is_zero_name head_of word_head listed_head words_6
-constant_real = record { some = refl; fits = refl; good = refl; class = refl }
+constant_real = record { behind = []; some = refl; fits = refl; good = refl; class = refl }
 
 kind_rule : Rule tokens (one_of KINDS is_constant) (one_of KINDS is_constant) (one_of_at KINDS is_constant) KINDS [] false
 kind_rule = one_rule KINDS is_constant (word heads.GlobalVariable (codes "global")) refl constant_real
@@ -69,7 +91,7 @@ value_rule false scalar = rules.wider tokens INITIALISER [] (rules.seq tokens (i
 
 comdat_real : IsReal (word heads.Comdat (codes "comdat"))
 unfolding best_fit rest_fit label_len number_len word_len name_len meta_len dots_len other_len string_len has is_bad is_zero_name head_of word_head listed_head words_6
-comdat_real = record { some = refl; fits = refl; good = refl; class = refl }
+comdat_real = record { behind = []; some = refl; fits = refl; good = refl; class = refl }
 
 comdat_rule : Rule tokens (the heads.Comdat) (the heads.Comdat) (the_at heads.Comdat) COMDAT [] false
 unfolding is_class
@@ -77,7 +99,7 @@ comdat_rule = the_rule heads.Comdat (word heads.Comdat (codes "comdat")) refl co
 
 named_comdat_real : IsReal (sample kinds.Comdat heads.ComdatName (codes "$a"))
 unfolding best_fit rest_fit label_len number_len word_len name_len meta_len dots_len other_len string_len has is_bad is_zero_name head_of
-named_comdat_real = record { some = refl; fits = refl; good = refl; class = refl }
+named_comdat_real = record { behind = []; some = refl; fits = refl; good = refl; class = refl }
 
 named_comdat_rule : Rule tokens (the heads.ComdatName) (the heads.ComdatName) (the_at heads.ComdatName) (number heads.ComdatName ∷ []) [] false
 unfolding is_class
@@ -128,10 +150,10 @@ behind_kind_rule : (name : Tok) (l : Option Linkage) (constant : Bool) → Rule 
 unfolding behind_kind behind_kind_at
 behind_kind_rule name l constant = rules.seq tokens memory_shape_rule (λ typed. rules.seq tokens (value_rule (is_declared l) (scalar_of typed.shape)) (λ _. rules.seq tokens tail_rule (λ _. rules.nothing tokens _) refl) refl) refl
 
-pub variable_line_rule : Rule tokens (variable_line memory_shape) (variable_line any_shape) variable_line_at NAMES AFTER false
+pub variable_line_rule : Rule tokens (variable_line variable_name memory_shape) (variable_line any_variable_name any_shape) variable_line_at NAMES AFTER false
 unfolding variable_line variable_line_at
 variable_line_rule = rules.seq tokens variable_name_rule (λ name. rules.seq tokens equals_rule (λ _. rules.seq tokens linked_rule (λ l. rules.seq tokens kind_rule (λ constant. behind_kind_rule name l constant) refl) refl) refl) refl
 
-pub variable_line_opens : Opens tokens NAMES (variable_line any_shape)
+pub variable_line_opens : Opens tokens NAMES (variable_line any_variable_name any_shape)
 unfolding variable_line
-variable_line_opens = rules.opens_seq tokens NAMES variable_name (rules.opens_among tokens name_refusal NAMES itself) (λ name. rules.seq tokens equals_rule (λ _. rules.seq tokens linked_rule (λ l. rules.seq tokens kind_rule (λ constant. behind_kind_rule name l constant) refl) refl) refl)
+variable_line_opens = rules.opens_seq tokens NAMES any_variable_name (rules.opens_among tokens name_refusal NAMES itself) (λ name. rules.seq tokens equals_rule (λ _. rules.seq tokens linked_rule (λ l. rules.seq tokens kind_rule (λ constant. behind_kind_rule name l constant) refl) refl) refl)

@@ -6,13 +6,16 @@ use Rattle.ir_lex.specs.Heads.{number}
 use Rattle.ir_lex.specs.Tok.{Tok}
 use Rattle.ir_tree.specs.declared.operand.Reg.{Reg}
 use Rattle.ir_tree.specs.declared.operand.Reg.TheVariants.{Int, Ptr}
-use Rattle.lto_forms.specs.Forms.{Form, either, token}
+use Rattle.lto_forms.specs.Forms.{Form, ◌>>=◌, either, gives, token}
 use Rattle.lto_forms.specs.Rules.{is_valued}
 use Rattle.ir_read.specs.Classes.{tokens, refusal}
+use Rattle.ir_read.specs.declared.raw.InitHead.{InitHead}
+use Rattle.ir_read.specs.declared.raw.InitHead.TheVariants as inits
 use Rattle.ir_read.specs.declared.raw.Operand.{Operand}
 use Rattle.ir_read.specs.declared.raw.Operand.TheVariants as operands
 use Rattle.ir_read.specs.declared.shape.Typed.{Typed}
 use Rattle.ir_read.specs.Literals.{literal}
+use Rattle.ir_read.specs.Operands.{named}
 use Rattle.ir_read.specs.Values.{address}
 
 abbrev pub CONSTANTS : List ℕ
@@ -23,31 +26,39 @@ abbrev pub type_of : Option Reg → Reg
 type_of (Some r) = r
 type_of None = Int 1
 
--- a literal of an integer's type; where no integer begins with it, a number of any size is one of i1
-abbrev pub number_of : Option Reg → Tok → Option Operand
-number_of (Some (Int w)) t = option_map (operands.Number w) (literal w t.text)
-number_of (Some Ptr) t = Some (operands.Number 1 0)
-number_of None t = Some (operands.Number 1 0)
+abbrev pub plain : Operand → InitHead
+plain x = inits.Plain x
+
+-- a literal of an integer's type. For a pointer a number of any size is one of i1; where no scalar is written it is kept, since a type
+-- name may stand for an integer
+abbrev pub number_of : Option Reg → Tok → Option InitHead
+number_of (Some (Int w)) t = option_map (λ bits. plain (operands.Number w bits)) (literal w t.text)
+number_of (Some Ptr) t = Some (plain (operands.Number 1 0))
+number_of None t = Some (inits.Number t)
 
 -- what a token of such a class means, by its class
-abbrev pub constant_by : Head → Option Reg → Tok → Option Operand
+abbrev pub constant_by : Head → Option Reg → Tok → Option InitHead
 constant_by heads.Number scalar t = number_of scalar t
-constant_by heads.True scalar t = Some (operands.Number 1 1)
-constant_by heads.False scalar t = Some (operands.Number 1 0)
-constant_by heads.Null scalar t = Some operands.Null
-constant_by heads.Poison scalar t = Some (operands.Poison (type_of scalar))
-constant_by heads.Global scalar t = Some (operands.Global t)
-constant_by heads.NumberedGlobal scalar t = Some (operands.Global t)
-constant_by heads.NumberedDefinition scalar t = Some (operands.Global t)
+constant_by heads.True scalar t = Some (plain (operands.Number 1 1))
+constant_by heads.False scalar t = Some (plain (operands.Number 1 0))
+constant_by heads.Null scalar t = Some (plain operands.Null)
+constant_by heads.Poison scalar t = Some (plain (operands.Poison (type_of scalar)))
+constant_by heads.Global scalar t = Some (plain (operands.Global t))
+constant_by heads.NumberedGlobal scalar t = option_map (λ name. plain (operands.Global name)) (named t)
+constant_by heads.NumberedDefinition scalar t = option_map (λ name. plain (operands.Global name)) (named t)
 constant_by h scalar t = None
 
-abbrev pub constant_of : Option Reg → Tok → Option Operand
+abbrev pub constant_of : Option Reg → Tok → Option InitHead
 constant_of scalar t = constant_by t.head scalar t
 
 -- Number / true / false / null / poison / Global
-abbrev pub single : Option Reg → Form Tok Operand
+abbrev pub single : Option Reg → Form Tok InitHead
 single scalar = token (is_valued tokens refusal CONSTANTS (constant_of scalar))
 
 -- an operand that is no Local, which this scalar begins with, or what is none
-unfoldable pub constant : Form Tok Typed → Option Reg → Form Tok Operand
-constant shape scalar = either (address shape) (single scalar)
+unfoldable pub constant : Form Tok Typed → Option Reg → Form Tok InitHead
+constant shape scalar = either
+    (do
+      v ← address shape
+      gives (plain v))
+    (single scalar)

@@ -3,15 +3,19 @@ use Rattle.std.specs.Prelude.{Option}
 use Rattle.ir_lex.specs.Tok.{Tok}
 use Rattle.ir_tree.specs.declared.operand.Reg.{Reg}
 use Rattle.lto_forms.specs.Alphabet.{among}
-use Rattle.lto_forms.specs.Readers.{Reader, pick, token_at}
+use Rattle.lto_forms.specs.Readers.{Reader, ◌>>=◌, done, pick, token_at}
 use Rattle.lto_forms.specs.Rules.{is_valued}
 use Rattle.ir_read.specs.Classes.{tokens, refusal}
-use Rattle.ir_read.specs.declared.raw.Operand.{Operand}
+use Rattle.ir_read.specs.declared.raw.InitHead.{InitHead}
 use Rattle.ir_read.specs.ValuesAt.{ADDRESS, address_at}
-use Rattle.ir_globals.specs.Constants.{CONSTANTS, constant_of}
+use Rattle.ir_globals.specs.Constants.{CONSTANTS, plain, constant_of}
 
-abbrev pub single_at : Option Reg → Reader Tok Operand
+abbrev pub single_at : Option Reg → Reader Tok InitHead
 single_at scalar = token_at (is_valued tokens refusal CONSTANTS (constant_of scalar))
 
-unfoldable pub constant_at : Option Reg → Reader Tok Operand
-constant_at scalar = pick (among tokens ADDRESS) address_at (single_at scalar)
+unfoldable pub constant_at : Option Reg → Reader Tok InitHead
+constant_at scalar = pick (among tokens ADDRESS)
+    (do
+      v ← address_at
+      done (plain v))
+    (single_at scalar)

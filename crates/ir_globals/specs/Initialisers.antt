@@ -71,14 +71,9 @@ packed_begin = do
 unfoldable pub aggregate_begin : Form Tok InitHead
 aggregate_begin = either array_begin (either structure_begin packed_begin)
 
-unfoldable pub plain : Form Tok Typed → Option Reg → Form Tok InitHead
-plain shape scalar = do
-  v ← constant shape scalar
-  gives (inits.Plain v)
-
 -- zeroinitializer / c".." / [ / { / < { / an operand that is no Local
 unfoldable pub beginning : Form Tok Typed → Option Reg → Form Tok InitHead
-beginning shape scalar = either zeros (either bytes (either aggregate_begin (plain shape scalar)))
+beginning shape scalar = either zeros (either bytes (either aggregate_begin (constant shape scalar)))
 
 -- ---- what closes an aggregate
 
@@ -86,6 +81,7 @@ abbrev pub aggregate_of : InitHead → Option Aggregate
 aggregate_of (inits.Plain v) = None
 aggregate_of inits.Zeros = None
 aggregate_of (inits.Bytes string) = None
+aggregate_of (inits.Number t) = None
 aggregate_of inits.Array = Some aggregates.Array
 aggregate_of (inits.Struct packed) = Some (aggregates.Struct packed)
 

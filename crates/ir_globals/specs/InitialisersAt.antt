@@ -55,13 +55,8 @@ packed_begin_at = do
 unfoldable pub aggregate_begin_at : Reader Tok InitHead
 aggregate_begin_at = pick (among tokens OPEN_BRACKET) array_begin_at (pick (among tokens OPEN_BRACE) structure_begin_at packed_begin_at)
 
-unfoldable pub plain_at : Option Reg → Reader Tok InitHead
-plain_at scalar = do
-  v ← constant_at scalar
-  done (inits.Plain v)
-
 unfoldable pub beginning_at : Option Reg → Reader Tok InitHead
-beginning_at scalar = pick (among tokens ZEROS) zeros_at (pick (among tokens BYTES) bytes_at (pick (among tokens BRACKETS) aggregate_begin_at (plain_at scalar)))
+beginning_at scalar = pick (among tokens ZEROS) zeros_at (pick (among tokens BYTES) bytes_at (pick (among tokens BRACKETS) aggregate_begin_at (constant_at scalar)))
 
 abbrev pub mark_at : Bool → Head → Reader Tok (Unit {0})
 mark_at none wanted = token_at (is_class tokens (closing_refusal none) (number wanted))

@@ -8,7 +8,7 @@ use Rattle.ir_tree.specs.declared.function.Linkage.{Linkage}
 use Rattle.ir_tree.specs.declared.function.Linkage.TheVariants as linkages
 use Rattle.ir_tree.specs.declared.operand.Reg.{Reg}
 use Rattle.lto_forms.specs.Forms.{Form, ◌>>=◌, either, gives, optional, Star, token}
-use Rattle.lto_forms.specs.Rules.{is_among}
+use Rattle.lto_forms.specs.Rules.{is_among, is_valued}
 use Rattle.ir_read.specs.Classes.{tokens, the, one_of, itself}
 use Rattle.ir_read.specs.Decimals.{is_alignment}
 use Rattle.ir_read.specs.declared.raw.Init.{Init}
@@ -18,6 +18,7 @@ use Rattle.ir_read.specs.declared.raw.Variable.{Variable}
 use Rattle.ir_read.specs.declared.shape.Typed.{Typed}
 use Rattle.ir_read.specs.FunctionHeads.{LINKAGES, linkage_word, QUALIFIERS, nothing_of, with_linkage, name_refusal}
 use Rattle.ir_read.specs.Metadata.{attached}
+use Rattle.ir_read.specs.Operands.{global_named}
 use Rattle.ir_globals.specs.Initialisers.{scalar_of, initialiser}
 
 -- ---- before the shape
@@ -27,7 +28,11 @@ abbrev pub NAMES : List ℕ
 NAMES = number heads.Global ∷ number heads.NumberedDefinition ∷ []
 
 abbrev pub variable_name : Form Tok Tok
-variable_name = token (is_among tokens name_refusal NAMES itself)
+variable_name = token (is_valued tokens name_refusal NAMES global_named)
+
+-- without the limit on numbers
+abbrev pub any_variable_name : Form Tok Tok
+any_variable_name = token (is_among tokens name_refusal NAMES itself)
 
 -- {drop}
 unfoldable pub qualifiers : Form Tok (Unit {0})
@@ -120,10 +125,10 @@ behind_kind shape name l constant = do
   align ← tail
   gives (variable name l constant typed init align)
 
--- Global = [linkage] {drop} (global/constant) shape [init] {, comdat [(Comdat)] / , align N / , Meta node}
-unfoldable pub variable_line : Form Tok Typed → Form Tok Item
-variable_line shape = do
-  name ← variable_name
+-- Global = [linkage] {drop} (global/constant) shape [init] {, comdat [(Comdat)] / , align N / , Meta node}, over what spells the name
+unfoldable pub variable_line : Form Tok Tok → Form Tok Typed → Form Tok Item
+variable_line variable_named shape = do
+  name ← variable_named
   _ ← the heads.Equals
   l ← linked
   constant ← one_of KINDS is_constant

@@ -8,21 +8,22 @@ use Rattle.ir_tree.specs.declared.function.Linkage.{Linkage}
 use Rattle.ir_tree.specs.declared.operand.Reg.{Reg}
 use Rattle.lto_forms.specs.Alphabet.{among}
 use Rattle.lto_forms.specs.Readers.{Reader, ◌>>=◌, done, pick, token_at, star_at, optional_at}
-use Rattle.lto_forms.specs.Rules.{is_among}
-use Rattle.ir_read.specs.Classes.{tokens, the_at, one_of_at, itself}
+use Rattle.lto_forms.specs.Rules.{is_valued}
+use Rattle.ir_read.specs.Classes.{tokens, the_at, one_of_at}
 use Rattle.ir_read.specs.Decimals.{is_alignment}
 use Rattle.ir_read.specs.declared.raw.Init.{Init}
 use Rattle.ir_read.specs.declared.raw.Item.{Item}
 use Rattle.ir_read.specs.FunctionHeads.{LINKAGES, linkage_word, QUALIFIERS, nothing_of, name_refusal}
 use Rattle.ir_read.specs.InstructionsAt.{ALIGN}
 use Rattle.ir_read.specs.MetadataAt.{COMMA, PAREN, attached_at}
+use Rattle.ir_read.specs.Operands.{global_named}
 use Rattle.ir_read.specs.ShapeFormsAt.{memory_shape_at}
 use Rattle.ir_globals.specs.Initialisers.{scalar_of}
 use Rattle.ir_globals.specs.InitialisersAt.{initialiser_at}
 use Rattle.ir_globals.specs.Variables.{NAMES, KINDS, is_constant, is_declared, with_align, variable}
 
 abbrev pub variable_name_at : Reader Tok Tok
-variable_name_at = token_at (is_among tokens name_refusal NAMES itself)
+variable_name_at = token_at (is_valued tokens name_refusal NAMES global_named)
 
 abbrev pub linkage_at : Reader Tok (Option Linkage)
 linkage_at = optional_at (among tokens LINKAGES) (one_of_at LINKAGES linkage_word)

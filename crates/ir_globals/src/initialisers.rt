@@ -23,7 +23,7 @@ use lto_forms::{Fault, FaultKind, ReadError};
 use std::alloc::{AllocFailed, Global};
 
 /// What an initialiser with parts is of.
-#[derive(Clone, Copy, Debug, PartialEq, Eq)]
+#[derive(Clone, Copy)]
 pub enum Aggregate {
     /// `[` and `]`
     Array,
@@ -66,6 +66,7 @@ fn aggregate_of(head: &InitHead) -> Option<Aggregate>
         InitHead::Plain(_) => None,
         InitHead::Zeros => None,
         InitHead::Bytes(_) => None,
+        InitHead::Number(_) => None,
         InitHead::Array => Some(Aggregate::Array),
         InitHead::Struct { packed } => Some(Aggregate::Struct { packed: *packed }),
     }
@@ -114,7 +115,7 @@ fn aggregate_begin_at<'a>(tokens: &mut Tokens<'_, 'a>) -> Result<InitHead<'a>, R
 }
 
 /// Reads an initialiser up to its parts, for a scalar of this type, or for what is no scalar.
-#[tactic(auto, unfolding(crate::specs::InitialisersAt::beginning_at, crate::specs::InitialisersAt::zeros_at, crate::specs::InitialisersAt::plain_at))]
+#[tactic(auto, unfolding(crate::specs::InitialisersAt::beginning_at, crate::specs::InitialisersAt::zeros_at))]
 fn beginning_at<'a>(
     alloc: Global,
     scalar: Option<Reg>,
@@ -131,8 +132,7 @@ fn beginning_at<'a>(
     } else if tokens.comes_bracket() {
         aggregate_begin_at(tokens)
     } else {
-        let operand = constant_at(alloc, scalar, tokens)?;
-        Ok(InitHead::Plain(operand))
+        constant_at(alloc, scalar, tokens)
     }
 }
 

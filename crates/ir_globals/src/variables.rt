@@ -2,27 +2,42 @@
 
 ghost use Rattle.std.specs.Prelude.{◌≡◌, IfSome};
 ghost use Rattle.ir_lex.specs.Heads.{number};
+ghost use Rattle.ir_lex.specs.Tok.{tok};
 ghost use Rattle.lto_forms.specs.Alphabet.{contains, among};
 ghost use Rattle.lto_forms.specs.Readers.{Gives, next_is};
+ghost use Rattle.lto_forms.specs.Rules.{is_valued};
 ghost use Rattle.ir_read.specs.Classes.{tokens, one_of_at};
-ghost use Rattle.ir_read.specs.FunctionHeads.{LINKAGES, linkage_word};
-ghost use Rattle.ir_read.specs.Operands.{IsReg};
-ghost use Rattle.ir_globals.specs.Variables.{KINDS, is_constant, is_declared, with_align};
+ghost use Rattle.ir_read.specs.FunctionHeads.{LINKAGES, linkage_word, name_refusal};
+ghost use Rattle.ir_read.specs.Operands.{IsReg, global_named};
+ghost use Rattle.ir_globals.specs.Variables.{KINDS, NAMES, is_constant, is_declared, with_align};
 ghost use Rattle.ir_globals.specs.VariablesAt.{variable_name_at, linkage_at, qualifiers_at, linked_at, value_at, comdat_name_at, in_comdat_at, aligned_at, marked_at, further_at, tail_at, behind_kind_at, variable_line_at};
 
 use crate::initialisers::{initialiser_at, scalar_of, shape_at};
-use ir_lex::Head;
+use ir_lex::{Head, Token};
 use ir_read::{
     Init, Item, Name, Tokens, Variable, alignment_at, attached_at, comes_qualifier, expect,
-    linkage_by, name_refusal, qualifier_word_at, refusal, with_linkage,
+    global_named, linkage_by, name_refusal, qualifier_word_at, refusal, with_linkage,
 };
 use ir_tree::{Linkage, Reg};
 use lto_forms::{Fault, FaultKind, ReadError};
 use std::alloc::Global;
 
+/// What a token means where the name of a variable stands.
+#[tactic(auto, unfolding(lto_forms::specs::Rules::is_valued))]
+fn name_means<'a>(t: &Token<'a>) -> Result<Name<'a>, FaultKind>
+    ensures { result ≡ is_valued tokens name_refusal NAMES global_named (tok t.now) }
+{
+    match t.head {
+        Head::Global | Head::NumberedDefinition => match global_named(t) {
+            None => Err(FaultKind::Number),
+            Some(name) => Ok(name),
+        },
+        head => Err(name_refusal(head)),
+    }
+}
+
 /// Takes the name of a variable. One that is a number is taken where `= private` or `= internal`
 /// stands behind it.
-#[tactic(auto, unfolding(lto_forms::specs::Rules::is_among))]
 fn variable_name_at<'a>(tokens: &mut Tokens<'_, 'a>) -> Result<Name<'a>, ReadError>
     ensures { Gives (λ x. (x, tokens.new)) result (variable_name_at tokens.old) }
 {
@@ -32,12 +47,9 @@ fn variable_name_at<'a>(tokens: &mut Tokens<'_, 'a>) -> Result<Name<'a>, ReadErr
             left,
             kind: FaultKind::Syntax,
         })),
-        Some(t) => match t.head {
-            Head::Global | Head::NumberedDefinition => Ok(Name::of(t)),
-            head => Err(ReadError::Fault(Fault {
-                left,
-                kind: name_refusal(head),
-            })),
+        Some(t) => match name_means(&t) {
+            Ok(x) => Ok(x),
+            Err(kind) => Err(ReadError::Fault(Fault { left, kind })),
         },
     }
 }

@@ -20,7 +20,7 @@ use Rattle.lto_forms.proofs.Rules.{apart_from, within_of}
 use Rattle.ir_bodies.specs.Blocks.{any_definition}
 use Rattle.ir_bodies.specs.BlocksAt.{DEFINE}
 use Rattle.ir_bodies.proofs.BlockRules.{definition_rule, definition_opens}
-use Rattle.ir_globals.specs.Variables.{NAMES, variable_line}
+use Rattle.ir_globals.specs.Variables.{NAMES, any_variable_name, variable_line}
 use Rattle.ir_globals.proofs.TypeDefinitionRules.{type_line_rule}
 use Rattle.ir_globals.proofs.VariableRules.{variable_line_rule, variable_line_opens}
 use Rattle.ir_read.specs.AttributesAt.{HEAD}
@@ -90,7 +90,7 @@ beside_rule befores.Name = rules.broader tokens _ MORE (rules.alt tokens META (m
 
 declare_real : IsReal (word heads.Declare (codes "declare"))
 unfolding best_fit rest_fit label_len number_len word_len name_len meta_len dots_len other_len string_len has is_bad is_zero_name head_of word_head listed_head words_7
-declare_real = record { some = refl; fits = refl; good = refl; class = refl }
+declare_real = record { behind = []; some = refl; fits = refl; good = refl; class = refl }
 
 declare_rule : Rule tokens (the heads.Declare) (the heads.Declare) (the_at heads.Declare) DECLARE [] false
 unfolding is_class
@@ -108,9 +108,9 @@ any_declaration_opens : Opens tokens DECLARE any_declaration
 unfolding any_declaration
 any_declaration_opens = rules.opens_seq tokens DECLARE (the heads.Declare) (the_opens heads.Declare) (λ _. rules.seq tokens attached_before_rule (λ _. rules.seq tokens (head_rule roles.Declaration 0) (λ h. rules.nothing tokens _) refl) refl)
 
-any_variable_opens : Opens tokens NAMES (kept (variable_line any_shape))
+any_variable_opens : Opens tokens NAMES (kept (variable_line any_variable_name any_shape))
 unfolding kept
-any_variable_opens = rules.opens_seq tokens NAMES (variable_line any_shape) variable_line_opens (λ i. rules.nothing tokens (Some i, befores.Item))
+any_variable_opens = rules.opens_seq tokens NAMES (variable_line any_variable_name any_shape) variable_line_opens (λ i. rules.nothing tokens (Some i, befores.Item))
 
 kept_definition_opens : Opens tokens DEFINE (kept any_definition)
 unfolding kept
@@ -126,7 +126,7 @@ naming_rule room = rules.broader tokens NAMING MORE
     refl refl
 
 any_naming_opens : Opens tokens NAMING any_naming
-any_naming_opens = rules.opens_either tokens NAMES (DECLARE ++ DEFINE) (kept (variable_line any_shape)) (form.either any_declaration (kept any_definition)) any_variable_opens
+any_naming_opens = rules.opens_either tokens NAMES (DECLARE ++ DEFINE) (kept (variable_line any_variable_name any_shape)) (form.either any_declaration (kept any_definition)) any_variable_opens
     (rules.opens_either tokens DECLARE DEFINE any_declaration (kept any_definition) any_declaration_opens
     kept_definition_opens)
 

@@ -11,7 +11,7 @@ use Rattle.lto_forms.specs.Chained.{Chain}
 use Rattle.lto_forms.specs.Forms.{Form, ◌>>=◌, either, gives, Star}
 use Rattle.ir_bodies.specs.Blocks.{definition, any_definition}
 use Rattle.ir_globals.specs.TypeDefinitions.{type_line}
-use Rattle.ir_globals.specs.Variables.{variable_line}
+use Rattle.ir_globals.specs.Variables.{variable_name, any_variable_name, variable_line}
 use Rattle.ir_read.specs.Attributes.{head_attribute, attribute_group}
 use Rattle.ir_read.specs.Classes.{the}
 use Rattle.ir_read.specs.FunctionHeads.{head, any_head}
@@ -104,12 +104,12 @@ any_declaration = do
   gives (declared h, befores.Declaration)
 
 abbrev pub naming : ℕ → Form Tok Found
-naming room = either (kept (variable_line memory_shape))
+naming room = either (kept (variable_line variable_name memory_shape))
     (either (declaration room)
     (kept (definition room)))
 
 abbrev pub any_naming : Form Tok Found
-any_naming = either (kept (variable_line any_shape))
+any_naming = either (kept (variable_line any_variable_name any_shape))
     (either any_declaration
     (kept any_definition))
 

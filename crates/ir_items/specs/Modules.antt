@@ -81,12 +81,13 @@ abbrev pub IfModuleFault : ModuleError → (ModuleFault → Type 0) → Type 0
 IfModuleFault module_errors.NoMemory P = Unit {0}
 IfModuleFault (module_errors.Fault f) P = P f
 
--- a number is out of range exactly where a token that writes another, of the same class, goes on
+-- a number is out of range only where a token that writes another, of the same class, goes on; where one does, the fault is that or a
+-- limit, as a count may pass
 abbrev pub FitsNumber : List Tok → ℕ → ModuleFaultKind → Type 0
 FitsNumber ts left kinds.Number = NumberGoesOn tokens whole_module ts left
 FitsNumber ts left kinds.Syntax = NoNumberGoesOn tokens whole_module ts left
 FitsNumber ts left kinds.Profile = NoNumberGoesOn tokens whole_module ts left
-FitsNumber ts left kinds.Limit = NoNumberGoesOn tokens whole_module ts left
+FitsNumber ts left kinds.Limit = Unit {0}
 FitsNumber ts left kinds.Layout = NoNumberGoesOn tokens whole_module ts left
 
 -- a limit is passed only where a reading without the limits goes on with the token

@@ -4,7 +4,7 @@ ghost use Rattle.std.specs.Prelude.{◌≡◌, ◌≤◌, ◌<◌, ◌^◌, ◌+
 ghost use Rattle.ir_lex.specs.Blanks.{place, ends_before, is_blank, pass, skip, line_after, line_behind};
 
 /// How many bytes stand before a place, and its line.
-#[derive(Clone, Copy, Debug, PartialEq, Eq)]
+#[derive(Clone, Copy)]
 pub struct Spot {
     pub at: usize,
     pub line: u32,

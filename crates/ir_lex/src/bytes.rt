@@ -4,7 +4,7 @@ ghost use Rattle.std.specs.Prelude.{◌≡◌, ◌≤◌, length};
 ghost use Rattle.ir_lex.specs.Bytes.{starts_name, starts_word, has, run};
 
 /// A set of bytes that tokens are made of.
-#[derive(Clone, Copy, Debug, PartialEq, Eq)]
+#[derive(Clone, Copy)]
 pub enum Set {
     /// `0-9`
     Digits,

@@ -10,7 +10,7 @@ use std::alloc::{AllocError, Global};
 use std::borrow::CowSlice;
 
 /// A byte, and how many bytes behind the first one spell it.
-#[derive(Clone, Copy, Debug, PartialEq, Eq)]
+#[derive(Clone, Copy)]
 pub struct Escape {
     pub byte: u8,
     pub behind: usize,

@@ -9,7 +9,7 @@ use crate::bytes::{Set, run, starts_name, starts_word};
 use crate::token::Kind;
 
 /// A row of the table of tokens, and how many bytes it takes.
-#[derive(Clone, Copy, Debug, PartialEq, Eq)]
+#[derive(Clone, Copy)]
 pub struct Fit {
     pub kind: Kind,
     pub len: usize,
@@ -90,7 +90,7 @@ pub fn label_len(bytes: &[u8]) -> usize
 }
 
 /// How many bytes a label at the front takes, and at how many places from there on none begins.
-#[derive(Clone, Copy, Debug, PartialEq, Eq)]
+#[derive(Clone, Copy)]
 pub struct Labels {
     pub len: usize,
     pub free: usize,

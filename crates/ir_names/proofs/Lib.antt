@@ -11,3 +11,4 @@ mod Bodies
 mod Names
 mod Circles
 mod Searched
+mod Chains

@@ -4,6 +4,7 @@ pub mod Bodies
 pub mod BodyLaws
 pub mod Globals
 pub mod Groups
+pub mod Heads
 pub mod Keys
 pub mod KeyViews
 pub mod Locals

@@ -1,6 +1,8 @@
 -- Variables and their initialisers with each name resolved.
-use Rattle.std.specs.Prelude.{List, Option, None, Some, Result, Ok}
+use Rattle.std.specs.Prelude.{ℕ, if◌then◌else◌, List, Option, None, Some, Result, Ok}
 use Rattle.ir_lex.specs.Quotes.{content}
+use Rattle.ir_lex.specs.Tok.{Tok}
+use Rattle.ir_read.specs.Literals.{literal}
 use Rattle.ir_read.specs.declared.raw.Init as raw_init
 use Rattle.ir_read.specs.declared.raw.InitHead as raw_head
 use Rattle.ir_read.specs.declared.raw.InitHead.TheVariants as rh
@@ -24,7 +26,7 @@ use Rattle.ir_names.specs.Bodies.{operand_in, align_or}
 use Rattle.ir_names.specs.Locals.{Known, none_known}
 use Rattle.ir_names.specs.Settled.{◌>>=◌, each}
 use Rattle.ir_names.specs.Symbols.{symbol_of}
-use Rattle.ir_names.specs.Types.{Types, expanded}
+use Rattle.ir_names.specs.Types.{Types, is_width, expanded}
 
 -- the type of a constant for a shape: where that is no scalar, i1, which no shape in memory has
 abbrev pub constant_type : Form → Reg
@@ -38,11 +40,22 @@ abbrev pub constant_for : Form → Operand → Operand
 constant_for f (to.Poison reg) = to.Poison (constant_type f)
 constant_for f x = x
 
+-- a number behind what is no scalar as it is written: a literal of the integer that a name stands for, and else, out of range or for no
+-- integer, one of i1
+abbrev pub literal_or : ℕ → Option ℕ → Operand
+literal_or w None = to.Number 1 0
+literal_or w (Some bits) = to.Number w bits
+
+abbrev pub number_for : Form → Tok → Operand
+number_for (int w) t = literal_or w (if is_width w then literal w t.text else None)
+number_for f t = to.Number 1 0
+
 -- what an initialiser for this shape begins with; a string is the bytes that it writes
 abbrev pub head_in : Types → Known → Form → raw_head.InitHead → Result InitHead Fault
 head_in types locals f (rh.Plain operand) = operand_in types locals operand >>= λ o. Ok (th.Plain (constant_for f o))
 head_in types locals f rh.Zeros = Ok th.Zeros
 head_in types locals f (rh.Bytes string) = Ok (th.Bytes (content string.kind string.text))
+head_in types locals f (rh.Number t) = Ok (th.Plain (number_for f t))
 head_in types locals f rh.Array = Ok th.Array
 head_in types locals f (rh.Struct packed) = Ok (th.Struct packed)
 

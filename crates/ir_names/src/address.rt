@@ -9,7 +9,7 @@ ghost use Rattle.ir_names.specs.Settled.{Settles};
 
 use crate::expand::expanded;
 use crate::fault::{Fault, FaultKind, ResolveError};
-use crate::types::Types;
+use crate::heads::Types;
 use ir_read::{Index, Level};
 use ir_tree::{Shape as Tree, ShapeNode, offset_of as part_offset, size_of};
 use std::alloc::Global;

@@ -6,11 +6,11 @@ ghost use Rattle.ir_names.specs.BodyLaws.{placed};
 ghost use Rattle.ir_names.specs.Settled.{Settles};
 
 use crate::fault::ResolveError;
+use crate::heads::Types;
 use crate::instr::instr_in;
 use crate::locals::Locals;
 use crate::numbering::is_defined;
 use crate::terminator::end_in;
-use crate::types::Types;
 use ir_read::{Line as WrittenLine, Terminator as WrittenEnd};
 use ir_tree::{Block, Instr, Line, Phi, Rows};
 use std::alloc::Global;

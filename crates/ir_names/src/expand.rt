@@ -10,7 +10,8 @@ ghost use Rattle.ir_names.specs.Types.{expand, limit, scalar, within, without_pa
 ghost use Rattle.ir_names.specs.Types as typing;
 
 use crate::fault::{Fault, FaultKind, ResolveError};
-use crate::types::{Types, unknown};
+use crate::heads::Types;
+use crate::types::unknown;
 use ir_read::{Shape, ShapeNode, Typed};
 use ir_tree::{Shape as Tree, align_of, size_of};
 use std::alloc::Global;

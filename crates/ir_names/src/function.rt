@@ -6,9 +6,9 @@ ghost use Rattle.ir_names.specs.Settled.{Settles};
 
 use crate::block::after;
 use crate::fault::ResolveError;
+use crate::heads::Types;
 use crate::numbering::params_of;
 use crate::symbol::symbol_of;
-use crate::types::Types;
 use ir_read::{Head, Param as WrittenParam};
 use ir_tree::{Function, Param, Rows};
 use std::alloc::Global;
@@ -38,7 +38,7 @@ pub fn declaration_in<'t, 'a>(
 ) -> Result<Function, ResolveError>
     ensures { Settles (λ f. f) result (blocks.function_in types.now head.now [] false false) }
 {
-    let _locals = params_of(alloc, head.params.as_slice())?;
+    params_of(alloc, head.params.as_slice())?;
     let symbol = symbol_of(alloc, &head.name)?;
     let params = params_in(alloc, head.params.as_slice())?;
     Ok(Function {

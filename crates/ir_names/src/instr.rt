@@ -7,9 +7,9 @@ ghost use Rattle.ir_names.specs.Settled.{Settles};
 
 use crate::expand::{array_of, expanded};
 use crate::fault::ResolveError;
+use crate::heads::Types;
 use crate::locals::Locals;
 use crate::operand::{argument_in, arguments_in, entries_in, operand_in};
-use crate::types::Types;
 use ir_read::{Argument, Instr as Written, Operand, Typed};
 use ir_tree::{BinaryOp, Flags, Instr, Predicate, Reg, Rows, Shape, align_of};
 use std::alloc::Global;

@@ -8,8 +8,8 @@
 //! Below stand the tree of what is written (`ir_read`), tokens (`ir_lex`), the tree that is made
 //! (`ir_tree`) and `indexmap`, which keeps names in the order in which they are first seen. Each
 //! promise is one clause: a call gives what its definition in `specs/` says, the fault and its line
-//! among it, unless memory runs out. Each pass is linear in the text, but that a chain of type names
-//! that stand for each other is gone along at each use, and that `circles_of` searches from each place
+//! among it, unless memory runs out. What a chain of type names leads to is found once for each name.
+//! Each pass is linear in the text and in what it makes, but that `circles_of` searches from each place
 //! that leads to a circle.
 #![tactic(auto)]
 
@@ -21,6 +21,7 @@ mod function;
 mod globals;
 mod graph;
 mod groups;
+mod heads;
 mod instr;
 mod key;
 mod locals;
@@ -40,11 +41,12 @@ pub use function::{declaration_in, params_in};
 pub use globals::{Globals, name_of};
 pub use graph::{Graph, circles_of};
 pub use groups::{Groups, groups_of, is_noinline, is_optnone};
-pub use instr::{align_or, instr_in};
+pub use heads::Types;
+pub use instr::{align_or, allocated, instr_in};
 pub use locals::{Locals, Sort};
 pub use name_set::NameSet;
 pub use numbering::locals_of;
 pub use operand::operand_in;
 pub use symbol::{symbol_name, symbol_of};
 pub use terminator::end_in;
-pub use types::Types;
+pub use types::TypeNames;

@@ -5,9 +5,9 @@ ghost use Rattle.ir_names.specs.Settled.{Settles, each};
 
 use crate::address::address_offset;
 use crate::fault::ResolveError;
+use crate::heads::Types;
 use crate::locals::{Locals, Sort};
 use crate::symbol::symbol_of;
-use crate::types::Types;
 use ir_read::{Argument as Written, Incoming as WrittenIncoming, Operand as WrittenOperand};
 use ir_tree::{Argument, Incoming, Operand, Rows};
 use std::alloc::Global;

@@ -5,9 +5,9 @@ ghost use Rattle.ir_names.specs.Bodies.{end_in, case_in};
 ghost use Rattle.ir_names.specs.Settled.{Settles, each};
 
 use crate::fault::ResolveError;
+use crate::heads::Types;
 use crate::locals::{Locals, Sort};
 use crate::operand::{argument_in, operand_in};
-use crate::types::Types;
 use ir_read::{Argument, Case as WrittenCase, Name, Operand, Terminator as Written};
 use ir_tree::{Case, Rows, Terminator};
 use std::alloc::Global;

@@ -8,7 +8,7 @@ ghost use Rattle.ir_names.specs.Locals.{unknown};
 ghost use Rattle.ir_names.specs.declared.fault.ResolveError.TheVariants as errors;
 ghost use Rattle.ir_names.specs.Settled.{Settles};
 ghost use Rattle.ir_names.specs.TypeNames.{place_of};
-ghost use Rattle.ir_names.specs.Types.{entry_of, entry_in, shape_at, shape_in, head_from, head_of, chased, with_type, shape_if};
+ghost use Rattle.ir_names.specs.Types.{entry_of, entry_in, shape_at, shape_in, head_from, chased, with_type, shape_if};
 
 use crate::fault::{Fault, FaultKind, ResolveError};
 use crate::key::{Key, key_of};
@@ -19,11 +19,11 @@ use std::marker::Model;
 
 /// The type names of a module with their shapes, in the order of the text.
 #[derive(Drop)]
-pub struct Types<'t, 'a> {
+pub struct TypeNames<'t, 'a> {
     map: IndexMap<Key<'a>, Option<&'t Shape<'a>>>,
 }
 
-impl<'t, 'a> Model for Types<'t, 'a> {
+impl<'t, 'a> Model for TypeNames<'t, 'a> {
     ghost use Rattle.std.specs.Prelude.{List, Option};
     ghost use Rattle.ir_read.specs.Shapes.{Written};
     ghost use Rattle.ir_read.specs.ShapeCode.{code_from};
@@ -38,12 +38,12 @@ impl<'t, 'a> Model for Types<'t, 'a> {
     ghost view = { λ t. types t.map.entries };
 }
 
-impl<'t, 'a> Types<'t, 'a> {
+impl<'t, 'a> TypeNames<'t, 'a> {
     /// No name.
-    pub fn new(alloc: Global) -> Types<'t, 'a>
+    pub fn new(alloc: Global) -> TypeNames<'t, 'a>
         ensures { result ≡ [] }
     {
-        Types {
+        TypeNames {
             map: IndexMap::new(alloc),
         }
     }
@@ -100,7 +100,7 @@ impl<'t, 'a> Types<'t, 'a> {
     }
 
     /// The place of a type name among the definitions.
-    fn place_in(&self, alloc: Global, name: &Name<'a>) -> Result<usize, ResolveError>
+    pub fn place_in(&self, alloc: Global, name: &Name<'a>) -> Result<usize, ResolveError>
         ensures { Settles (λ p. shape_at self.now p) result (entry_in self.now name.now) }
     {
         let wanted = key_of(alloc, name)?;
@@ -153,7 +153,7 @@ impl<'t, 'a> Types<'t, 'a> {
 
     /// The shape that a chain of names leads to, which comes to the definition at a place by a name
     /// on a line, and goes on by at most so many names.
-    fn chase(
+    pub fn chase(
         &self,
         alloc: Global,
         first: usize,
@@ -180,24 +180,6 @@ impl<'t, 'a> Types<'t, 'a> {
                     _ => return Ok(shape),
                 },
             }
-        }
-    }
-
-    /// The shape that a shape is, or that the chain of names from it on leads to.
-    #[tactic(auto, unfolding(crate::specs::Types::head_of))]
-    pub fn head_of(
-        &self,
-        alloc: Global,
-        shape: &'t Shape<'a>,
-    ) -> Result<&'t Shape<'a>, ResolveError>
-        ensures { Settles (λ s. s.now) result (head_of self.now shape.now) }
-    {
-        match shape.node() {
-            ShapeNode::Named(name) => {
-                let first = self.place_in(alloc, name)?;
-                self.chase(alloc, first, name.line(), self.len())
-            }
-            _ => Ok(shape),
         }
     }
 }

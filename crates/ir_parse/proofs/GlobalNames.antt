@@ -120,6 +120,7 @@ head_plain : (h : raw_head.InitHead) → Plain (head_marks h)
 head_plain (rh.Plain operand) = operand_plain operand
 head_plain rh.Zeros = refl
 head_plain (rh.Bytes string) = refl
+head_plain (rh.Number t) = refl
 head_plain rh.Array = refl
 head_plain (rh.Struct packed) = refl
 

@@ -1,5 +1,5 @@
 -- What a variable uses once its names are resolved is known where what its text uses is.
-use Rattle.std.proofs.Common.{◌≡◌, List, [], ◌∷◌, ◌++◌, Option, Some, None, Ok, refl}
+use Rattle.std.proofs.Common.{◌≡◌, ℕ, if◌then◌else◌, List, [], ◌∷◌, ◌++◌, Option, Some, None, Ok, refl}
 use Rattle.std.specs.Prelude.{All}
 use Rattle.std.specs.List.{AllByRecursion as Each}
 use Rattle.std.proofs.lemmas.List.Elements.{All-from_recursion, All-nil}
@@ -10,7 +10,9 @@ use Rattle.ir_read.specs.declared.raw.InitHead.TheVariants as rh
 use Rattle.ir_read.specs.declared.raw.InitPart as raw_part
 use Rattle.ir_read.specs.declared.raw.InitPart.TheVariants as rp
 use Rattle.ir_read.specs.declared.raw.Variable as raw_variable
-use Rattle.ir_tree.specs.Forms.{Form}
+use Rattle.ir_lex.specs.Tok.{Tok}
+use Rattle.ir_read.specs.Literals.{literal}
+use Rattle.ir_tree.specs.Forms.{Form, int, pointer, array, structure}
 use Rattle.ir_tree.specs.Initials.{Initial, Initials, Levels, around, begun, headed, levels, read, tree_of}
 use Rattle.ir_tree.specs.Layout.{align}
 use Rattle.ir_tree.specs.Wholes.{IsKnown, all_operands, init_operands, initial_operands}
@@ -27,8 +29,8 @@ use Rattle.ir_names.specs.Locals.{none_known}
 use Rattle.ir_names.specs.Marks.{all, head_marks, init_marks, part_marks, typed_marks, uses}
 use Rattle.ir_names.specs.Settled.{◌>>=◌}
 use Rattle.ir_names.specs.Symbols.{symbol_of}
-use Rattle.ir_names.specs.Types.{Types, expanded}
-use Rattle.ir_names.specs.Variables.{constant_for, head_in, init_if, init_in, part_in, variable_in}
+use Rattle.ir_names.specs.Types.{Types, is_width, expanded}
+use Rattle.ir_names.specs.Variables.{constant_for, head_in, init_if, init_in, literal_or, number_for, part_in, variable_in}
 use Rattle.ir_parse.proofs.Gives.{Gives, gives, bind, bind_each, whatever}
 use Rattle.ir_parse.proofs.Marked.{MarkKnown, MarksKnown, front_of, back_of, each_of}
 use Rattle.ir_parse.proofs.KnownFunctions.{operand_known}
@@ -48,10 +50,21 @@ module _ (known : List Symbol) where
   for_known f (to.Poison reg) h = tt
   for_known f x h = h
 
+  number_known : (f : Form) (t : Tok) → IsKnown known (number_for f t)
+  number_known (int w) t = by (if is_width w then literal w t.text else None)
+    where
+      by : (o : Option ℕ) → IsKnown known (literal_or w o)
+      by None = tt
+      by (Some bits) = tt
+  number_known pointer t = tt
+  number_known (array n of) t = tt
+  number_known (structure packed parts) t = tt
+
   head_known : (types : Types) (f : Form) (h : raw_head.InitHead) → MarksKnown known (head_marks h) → Gives (head_in types none_known f h) HeadKnown
   head_known types f (rh.Plain operand) w = bind (IsKnown known) HeadKnown _ _ (operand_known types none_known known operand w) (λ o g. gives HeadKnown (th.Plain (constant_for f o)) (for_known f o g))
   head_known types f rh.Zeros w = gives HeadKnown th.Zeros tt
   head_known types f (rh.Bytes string) w = gives HeadKnown (th.Bytes (content string.kind string.text)) tt
+  head_known types f (rh.Number t) w = gives HeadKnown (th.Plain (number_for f t)) (number_known f t)
   head_known types f rh.Array w = gives HeadKnown th.Array tt
   head_known types f (rh.Struct packed) w = gives HeadKnown (th.Struct packed) tt
 

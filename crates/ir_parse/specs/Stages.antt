@@ -18,6 +18,13 @@ module_with types items =
     values_in types (groups_of items) items >>= λ values.
     Ok (record { datalayout = datalayout_of items; triple = triple_of items; globals = values })
 
+-- the stages behind that of type names
+abbrev pub module_behind : Types → List Item → Result Module Fault
+module_behind types items =
+    marks_within types (marks_of items) >>= λ _.
+    globals_named (marks_of items) >>= λ _.
+    module_with types items
+
 -- each stage goes over the whole text before the next begins: type names, then shapes within the limits and indices of constant
 -- addresses, then names of globals, then the functions one by one
 unfoldable pub module_in : List Item → Result Module Fault

@@ -1,15 +1,31 @@
 //! The stages behind the grammar, from items to a module.
 ghost use Rattle.std.specs.Prelude.{◌≡◌};
+ghost use Rattle.ir_names.specs.Groups.{groups_of};
+ghost use Rattle.ir_names.specs.Marks.{marks_of};
 ghost use Rattle.ir_names.specs.Settled.{Settles};
-ghost use Rattle.ir_parse.specs.Stages.{module_in, module_with};
+ghost use Rattle.ir_parse.specs.Stages.{module_behind, module_in, module_with};
+ghost use Rattle.ir_parse.specs.Values.{values_in};
 
 use crate::targets::{datalayout_of, triple_of};
 use crate::values::values_in;
 use ir_names::{ResolveError, Types, groups_of};
 use ir_read::Item;
 use ir_stages::{Marks, gather, globals_in, shapes_within, types_in};
-use ir_tree::Module;
+use ir_tree::{GlobalValue, Module, Rows};
 use std::alloc::Global;
+
+/// The global values of these items, whose attribute groups are found first.
+fn values_of<'t, 'a>(
+    items: &'t [Item<'a>],
+    alloc: Global,
+    types: &Types<'t, 'a>,
+) -> Result<Rows<GlobalValue>, ResolveError>
+    ensures { Settles (λ vs. vs) result (values_in types.now (groups_of items.now) items.now) }
+{
+    let groups = groups_of(alloc, items)?;
+    let values = values_in(items, alloc, types, &groups)?;
+    Ok(values)
+}
 
 /// The module of these items, whose type names are these: its target lines, and its global values one by
 /// one.
@@ -21,13 +37,30 @@ fn module_with<'t, 'a>(
 ) -> Result<Module, ResolveError>
     ensures { Settles (λ m. m) result (module_with types.now items.now) }
 {
-    let groups = groups_of(alloc, items)?;
-    let globals = values_in(items, alloc, types, &groups)?;
+    let globals = values_of(items, alloc, types)?;
+    let datalayout = datalayout_of(alloc, items)?;
+    let triple = triple_of(alloc, items)?;
     Ok(Module {
-        datalayout: datalayout_of(alloc, items)?,
-        triple: triple_of(alloc, items)?,
+        datalayout,
+        triple,
         globals,
     })
+}
+
+/// The module of items that have these marks and type names: its shapes and names of globals are looked
+/// at over the whole text, and then its functions one by one.
+fn module_behind<'t, 'a>(
+    items: &'t [Item<'a>],
+    alloc: Global,
+    marks: &Marks<'t, 'a>,
+    types: &Types<'t, 'a>,
+) -> Result<Module, ResolveError>
+    requires { marks.now ≡ marks_of items.now }
+    ensures { Settles (λ m. m) result (module_behind types.now items.now) }
+{
+    shapes_within(items, alloc, types)?;
+    globals_in(alloc, marks)?;
+    module_with(items, alloc, types)
 }
 
 /// The module that items stand for: its type names, shapes and names of globals are looked at in this
@@ -39,7 +72,5 @@ pub fn module_in<'t, 'a>(items: &'t [Item<'a>], alloc: Global) -> Result<Module,
     let mut marks = Marks::new(alloc);
     gather(items, &mut marks)?;
     let types = types_in(alloc, &marks)?;
-    shapes_within(items, alloc, &types)?;
-    globals_in(alloc, &marks)?;
-    module_with(items, alloc, &types)
+    module_behind(items, alloc, &marks, &types)
 }

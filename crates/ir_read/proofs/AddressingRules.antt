@@ -1,19 +1,24 @@
 -- The readers of `alloca` and `getelementptr` read them.
-use Rattle.std.proofs.Common.{◌≡◌, ℕ, Bool, true, false, cond, ◌||◌, nat_eq, nat_lt, Option, Some, None, List, [], ◌∷◌, refl, sym, ap, ◌∙◌, arith, ◌^◌, ◌≤◌, ◌<◌}
+use Rattle.std.proofs.Common.{◌≡◌, ℕ, max, Bool, true, false, cond, ◌||◌, ◌&&◌, not, nat_eq, nat_lt, Option, Some, None, List, [], ◌∷◌, Result, Ok, Err, refl, sym, ap, subst, ◌∙◌, arith, ◌^◌, ◌≤◌, ◌<◌}
+use Rattle.std.proofs.Math.Nat.{pow-le-pow_right}
 use Rattle.std.specs.Prelude.{codes}
 use Rattle.ir_lex.specs.declared.head.Head.TheVariants as heads
 use Rattle.ir_lex.specs.declared.token.Kind.TheVariants as kinds
 use Rattle.ir_lex.specs.Heads.{number}
 use Rattle.ir_lex.specs.Tok.{Tok}
 use Rattle.ir_tree.specs.declared.operand.Reg.TheVariants.{Ptr}
-use Rattle.lto_forms.specs.Alphabet.{among, contains}
+use Rattle.lto_forms.specs.Alphabet.{AllReal, among, contains}
 use Rattle.lto_forms.specs.Chained.{Chain, chain_at}
-use Rattle.lto_forms.specs.Rules.{Rule, IsWithin}
+use Rattle.lto_forms.specs.declared.fault.FaultKind.{FaultKind}
+use Rattle.lto_forms.specs.declared.fault.FaultKind.TheVariants.{Limit}
+use Rattle.lto_forms.specs.Readers.{Reader, fault_at, pick, token_at, token_means}
+use Rattle.lto_forms.specs.Rules.{Rule, IsWithin, in_range, is_valued}
+use Rattle.lto_forms.proofs.Composed.{same_form}
 use Rattle.lto_forms.proofs.Chains.{chain_lawful}
 use Rattle.lto_forms.proofs.Rules as rules
 use Rattle.lto_forms.proofs.Rules.{apart_from, within_of}
-use Rattle.ir_read.specs.Addressing.{count_in, many_slots, one_slot, slots_behind, reserving, indexing, attaching, behind_comma, further, indices, addressing}
-use Rattle.ir_read.specs.AddressingAt.{begins, count_in_at, many_slots_at, one_slot_at, slots_behind_at, reserving_at, indexing_at, attaching_at, behind_comma_at, further_at, indices_at, addressing_at}
+use Rattle.ir_read.specs.Addressing.{slots_fit, any_slots, fitting, fitting_count, is_count, count_in, many_slots, one_slot, slots_behind, reserving, indexing, attaching, behind_comma, further, indices, addressing}
+use Rattle.ir_read.specs.AddressingAt.{passes, too_many, count_means, begins, count_in_at, many_slots_at, one_slot_at, slots_behind_at, reserving_at, indexing_at, attaching_at, behind_comma_at, further_at, indices_at, addressing_at}
 use Rattle.ir_read.specs.Classes.{tokens, refusal, NUMERALS}
 use Rattle.ir_read.specs.Literals.{literal}
 use Rattle.ir_read.specs.Metadata.{META}
@@ -21,22 +26,30 @@ use Rattle.ir_read.specs.MetadataAt.{COMMA, PAREN}
 use Rattle.ir_read.specs.Operands.{INTEGER, REG, SCALAR}
 use Rattle.ir_read.specs.Phis.{anywhere}
 use Rattle.ir_read.specs.ShapeForms.{any_shape, memory_shape, NUMBER, counted, count_of}
+use Rattle.ir_read.specs.Shapes.{Written, pointer}
+use Rattle.ir_read.proofs.Barred.{barred_here}
 use Rattle.ir_read.proofs.MemoryRules.{AFTER, aligned_rule, alignment_rest_rule}
 use Rattle.ir_read.proofs.Nodes.{attached_rule}
-use Rattle.ir_read.proofs.OperandRules.{zero_below, integer_rule}
+use Rattle.ir_read.proofs.OperandRules.{integer_rule}
 use Rattle.ir_read.proofs.ShapeRules.{SHAPE, memory_shape_rule}
-use Rattle.ir_read.proofs.Singles.{sample, not_number, not_limit, comma_rule}
+use Rattle.ir_read.proofs.Singles.{sample, not_number, not_limit, comma_rule, number_real}
 use Rattle.ir_read.proofs.ValueRules.{operand_rule, argument_rule, pointer_rule, stepping_rule}
-use Rattle.ir_read.proofs.Words.{zero_real}
 
 -- ---- alloca
 
 abbrev zero : Tok
 zero = sample kinds.Number heads.Number (codes "0")
 
-counts_zero : (w : ℕ) → count_of w zero ≡ Some 0
+abbrev one : Tok
+one = sample kinds.Number heads.Number (codes "1")
+
+-- an integer has at least one bit, so 1 is a literal of it
+one_below : (w : ℕ) → nat_lt 1 (2 ^ max 1 w) ≡ true
+one_below w = let h : 2 ^ 1 ≤ 2 ^ max 1 w = pow-le-pow_right {n = 2} (omega arith) {i = 1} {j = max 1 w} (omega arith) in grind (arith, h)
+
+counts_one : (w : ℕ) → count_of (max 1 w) one ≡ Some 1
 unfolding counted literal
-counts_zero w = ap (λ (b : Bool). cond b (Some 0) None) (zero_below w)
+counts_one w = ap (λ (b : Bool). cond b (Some 1) None) (one_below w)
 
 only : (n m : ℕ) → nat_eq n m || false ≡ true → n ≡ m
 only n m h = by_value (nat_eq n m) refl h
@@ -48,17 +61,94 @@ only n m h = by_value (nat_eq n m) refl h
     by_value true e p = equal n m e
     by_value false e p = absurd cc
 
-count_in_rule : (w : ℕ) → Rule tokens (count_in w) (count_in w) (count_in_at w) NUMBER [] false
-count_in_rule w = rules.valued_rule tokens refusal not_number not_limit NUMBER (count_of w) within zero 0 refl (counts_zero w) zero_real
-  where
-    within : (t : Tok) → among tokens NUMBER t ≡ true → count_of w t ≡ None → IsWithin tokens NUMBER (count_of w) t
-    within t p q =
-        let e : number t.head ≡ number heads.Number = only (number t.head) (number heads.Number) p in
-        record { writes = ap (contains NUMERALS) e; other = zero; means = 0; alike = sym e; has = counts_zero w; real = zero_real }
+module _ (fits : ℕ → Bool) (some : fits 1 ≡ true) where
+  fits_one : (w : ℕ) → fitting_count fits w one ≡ Some 1
+  fits_one w = ap (fitting fits) (counts_one w) ∙ ap (λ (b : Bool). cond b (Some 1) None) some
 
-many_slots_rule : Rule tokens many_slots many_slots many_slots_at INTEGER AFTER false
-unfolding many_slots many_slots_at
-many_slots_rule = rules.broader tokens INTEGER AFTER (rules.seq tokens integer_rule (λ w. rules.seq tokens (count_in_rule w) (λ n. rules.seq tokens alignment_rest_rule (λ a. rules.nothing tokens _) refl) refl) refl) refl refl
+  within : (w : ℕ) (t : Tok) → among tokens NUMBER t ≡ true → fitting_count fits w t ≡ None → IsWithin tokens NUMBER (fitting_count fits w) t
+  within w t p q =
+      let e : number t.head ≡ number heads.Number = only (number t.head) (number heads.Number) p in
+      record { writes = ap (contains NUMERALS) e; other = one; means = 1; alike = sym e; has = fits_one w; real = number_real }
+
+  fitting_rule : (w : ℕ) → Rule tokens (count_in fits w) (count_in fits w) (token_at (is_count fits w)) NUMBER [] false
+  fitting_rule w = rules.valued_rule tokens refusal not_number not_limit NUMBER (fitting_count fits w) (within w) one 1 refl (fits_one w) number_real
+
+  -- ---- without the limits
+
+  fewer : (o : Option ℕ) (n : ℕ) → fitting fits o ≡ Some n → fitting (any_slots pointer) o ≡ Some n
+  fewer None n e = absurd cc
+  fewer (Some m) n e = by_test (fits m) e
+    where
+      by_test : (b : Bool) → cond b (Some m) None ≡ Some n → Some m ≡ Some n
+      by_test true d = d
+      by_test false d = absurd cc
+
+  abbrev counted_if : Bool → Option ℕ → FaultKind → Result ℕ FaultKind
+  counted_if b o k = cond b (in_range o) (Err k)
+
+  ranged : (o : Option ℕ) (n : ℕ) → in_range o ≡ Ok n → o ≡ Some n
+  ranged None n e = absurd cc
+  ranged (Some m) n e = cc
+
+  count_wide : (w : ℕ) (t : Tok) (n : ℕ) → is_count fits w t ≡ Ok n → is_count (any_slots pointer) w t ≡ Ok n
+  unfolding is_valued
+  count_wide w t n e = by_class (among tokens NUMBER t) e
+    where
+      by_class : (b : Bool) → counted_if b (fitting_count fits w t) (refusal (number t.head)) ≡ Ok n → counted_if b (fitting_count (any_slots pointer) w t) (refusal (number t.head)) ≡ Ok n
+      by_class true d = ap in_range (fewer (count_of (max 1 w) t) n (ranged (fitting_count fits w t) n d))
+      by_class false d = absurd cc
+
+  token_wide : (w : ℕ) (ts : List Tok) (n : ℕ) → count_in fits w ts n → count_in (any_slots pointer) w ts n
+  token_wide w [] n s = absurd s
+  token_wide w (t ∷ []) n s = count_wide w t n s
+  token_wide w (t ∷ u ∷ ts) n s = absurd s
+
+  -- one that fits is not too many
+  not_too_many : (w : ℕ) (t : Tok) (n : ℕ) → is_count fits w t ≡ Ok n → too_many fits w t ≡ false
+  unfolding is_valued
+  not_too_many w t n e = by_class (among tokens NUMBER t) (count_of (max 1 w) t) e
+    where
+      by_test : (m : ℕ) (b : Bool) → in_range (cond b (Some m) None) ≡ Ok n → not b ≡ false
+      by_test m true d = refl
+      by_test m false d = absurd cc
+
+      by_class : (b : Bool) (o : Option ℕ) → counted_if b (fitting fits o) (refusal (number t.head)) ≡ Ok n → b && passes fits o ≡ false
+      by_class true None d = refl
+      by_class true (Some m) d = by_test m (fits m) d
+      by_class false o d = refl
+
+  without : (w : ℕ) (t : Tok) (ts : List Tok) (n : ℕ) → count_in fits w (t ∷ ts) n → too_many fits w t ≡ false
+  without w t [] n s = not_too_many w t n s
+  without w t (u ∷ ts) n s = absurd s
+
+  -- one that is too many goes on without the limits
+  opens : (w : ℕ) (t : Tok) → too_many fits w t ≡ true → (more : List Tok) × (n : ℕ) × count_in (any_slots pointer) w (t ∷ more) n × AllReal tokens more
+  unfolding is_valued
+  opens w t h = by_class (among tokens NUMBER t) (count_of (max 1 w) t) refl refl h
+    where
+      by_class : (b : Bool) (o : Option ℕ) → among tokens NUMBER t ≡ b → count_of (max 1 w) t ≡ o → b && passes fits o ≡ true → (more : List Tok) × (n : ℕ) × count_in (any_slots pointer) w (t ∷ more) n × AllReal tokens more
+      by_class true None p q d = absurd cc
+      by_class true (Some n) p q d = ([], n, ap (λ (c : Bool). counted_if c (fitting_count (any_slots pointer) w t) (refusal (number t.head))) p ∙ ap (λ (o : Option ℕ). in_range (fitting (any_slots pointer) o)) q, tt)
+      by_class false o p q d = absurd cc
+
+  barred_rule : (w : ℕ) → Rule tokens (count_in fits w) (count_in (any_slots pointer) w) (pick (too_many fits w) (fault_at Limit) (token_at (is_count fits w))) NUMBER [] false
+  barred_rule w = record { law = barred_here tokens (count_in fits w) (count_in (any_slots pointer) w) (token_at (is_count fits w)) (too_many fits w) (among tokens NUMBER) (among tokens []) (same_form tokens (fitting_rule w).law (λ ts n s. s) (λ ts n s. s) (token_wide w)) (without w) (opens w) }
+
+  barred_is : (w : ℕ) (ts : List Tok) → pick (too_many fits w) (fault_at Limit) (token_at (is_count fits w)) ts ≡ count_in_at fits w ts
+  unfolding count_means
+  barred_is w [] = refl
+  barred_is w (t ∷ ts) = by_test (too_many fits w t)
+    where
+      by_test : (b : Bool) → cond b (fault_at Limit (t ∷ ts)) (token_means t ts (is_count fits w t)) ≡ token_means t ts (cond b (Err Limit) (is_count fits w t))
+      by_test true = refl
+      by_test false = refl
+
+  count_in_rule : (w : ℕ) → Rule tokens (count_in fits w) (count_in (any_slots pointer) w) (count_in_at fits w) NUMBER [] false
+  count_in_rule w = subst (λ (f : Reader Tok ℕ). Rule tokens (count_in fits w) (count_in (any_slots pointer) w) f NUMBER [] false) (λ i ts. barred_is w ts i) (barred_rule w)
+
+  many_slots_rule : Rule tokens (many_slots fits) (many_slots (any_slots pointer)) (many_slots_at fits) INTEGER AFTER false
+  unfolding many_slots many_slots_at
+  many_slots_rule = rules.broader tokens INTEGER AFTER (rules.seq tokens integer_rule (λ w. rules.seq tokens (count_in_rule w) (λ n. rules.seq tokens alignment_rest_rule (λ a. rules.nothing tokens _) refl) refl) refl) refl refl
 
 abbrev ALIGNED : List ℕ
 ALIGNED = number heads.Align ∷ number heads.Meta ∷ number heads.Bang ∷ []
@@ -67,13 +157,13 @@ one_slot_rule : Rule tokens one_slot one_slot one_slot_at ALIGNED AFTER false
 unfolding one_slot one_slot_at
 one_slot_rule = rules.seq tokens aligned_rule (λ a. rules.nothing tokens _) refl
 
-slots_behind_rule : Rule tokens slots_behind slots_behind slots_behind_at COMMA AFTER true
+slots_behind_rule : (s : Written) → Rule tokens (slots_behind (slots_fit s)) (slots_behind (any_slots s)) (slots_behind_at (slots_fit s)) COMMA AFTER true
 unfolding slots_behind slots_behind_at
-slots_behind_rule = rules.broader tokens COMMA AFTER (rules.alt tokens COMMA (rules.seq tokens comma_rule (λ _. rules.alt tokens INTEGER many_slots_rule one_slot_rule refl refl) refl) (rules.nothing tokens _) refl refl) refl refl
+slots_behind_rule s = rules.broader tokens COMMA AFTER (rules.alt tokens COMMA (rules.seq tokens comma_rule (λ _. rules.alt tokens INTEGER (many_slots_rule (slots_fit s) refl) one_slot_rule refl refl) refl) (rules.nothing tokens _) refl refl) refl refl
 
-pub reserving_rule : Rule tokens (reserving memory_shape) (reserving any_shape) reserving_at SHAPE AFTER false
+pub reserving_rule : Rule tokens (reserving slots_fit memory_shape) (reserving any_slots any_shape) reserving_at SHAPE AFTER false
 unfolding reserving reserving_at
-reserving_rule = rules.seq tokens memory_shape_rule (λ typed. rules.seq tokens slots_behind_rule (λ s. rules.nothing tokens _) refl) refl
+reserving_rule = rules.seq tokens memory_shape_rule (λ typed. rules.seq tokens (slots_behind_rule typed.shape) (λ s. rules.nothing tokens _) refl) refl
 
 -- ---- getelementptr
 

@@ -1,5 +1,5 @@
 -- The readers of attributes read them.
-use Rattle.std.proofs.Common.{◌≡◌, ℕ, Bool, true, false, ◌&&◌, ◌||◌, not, arith, nat_eq, cond, List, [], ◌∷◌, ◌++◌, Result, Ok, Err, refl, sym, ap, subst}
+use Rattle.std.proofs.Common.{◌≡◌, ℕ, Bool, true, false, ◌&&◌, ◌||◌, not, arith, nat_eq, cond, Some, None, List, [], ◌∷◌, ◌++◌, Result, Ok, Err, refl, sym, ap, subst}
 use Rattle.std.specs.Prelude.{codes}
 use Rattle.std.specs.List.{fold}
 use Rattle.ir_lex.specs.Bytes.{has}
@@ -17,12 +17,13 @@ use Rattle.lto_forms.specs.Forms as form
 use Rattle.lto_forms.specs.Lawful.{SameRefusal}
 use Rattle.lto_forms.specs.Readers as reader
 use Rattle.lto_forms.specs.Readers.{token_at}
-use Rattle.lto_forms.specs.Rules.{Rule, Opens}
+use Rattle.lto_forms.specs.Rules.{Rule, Opens, IsWithin}
 use Rattle.lto_forms.proofs.Composed.{token_lawful}
 use Rattle.lto_forms.proofs.Rules as rules
-use Rattle.ir_read.specs.Attributes.{WORDS, CALL_WORDS, GROUP_WORDS, GROUP, word_kept, aligned, parameter_attribute, parameter_attributes, word_tail, word_attribute, string_value, string_attribute, function_attribute, group_attribute, call_attribute, call_attributes, head_alignment, head_attribute, attached_attribute, definition_attribute, definition_attributes, grouped, attribute_group, with_attribute, none_kept, group_item}
-use Rattle.ir_read.specs.AttributesAt.{NUMBER, EQUALS, STRING, ALIGN, PARAMETER_WORD, PARAMETER_GROUP, PARAMETER, CALL, HEAD, DEFINITION, aligned_at, parameter_attribute_at, parameter_attributes_at, word_tail_at, word_attribute_at, string_value_at, string_attribute_at, function_attribute_at, group_attribute_at, call_attribute_at, call_attributes_at, head_alignment_at, head_attribute_at, attached_attribute_at, definition_attribute_at, definition_attributes_at, GROUPED, grouped_at, attribute_group_at}
-use Rattle.ir_read.specs.Classes.{tokens, IsReal, refusal, the, one_of, one_of_at, itself}
+use Rattle.ir_read.specs.Operands.{group_named}
+use Rattle.ir_read.specs.Attributes.{group_name, WORDS, CALL_WORDS, GROUP_WORDS, GROUP, word_kept, aligned, parameter_attribute, parameter_attributes, word_tail, word_attribute, string_value, string_attribute, function_attribute, group_attribute, call_attribute, call_attributes, head_alignment, head_attribute, attached_attribute, definition_attribute, definition_attributes, grouped, attribute_group, with_attribute, none_kept, group_item}
+use Rattle.ir_read.specs.AttributesAt.{group_name_at, NUMBER, EQUALS, STRING, ALIGN, PARAMETER_WORD, PARAMETER_GROUP, PARAMETER, CALL, HEAD, DEFINITION, aligned_at, parameter_attribute_at, parameter_attributes_at, word_tail_at, word_attribute_at, string_value_at, string_attribute_at, function_attribute_at, group_attribute_at, call_attribute_at, call_attributes_at, head_alignment_at, head_attribute_at, attached_attribute_at, definition_attribute_at, definition_attributes_at, GROUPED, grouped_at, attribute_group_at}
+use Rattle.ir_read.specs.Classes.{tokens, IsReal, NUMERALS, refusal, the, one_of}
 use Rattle.ir_read.specs.Decimals.{ALIGNMENTS, decimal, alignment_of, is_alignment}
 use Rattle.ir_read.specs.Metadata.{META, attached}
 use Rattle.ir_read.specs.MetadataAt.{PAREN}
@@ -86,7 +87,7 @@ alike t u n e = by_class (nat_eq (number t.head) (number heads.Number)) (nat_eq 
     refused_alike Number l e = tt
     refused_alike Syntax l e = (l, refl)
     refused_alike Profile l e = (l, refl)
-    refused_alike Limit l e = (l, refl)
+    refused_alike Limit l e = tt
 
     by_fit : (b : Bool) (m : Result ℕ FaultKind) → SameRefusal {A = ℕ} (cond b (Ok (decimal t.text)) (Err Number)) m
     by_fit true m = tt
@@ -146,15 +147,11 @@ plain = word heads.Word (codes "a")
 
 plain_real : IsReal plain
 unfolding plain best_fit rest_fit label_len number_len word_len name_len meta_len dots_len other_len string_len has is_bad is_zero_name head_of word_head listed_head words_1
-plain_real = record { some = refl; fits = refl; good = refl; class = refl }
+plain_real = record { behind = []; some = refl; fits = refl; good = refl; class = refl }
 
 pub word_attribute_rule : (words : List ℕ) → contains words (number heads.Word) ≡ true → Rule tokens (word_attribute words) (word_attribute words) (word_attribute_at words) (words ++ []) BEHIND_WORD false
 unfolding word_attribute word_attribute_at plain
 word_attribute_rule words h = rules.seq tokens (one_rule words word_kept plain h plain_real) (λ kept. rules.seq tokens word_tail_rule (λ _. rules.nothing tokens kept) refl) refl
-
-word_attribute_opens : (words : List ℕ) → Opens tokens words (word_attribute words)
-unfolding word_attribute
-word_attribute_opens words = rules.opens_seq tokens words (one_of words word_kept) (one_opens words word_kept) (λ kept. rules.seq tokens word_tail_rule (λ _. rules.nothing tokens kept) refl)
 
 string_value_rule : Rule tokens string_value string_value string_value_at EQUALS [] false
 unfolding string_value string_value_at
@@ -166,10 +163,6 @@ string_tail_rule = rules.seq tokens (rules.maybe tokens EQUALS string_value_rule
 string_attribute_rule : Rule tokens string_attribute string_attribute string_attribute_at STRING EQUALS false
 unfolding string_attribute string_attribute_at
 string_attribute_rule = rules.seq tokens string_rule (λ _. string_tail_rule) refl
-
-string_attribute_opens : Opens tokens STRING string_attribute
-unfolding string_attribute
-string_attribute_opens = rules.opens_seq tokens STRING (the heads.Str) (the_opens heads.Str) (λ _. string_tail_rule)
 
 call_word_rule : Rule tokens (function_attribute CALL_WORDS) (function_attribute CALL_WORDS) (function_attribute_at CALL_WORDS) (number heads.Str ∷ CALL_WORDS) (number heads.Equals ∷ BEHIND_WORD) false
 unfolding function_attribute function_attribute_at
@@ -183,17 +176,34 @@ pub grouped_attribute_rule : Rule tokens (function_attribute GROUP_WORDS) (funct
 unfolding function_attribute function_attribute_at
 grouped_attribute_rule = rules.alt tokens STRING string_attribute_rule (word_attribute_rule GROUP_WORDS refl) refl refl
 
-function_attribute_opens : (words : List ℕ) → Opens tokens (number heads.Str ∷ words) (function_attribute words)
-unfolding function_attribute
-function_attribute_opens words = rules.opens_either tokens STRING words string_attribute (word_attribute words) string_attribute_opens (word_attribute_opens words)
+abbrev zero_group : Tok
+zero_group = sample kinds.Group heads.Group (codes "#0")
+
+zero_named : group_named zero_group ≡ Some zero_group
+unfolding group_named
+zero_named = refl
+
+group_name_rule : Rule tokens group_name group_name group_name_at GROUP [] false
+group_name_rule = rules.valued_rule tokens refusal not_number not_limit GROUP group_named within zero_group zero_group refl zero_named group_name_real
+  where
+    only : (n m : ℕ) → nat_eq n m || false ≡ true → n ≡ m
+    only n m h = by_value (nat_eq n m) refl h
+      where
+        equal : (n m : ℕ) → nat_eq n m ≡ true → n ≡ m
+        equal n m e = grind arith
+
+        by_value : (b : Bool) → nat_eq n m ≡ b → b || false ≡ true → n ≡ m
+        by_value true e p = equal n m e
+        by_value false e p = absurd cc
+
+    within : (t : Tok) → among tokens GROUP t ≡ true → group_named t ≡ None → IsWithin tokens GROUP group_named t
+    within t p q =
+        let e : number t.head ≡ number heads.Group = only (number t.head) (number heads.Group) p in
+        record { writes = ap (contains NUMERALS) e; other = zero_group; means = zero_group; alike = sym e; has = zero_named; real = group_name_real }
 
 group_attribute_rule : Rule tokens group_attribute group_attribute group_attribute_at GROUP [] false
 unfolding group_attribute group_attribute_at
-group_attribute_rule = one_rule GROUP (λ t. Group t) (sample kinds.Group heads.Group (codes "#0")) refl group_name_real
-
-group_attribute_opens : Opens tokens GROUP group_attribute
-unfolding group_attribute
-group_attribute_opens = one_opens GROUP (λ t. Group t)
+group_attribute_rule = rules.seq tokens group_name_rule (λ _. rules.nothing tokens _) refl
 
 -- ---- behind the arguments of a call
 
@@ -201,13 +211,9 @@ pub call_attribute_rule : Rule tokens call_attribute call_attribute call_attribu
 unfolding call_attribute call_attribute_at
 call_attribute_rule = rules.alt tokens GROUP group_attribute_rule call_word_rule refl refl
 
-call_attribute_opens : Opens tokens CALL call_attribute
-unfolding call_attribute
-call_attribute_opens = rules.opens_either tokens GROUP (number heads.Str ∷ CALL_WORDS) group_attribute (function_attribute CALL_WORDS) group_attribute_opens (function_attribute_opens CALL_WORDS)
-
 pub call_attributes_rule : Rule tokens call_attributes call_attributes call_attributes_at CALL ((number heads.Equals ∷ BEHIND_WORD) ++ CALL) true
 unfolding call_attributes call_attributes_at
-call_attributes_rule = rules.seq tokens (rules.star tokens CALL call_attribute_rule call_attribute_opens refl refl) (λ _. rules.nothing tokens tt) refl
+call_attributes_rule = rules.seq tokens (rules.any_number tokens CALL call_attribute_rule refl refl) (λ _. rules.nothing tokens tt) refl
 
 -- ---- behind the head of a function
 
@@ -221,10 +227,6 @@ head_alignment_rule : Rule tokens head_alignment head_alignment head_alignment_a
 unfolding head_alignment head_alignment_at
 head_alignment_rule = rules.seq tokens align_rule (λ _. rules.seq tokens alignment_tail_rule (λ _. rules.nothing tokens Dropped) refl) refl
 
-head_alignment_opens : Opens tokens ALIGN head_alignment
-unfolding head_alignment
-head_alignment_opens = rules.opens_seq tokens ALIGN (the heads.Align) (the_opens heads.Align) (λ _. rules.seq tokens alignment_tail_rule (λ _. rules.nothing tokens Dropped) refl)
-
 -- what may stand behind an attribute
 abbrev pub BEHIND_ATTRIBUTE : List ℕ
 BEHIND_ATTRIBUTE = BEHIND_ALIGN ++ number heads.Equals ∷ BEHIND_WORD
@@ -233,42 +235,25 @@ pub head_attribute_rule : Rule tokens head_attribute head_attribute head_attribu
 unfolding head_attribute head_attribute_at
 head_attribute_rule = rules.alt tokens GROUP group_attribute_rule (rules.alt tokens ALIGN head_alignment_rule head_word_rule refl refl) refl refl
 
-pub head_attribute_opens : Opens tokens HEAD head_attribute
-unfolding head_attribute
-head_attribute_opens =
-    rules.opens_either tokens GROUP (number heads.Align ∷ number heads.Str ∷ WORDS) group_attribute _ group_attribute_opens
-    (rules.opens_either tokens ALIGN (number heads.Str ∷ WORDS) head_alignment (function_attribute WORDS) head_alignment_opens (function_attribute_opens WORDS))
-
 attached_attribute_rule : Rule tokens attached_attribute attached_attribute attached_attribute_at META PAREN false
 unfolding attached_attribute attached_attribute_at
 attached_attribute_rule = rules.seq tokens attached_rule (λ _. rules.nothing tokens Dropped) refl
-
-attached_attribute_opens : Opens tokens META attached_attribute
-unfolding attached_attribute
-attached_attribute_opens = rules.opens_seq tokens META attached attached_opens (λ _. rules.nothing tokens Dropped)
 
 pub definition_attribute_rule : Rule tokens definition_attribute definition_attribute definition_attribute_at DEFINITION (PAREN ++ BEHIND_ATTRIBUTE) false
 unfolding definition_attribute definition_attribute_at
 definition_attribute_rule = rules.alt tokens META attached_attribute_rule head_attribute_rule refl refl
 
-definition_attribute_opens : Opens tokens DEFINITION definition_attribute
-unfolding definition_attribute
-definition_attribute_opens = rules.opens_either tokens META HEAD attached_attribute head_attribute attached_attribute_opens head_attribute_opens
-
 pub definition_attributes_rule : Rule tokens definition_attributes definition_attributes definition_attributes_at DEFINITION ((PAREN ++ BEHIND_ATTRIBUTE) ++ DEFINITION) true
 unfolding definition_attributes definition_attributes_at
-definition_attributes_rule = rules.seq tokens (rules.star tokens DEFINITION definition_attribute_rule definition_attribute_opens refl refl) (λ all. rules.nothing tokens (fold with_attribute none_kept all)) refl
+definition_attributes_rule = rules.seq tokens (rules.any_number tokens DEFINITION definition_attribute_rule refl refl) (λ all. rules.nothing tokens (fold with_attribute none_kept all)) refl
 
 -- ---- groups
 
 grouped_rule : Rule tokens grouped grouped grouped_at GROUPED ((number heads.Equals ∷ BEHIND_WORD) ++ GROUPED) true
 unfolding grouped grouped_at
-grouped_rule = rules.seq tokens (rules.star tokens GROUPED grouped_attribute_rule (function_attribute_opens GROUP_WORDS) refl refl) (λ all. rules.nothing tokens (fold with_attribute none_kept all)) refl
-
-name_rule : Rule tokens (one_of GROUP itself) (one_of GROUP itself) (one_of_at GROUP itself) GROUP [] false
-name_rule = one_rule GROUP itself (sample kinds.Group heads.Group (codes "#0")) refl group_name_real
+grouped_rule = rules.seq tokens (rules.any_number tokens GROUPED grouped_attribute_rule refl refl) (λ all. rules.nothing tokens (fold with_attribute none_kept all)) refl
 
 pub attribute_group_rule : Rule tokens attribute_group attribute_group attribute_group_at (number heads.Attributes ∷ []) [] false
 unfolding attribute_group attribute_group_at
 attribute_group_rule =
-    rules.seq tokens attributes_rule (λ _. rules.seq tokens name_rule (λ name. rules.seq tokens equals_rule (λ _. rules.seq tokens open_brace_rule (λ _. rules.seq tokens grouped_rule (λ kept. rules.seq tokens close_brace_rule (λ _. rules.nothing tokens (group_item name kept)) refl) refl) refl) refl) refl) refl
+    rules.seq tokens attributes_rule (λ _. rules.seq tokens group_name_rule (λ name. rules.seq tokens equals_rule (λ _. rules.seq tokens open_brace_rule (λ _. rules.seq tokens grouped_rule (λ kept. rules.seq tokens close_brace_rule (λ _. rules.nothing tokens (group_item name kept)) refl) refl) refl) refl) refl) refl

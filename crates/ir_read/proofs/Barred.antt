@@ -1,7 +1,7 @@
 -- A reading that is barred by a limit before a token that begins none.
-use Rattle.std.proofs.Common.{◌≡◌, ℕ, Bool, true, false, ◌&&◌, not, List, [], ◌∷◌, ◌++◌, Result, Ok, Err, refl, sym, ap, subst, ◌∙◌}
+use Rattle.std.proofs.Common.{◌≡◌, ℕ, Bool, true, false, ◌&&◌, not, List, [], ◌∷◌, ◌++◌, Result, Ok, Err, refl, sym, ap, subst, ◌∙◌, inr}
 use Rattle.lto_forms.specs.declared.fault.FaultKind.TheVariants.{Limit}
-use Rattle.lto_forms.specs.Alphabet.{Alphabet, AllReal, is_number}
+use Rattle.lto_forms.specs.Alphabet.{Alphabet, AllReal}
 use Rattle.lto_forms.specs.Forms.{Form}
 use Rattle.lto_forms.specs.Lawful.{Lawful, Stops}
 use Rattle.lto_forms.specs.Readers.{Reader, fault_at, pick}
@@ -18,7 +18,7 @@ and_not : (b c : Bool) → b ≡ false → c ≡ true → not b && c ≡ true
 and_not true c h e = absurd cc
 and_not false c h e = e
 
-module _ {T A : Type 0} (alphabet : Alphabet T) (g wide : Form T A) (f : Reader T A) (begins first more : T → Bool) (law : Lawful alphabet g wide f first more false) (alike : (t u : T) → is_number alphabet t ≡ true → alphabet.class u ≡ alphabet.class t → begins t ≡ begins u) (without : (t : T) (ts : List T) (a : A) → g (t ∷ ts) a → begins t ≡ false) (opens : (t : T) → begins t ≡ true → (more' : List T) × (a : A) × wide (t ∷ more') a × AllReal alphabet more') where
+module _ {T A : Type 0} (alphabet : Alphabet T) (g wide : Form T A) (f : Reader T A) (begins first more : T → Bool) (law : Lawful alphabet g wide f first more false) (without : (t : T) (ts : List T) (a : A) → g (t ∷ ts) a → begins t ≡ false) (opens : (t : T) → begins t ≡ true → (more' : List T) × (a : A) × wide (t ∷ more') a × AllReal alphabet more') where
   abbrev narrow : T → Bool
   narrow t = not (begins t) && first t
 
@@ -46,7 +46,7 @@ module _ {T A : Type 0} (alphabet : Alphabet T) (g wide : Form T A) (f : Reader 
 
   pub barred_here : Lawful alphabet g wide (pick begins (fault_at Limit) f) first more false
   barred_here =
-      let b = barred_lawful alphabet g wide f begins narrow more false narrowed alike (λ t p. not_and (begins t) (first t) p) opens in
+      let b = barred_lawful alphabet g wide f begins narrow more false narrowed (λ t u n m. inr refl) (λ t p. not_and (begins t) (first t) p) opens in
       record {
         sound = b.sound;
         complete = complete_here;

@@ -17,32 +17,32 @@ use Rattle.lto_forms.specs.declared.fault.FaultKind.{FaultKind}
 use Rattle.lto_forms.specs.declared.fault.FaultKind.TheVariants.{Profile, Number, Limit}
 use Rattle.lto_forms.specs.Forms as form
 use Rattle.lto_forms.specs.Readers as reader
-use Rattle.lto_forms.specs.Rules.{Rule, Opens, is_class, is_among, subset}
+use Rattle.lto_forms.specs.Rules.{Rule, Opens, is_class, is_valued, subset}
 use Rattle.lto_forms.proofs.Chains.{chain_lawful}
 use Rattle.lto_forms.proofs.Rules as rules
 use Rattle.lto_forms.proofs.Rules.{apart_from, within_of}
 use Rattle.ir_read.specs.Attributes.{parameter_attribute}
 use Rattle.ir_read.specs.AttributesAt.{PARAMETER, parameter_attribute_at}
-use Rattle.ir_read.specs.Classes.{tokens, IsReal, refusal, the, one_of, one_of_at, itself}
+use Rattle.ir_read.specs.Classes.{tokens, IsReal, refusal, the, one_of, one_of_at}
 use Rattle.ir_read.specs.declared.function_heads.Role.{Role}
 use Rattle.ir_read.specs.declared.function_heads.Role.TheVariants as roles
 use Rattle.ir_read.specs.FunctionHeads.{LINKAGES, linkages_of, linkage_word, QUALIFIERS, nothing_of, linking, qualifying, leading, at_will, prefix, is_local, GLOBAL, NUMBERED, names_of, name_refusal, function_name, param, further_param, some_params, end_of_none, listed_params, params, any_some_params, any_listed_params, any_params, head, any_head}
 use Rattle.ir_read.specs.FunctionHeadsAt.{QUALIFYING, LEADING, linking_at, qualifier_at, qualifying_at, leading_at, begins_leading, prefix_at, function_name_at, param_at, further_param_at, params_behind_at, some_params_at, end_of_none_at, listed_params_at, params_at, head_at}
 use Rattle.ir_read.specs.MetadataAt.{COMMA}
-use Rattle.ir_read.specs.Operands.{REG, LOCAL, RESULT, type_refusal}
+use Rattle.ir_read.specs.Operands.{REG, LOCAL, RESULT, global_named, type_refusal}
 use Rattle.ir_read.proofs.AttributeRules.{parameter_attribute_rule, parameter_attributes_rule}
-use Rattle.ir_read.proofs.OperandRules.{type_not_number, type_not_limit, reg_rule, result_rule, local_rule}
+use Rattle.ir_read.proofs.OperandRules.{type_not_number, type_not_limit, reg_rule, result_rule, local_rule, global_within}
 use Rattle.ir_read.proofs.Singles.{sample, word, mark, not_number, not_limit, the_opens, one_rule, comma_rule, open_paren_rule, close_paren_rule, close_paren_real}
 
 -- ---- before the result
 
 pub external_real : IsReal (word heads.External (codes "external"))
 unfolding best_fit rest_fit label_len number_len word_len name_len meta_len dots_len other_len string_len has is_bad is_zero_name head_of word_head listed_head words_8
-external_real = record { some = refl; fits = refl; good = refl; class = refl }
+external_real = record { behind = []; some = refl; fits = refl; good = refl; class = refl }
 
 pub hidden_real : IsReal (word heads.Visibility (codes "hidden"))
 unfolding best_fit rest_fit label_len number_len word_len name_len meta_len dots_len other_len string_len has is_bad is_zero_name head_of word_head listed_head words_6
-hidden_real = record { some = refl; fits = refl; good = refl; class = refl }
+hidden_real = record { behind = []; some = refl; fits = refl; good = refl; class = refl }
 
 is_external : (role : Role) → among tokens (linkages_of role) (word heads.External (codes "external")) ≡ true
 is_external roles.Declaration = refl
@@ -92,7 +92,7 @@ prefix_rule roles.Definition = rules.broader tokens _ _ (rules.seq tokens (all_l
 
 pub global_real : IsReal (sample kinds.Global heads.Global (codes "@a"))
 unfolding best_fit rest_fit label_len number_len word_len name_len meta_len dots_len other_len string_len has is_bad is_zero_name head_of global_head name_head content unescaped
-global_real = record { some = refl; fits = refl; good = refl; class = refl }
+global_real = record { behind = []; some = refl; fits = refl; good = refl; class = refl }
 
 abbrev by_numbered : Bool → FaultKind → FaultKind
 by_numbered b k = cond b Profile k
@@ -111,17 +111,17 @@ name_not_limit n e = neither (contains NUMBERED n) (refusal n) Limit (λ x. cc) 
 abbrev pub NAMES : List ℕ
 NAMES = number heads.LifetimeMarker ∷ NUMBERED ++ GLOBAL
 
-abbrev is_among_names : List ℕ → Tok → Result Tok FaultKind
-is_among_names classes = is_among tokens name_refusal classes itself
+abbrev is_name : List ℕ → Tok → Result Tok FaultKind
+is_name classes = is_valued tokens name_refusal classes global_named
 
-named_rule : (classes : List ℕ) → among tokens classes (sample kinds.Global heads.Global (codes "@a")) ≡ true → Rule tokens (form.token (is_among_names classes)) (form.token (is_among_names classes)) (reader.token_at (is_among_names classes)) classes [] false
-named_rule classes e = rules.among_rule tokens name_refusal name_not_number name_not_limit classes itself (sample kinds.Global heads.Global (codes "@a")) e global_real
+pub named_rule : (classes : List ℕ) → among tokens classes (sample kinds.Global heads.Global (codes "@a")) ≡ true → Rule tokens (form.token (is_name classes)) (form.token (is_name classes)) (reader.token_at (is_name classes)) classes [] false
+named_rule classes e = rules.valued_rule tokens name_refusal name_not_number name_not_limit classes global_named (λ t p q. global_within classes t.head t refl q) (sample kinds.Global heads.Global (codes "@a")) (sample kinds.Global heads.Global (codes "@a")) e refl global_real
 
 pub function_name_rule : (role : Role) (l : Linkage) → Rule tokens (function_name role l) (function_name role l) (function_name_at role l) NAMES [] false
 function_name_rule roles.Declaration l = rules.broader tokens NAMES [] (named_rule (number heads.LifetimeMarker ∷ GLOBAL) refl) refl refl
 function_name_rule roles.Definition l = by_local (is_local l)
   where
-    by_local : (b : Bool) → Rule tokens (form.token (is_among_names (cond b (NUMBERED ++ GLOBAL) GLOBAL))) (form.token (is_among_names (cond b (NUMBERED ++ GLOBAL) GLOBAL))) (reader.token_at (is_among_names (cond b (NUMBERED ++ GLOBAL) GLOBAL))) NAMES [] false
+    by_local : (b : Bool) → Rule tokens (form.token (is_name (cond b (NUMBERED ++ GLOBAL) GLOBAL))) (form.token (is_name (cond b (NUMBERED ++ GLOBAL) GLOBAL))) (reader.token_at (is_name (cond b (NUMBERED ++ GLOBAL) GLOBAL))) NAMES [] false
     by_local true = rules.broader tokens NAMES [] (named_rule (NUMBERED ++ GLOBAL) refl) refl refl
     by_local false = rules.broader tokens NAMES [] (named_rule GLOBAL refl) refl refl
 

@@ -112,7 +112,7 @@ leaf_alike room t u n e = by_scalar (among tokens SCALAR t) (among tokens SCALAR
     alike_refused Number l e = tt
     alike_refused Syntax l e = (l, refl)
     alike_refused Profile l e = (l, refl)
-    alike_refused Limit l e = (l, refl)
+    alike_refused Limit l e = tt
 
     by_name : (b c : Bool) → b ≡ c → (o p : Option Typed) (k l : FaultKind) → k ≡ l → SameRefusal (named_means b o k) (named_means c p l)
     by_name true c d None p k l h = tt
@@ -202,11 +202,8 @@ and_parts true b h = refl
 and_parts false b h = absurd cc
 
 barred_rule : (room : Room) → Rule tokens (leaf room) (leaf whole) (pick (too_large room) (fault_at Limit) (token_at (is_leaf room))) LEAF [] false
-barred_rule room = record { law = barred_here tokens (leaf room) (leaf whole) (token_at (is_leaf room)) (too_large room) (among tokens LEAF) (λ _. false) (fitting_lawful room) alike without opens }
+barred_rule room = record { law = barred_here tokens (leaf room) (leaf whole) (token_at (is_leaf room)) (too_large room) (among tokens LEAF) (λ _. false) (fitting_lawful room) without opens }
   where
-    alike : (t u : Tok) → is_number tokens t ≡ true → tokens.class u ≡ tokens.class t → too_large room t ≡ too_large room u
-    alike t u n e = ap (λ (b : Bool). b && not (has_room room t)) (not_scalar t n) ∙ sym (ap (λ (b : Bool). b && not (has_room room u)) (not_scalar u (ap (contains NUMERALS) e ∙ n)))
-
     without : (t : Tok) (ts : List Tok) (x : Typed) → leaf room (t ∷ ts) x → too_large room t ≡ false
     without t [] x s = too_large_not room t x s
     without t (u ∷ ts) x s = absurd s
@@ -247,7 +244,7 @@ count_rule = rules.valued_rule tokens refusal not_number not_limit NUMBER (count
 
 times_real : IsReal (word heads.Times (codes "x"))
 unfolding best_fit rest_fit label_len number_len word_len name_len meta_len dots_len other_len string_len has is_bad is_zero_name head_of word_head listed_head words_1
-times_real = record { some = refl; fits = refl; good = refl; class = refl }
+times_real = record { behind = []; some = refl; fits = refl; good = refl; class = refl }
 
 pub times_rule : Rule tokens (the heads.Times) (the heads.Times) (the_at heads.Times) (number heads.Times ∷ []) [] false
 unfolding is_class

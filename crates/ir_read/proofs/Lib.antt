@@ -1,3 +1,4 @@
+mod Counts
 pub mod AddressingRules
 pub mod AttributeRules
 pub mod Barred
@@ -13,6 +14,7 @@ pub mod LeafRules
 pub mod Levels
 pub mod LineStarts
 pub mod Lines
+pub mod LiteralRange
 pub mod MemoryRules
 pub mod MetadataBehindRules
 pub mod Nodes

@@ -61,7 +61,7 @@ line_end = record { kind = kinds.Meta; text = codes "!a"; line = 1; head = heads
 
 line_end_real : IsReal line_end
 unfolding line_end best_fit rest_fit label_len number_len word_len name_len meta_len dots_len other_len string_len has is_bad is_zero_name head_of
-line_end_real = record { some = refl; fits = refl; good = refl; class = refl }
+line_end_real = record { behind = []; some = refl; fits = refl; good = refl; class = refl }
 
 ending : List Bracket → List Tok
 ending [] = line_end ∷ []

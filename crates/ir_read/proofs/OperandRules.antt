@@ -1,11 +1,15 @@
 -- The readers of types, names and operands read them.
-use Rattle.std.proofs.Common.{◌≡◌, ℕ, ◌<◌, ◌^◌, Bool, true, false, cond, ◌||◌, nat_eq, nat_lt, Option, Some, None, option_map, List, [], ◌∷◌, refl, sym, ap, ◌∙◌, arith}
+use Rattle.std.proofs.Common.{◌≡◌, ℕ, ◌<◌, ◌^◌, Bool, true, false, cond, ◌||◌, ◌&&◌, not, nat_eq, nat_lt, Option, Some, None, option_map, List, [], ◌∷◌, refl, sym, ap, ◌∙◌, arith}
 use Rattle.std.specs.Prelude.{codes}
 use Rattle.std.proofs.lemmas.Nat.{pow_pos}
 use Rattle.ir_lex.specs.declared.head.Head.{Head}
 use Rattle.ir_lex.specs.declared.head.Head.TheVariants as heads
 use Rattle.ir_lex.specs.declared.token.Kind.TheVariants as kinds
-use Rattle.ir_lex.specs.Heads.{number}
+use Rattle.ir_lex.specs.Bytes.{has}
+use Rattle.ir_lex.specs.Heads.{number, head_of, global_head, is_local_linkage}
+use Rattle.ir_lex.specs.Lexing.{is_bad}
+use Rattle.ir_lex.specs.Quotes.{is_zero_name, stripped}
+use Rattle.ir_lex.specs.Rows.{best_fit, rest_fit, label_len, number_len, word_len, name_len, meta_len, dots_len, other_len, string_len}
 use Rattle.ir_lex.specs.Tok.{Tok}
 use Rattle.ir_tree.specs.declared.operand.Reg.{Reg}
 use Rattle.ir_tree.specs.declared.operand.Reg.TheVariants.{Int, Ptr}
@@ -14,11 +18,12 @@ use Rattle.lto_forms.specs.declared.fault.FaultKind.{FaultKind}
 use Rattle.lto_forms.specs.declared.fault.FaultKind.TheVariants.{Profile, Number, Limit}
 use Rattle.lto_forms.specs.Rules.{Rule, IsWithin, is_class}
 use Rattle.lto_forms.proofs.Rules as rules
-use Rattle.ir_read.specs.Classes.{tokens, refusal, NUMERALS}
+use Rattle.ir_read.specs.Classes.{tokens, refusal, IsReal, NUMERALS}
+use Rattle.ir_read.specs.Decimals.{decimal}
 use Rattle.ir_read.specs.declared.raw.Operand.{Operand}
 use Rattle.ir_read.specs.declared.raw.Operand.TheVariants as operands
 use Rattle.ir_read.specs.Literals.{literal, unsigned}
-use Rattle.ir_read.specs.Operands.{INTEGER, REG, SCALAR, RESULT, REFUSED_TYPES, LOCAL, NUMBER_OPERAND, POINTER_OPERAND, classes_of, type_refusal, memory_refusal, width, reg_of, is_bit, result_of, reg, integer, bit, scalar, result, named, local, operand_by, operand_of, simple, maybe}
+use Rattle.ir_read.specs.Operands.{INTEGER, REG, SCALAR, RESULT, REFUSED_TYPES, LOCAL, NUMBER_OPERAND, POINTER_OPERAND, classes_of, type_refusal, memory_refusal, width, reg_of, is_bit, result_of, reg, integer, bit, scalar, result, is_numeral, named, local, global_by, global_named, operand_by, operand_of, simple, maybe}
 use Rattle.ir_read.specs.OperandsAt.{reg_at, integer_at, bit_at, scalar_at, result_at, local_at, simple_at, maybe_at}
 use Rattle.ir_read.proofs.Singles.{sample, word, not_number, not_limit}
 use Rattle.ir_read.proofs.Words.{int_32_real, int_1_real, void_real, null_real, local_real, zero_real, exact_rule, disjoint_rule, samesign_rule, nneg_rule}
@@ -88,6 +93,43 @@ local_rule = rules.valued_rule tokens refusal not_number not_limit LOCAL named w
         let e : number t.head ≡ number heads.Local = only (number t.head) (number heads.Local) p in
         record { writes = ap (contains NUMERALS) e; other = zero_local; means = zero_local; alike = sym e; has = zero_named; real = local_real }
 
+-- ---- names of globals
+
+abbrev pub zero_global : Head → Tok
+zero_global h = sample kinds.Global h (codes "@0")
+
+pub zero_global_named : (h : Head) → named (zero_global h) ≡ Some (zero_global h)
+unfolding named
+zero_global_named h = refl
+
+pub numbered_real : IsReal (zero_global heads.NumberedGlobal)
+unfolding best_fit rest_fit label_len number_len word_len name_len meta_len dots_len other_len string_len has is_bad is_zero_name head_of global_head
+numbered_real = record { behind = []; some = refl; fits = refl; good = refl; class = refl }
+
+-- before what makes it a definition
+pub definition_real : IsReal (zero_global heads.NumberedDefinition)
+unfolding best_fit rest_fit label_len number_len word_len name_len meta_len dots_len other_len string_len has is_bad is_zero_name head_of global_head is_local_linkage
+definition_real = record { behind = codes "=private "; some = refl; fits = refl; good = refl; class = refl }
+
+pub named_is : (t u : Tok) → named t ≡ Some u → t ≡ u
+unfolding named
+named_is t u e = by_test (is_numeral (stripped t.kind t.text) && not (nat_lt (decimal (stripped t.kind t.text)) 4294967296)) e
+  where
+    by_test : (b : Bool) → cond b None (Some t) ≡ Some u → t ≡ u
+    by_test true e = absurd cc
+    by_test false e = cc
+
+pub global_is : (h : Head) (t u : Tok) → global_by h t ≡ Some u → t ≡ u
+global_is heads.NumberedGlobal t u e = named_is t u e
+global_is heads.NumberedDefinition t u e = named_is t u e
+global_is h t u e = cc
+
+-- only one that is written by a number can be out of range
+pub global_within : (classes : List ℕ) (h : Head) (t : Tok) → t.head ≡ h → global_by h t ≡ None → IsWithin tokens classes global_named t
+global_within classes heads.NumberedGlobal t e q = record { writes = ap (λ (x : Head). contains NUMERALS (number x)) e; other = zero_global heads.NumberedGlobal; means = zero_global heads.NumberedGlobal; alike = sym (ap number e); has = zero_global_named heads.NumberedGlobal; real = numbered_real }
+global_within classes heads.NumberedDefinition t e q = record { writes = ap (λ (x : Head). contains NUMERALS (number x)) e; other = zero_global heads.NumberedDefinition; means = zero_global heads.NumberedDefinition; alike = sym (ap number e); has = zero_global_named heads.NumberedDefinition; real = definition_real }
+global_within classes h t e q = absurd cc
+
 -- ---- operands
 
 abbrev zero_number : Tok
@@ -111,6 +153,10 @@ pub operand_within : (r : Reg) (h : Head) (t : Tok) → t.head ≡ h → contain
 operand_within (Int w) heads.Number t e p q = record { writes = ap (λ (x : Head). contains NUMERALS (number x)) e; other = zero_number; means = operands.Number w 0; alike = sym (ap number e); has = zero_fits w; real = zero_real }
 operand_within (Int w) heads.Local t e p q = record { writes = ap (λ (x : Head). contains NUMERALS (number x)) e; other = zero_local; means = operands.Local zero_local; alike = sym (ap number e); has = local_fits (Int w); real = local_real }
 operand_within Ptr heads.Local t e p q = record { writes = ap (λ (x : Head). contains NUMERALS (number x)) e; other = zero_local; means = operands.Local zero_local; alike = sym (ap number e); has = local_fits Ptr; real = local_real }
+operand_within (Int w) heads.NumberedGlobal t e p q = record { writes = ap (λ (x : Head). contains NUMERALS (number x)) e; other = zero_global heads.NumberedGlobal; means = operands.Global (zero_global heads.NumberedGlobal); alike = sym (ap number e); has = ap (option_map operands.Global) (zero_global_named heads.NumberedGlobal); real = numbered_real }
+operand_within Ptr heads.NumberedGlobal t e p q = record { writes = ap (λ (x : Head). contains NUMERALS (number x)) e; other = zero_global heads.NumberedGlobal; means = operands.Global (zero_global heads.NumberedGlobal); alike = sym (ap number e); has = ap (option_map operands.Global) (zero_global_named heads.NumberedGlobal); real = numbered_real }
+operand_within (Int w) heads.NumberedDefinition t e p q = record { writes = ap (λ (x : Head). contains NUMERALS (number x)) e; other = zero_global heads.NumberedDefinition; means = operands.Global (zero_global heads.NumberedDefinition); alike = sym (ap number e); has = ap (option_map operands.Global) (zero_global_named heads.NumberedDefinition); real = definition_real }
+operand_within Ptr heads.NumberedDefinition t e p q = record { writes = ap (λ (x : Head). contains NUMERALS (number x)) e; other = zero_global heads.NumberedDefinition; means = operands.Global (zero_global heads.NumberedDefinition); alike = sym (ap number e); has = ap (option_map operands.Global) (zero_global_named heads.NumberedDefinition); real = definition_real }
 operand_within r h t e p q = absurd cc
 
 pub simple_rule : (r : Reg) → Rule tokens (simple r) (simple r) (simple_at r) NUMBER_OPERAND [] false

@@ -227,7 +227,7 @@ brackets_open t h =
 
 innermost_rule : (room : Room) → Rule tokens (leaf room) any_shape (innermost_at room) LEAF [] false
 unfolding innermost_at
-innermost_rule room = record { law = barred_here tokens (leaf room) any_shape (leaf_at room) (among tokens BRACKETS) (among tokens LEAF) (among tokens []) (innermost room).law (λ t u n m. ap (contains BRACKETS) (sym m)) without brackets_open }
+innermost_rule room = record { law = barred_here tokens (leaf room) any_shape (leaf_at room) (among tokens BRACKETS) (among tokens LEAF) (among tokens []) (innermost room).law without brackets_open }
   where
     is_false : (b : Bool) → (b ≡ true → ⊥) → b ≡ false
     is_false true never = absurd (never refl)

@@ -61,7 +61,7 @@ one_opens classes value = rules.opens_among tokens refusal classes value
 
 pub comma_real : IsReal (mark heads.Comma (codes ","))
 unfolding best_fit rest_fit label_len number_len word_len name_len meta_len dots_len other_len string_len has is_bad is_zero_name head_of mark_head
-comma_real = record { some = refl; fits = refl; good = refl; class = refl }
+comma_real = record { behind = []; some = refl; fits = refl; good = refl; class = refl }
 
 pub comma_rule : Rule tokens (the heads.Comma) (the heads.Comma) (the_at heads.Comma) (number heads.Comma ∷ []) [] false
 unfolding is_class
@@ -69,7 +69,7 @@ comma_rule = the_rule heads.Comma (mark heads.Comma (codes ",")) refl comma_real
 
 pub equals_real : IsReal (mark heads.Equals (codes "="))
 unfolding best_fit rest_fit label_len number_len word_len name_len meta_len dots_len other_len string_len has is_bad is_zero_name head_of mark_head
-equals_real = record { some = refl; fits = refl; good = refl; class = refl }
+equals_real = record { behind = []; some = refl; fits = refl; good = refl; class = refl }
 
 pub equals_rule : Rule tokens (the heads.Equals) (the heads.Equals) (the_at heads.Equals) (number heads.Equals ∷ []) [] false
 unfolding is_class
@@ -77,7 +77,7 @@ equals_rule = the_rule heads.Equals (mark heads.Equals (codes "=")) refl equals_
 
 pub open_paren_real : IsReal (mark heads.OpenParen (codes "("))
 unfolding best_fit rest_fit label_len number_len word_len name_len meta_len dots_len other_len string_len has is_bad is_zero_name head_of mark_head
-open_paren_real = record { some = refl; fits = refl; good = refl; class = refl }
+open_paren_real = record { behind = []; some = refl; fits = refl; good = refl; class = refl }
 
 pub open_paren_rule : Rule tokens (the heads.OpenParen) (the heads.OpenParen) (the_at heads.OpenParen) (number heads.OpenParen ∷ []) [] false
 unfolding is_class
@@ -85,7 +85,7 @@ open_paren_rule = the_rule heads.OpenParen (mark heads.OpenParen (codes "(")) re
 
 pub close_paren_real : IsReal (mark heads.CloseParen (codes ")"))
 unfolding best_fit rest_fit label_len number_len word_len name_len meta_len dots_len other_len string_len has is_bad is_zero_name head_of mark_head
-close_paren_real = record { some = refl; fits = refl; good = refl; class = refl }
+close_paren_real = record { behind = []; some = refl; fits = refl; good = refl; class = refl }
 
 pub close_paren_rule : Rule tokens (the heads.CloseParen) (the heads.CloseParen) (the_at heads.CloseParen) (number heads.CloseParen ∷ []) [] false
 unfolding is_class
@@ -93,7 +93,7 @@ close_paren_rule = the_rule heads.CloseParen (mark heads.CloseParen (codes ")"))
 
 pub open_bracket_real : IsReal (mark heads.OpenBracket (codes "["))
 unfolding best_fit rest_fit label_len number_len word_len name_len meta_len dots_len other_len string_len has is_bad is_zero_name head_of mark_head
-open_bracket_real = record { some = refl; fits = refl; good = refl; class = refl }
+open_bracket_real = record { behind = []; some = refl; fits = refl; good = refl; class = refl }
 
 pub open_bracket_rule : Rule tokens (the heads.OpenBracket) (the heads.OpenBracket) (the_at heads.OpenBracket) (number heads.OpenBracket ∷ []) [] false
 unfolding is_class
@@ -101,7 +101,7 @@ open_bracket_rule = the_rule heads.OpenBracket (mark heads.OpenBracket (codes "[
 
 pub close_bracket_real : IsReal (mark heads.CloseBracket (codes "]"))
 unfolding best_fit rest_fit label_len number_len word_len name_len meta_len dots_len other_len string_len has is_bad is_zero_name head_of mark_head
-close_bracket_real = record { some = refl; fits = refl; good = refl; class = refl }
+close_bracket_real = record { behind = []; some = refl; fits = refl; good = refl; class = refl }
 
 pub close_bracket_rule : Rule tokens (the heads.CloseBracket) (the heads.CloseBracket) (the_at heads.CloseBracket) (number heads.CloseBracket ∷ []) [] false
 unfolding is_class
@@ -109,7 +109,7 @@ close_bracket_rule = the_rule heads.CloseBracket (mark heads.CloseBracket (codes
 
 pub open_brace_real : IsReal (mark heads.OpenBrace (codes "{"))
 unfolding best_fit rest_fit label_len number_len word_len name_len meta_len dots_len other_len string_len has is_bad is_zero_name head_of mark_head
-open_brace_real = record { some = refl; fits = refl; good = refl; class = refl }
+open_brace_real = record { behind = []; some = refl; fits = refl; good = refl; class = refl }
 
 pub open_brace_rule : Rule tokens (the heads.OpenBrace) (the heads.OpenBrace) (the_at heads.OpenBrace) (number heads.OpenBrace ∷ []) [] false
 unfolding is_class
@@ -117,7 +117,7 @@ open_brace_rule = the_rule heads.OpenBrace (mark heads.OpenBrace (codes "{")) re
 
 pub close_brace_real : IsReal (mark heads.CloseBrace (codes "}"))
 unfolding best_fit rest_fit label_len number_len word_len name_len meta_len dots_len other_len string_len has is_bad is_zero_name head_of mark_head
-close_brace_real = record { some = refl; fits = refl; good = refl; class = refl }
+close_brace_real = record { behind = []; some = refl; fits = refl; good = refl; class = refl }
 
 pub close_brace_rule : Rule tokens (the heads.CloseBrace) (the heads.CloseBrace) (the_at heads.CloseBrace) (number heads.CloseBrace ∷ []) [] false
 unfolding is_class
@@ -125,7 +125,7 @@ close_brace_rule = the_rule heads.CloseBrace (mark heads.CloseBrace (codes "}"))
 
 pub open_angle_real : IsReal (mark heads.OpenAngle (codes "<"))
 unfolding best_fit rest_fit label_len number_len word_len name_len meta_len dots_len other_len string_len has is_bad is_zero_name head_of mark_head
-open_angle_real = record { some = refl; fits = refl; good = refl; class = refl }
+open_angle_real = record { behind = []; some = refl; fits = refl; good = refl; class = refl }
 
 pub open_angle_rule : Rule tokens (the heads.OpenAngle) (the heads.OpenAngle) (the_at heads.OpenAngle) (number heads.OpenAngle ∷ []) [] false
 unfolding is_class
@@ -133,7 +133,7 @@ open_angle_rule = the_rule heads.OpenAngle (mark heads.OpenAngle (codes "<")) re
 
 pub close_angle_real : IsReal (mark heads.CloseAngle (codes ">"))
 unfolding best_fit rest_fit label_len number_len word_len name_len meta_len dots_len other_len string_len has is_bad is_zero_name head_of mark_head
-close_angle_real = record { some = refl; fits = refl; good = refl; class = refl }
+close_angle_real = record { behind = []; some = refl; fits = refl; good = refl; class = refl }
 
 pub close_angle_rule : Rule tokens (the heads.CloseAngle) (the heads.CloseAngle) (the_at heads.CloseAngle) (number heads.CloseAngle ∷ []) [] false
 unfolding is_class
@@ -143,7 +143,7 @@ close_angle_rule = the_rule heads.CloseAngle (mark heads.CloseAngle (codes ">"))
 
 pub number_real : IsReal (sample kinds.Number heads.Number (codes "1"))
 unfolding best_fit rest_fit label_len number_len word_len name_len meta_len dots_len other_len string_len has is_bad is_zero_name head_of
-number_real = record { some = refl; fits = refl; good = refl; class = refl }
+number_real = record { behind = []; some = refl; fits = refl; good = refl; class = refl }
 
 pub number_rule : Rule tokens (the heads.Number) (the heads.Number) (the_at heads.Number) (number heads.Number ∷ []) [] false
 unfolding is_class
@@ -151,7 +151,7 @@ number_rule = the_rule heads.Number (sample kinds.Number heads.Number (codes "1"
 
 pub meta_real : IsReal (sample kinds.Meta heads.Meta (codes "!a"))
 unfolding best_fit rest_fit label_len number_len word_len name_len meta_len dots_len other_len string_len has is_bad is_zero_name head_of
-meta_real = record { some = refl; fits = refl; good = refl; class = refl }
+meta_real = record { behind = []; some = refl; fits = refl; good = refl; class = refl }
 
 pub meta_rule : Rule tokens (the heads.Meta) (the heads.Meta) (the_at heads.Meta) (number heads.Meta ∷ []) [] false
 unfolding is_class
@@ -159,7 +159,7 @@ meta_rule = the_rule heads.Meta (sample kinds.Meta heads.Meta (codes "!a")) refl
 
 pub bang_real : IsReal (sample kinds.Meta heads.Bang (codes "!"))
 unfolding best_fit rest_fit label_len number_len word_len name_len meta_len dots_len other_len string_len has is_bad is_zero_name head_of
-bang_real = record { some = refl; fits = refl; good = refl; class = refl }
+bang_real = record { behind = []; some = refl; fits = refl; good = refl; class = refl }
 
 pub bang_rule : Rule tokens (the heads.Bang) (the heads.Bang) (the_at heads.Bang) (number heads.Bang ∷ []) [] false
 unfolding is_class
@@ -167,7 +167,7 @@ bang_rule = the_rule heads.Bang (sample kinds.Meta heads.Bang (codes "!")) refl 
 
 pub group_name_real : IsReal (sample kinds.Group heads.Group (codes "#0"))
 unfolding best_fit rest_fit label_len number_len word_len name_len meta_len dots_len other_len string_len has is_bad is_zero_name head_of
-group_name_real = record { some = refl; fits = refl; good = refl; class = refl }
+group_name_real = record { behind = []; some = refl; fits = refl; good = refl; class = refl }
 
 pub group_name_rule : Rule tokens (the heads.Group) (the heads.Group) (the_at heads.Group) (number heads.Group ∷ []) [] false
 unfolding is_class
@@ -175,7 +175,7 @@ group_name_rule = the_rule heads.Group (sample kinds.Group heads.Group (codes "#
 
 pub string_real : IsReal (sample kinds.Str heads.Str (codes "\"\""))
 unfolding best_fit rest_fit label_len number_len word_len name_len meta_len dots_len other_len string_len has is_bad is_zero_name head_of
-string_real = record { some = refl; fits = refl; good = refl; class = refl }
+string_real = record { behind = []; some = refl; fits = refl; good = refl; class = refl }
 
 pub string_rule : Rule tokens (the heads.Str) (the heads.Str) (the_at heads.Str) (number heads.Str ∷ []) [] false
 unfolding is_class
@@ -185,7 +185,7 @@ string_rule = the_rule heads.Str (sample kinds.Str heads.Str (codes "\"\"")) ref
 
 pub align_real : IsReal (word heads.Align (codes "align"))
 unfolding best_fit rest_fit label_len number_len word_len name_len meta_len dots_len other_len string_len has is_bad is_zero_name head_of word_head listed_head words_5
-align_real = record { some = refl; fits = refl; good = refl; class = refl }
+align_real = record { behind = []; some = refl; fits = refl; good = refl; class = refl }
 
 pub align_rule : Rule tokens (the heads.Align) (the heads.Align) (the_at heads.Align) (number heads.Align ∷ []) [] false
 unfolding is_class
@@ -193,7 +193,7 @@ align_rule = the_rule heads.Align (word heads.Align (codes "align")) refl align_
 
 pub parameter_word_real : IsReal (word heads.ParameterWord (codes "noundef"))
 unfolding best_fit rest_fit label_len number_len word_len name_len meta_len dots_len other_len string_len has is_bad is_zero_name head_of word_head listed_head words_7
-parameter_word_real = record { some = refl; fits = refl; good = refl; class = refl }
+parameter_word_real = record { behind = []; some = refl; fits = refl; good = refl; class = refl }
 
 pub parameter_word_rule : Rule tokens (the heads.ParameterWord) (the heads.ParameterWord) (the_at heads.ParameterWord) (number heads.ParameterWord ∷ []) [] false
 unfolding is_class
@@ -201,7 +201,7 @@ parameter_word_rule = the_rule heads.ParameterWord (word heads.ParameterWord (co
 
 pub parameter_group_real : IsReal (word heads.ParameterGroup (codes "captures"))
 unfolding best_fit rest_fit label_len number_len word_len name_len meta_len dots_len other_len string_len has is_bad is_zero_name head_of word_head listed_head words_8
-parameter_group_real = record { some = refl; fits = refl; good = refl; class = refl }
+parameter_group_real = record { behind = []; some = refl; fits = refl; good = refl; class = refl }
 
 pub parameter_group_rule : Rule tokens (the heads.ParameterGroup) (the heads.ParameterGroup) (the_at heads.ParameterGroup) (number heads.ParameterGroup ∷ []) [] false
 unfolding is_class
@@ -209,7 +209,7 @@ parameter_group_rule = the_rule heads.ParameterGroup (word heads.ParameterGroup 
 
 pub attributes_real : IsReal (word heads.Attributes (codes "attributes"))
 unfolding best_fit rest_fit label_len number_len word_len name_len meta_len dots_len other_len string_len has is_bad is_zero_name head_of word_head listed_head words_10
-attributes_real = record { some = refl; fits = refl; good = refl; class = refl }
+attributes_real = record { behind = []; some = refl; fits = refl; good = refl; class = refl }
 
 pub attributes_rule : Rule tokens (the heads.Attributes) (the heads.Attributes) (the_at heads.Attributes) (number heads.Attributes ∷ []) [] false
 unfolding is_class

@@ -26,7 +26,7 @@ use Rattle.ir_read.proofs.Singles.{sample, word, not_number, not_limit, the_rule
 
 target_real : IsReal (word heads.Target (codes "target"))
 unfolding best_fit rest_fit label_len number_len word_len name_len meta_len dots_len other_len string_len has is_bad is_zero_name head_of word_head listed_head words_6
-target_real = record { some = refl; fits = refl; good = refl; class = refl }
+target_real = record { behind = []; some = refl; fits = refl; good = refl; class = refl }
 
 target_rule : Rule tokens (the heads.Target) (the heads.Target) (the_at heads.Target) (number heads.Target ∷ []) [] false
 unfolding is_class
@@ -34,7 +34,7 @@ target_rule = the_rule heads.Target (word heads.Target (codes "target")) refl ta
 
 layout_word_real : IsReal (word heads.Datalayout (codes "datalayout"))
 unfolding best_fit rest_fit label_len number_len word_len name_len meta_len dots_len other_len string_len has is_bad is_zero_name head_of word_head listed_head words_10
-layout_word_real = record { some = refl; fits = refl; good = refl; class = refl }
+layout_word_real = record { behind = []; some = refl; fits = refl; good = refl; class = refl }
 
 layout_word_rule : Rule tokens (the heads.Datalayout) (the heads.Datalayout) (the_at heads.Datalayout) (number heads.Datalayout ∷ []) [] false
 unfolding is_class
@@ -42,7 +42,7 @@ layout_word_rule = the_rule heads.Datalayout (word heads.Datalayout (codes "data
 
 triple_word_real : IsReal (word heads.Triple (codes "triple"))
 unfolding best_fit rest_fit label_len number_len word_len name_len meta_len dots_len other_len string_len has is_bad is_zero_name head_of word_head listed_head words_6
-triple_word_real = record { some = refl; fits = refl; good = refl; class = refl }
+triple_word_real = record { behind = []; some = refl; fits = refl; good = refl; class = refl }
 
 triple_word_rule : Rule tokens (the heads.Triple) (the heads.Triple) (the_at heads.Triple) (number heads.Triple ∷ []) [] false
 unfolding is_class
@@ -50,7 +50,7 @@ triple_word_rule = the_rule heads.Triple (word heads.Triple (codes "triple")) re
 
 source_word_real : IsReal (word heads.SourceFilename (codes "source_filename"))
 unfolding best_fit rest_fit label_len number_len word_len name_len meta_len dots_len other_len string_len has is_bad is_zero_name head_of word_head listed_head words_15
-source_word_real = record { some = refl; fits = refl; good = refl; class = refl }
+source_word_real = record { behind = []; some = refl; fits = refl; good = refl; class = refl }
 
 source_word_rule : Rule tokens (the heads.SourceFilename) (the heads.SourceFilename) (the_at heads.SourceFilename) (number heads.SourceFilename ∷ []) [] false
 unfolding is_class
@@ -58,7 +58,7 @@ source_word_rule = the_rule heads.SourceFilename (word heads.SourceFilename (cod
 
 comdat_word_real : IsReal (word heads.Comdat (codes "comdat"))
 unfolding best_fit rest_fit label_len number_len word_len name_len meta_len dots_len other_len string_len has is_bad is_zero_name head_of word_head listed_head words_6
-comdat_word_real = record { some = refl; fits = refl; good = refl; class = refl }
+comdat_word_real = record { behind = []; some = refl; fits = refl; good = refl; class = refl }
 
 comdat_word_rule : Rule tokens (the heads.Comdat) (the heads.Comdat) (the_at heads.Comdat) (number heads.Comdat ∷ []) [] false
 unfolding is_class
@@ -66,7 +66,7 @@ comdat_word_rule = the_rule heads.Comdat (word heads.Comdat (codes "comdat")) re
 
 any_word_real : IsReal (word heads.Any (codes "any"))
 unfolding best_fit rest_fit label_len number_len word_len name_len meta_len dots_len other_len string_len has is_bad is_zero_name head_of word_head listed_head words_3
-any_word_real = record { some = refl; fits = refl; good = refl; class = refl }
+any_word_real = record { behind = []; some = refl; fits = refl; good = refl; class = refl }
 
 any_word_rule : Rule tokens (the heads.Any) (the heads.Any) (the_at heads.Any) (number heads.Any ∷ []) [] false
 unfolding is_class
@@ -74,7 +74,7 @@ any_word_rule = the_rule heads.Any (word heads.Any (codes "any")) refl any_word_
 
 comdat_name_real : IsReal (sample kinds.Comdat heads.ComdatName (codes "$a"))
 unfolding best_fit rest_fit label_len number_len word_len name_len meta_len dots_len other_len string_len has is_bad is_zero_name head_of
-comdat_name_real = record { some = refl; fits = refl; good = refl; class = refl }
+comdat_name_real = record { behind = []; some = refl; fits = refl; good = refl; class = refl }
 
 comdat_name_rule : Rule tokens (the heads.ComdatName) (the heads.ComdatName) (the_at heads.ComdatName) (number heads.ComdatName ∷ []) [] false
 unfolding is_class
@@ -121,7 +121,7 @@ same_failed : (k l : FaultKind) → k ≡ l → SameRefusal {A = Tok} (Err k) (E
 same_failed Number l e = tt
 same_failed Syntax l e = (l, refl)
 same_failed Profile l e = (l, refl)
-same_failed Limit l e = (l, refl)
+same_failed Limit l e = tt
 
 layout_ranged : IsRanged tokens is_layout
 unfolding is_layout

@@ -57,7 +57,7 @@ zero = sample kinds.Number heads.Number (codes "0")
 
 true_real : IsReal (word heads.True (codes "true"))
 unfolding best_fit rest_fit label_len number_len word_len name_len meta_len dots_len other_len string_len has is_bad is_zero_name head_of word_head listed_head words_4
-true_real = record { some = refl; fits = refl; good = refl; class = refl }
+true_real = record { behind = []; some = refl; fits = refl; good = refl; class = refl }
 
 zero_matches : (w : ℕ) → matched_of (Int w) zero ≡ Some (matched w 0)
 unfolding literal
@@ -110,7 +110,7 @@ behind_end_rule end.Unreachable = rules.wider tokens _ _ (rules.nothing tokens _
 
 ret_real : IsReal (word heads.Ret (codes "ret"))
 unfolding best_fit rest_fit label_len number_len word_len name_len meta_len dots_len other_len string_len has is_bad is_zero_name head_of word_head listed_head words_3
-ret_real = record { some = refl; fits = refl; good = refl; class = refl }
+ret_real = record { behind = []; some = refl; fits = refl; good = refl; class = refl }
 
 -- a terminator delimits itself, but for its attachments
 pub terminator_rule : Rule tokens (terminator memory_shape) (terminator any_shape) terminator_at ENDS (number heads.OpenParen ∷ number heads.Comma ∷ []) false

@@ -15,16 +15,16 @@ use Rattle.lto_forms.specs.Alphabet.{among, contains}
 use Rattle.lto_forms.specs.Forms.{Star}
 use Rattle.lto_forms.specs.Rules.{Rule, Opens, IsWithin, is_class}
 use Rattle.lto_forms.proofs.Rules as rules
-use Rattle.ir_read.specs.Classes.{tokens, IsReal, refusal, NUMERALS, the, the_at, one_of, one_of_at, itself}
+use Rattle.ir_read.specs.Classes.{tokens, IsReal, refusal, NUMERALS, the, the_at, one_of, one_of_at}
 use Rattle.ir_read.specs.declared.address.Index.{Index}
 use Rattle.ir_read.specs.declared.shape.Typed.{Typed}
 use Rattle.ir_read.specs.Literals.{literal}
 use Rattle.ir_read.specs.MetadataAt.{COMMA}
-use Rattle.ir_read.specs.Operands.{REG, NUMBER_OPERAND, type_refusal}
+use Rattle.ir_read.specs.Operands.{REG, NUMBER_OPERAND, global_named, type_refusal}
 use Rattle.ir_read.specs.ShapeForms.{any_shape, memory_shape}
-use Rattle.ir_read.specs.Values.{STEPPING, is_inbounds, stepping, NUMBER, index_of, index_number, index, GLOBAL, closing_one, closing, opened, opening, reached, address_behind, address, operand, argument, pointer}
-use Rattle.ir_read.specs.ValuesAt.{ADDRESS, pointer_at, stepping_at, index_number_at, index_at, indices_at, closing_one_at, closing_at, opened_at, opening_at, openings_at, reached_at, address_behind_at, address_at, operand_at, argument_at}
-use Rattle.ir_read.proofs.OperandRules.{type_not_number, type_not_limit, zero_below, reg_rule, integer_rule, simple_rule}
+use Rattle.ir_read.specs.Values.{STEPPING, is_inbounds, stepping, NUMBER, index_of, index_number, index, GLOBAL, global, closing_one, closing, opened, opening, reached, address_behind, address, operand, argument, pointer}
+use Rattle.ir_read.specs.ValuesAt.{ADDRESS, pointer_at, stepping_at, index_number_at, index_at, indices_at, closing_one_at, closing_at, opened_at, opening_at, openings_at, global_at, reached_at, address_behind_at, address_at, operand_at, argument_at}
+use Rattle.ir_read.proofs.OperandRules.{type_not_number, type_not_limit, zero_below, reg_rule, integer_rule, global_within, simple_rule}
 use Rattle.ir_read.proofs.ShapeRules.{SHAPE, memory_shape_rule}
 use Rattle.ir_read.proofs.Singles.{sample, word, not_number, not_limit, the_rule, the_opens, one_rule, one_opens, comma_rule, open_paren_rule, close_paren_rule}
 use Rattle.ir_read.proofs.Words.{pointer_real, zero_real}
@@ -37,7 +37,7 @@ pointer_rule = rules.class_rule tokens type_refusal type_not_number type_not_lim
 
 inbounds_real : IsReal (word heads.Inbounds (codes "inbounds"))
 unfolding best_fit rest_fit label_len number_len word_len name_len meta_len dots_len other_len string_len has is_bad is_zero_name head_of word_head listed_head words_8
-inbounds_real = record { some = refl; fits = refl; good = refl; class = refl }
+inbounds_real = record { behind = []; some = refl; fits = refl; good = refl; class = refl }
 
 pub flag_rule : Rule tokens (one_of STEPPING is_inbounds) (one_of STEPPING is_inbounds) (one_of_at STEPPING is_inbounds) STEPPING [] false
 flag_rule = one_rule STEPPING is_inbounds (word heads.Inbounds (codes "inbounds")) refl inbounds_real
@@ -102,7 +102,7 @@ closing_rule (typed ∷ outer) = rules.wider tokens CLOSES [] (rules.seq tokens 
 
 get_element_real : IsReal (word heads.GetElementPtr (codes "getelementptr"))
 unfolding best_fit rest_fit label_len number_len word_len name_len meta_len dots_len other_len string_len has is_bad is_zero_name head_of word_head listed_head words_13
-get_element_real = record { some = refl; fits = refl; good = refl; class = refl }
+get_element_real = record { behind = []; some = refl; fits = refl; good = refl; class = refl }
 
 get_element_rule : Rule tokens (the heads.GetElementPtr) (the heads.GetElementPtr) (the_at heads.GetElementPtr) ADDRESS [] false
 unfolding is_class
@@ -125,10 +125,10 @@ openings_rule = rules.star tokens ADDRESS opening_rule opening_opens refl refl
 
 pub global_real : IsReal (sample kinds.Global heads.Global (codes "@a"))
 unfolding best_fit rest_fit label_len number_len word_len name_len meta_len dots_len other_len string_len has is_bad is_zero_name head_of global_head name_head content
-global_real = record { some = refl; fits = refl; good = refl; class = refl }
+global_real = record { behind = []; some = refl; fits = refl; good = refl; class = refl }
 
-pub global_rule : Rule tokens (one_of GLOBAL itself) (one_of GLOBAL itself) (one_of_at GLOBAL itself) GLOBAL [] false
-global_rule = one_rule GLOBAL itself (sample kinds.Global heads.Global (codes "@a")) refl global_real
+pub global_rule : Rule tokens global global global_at GLOBAL [] false
+global_rule = rules.valued_rule tokens refusal not_number not_limit GLOBAL global_named (λ t p q. global_within GLOBAL t.head t refl q) (sample kinds.Global heads.Global (codes "@a")) (sample kinds.Global heads.Global (codes "@a")) refl refl global_real
 
 reached_rule : (outer : List Typed) → Rule tokens (reached outer) (reached outer) (reached_at outer) GLOBAL [] false
 unfolding reached reached_at

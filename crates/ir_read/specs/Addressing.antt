@@ -1,10 +1,11 @@
 -- `alloca` and `getelementptr` (LangRef, "alloca Instruction", "getelementptr Instruction"), over what spells a shape.
-use Rattle.std.specs.Prelude.{ℕ, Bool, true, false, Option, Some, None, List, [], ◌∷◌, ◌++◌}
+use Rattle.std.specs.Prelude.{ℕ, ◌*◌, max, nat_eq, nat_le, Bool, true, false, ◌&&◌, ◌||◌, if◌then◌else◌, Option, Some, None, Result, List, [], ◌∷◌, ◌++◌}
 use Rattle.std.specs.List.{fold}
 use Rattle.ir_lex.specs.declared.head.Head.TheVariants as heads
 use Rattle.ir_lex.specs.Tok.{Tok}
 use Rattle.ir_tree.specs.declared.operand.Reg.TheVariants.{Ptr}
 use Rattle.lto_forms.specs.Chained.{Chain}
+use Rattle.lto_forms.specs.declared.fault.FaultKind.{FaultKind}
 use Rattle.lto_forms.specs.Forms.{Form, ◌>>=◌, either, gives, token}
 use Rattle.lto_forms.specs.Rules.{is_valued}
 use Rattle.ir_read.specs.Classes.{tokens, refusal, the}
@@ -13,11 +14,13 @@ use Rattle.ir_read.specs.declared.raw.Argument.{Argument}
 use Rattle.ir_read.specs.declared.raw.Instr.{Instr}
 use Rattle.ir_read.specs.declared.raw.Instr.TheVariants as instrs
 use Rattle.ir_read.specs.declared.shape.Typed.{Typed}
+use Rattle.ir_read.specs.Extents.{extent_of, nests_within}
 use Rattle.ir_read.specs.Instructions.{aligned, align}
 use Rattle.ir_read.specs.Metadata.{attached}
 use Rattle.ir_read.specs.Operands.{integer}
 use Rattle.ir_read.specs.Phis as phis
 use Rattle.ir_read.specs.ShapeForms.{NUMBER, count_of}
+use Rattle.ir_read.specs.Shapes.{Written}
 use Rattle.ir_read.specs.Values.{pointer, stepping, operand, argument}
 
 -- ---- alloca
@@ -25,14 +28,33 @@ use Rattle.ir_read.specs.Values.{pointer, stepping, operand, argument}
 abbrev pub slots : ℕ → Option ℕ → Slots
 slots count align = record { count = count; align = align }
 
-abbrev pub count_in : ℕ → Form Tok ℕ
-count_in w = token (is_valued tokens refusal NUMBER (count_of w))
+-- any other count than 1 makes an array of so many of the shape, which has a level more: within the limits
+abbrev pub slots_fit : Written → ℕ → Bool
+slots_fit s n = nat_eq n 1 || (nests_within 31 s && nat_le (n * (extent_of s).size) 2147483648)
+
+-- without the limits
+abbrev pub any_slots : Written → ℕ → Bool
+any_slots s n = true
+
+abbrev pub fitting : (ℕ → Bool) → Option ℕ → Option ℕ
+fitting fits None = None
+fitting fits (Some n) = if fits n then Some n else None
+
+-- a literal that isn't negative and fits; an integer has at least one bit
+abbrev pub fitting_count : (ℕ → Bool) → ℕ → Tok → Option ℕ
+fitting_count fits w t = fitting fits (count_of (max 1 w) t)
+
+abbrev pub is_count : (ℕ → Bool) → ℕ → Tok → Result ℕ FaultKind
+is_count fits w t = is_valued tokens refusal NUMBER (fitting_count fits w) t
+
+abbrev pub count_in : (ℕ → Bool) → ℕ → Form Tok ℕ
+count_in fits w = token (is_count fits w)
 
 -- iN Number [, align N] {att}
-unfoldable pub many_slots : Form Tok Slots
-many_slots = do
+unfoldable pub many_slots : (ℕ → Bool) → Form Tok Slots
+many_slots fits = do
   w ← integer
-  n ← count_in w
+  n ← count_in fits w
   a ← align
   gives (slots n a)
 
@@ -43,18 +65,18 @@ one_slot = do
   gives (slots 1 a)
 
 -- [, iN Number] [, align N] {att}
-unfoldable pub slots_behind : Form Tok Slots
-slots_behind = either
+unfoldable pub slots_behind : (ℕ → Bool) → Form Tok Slots
+slots_behind fits = either
     (do
       _ ← the heads.Comma
-      either many_slots one_slot)
+      either (many_slots fits) one_slot)
     (gives (slots 1 None))
 
--- shape [, iN Number] [, align N] {att}
-unfoldable pub reserving : Form Tok Typed → Form Tok Instr
-reserving shape = do
+-- shape [, iN Number] [, align N] {att}, over which counts of a shape fit
+unfoldable pub reserving : (Written → ℕ → Bool) → Form Tok Typed → Form Tok Instr
+reserving fits shape = do
   typed ← shape
-  s ← slots_behind
+  s ← slots_behind (fits typed.shape)
   gives (instrs.Alloca typed s.count s.align)
 
 -- ---- getelementptr

@@ -1,19 +1,22 @@
 -- What the readers of `alloca` and `getelementptr` give.
-use Rattle.std.specs.Prelude.{ℕ, Bool, true, false, Option, Some, None, List, [], ◌∷◌}
+use Rattle.std.specs.Prelude.{ℕ, max, Bool, true, false, ◌&&◌, not, if◌then◌else◌, Option, Some, None, Result, Err, List, [], ◌∷◌}
 use Rattle.std.specs.List.{fold}
 use Rattle.ir_lex.specs.declared.head.Head.TheVariants as heads
 use Rattle.ir_lex.specs.Tok.{Tok}
 use Rattle.ir_tree.specs.declared.operand.Reg.TheVariants.{Ptr}
 use Rattle.lto_forms.specs.Alphabet.{among}
 use Rattle.lto_forms.specs.Chained.{chain_at}
+use Rattle.lto_forms.specs.declared.fault.FaultKind.{FaultKind}
+use Rattle.lto_forms.specs.declared.fault.FaultKind.TheVariants.{Limit}
 use Rattle.lto_forms.specs.Readers.{Reader, ◌>>=◌, done, pick, token_at}
-use Rattle.lto_forms.specs.Rules.{is_valued}
-use Rattle.ir_read.specs.Classes.{tokens, refusal, the_at}
+use Rattle.ir_read.specs.Classes.{tokens, the_at}
 use Rattle.ir_read.specs.declared.addressing.Slots.{Slots}
 use Rattle.ir_read.specs.declared.raw.Argument.{Argument}
 use Rattle.ir_read.specs.declared.raw.Instr.{Instr}
 use Rattle.ir_read.specs.declared.raw.Instr.TheVariants as instrs
-use Rattle.ir_read.specs.Addressing.{slots, keep}
+use Rattle.ir_read.specs.declared.raw.Operand.{Operand}
+use Rattle.ir_read.specs.declared.shape.Typed.{Typed}
+use Rattle.ir_read.specs.Addressing.{slots, slots_fit, is_count, keep}
 use Rattle.ir_read.specs.InstructionsAt.{aligned_at, align_at}
 use Rattle.ir_read.specs.Metadata.{META}
 use Rattle.ir_read.specs.MetadataAt.{COMMA, attached_at}
@@ -24,13 +27,24 @@ use Rattle.ir_read.specs.ShapeForms.{NUMBER, count_of}
 use Rattle.ir_read.specs.ShapeFormsAt.{memory_shape_at}
 use Rattle.ir_read.specs.ValuesAt.{pointer_at, stepping_at, operand_at, argument_at}
 
-abbrev pub count_in_at : ℕ → Reader Tok ℕ
-count_in_at w = token_at (is_valued tokens refusal NUMBER (count_of w))
+abbrev pub passes : (ℕ → Bool) → Option ℕ → Bool
+passes fits None = false
+passes fits (Some n) = not (fits n)
 
-unfoldable pub many_slots_at : Reader Tok Slots
-many_slots_at = do
+-- a literal that passes a limit
+abbrev pub too_many : (ℕ → Bool) → ℕ → Tok → Bool
+too_many fits w t = among tokens NUMBER t && passes fits (count_of (max 1 w) t)
+
+unfoldable pub count_means : (ℕ → Bool) → ℕ → Tok → Result ℕ FaultKind
+count_means fits w t = if too_many fits w t then Err Limit else is_count fits w t
+
+abbrev pub count_in_at : (ℕ → Bool) → ℕ → Reader Tok ℕ
+count_in_at fits w = token_at (count_means fits w)
+
+unfoldable pub many_slots_at : (ℕ → Bool) → Reader Tok Slots
+many_slots_at fits = do
   w ← integer_at
-  n ← count_in_at w
+  n ← count_in_at fits w
   a ← align_at
   done (slots n a)
 
@@ -39,17 +53,17 @@ one_slot_at = do
   a ← aligned_at
   done (slots 1 a)
 
-unfoldable pub slots_behind_at : Reader Tok Slots
-slots_behind_at = pick (among tokens COMMA)
+unfoldable pub slots_behind_at : (ℕ → Bool) → Reader Tok Slots
+slots_behind_at fits = pick (among tokens COMMA)
     (do
       _ ← the_at heads.Comma
-      pick (among tokens INTEGER) many_slots_at one_slot_at)
+      pick (among tokens INTEGER) (many_slots_at fits) one_slot_at)
     (done (slots 1 None))
 
 unfoldable pub reserving_at : Reader Tok Instr
 reserving_at = do
   typed ← memory_shape_at
-  s ← slots_behind_at
+  s ← slots_behind_at (slots_fit typed.shape)
   done (instrs.Alloca typed s.count s.align)
 
 unfoldable pub indexing_at : Reader Tok (Option Argument × Bool)
@@ -79,12 +93,22 @@ indices_at = do
   all ← chain_at phis.anywhere begins further_at false
   done (fold keep [] all)
 
+-- behind the address that is stepped from
+abbrev pub stepped_at : Bool → Typed → Operand → Reader Tok Instr
+stepped_at inbounds typed base = do
+  is ← indices_at
+  done (instrs.Address inbounds typed base is)
+
+-- behind the shape
+abbrev pub stepping_by_at : Bool → Typed → Reader Tok Instr
+stepping_by_at inbounds typed = do
+  _ ← the_at heads.Comma
+  _ ← pointer_at
+  base ← operand_at Ptr
+  stepped_at inbounds typed base
+
 unfoldable pub addressing_at : Reader Tok Instr
 addressing_at = do
   inbounds ← stepping_at
   typed ← memory_shape_at
-  _ ← the_at heads.Comma
-  _ ← pointer_at
-  base ← operand_at Ptr
-  is ← indices_at
-  done (instrs.Address inbounds typed base is)
+  stepping_by_at inbounds typed

@@ -7,10 +7,12 @@ use Rattle.ir_lex.specs.declared.head.Head.{Head}
 use Rattle.ir_lex.specs.Heads.{number}
 use Rattle.ir_lex.specs.Tok.{Tok}
 use Rattle.lto_forms.specs.Forms.{Form, ◌>>=◌, either, gives, optional, Star, token}
+use Rattle.lto_forms.specs.Rules.{is_valued}
 use Rattle.ir_read.specs.Brackets.{group}
-use Rattle.ir_read.specs.Classes.{the, one_of, itself}
+use Rattle.ir_read.specs.Classes.{tokens, refusal, the, one_of}
 use Rattle.ir_read.specs.Decimals.{is_alignment}
 use Rattle.ir_read.specs.Metadata.{attached}
+use Rattle.ir_read.specs.Operands.{group_named}
 use Rattle.ir_read.specs.declared.attributes.Attribute.{Attribute}
 use Rattle.ir_read.specs.declared.attributes.Attribute.TheVariants.{Dropped, Noinline, Optnone, Group}
 use Rattle.ir_read.specs.declared.attributes.Kept.{Kept}
@@ -122,9 +124,14 @@ function_attribute words = either string_attribute (word_attribute words)
 abbrev pub GROUP : List ℕ
 GROUP = number heads.Group ∷ []
 
--- the name of an attribute group
+-- the name of an attribute group, whose number is below 2^32
+abbrev pub group_name : Form Tok Tok
+group_name = token (is_valued tokens refusal GROUP group_named)
+
 unfoldable pub group_attribute : Form Tok Attribute
-group_attribute = one_of GROUP (λ t. Group t)
+group_attribute = do
+  name ← group_name
+  gives (Group name)
 
 -- what stands behind the arguments of a call: {fattr / Group}
 unfoldable pub call_attribute : Form Tok Attribute
@@ -190,7 +197,7 @@ grouped = do
 unfoldable pub attribute_group : Form Tok Item
 attribute_group = do
   _ ← the heads.Attributes
-  name ← one_of GROUP itself
+  name ← group_name
   _ ← the heads.Equals
   _ ← the heads.OpenBrace
   kept ← grouped

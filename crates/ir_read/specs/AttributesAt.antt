@@ -6,12 +6,14 @@ use Rattle.ir_lex.specs.Heads.{number}
 use Rattle.ir_lex.specs.Tok.{Tok}
 use Rattle.lto_forms.specs.Alphabet.{among}
 use Rattle.lto_forms.specs.Readers.{Reader, ◌>>=◌, done, pick, star_at, optional_at, token_at}
+use Rattle.lto_forms.specs.Rules.{is_valued}
 use Rattle.ir_read.specs.Attributes.{WORDS, CALL_WORDS, GROUP_WORDS, GROUP, word_kept, with_attribute, none_kept, group_item}
 use Rattle.ir_read.specs.Brackets.{group_at}
-use Rattle.ir_read.specs.Classes.{tokens, the_at, one_of_at, itself}
+use Rattle.ir_read.specs.Classes.{tokens, refusal, the_at, one_of_at}
 use Rattle.ir_read.specs.Decimals.{is_alignment}
 use Rattle.ir_read.specs.Metadata.{META}
 use Rattle.ir_read.specs.MetadataAt.{PAREN, attached_at}
+use Rattle.ir_read.specs.Operands.{group_named}
 use Rattle.ir_read.specs.declared.attributes.Attribute.{Attribute}
 use Rattle.ir_read.specs.declared.attributes.Attribute.TheVariants.{Dropped, Group}
 use Rattle.ir_read.specs.declared.attributes.Kept.{Kept}
@@ -103,8 +105,13 @@ string_attribute_at = do
 unfoldable pub function_attribute_at : List ℕ → Reader Tok Attribute
 function_attribute_at words = pick (among tokens STRING) string_attribute_at (word_attribute_at words)
 
+abbrev pub group_name_at : Reader Tok Tok
+group_name_at = token_at (is_valued tokens refusal GROUP group_named)
+
 unfoldable pub group_attribute_at : Reader Tok Attribute
-group_attribute_at = one_of_at GROUP (λ t. Group t)
+group_attribute_at = do
+  name ← group_name_at
+  done (Group name)
 
 unfoldable pub call_attribute_at : Reader Tok Attribute
 call_attribute_at = pick (among tokens GROUP) group_attribute_at (function_attribute_at CALL_WORDS)
@@ -153,7 +160,7 @@ grouped_at = do
 unfoldable pub attribute_group_at : Reader Tok Item
 attribute_group_at = do
   _ ← the_at heads.Attributes
-  name ← one_of_at GROUP itself
+  name ← group_name_at
   _ ← the_at heads.Equals
   _ ← the_at heads.OpenBrace
   kept ← grouped_at

@@ -1,5 +1,5 @@
 -- Tokens as the grammar of modules sees them: the class of each, and why one can't stand where it isn't wanted.
-use Rattle.std.specs.Prelude.{◌≡◌, ℕ, true, false, nat_lt, if◌then◌else◌, List, [], ◌∷◌, length}
+use Rattle.std.specs.Prelude.{◌≡◌, ℕ, true, false, nat_lt, if◌then◌else◌, List, [], ◌∷◌, ◌++◌, length}
 use Rattle.ir_lex.specs.declared.head.Head.TheVariants as heads
 use Rattle.ir_lex.specs.declared.head.Head.{Head}
 use Rattle.ir_lex.specs.Heads.{number, head_of}
@@ -13,16 +13,17 @@ use Rattle.lto_forms.specs.Forms.{Form, token}
 use Rattle.lto_forms.specs.Readers.{Reader, token_at}
 use Rattle.lto_forms.specs.Rules.{is_class, is_among}
 
--- bytes spell this token: alone they are one token of its kind and class
+-- bytes spell this token: before some others they are one token of its kind and class
 pub record IsReal (t : Tok) : Type 0 where
+  pub behind : List ℕ
   pub some : nat_lt 0 (length t.text) ≡ true
-  pub fits : best_fit t.text ≡ fit t.kind (length t.text)
-  pub good : is_bad t.text ≡ false
-  pub class : t.head ≡ head_of t.kind t.text []
+  pub fits : best_fit (t.text ++ behind) ≡ fit t.kind (length t.text)
+  pub good : is_bad (t.text ++ behind) ≡ false
+  pub class : t.head ≡ head_of t.kind t.text behind
 
 -- these are written by numbers, or may be
 abbrev pub NUMERALS : List ℕ
-NUMERALS = number heads.Number ∷ number heads.Local ∷ number heads.Label ∷ number heads.Group ∷ []
+NUMERALS = number heads.Number ∷ number heads.Local ∷ number heads.Label ∷ number heads.Group ∷ number heads.NumberedGlobal ∷ number heads.NumberedDefinition ∷ []
 
 abbrev pub tokens : Alphabet Tok
 tokens = record { class = λ t. number t.head; numerals = NUMERALS; Real = IsReal }

@@ -1,6 +1,6 @@
 -- Sizes and alignments of shapes, as on x86-64, and the room that is left for a shape (LangRef, "Data Layout"). A type
 -- name takes no bytes here: what it stands for isn't known yet.
-use Rattle.std.specs.Prelude.{◌≡◌, ℕ, ◌+◌, ◌-◌, ◌*◌, ◌/◌, ◌≤◌, nat_eq, nat_le, Bool, if◌then◌else◌}
+use Rattle.std.specs.Prelude.{◌≡◌, ℕ, zero, suc, ◌+◌, ◌-◌, ◌*◌, ◌/◌, ◌≤◌, nat_eq, nat_le, Bool, true, false, ◌&&◌, if◌then◌else◌}
 use Rattle.ir_read.specs.declared.extents.Align.{Align}
 use Rattle.ir_read.specs.declared.extents.Align.TheVariants.{One, Two, Four, Eight}
 use Rattle.ir_read.specs.declared.extents.Extent.{Extent}
@@ -76,6 +76,23 @@ abbrev mutual
   pub members_extent : Bool → Extent → WrittenParts → Extent
   members_extent packed s no_parts = s
   members_extent packed s (part p more) = members_extent packed (grown packed s (extent_of p)) more
+
+-- ---- levels of arrays and structures, where a type name is none
+
+abbrev mutual
+  -- at most so many
+  pub nests_within : ℕ → Written → Bool
+  nests_within n (int w) = true
+  nests_within n pointer = true
+  nests_within zero (array count of) = false
+  nests_within (suc n) (array count of) = nests_within n of
+  nests_within zero (structure packed parts) = false
+  nests_within (suc n) (structure packed parts) = all_nest_within n parts
+  nests_within n (named name) = true
+
+  pub all_nest_within : ℕ → WrittenParts → Bool
+  all_nest_within n no_parts = true
+  all_nest_within n (part p more) = nests_within n p && all_nest_within n more
 
 -- ---- room: for each alignment, how many sizes a shape of this alignment may have, which are multiples of it from 0 on
 

@@ -14,11 +14,11 @@ use Rattle.lto_forms.specs.Chained.{Chain}
 use Rattle.lto_forms.specs.declared.fault.FaultKind.{FaultKind}
 use Rattle.lto_forms.specs.declared.fault.FaultKind.TheVariants.{Profile}
 use Rattle.lto_forms.specs.Forms.{Form, ◌>>=◌, either, gives, optional, Many, Star, token}
-use Rattle.lto_forms.specs.Rules.{is_among, is_class}
+use Rattle.lto_forms.specs.Rules.{is_class, is_valued}
 use Rattle.ir_read.specs.Attributes.{parameter_attribute, parameter_attributes}
 use Rattle.ir_read.specs.AttributesAt.{PARAMETER}
-use Rattle.ir_read.specs.Classes.{tokens, refusal, the, one_of, itself}
-use Rattle.ir_read.specs.Operands.{reg, result, local, type_refusal}
+use Rattle.ir_read.specs.Classes.{tokens, refusal, the, one_of}
+use Rattle.ir_read.specs.Operands.{reg, result, local, global_named, type_refusal}
 use Rattle.ir_read.specs.declared.function_heads.Role.{Role}
 use Rattle.ir_read.specs.declared.function_heads.Role.TheVariants as roles
 use Rattle.ir_read.specs.declared.raw.Head.{Head}
@@ -105,7 +105,7 @@ abbrev pub name_refusal : ℕ → FaultKind
 name_refusal n = if contains NUMBERED n then Profile else refusal n
 
 abbrev pub function_name : Role → Linkage → Form Tok Tok
-function_name role l = token (is_among tokens name_refusal (names_of role l) itself)
+function_name role l = token (is_valued tokens name_refusal (names_of role l) global_named)
 
 -- ---- parameters
 

@@ -9,12 +9,12 @@ use Rattle.ir_tree.specs.declared.function.Linkage.TheVariants as linkages
 use Rattle.lto_forms.specs.Alphabet.{among}
 use Rattle.lto_forms.specs.Chained.{chain_at}
 use Rattle.lto_forms.specs.Readers.{Reader, ◌>>=◌, done, pick, many_at, optional_at, token_at}
-use Rattle.lto_forms.specs.Rules.{is_among, is_class}
+use Rattle.lto_forms.specs.Rules.{is_class, is_valued}
 use Rattle.ir_read.specs.AttributesAt.{PARAMETER, parameter_attribute_at, parameter_attributes_at}
-use Rattle.ir_read.specs.Classes.{tokens, the_at, one_of_at, itself}
+use Rattle.ir_read.specs.Classes.{tokens, the_at, one_of_at}
 use Rattle.ir_read.specs.FunctionHeads.{linkages_of, linkage_word, QUALIFIERS, nothing_of, at_will, with_linkage, names_of, name_refusal, head_of}
 use Rattle.ir_read.specs.MetadataAt.{COMMA}
-use Rattle.ir_read.specs.Operands.{REG, LOCAL, type_refusal}
+use Rattle.ir_read.specs.Operands.{REG, LOCAL, global_named, type_refusal}
 use Rattle.ir_read.specs.OperandsAt.{reg_at, result_at, local_at}
 use Rattle.ir_read.specs.declared.function_heads.Role.{Role}
 use Rattle.ir_read.specs.declared.raw.Head.{Head}
@@ -54,7 +54,7 @@ prefix_at role = do
   done (fold with_linkage linkages.External all)
 
 abbrev pub function_name_at : Role → Linkage → Reader Tok Tok
-function_name_at role l = token_at (is_among tokens name_refusal (names_of role l) itself)
+function_name_at role l = token_at (is_valued tokens name_refusal (names_of role l) global_named)
 
 unfoldable pub param_at : Reader Tok Param
 param_at = do

@@ -8,13 +8,16 @@ use Rattle.ir_tree.specs.declared.instr.BinaryOp.{BinaryOp}
 use Rattle.ir_tree.specs.declared.instr.BinaryOp.TheVariants as ops
 use Rattle.ir_tree.specs.declared.instr.CastOp.{CastOp}
 use Rattle.ir_tree.specs.declared.instr.Flags.{Flags}
+use Rattle.ir_tree.specs.declared.operand.Reg.{Reg}
 use Rattle.ir_tree.specs.declared.operand.Reg.TheVariants.{Int, Ptr}
 use Rattle.lto_forms.specs.Alphabet.{among}
 use Rattle.lto_forms.specs.Readers.{Reader, ◌>>=◌, done, pick, token_at, star_at}
 use Rattle.ir_read.specs.Classes.{tokens, the_at, one_of_at}
 use Rattle.ir_read.specs.Decimals.{is_alignment}
+use Rattle.ir_read.specs.declared.raw.Argument.{Argument}
 use Rattle.ir_read.specs.declared.raw.Instr.{Instr}
 use Rattle.ir_read.specs.declared.raw.Instr.TheVariants as instrs
+use Rattle.ir_read.specs.declared.raw.Operand.{Operand}
 use Rattle.ir_read.specs.Instructions.{WRAPS, is_nuw, flags, with_wrap, no_flags, PREDICATES, predicate_of}
 use Rattle.ir_read.specs.MetadataAt.{COMMA, attached_at, attachments_at}
 use Rattle.ir_read.specs.OperandsAt.{reg_at, integer_at, bit_at, scalar_at, maybe_at}
@@ -79,15 +82,25 @@ narrowing_at op = do
   _ ← wraps_at
   casting_at op
 
+-- behind the condition and the first arm
+abbrev pub other_at : Operand → Argument → Reader Tok Instr
+other_at condition one = do
+  _ ← the_at heads.Comma
+  other ← argument_at
+  done (instrs.Select condition one other)
+
+-- behind the condition
+abbrev pub arms_at : Operand → Reader Tok Instr
+arms_at condition = do
+  _ ← the_at heads.Comma
+  one ← argument_at
+  other_at condition one
+
 unfoldable pub selecting_at : Reader Tok Instr
 selecting_at = do
   w ← bit_at
   condition ← operand_at (Int w)
-  _ ← the_at heads.Comma
-  one ← argument_at
-  _ ← the_at heads.Comma
-  other ← argument_at
-  done (instrs.Select condition one other)
+  arms_at condition
 
 unfoldable pub freezing_at : Reader Tok Instr
 freezing_at = do
@@ -123,12 +136,22 @@ loading_at = do
   n ← align_at
   done (instrs.Load r address n)
 
+-- behind the address
+abbrev pub stored_at : Reg → Operand → Operand → Reader Tok Instr
+stored_at r value address = do
+  n ← align_at
+  done (instrs.Store r value address n)
+
+-- behind the value
+abbrev pub storing_to_at : Reg → Operand → Reader Tok Instr
+storing_to_at r value = do
+  _ ← the_at heads.Comma
+  _ ← pointer_at
+  address ← operand_at Ptr
+  stored_at r value address
+
 unfoldable pub storing_at : Reader Tok Instr
 storing_at = do
   r ← scalar_at
   value ← operand_at r
-  _ ← the_at heads.Comma
-  _ ← pointer_at
-  address ← operand_at Ptr
-  n ← align_at
-  done (instrs.Store r value address n)
+  storing_to_at r value

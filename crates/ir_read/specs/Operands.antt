@@ -98,11 +98,24 @@ named_by t bare = if is_numeral bare && not (nat_lt (decimal bare) 4294967296) t
 unfoldable pub named : Tok → Option Tok
 named t = named_by t (stripped t.kind t.text)
 
+-- the same of an attribute group, which a number behind a mark writes
+unfoldable pub group_named : Tok → Option Tok
+group_named t = named_by t (drop 1 t.text)
+
 abbrev pub LOCAL : List ℕ
 LOCAL = number heads.Local ∷ []
 
 abbrev pub local : Form Tok Tok
 local = token (is_valued tokens refusal LOCAL named)
+
+-- the same of a global, of which only some are written by numbers
+abbrev pub global_by : Head → Tok → Option Tok
+global_by heads.NumberedGlobal t = named t
+global_by heads.NumberedDefinition t = named t
+global_by h t = Some t
+
+abbrev pub global_named : Tok → Option Tok
+global_named t = global_by t.head t
 
 -- ---- operands
 
@@ -130,8 +143,8 @@ operand_by heads.False r t = Some (operands.Number 1 0)
 operand_by heads.Null r t = Some operands.Null
 operand_by heads.Poison r t = Some (operands.Poison r)
 operand_by heads.Global r t = Some (operands.Global t)
-operand_by heads.NumberedGlobal r t = Some (operands.Global t)
-operand_by heads.NumberedDefinition r t = Some (operands.Global t)
+operand_by heads.NumberedGlobal r t = option_map operands.Global (named t)
+operand_by heads.NumberedDefinition r t = option_map operands.Global (named t)
 operand_by h r t = None
 
 abbrev pub operand_of : Reg → Tok → Option Operand
@@ -143,6 +156,9 @@ number_means Ptr t = Err Syntax
 
 abbrev pub local_value : Tok → Result Operand FaultKind
 local_value t = in_range (option_map operands.Local (named t))
+
+abbrev pub global_value : Tok → Result Operand FaultKind
+global_value t = in_range (option_map operands.Global (named t))
 
 -- Local / Number / true / false / null / poison / Global
 abbrev pub simple : Reg → Form Tok Operand

@@ -10,6 +10,7 @@ use Rattle.lto_forms.specs.Readers.{Reader, ◌>>=◌, done, pick, token_at, sta
 use Rattle.lto_forms.specs.Rules.{is_class, is_valued}
 use Rattle.ir_read.specs.Classes.{tokens, refusal, the_at, one_of_at}
 use Rattle.ir_read.specs.declared.raw.Case.{Case}
+use Rattle.ir_read.specs.declared.raw.Operand.{Operand}
 use Rattle.ir_read.specs.declared.raw.Terminator.{Terminator}
 use Rattle.ir_read.specs.declared.raw.Terminator.TheVariants as terminators
 use Rattle.ir_read.specs.declared.terminators.End.{End}
@@ -41,6 +42,15 @@ target_at = do
   _ ← the_at heads.LabelType
   local_at
 
+-- behind the condition
+abbrev pub branches_at : Operand → Reader Tok Terminator
+branches_at condition = do
+  _ ← the_at heads.Comma
+  if_true ← target_at
+  _ ← the_at heads.Comma
+  if_false ← target_at
+  done (terminators.Branch condition if_true if_false)
+
 unfoldable pub branching_at : Reader Tok Terminator
 branching_at = pick (among tokens LABEL)
     (do
@@ -49,11 +59,7 @@ branching_at = pick (among tokens LABEL)
     (do
       w ← bit_at
       condition ← operand_at (Int w)
-      _ ← the_at heads.Comma
-      if_true ← target_at
-      _ ← the_at heads.Comma
-      if_false ← target_at
-      done (terminators.Branch condition if_true if_false))
+      branches_at condition)
 
 abbrev pub constant_at : Reg → Reader Tok Matched
 constant_at r = token_at (is_valued tokens refusal (case_classes r) (matched_of r))
@@ -76,16 +82,26 @@ cases_at = star_at (among tokens REG) case_at
 abbrev pub end_of_cases_at : Reader Tok (Unit {0})
 end_of_cases_at = token_at (is_class tokens type_refusal (number heads.CloseBracket))
 
-unfoldable pub switching_at : Reader Tok Terminator
-switching_at = do
-  w ← integer_at
-  value ← operand_at (Int w)
-  _ ← the_at heads.Comma
-  default ← target_at
+-- behind the target of what no case has
+abbrev pub switched_at : ℕ → Operand → Tok → Reader Tok Terminator
+switched_at w value default = do
   _ ← the_at heads.OpenBracket
   cases ← cases_at
   _ ← end_of_cases_at
   done (terminators.Switch w value default cases)
+
+-- behind the value
+abbrev pub switches_at : ℕ → Operand → Reader Tok Terminator
+switches_at w value = do
+  _ ← the_at heads.Comma
+  default ← target_at
+  switched_at w value default
+
+unfoldable pub switching_at : Reader Tok Terminator
+switching_at = do
+  w ← integer_at
+  value ← operand_at (Int w)
+  switches_at w value
 
 abbrev pub behind_end_at : End → Reader Tok Terminator
 behind_end_at end.Ret = returning_at

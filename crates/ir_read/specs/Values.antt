@@ -7,7 +7,7 @@ use Rattle.ir_lex.specs.Tok.{Tok}
 use Rattle.ir_tree.specs.declared.operand.Reg.{Reg}
 use Rattle.lto_forms.specs.Forms.{Form, ◌>>=◌, either, gives, token, Star}
 use Rattle.lto_forms.specs.Rules.{is_class, is_valued}
-use Rattle.ir_read.specs.Classes.{tokens, refusal, the, one_of, itself}
+use Rattle.ir_read.specs.Classes.{tokens, refusal, the, one_of}
 use Rattle.ir_read.specs.declared.address.Index.{Index}
 use Rattle.ir_read.specs.declared.address.Level.{Level}
 use Rattle.ir_read.specs.declared.address.Steps.{Steps}
@@ -16,7 +16,7 @@ use Rattle.ir_read.specs.declared.raw.Operand.{Operand}
 use Rattle.ir_read.specs.declared.raw.Operand.TheVariants as operands
 use Rattle.ir_read.specs.declared.shape.Typed.{Typed}
 use Rattle.ir_read.specs.Literals.{literal}
-use Rattle.ir_read.specs.Operands.{type_refusal, reg, integer, simple}
+use Rattle.ir_read.specs.Operands.{type_refusal, reg, integer, global_named, simple}
 
 -- ptr
 abbrev pub pointer : Form Tok (Unit {0})
@@ -62,6 +62,9 @@ index = do
 abbrev pub GLOBAL : List ℕ
 GLOBAL = number heads.Global ∷ number heads.NumberedGlobal ∷ number heads.NumberedDefinition ∷ []
 
+abbrev pub global : Form Tok Tok
+global = token (is_valued tokens refusal GLOBAL global_named)
+
 abbrev pub level : Typed → List Index → Level
 level typed indices = record { typed = typed; indices = indices }
 
@@ -86,7 +89,7 @@ closing (typed ∷ outer) = do
 -- Global, behind the levels that are open, the outermost first
 unfoldable pub reached : List Typed → Form Tok Operand
 reached outer = do
-  name ← one_of GLOBAL itself
+  name ← global
   levels ← closing (reverse outer)
   gives (operands.Address (steps name levels))
 

@@ -8,7 +8,7 @@ use Rattle.ir_tree.specs.declared.operand.Reg.{Reg}
 use Rattle.lto_forms.specs.Alphabet.{among}
 use Rattle.lto_forms.specs.Readers.{Reader, ◌>>=◌, done, pick, token_at, star_at}
 use Rattle.lto_forms.specs.Rules.{is_class, is_valued}
-use Rattle.ir_read.specs.Classes.{tokens, refusal, the_at, one_of_at, itself}
+use Rattle.ir_read.specs.Classes.{tokens, refusal, the_at, one_of_at}
 use Rattle.ir_read.specs.declared.address.Index.{Index}
 use Rattle.ir_read.specs.declared.address.Level.{Level}
 use Rattle.ir_read.specs.declared.raw.Argument.{Argument}
@@ -16,7 +16,7 @@ use Rattle.ir_read.specs.declared.raw.Operand.{Operand}
 use Rattle.ir_read.specs.declared.raw.Operand.TheVariants as operands
 use Rattle.ir_read.specs.declared.shape.Typed.{Typed}
 use Rattle.ir_read.specs.MetadataAt.{COMMA}
-use Rattle.ir_read.specs.Operands.{type_refusal}
+use Rattle.ir_read.specs.Operands.{type_refusal, global_named}
 use Rattle.ir_read.specs.OperandsAt.{reg_at, integer_at, simple_at}
 use Rattle.ir_read.specs.ShapeFormsAt.{memory_shape_at}
 use Rattle.ir_read.specs.Values.{STEPPING, is_inbounds, or_inbounds, NUMBER, index_of, GLOBAL, level, steps}
@@ -74,9 +74,12 @@ opening_at = do
 abbrev pub openings_at : Reader Tok (List Typed)
 openings_at = star_at (among tokens ADDRESS) opening_at
 
+abbrev pub global_at : Reader Tok Tok
+global_at = token_at (is_valued tokens refusal GLOBAL global_named)
+
 unfoldable pub reached_at : List Typed → Reader Tok Operand
 reached_at outer = do
-  name ← one_of_at GLOBAL itself
+  name ← global_at
   levels ← closing_at (reverse outer)
   done (operands.Address (steps name levels))
 

@@ -1,20 +1,23 @@
 //! Reads `alloca` and `getelementptr` (LangRef, "alloca Instruction", "getelementptr Instruction").
 
-ghost use Rattle.std.specs.Prelude.{◌≡◌, OnOk};
+ghost use Rattle.std.specs.Prelude.{◌≡◌, ◌*◌, nat_le, true, OnOk};
 ghost use Rattle.ir_lex.specs.Tok.{tok};
+ghost use Rattle.lto_forms.specs.Alphabet.{among};
 ghost use Rattle.lto_forms.specs.Readers.{Gives};
-ghost use Rattle.lto_forms.specs.Rules.{is_valued};
-ghost use Rattle.ir_read.specs.Addressing.{keep};
-ghost use Rattle.ir_read.specs.AddressingAt.{addressing_at, behind_comma_at, count_in_at, further_at, indices_at, many_slots_at, one_slot_at, reserving_at, slots_behind_at};
-ghost use Rattle.ir_read.specs.Classes.{tokens, refusal};
+ghost use Rattle.ir_read.specs.Addressing.{keep, slots_fit};
+ghost use Rattle.ir_read.specs.AddressingAt.{addressing_at, behind_comma_at, count_in_at, count_means, further_at, indices_at, many_slots_at, one_slot_at, reserving_at, slots_behind_at, stepped_at, stepping_by_at};
+ghost use Rattle.ir_read.specs.Classes.{tokens};
+ghost use Rattle.ir_read.specs.Extents.{all_nest_within, extent_of, nests_within};
 ghost use Rattle.ir_read.specs.Literals.{IsWidth};
-ghost use Rattle.ir_read.specs.ShapeForms.{NUMBER, count_of};
+ghost use Rattle.ir_read.specs.ShapeForms.{NUMBER};
+ghost use Rattle.ir_read.specs.Shapes.{parts_of};
 
 use crate::instructions::{align_at, aligned_at};
 use crate::metadata::attached_at;
 use crate::operands::integer_at;
-use crate::raw::{Argument, Instr};
-use crate::shapes::{counted, memory_shape_at};
+use crate::raw::{Argument, Instr, Operand};
+use crate::shape::{Shape, ShapeNode, Typed};
+use crate::shapes::{Measured, counted, memory_shape_at};
 use crate::terminals::{expect, refusal};
 use crate::tokens::Tokens;
 use crate::values::{argument_at, operand_at, pointer_at, stepping_at};
@@ -30,25 +33,87 @@ pub struct Slots {
     pub align: Option<u64>,
 }
 
-#[tactic(auto, unfolding(lto_forms::specs::Rules::is_valued))]
-fn count_means(width: u8, t: &Token) -> Result<u64, FaultKind>
-    requires { IsWidth width }
-    ensures { result ≡ is_valued tokens refusal NUMBER (count_of width) (tok t.now) }
+/// Whether a shape has at most so many levels of arrays and structures.
+#[cycle(levels)]
+fn nests_within(most: u32, shape: &Shape) -> bool
+    ensures { result ≡ nests_within most shape.now }
+{
+    match shape.node() {
+        ShapeNode::Int(_) | ShapeNode::Ptr | ShapeNode::Named(_) => true,
+        ShapeNode::Array(_, of) => 0 < most && nests_within(most - 1, of),
+        ShapeNode::Struct(_, parts) => 0 < most && all_nest_within(most - 1, parts),
+    }
+}
+
+/// Whether each of these shapes has at most so many levels.
+#[cycle(levels)]
+fn all_nest_within(most: u32, parts: &[Shape]) -> bool
+    ensures { result ≡ all_nest_within most (parts_of parts.now) }
+{
+    'each: for part in parts {
+        if !nests_within(most, part) {
+            return false;
+        }
+    }
+    true
+}
+
+/// Whether so many of this size are within the limit on bytes.
+fn is_within(count: u64, size: u64) -> bool
+    ensures { result ≡ nat_le (count * size) 2147483648 }
+{
+    match count.checked_mul(size) {
+        None => false,
+        Some(bytes) => bytes <= 2147483648,
+    }
+}
+
+/// Whether an array of so many of a shape is within the limits; a count of 1 makes none.
+fn slots_fit(shape: &Measured, count: u64) -> bool
+    requires { shape.now.extent ≡ extent_of shape.now.typed.shape }
+    ensures { result ≡ slots_fit shape.now.typed.shape count }
+{
+    count == 1 || nests_within(31, &shape.typed.shape) && is_within(count, shape.extent.size)
+}
+
+/// The count that a literal is, of so many bits, where it is within the limits.
+#[tactic(auto, using(crate::proofs::Counts::count_is))]
+fn fitting_count(shape: &Measured, width: u8, t: &Token) -> Result<u64, FaultKind>
+    requires measured { shape.now.extent ≡ extent_of shape.now.typed.shape }
+    requires ranged { IsWidth width }
+    requires number { among tokens NUMBER (tok t.now) ≡ true }
+    ensures { result ≡ count_means (slots_fit shape.now.typed.shape) width (tok t.now) }
+{
+    match counted(width, t.text) {
+        None => Err(FaultKind::Number),
+        Some(count) => {
+            if slots_fit(shape, count) {
+                Ok(count)
+            } else {
+                Err(FaultKind::Limit)
+            }
+        }
+    }
+}
+
+#[tactic(auto, unfolding(crate::specs::AddressingAt::count_means, lto_forms::specs::Rules::is_valued))]
+fn count_means(shape: &Measured, width: u8, t: &Token) -> Result<u64, FaultKind>
+    requires measured { shape.now.extent ≡ extent_of shape.now.typed.shape }
+    requires ranged { IsWidth width }
+    ensures { result ≡ count_means (slots_fit shape.now.typed.shape) width (tok t.now) }
 {
     if t.head.is(Head::Number) {
-        match counted(width, t.text) {
-            None => Err(FaultKind::Number),
-            Some(n) => Ok(n),
-        }
+        fitting_count(shape, width, t)
     } else {
         Err(refusal(t.head))
     }
 }
 
-/// Takes a count of so many bits, from 0 on.
-fn count_in_at(width: u8, tokens: &mut Tokens) -> Result<u64, ReadError>
-    requires { IsWidth width }
-    ensures { Gives (λ x. (x, tokens.new)) result (count_in_at width tokens.old) }
+/// Takes a count of so many bits, from 0 on, of this shape.
+fn count_in_at(shape: &Measured, width: u8, tokens: &mut Tokens) -> Result<u64, ReadError>
+    requires measured { shape.now.extent ≡ extent_of shape.now.typed.shape }
+    requires ranged { IsWidth width }
+    ensures { Gives (λ x. (x, tokens.new)) result (count_in_at (slots_fit shape.now.typed.shape) width tokens.old) }
 {
     let left = tokens.left();
     match tokens.take() {
@@ -56,7 +121,7 @@ fn count_in_at(width: u8, tokens: &mut Tokens) -> Result<u64, ReadError>
             left,
             kind: FaultKind::Syntax,
         })),
-        Some(t) => match count_means(width, &t) {
+        Some(t) => match count_means(shape, width, &t) {
             Ok(x) => Ok(x),
             Err(kind) => Err(ReadError::Fault(Fault { left, kind })),
         },
@@ -65,11 +130,12 @@ fn count_in_at(width: u8, tokens: &mut Tokens) -> Result<u64, ReadError>
 
 /// Reads `iN Number [, align N]` and the attachments.
 #[tactic(auto, unfolding(crate::specs::AddressingAt::many_slots_at))]
-fn many_slots_at(alloc: Global, tokens: &mut Tokens) -> Result<Slots, ReadError>
-    ensures { Gives (λ x. (x, tokens.new)) result (many_slots_at tokens.old) }
+fn many_slots_at(alloc: Global, shape: &Measured, tokens: &mut Tokens) -> Result<Slots, ReadError>
+    requires { shape.now.extent ≡ extent_of shape.now.typed.shape }
+    ensures { Gives (λ x. (x, tokens.new)) result (many_slots_at (slots_fit shape.now.typed.shape) tokens.old) }
 {
     let width = integer_at(tokens)?;
-    let count = count_in_at(width, tokens)?;
+    let count = count_in_at(shape, width, tokens)?;
     let align = align_at(alloc, tokens)?;
     Ok(Slots { count, align })
 }
@@ -85,8 +151,9 @@ fn one_slot_at(alloc: Global, tokens: &mut Tokens) -> Result<Slots, ReadError>
 
 /// Reads `[, iN Number] [, align N]` and the attachments.
 #[tactic(auto, unfolding(crate::specs::AddressingAt::slots_behind_at))]
-fn slots_behind_at(alloc: Global, tokens: &mut Tokens) -> Result<Slots, ReadError>
-    ensures { Gives (λ x. (x, tokens.new)) result (slots_behind_at tokens.old) }
+fn slots_behind_at(alloc: Global, shape: &Measured, tokens: &mut Tokens) -> Result<Slots, ReadError>
+    requires { shape.now.extent ≡ extent_of shape.now.typed.shape }
+    ensures { Gives (λ x. (x, tokens.new)) result (slots_behind_at (slots_fit shape.now.typed.shape) tokens.old) }
 {
     if !tokens.comes(Head::Comma) {
         return Ok(Slots {
@@ -96,7 +163,7 @@ fn slots_behind_at(alloc: Global, tokens: &mut Tokens) -> Result<Slots, ReadErro
     }
     expect(Head::Comma, tokens)?;
     if tokens.comes_integer() {
-        many_slots_at(alloc, tokens)
+        many_slots_at(alloc, shape, tokens)
     } else {
         one_slot_at(alloc, tokens)
     }
@@ -108,7 +175,7 @@ pub fn reserving_at<'a>(alloc: Global, tokens: &mut Tokens<'_, 'a>) -> Result<In
     ensures { Gives (λ x. (x, tokens.new)) result (reserving_at tokens.old) }
 {
     let shape = memory_shape_at(alloc, tokens)?;
-    let slots = slots_behind_at(alloc, tokens)?;
+    let slots = slots_behind_at(alloc, &shape, tokens)?;
     Ok(Instr::Alloca {
         typed: shape.typed,
         count: slots.count,
@@ -197,6 +264,40 @@ fn indices_at<'a>(
     Ok(indices)
 }
 
+/// Reads the indices of a `getelementptr`.
+fn stepped_at<'a>(
+    alloc: Global,
+    inbounds: bool,
+    typed: Typed<'a>,
+    base: Operand<'a>,
+    tokens: &mut Tokens<'_, 'a>,
+) -> Result<Instr<'a>, ReadError>
+    ensures { Gives (λ x. (x, tokens.new)) result (stepped_at inbounds typed.entry base.entry tokens.old) }
+{
+    let indices = indices_at(alloc, tokens)?;
+    Ok(Instr::Address {
+        inbounds,
+        typed,
+        base,
+        indices: Rows::of(indices),
+    })
+}
+
+/// Reads what follows the shape of a `getelementptr`.
+fn stepping_by_at<'a>(
+    alloc: Global,
+    inbounds: bool,
+    typed: Typed<'a>,
+    tokens: &mut Tokens<'_, 'a>,
+) -> Result<Instr<'a>, ReadError>
+    ensures { Gives (λ x. (x, tokens.new)) result (stepping_by_at inbounds typed.entry tokens.old) }
+{
+    expect(Head::Comma, tokens)?;
+    pointer_at(tokens)?;
+    let base = operand_at(alloc, Reg::Ptr, tokens)?;
+    stepped_at(alloc, inbounds, typed, base, tokens)
+}
+
 /// Reads what follows `getelementptr`.
 #[tactic(auto, unfolding(crate::specs::AddressingAt::addressing_at))]
 pub fn addressing_at<'a>(alloc: Global, tokens: &mut Tokens<'_, 'a>) -> Result<Instr<'a>, ReadError>
@@ -204,14 +305,5 @@ pub fn addressing_at<'a>(alloc: Global, tokens: &mut Tokens<'_, 'a>) -> Result<I
 {
     let inbounds = stepping_at(tokens)?;
     let shape = memory_shape_at(alloc, tokens)?;
-    expect(Head::Comma, tokens)?;
-    pointer_at(tokens)?;
-    let base = operand_at(alloc, Reg::Ptr, tokens)?;
-    let indices = indices_at(alloc, tokens)?;
-    Ok(Instr::Address {
-        inbounds,
-        typed: shape.typed,
-        base,
-        indices: Rows::of(indices),
-    })
+    stepping_by_at(alloc, inbounds, shape.typed, tokens)
 }

@@ -3,21 +3,25 @@
 
 ghost use Rattle.std.specs.Prelude.{◌≡◌, IfOk};
 ghost use Rattle.ir_lex.specs.Heads.{number};
+ghost use Rattle.ir_lex.specs.Tok.{tok};
 ghost use Rattle.lto_forms.specs.Alphabet.{contains, among};
 ghost use Rattle.lto_forms.specs.Readers.{Gives, next_is};
+ghost use Rattle.lto_forms.specs.Rules.{is_valued};
 ghost use Rattle.ir_read.specs.Attributes.{WORDS, GROUP, words_of, kept_of, word_kept, none_kept, with_attribute};
-ghost use Rattle.ir_read.specs.AttributesAt.{PARAMETER, CALL, DEFINITION, GROUPED, head_alignment_at, head_attribute_at, definition_attribute_at, definition_attributes_at, grouped_at, attribute_group_at, aligned_at, parameter_attribute_at, parameter_attributes_at, word_tail_at, word_attribute_at, string_value_at, string_attribute_at, function_attribute_at, group_attribute_at, call_attribute_at, call_attributes_at};
-ghost use Rattle.ir_read.specs.Classes.{tokens, one_of_at, itself};
+ghost use Rattle.ir_read.specs.AttributesAt.{PARAMETER, CALL, DEFINITION, GROUPED, head_alignment_at, head_attribute_at, definition_attribute_at, definition_attributes_at, grouped_at, attribute_group_at, aligned_at, parameter_attribute_at, parameter_attributes_at, word_tail_at, word_attribute_at, string_value_at, string_attribute_at, function_attribute_at, group_name_at, group_attribute_at, call_attribute_at, call_attributes_at};
+ghost use Rattle.ir_read.specs.Classes.{tokens, refusal, one_of_at};
 ghost use Rattle.ir_read.specs.Metadata.{META};
+ghost use Rattle.ir_read.specs.Operands.{group_named};
 
 use crate::brackets::{Bracket, group_at};
 use crate::metadata::attached_at;
 use crate::name::Name;
 use crate::numerals::alignment_at;
+use crate::operands::group_named;
 use crate::raw::Item;
 use crate::terminals::{expect, refusal};
 use crate::tokens::Tokens;
-use ir_lex::Head;
+use ir_lex::{Head, Token};
 use ir_tree::Rows;
 use lto_forms::{Fault, FaultKind, ReadError};
 use std::alloc::{AllocError, Global};
@@ -42,7 +46,7 @@ pub struct Kept<'a> {
 }
 
 /// Where an attribute that is one word stands.
-#[derive(Clone, Copy, Debug)]
+#[derive(Clone, Copy)]
 pub enum Place {
     /// Behind the head of a function.
     Head,
@@ -277,9 +281,23 @@ fn function_attribute_at<'a>(
     }
 }
 
-#[tactic(auto, unfolding(lto_forms::specs::Rules::is_among, crate::specs::AttributesAt::group_attribute_at))]
-fn group_attribute_at<'a>(tokens: &mut Tokens<'_, 'a>) -> Result<Attribute<'a>, ReadError>
-    ensures { Gives (λ x. (x, tokens.new)) result (group_attribute_at tokens.old) }
+#[tactic(auto, unfolding(lto_forms::specs::Rules::is_valued))]
+fn group_means<'a>(t: &Token<'a>) -> Result<Name<'a>, FaultKind>
+    ensures { result ≡ is_valued tokens refusal GROUP group_named (tok t.now) }
+{
+    if t.head.is(Head::Group) {
+        match group_named(t) {
+            None => Err(FaultKind::Number),
+            Some(name) => Ok(name),
+        }
+    } else {
+        Err(refusal(t.head))
+    }
+}
+
+/// Takes the name of an attribute group.
+fn group_name_at<'a>(tokens: &mut Tokens<'_, 'a>) -> Result<Name<'a>, ReadError>
+    ensures { Gives (λ x. (x, tokens.new)) result (group_name_at tokens.old) }
 {
     let left = tokens.left();
     match tokens.take() {
@@ -287,17 +305,19 @@ fn group_attribute_at<'a>(tokens: &mut Tokens<'_, 'a>) -> Result<Attribute<'a>, 
             left,
             kind: FaultKind::Syntax,
         })),
-        Some(t) => {
-            if t.head.is(Head::Group) {
-                Ok(Attribute::Group(Name::of(t)))
-            } else {
-                Err(ReadError::Fault(Fault {
-                    left,
-                    kind: refusal(t.head),
-                }))
-            }
-        }
+        Some(t) => match group_means(&t) {
+            Ok(x) => Ok(x),
+            Err(kind) => Err(ReadError::Fault(Fault { left, kind })),
+        },
     }
+}
+
+#[tactic(auto, unfolding(crate::specs::AttributesAt::group_attribute_at))]
+fn group_attribute_at<'a>(tokens: &mut Tokens<'_, 'a>) -> Result<Attribute<'a>, ReadError>
+    ensures { Gives (λ x. (x, tokens.new)) result (group_attribute_at tokens.old) }
+{
+    let name = group_name_at(tokens)?;
+    Ok(Attribute::Group(name))
 }
 
 #[tactic(auto, unfolding(crate::specs::AttributesAt::call_attribute_at))]
@@ -500,29 +520,6 @@ fn grouped_at<'a>(alloc: Global, tokens: &mut Tokens<'_, 'a>) -> Result<Kept<'a>
         kept = kept.with(attribute)?;
     }
     Ok(kept)
-}
-
-#[tactic(auto, unfolding(lto_forms::specs::Rules::is_among))]
-fn group_name_at<'a>(tokens: &mut Tokens<'_, 'a>) -> Result<Name<'a>, ReadError>
-    ensures { Gives (λ x. (x, tokens.new)) result (one_of_at GROUP itself tokens.old) }
-{
-    let left = tokens.left();
-    match tokens.take() {
-        None => Err(ReadError::Fault(Fault {
-            left,
-            kind: FaultKind::Syntax,
-        })),
-        Some(t) => {
-            if t.head.is(Head::Group) {
-                Ok(Name::of(t))
-            } else {
-                Err(ReadError::Fault(Fault {
-                    left,
-                    kind: refusal(t.head),
-                }))
-            }
-        }
-    }
 }
 
 /// Reads an attribute group: `attributes #0 = { nounwind "frame-pointer"="all" }`.

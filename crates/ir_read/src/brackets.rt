@@ -13,7 +13,7 @@ use lto_forms::{Fault, FaultKind, ReadError};
 use std::alloc::Global;
 
 /// A kind of bracket.
-#[derive(Clone, Copy, Debug)]
+#[derive(Clone, Copy)]
 pub enum Bracket {
     /// `(` and `)`
     Paren,
@@ -24,7 +24,7 @@ pub enum Bracket {
 }
 
 /// What a token does to the brackets that are open.
-#[derive(Clone, Copy, Debug)]
+#[derive(Clone, Copy)]
 pub enum BracketMove {
     Opens(Bracket),
     Closes(Bracket),

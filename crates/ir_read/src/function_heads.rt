@@ -3,26 +3,29 @@
 
 ghost use Rattle.std.specs.Prelude.{◌≡◌};
 ghost use Rattle.ir_lex.specs.Heads.{number};
+ghost use Rattle.ir_lex.specs.Tok.{tok};
 ghost use Rattle.lto_forms.specs.Alphabet.{contains, among};
 ghost use Rattle.lto_forms.specs.Readers.{Gives, next_is};
+ghost use Rattle.lto_forms.specs.Rules.{is_valued};
 ghost use Rattle.ir_read.specs.Classes.{tokens, one_of_at};
 ghost use Rattle.ir_read.specs.FunctionHeads.{linkages_of, linkage_by, linkage_word, QUALIFIERS, nothing_of, with_linkage, is_local, names_of, name_refusal, head_of};
 ghost use Rattle.ir_read.specs.FunctionHeadsAt.{LEADING, QUALIFYING, linking_at, qualifier_at, qualifying_at, leading_at, prefix_at, function_name_at, param_at, further_param_at, params_behind_at, some_params_at, end_of_none_at, listed_params_at, params_at, head_at};
+ghost use Rattle.ir_read.specs.Operands.{global_named};
 
 use crate::attributes::{parameter_attribute_at, parameter_attributes_at};
 use crate::name::Name;
-use crate::operands::{local_at, reg_at, result_at, type_refusal};
+use crate::operands::{global_named, local_at, reg_at, result_at, type_refusal};
 use crate::raw;
 use crate::raw::Param;
 use crate::terminals::{expect, refusal};
 use crate::tokens::Tokens;
-use ir_lex::Head;
+use ir_lex::{Head, Token};
 use ir_tree::{Linkage, Rows};
 use lto_forms::{Fault, FaultKind, ReadError};
 use std::alloc::Global;
 
 /// Whether a function has a body.
-#[derive(Clone, Copy, Debug, PartialEq, Eq)]
+#[derive(Clone, Copy)]
 pub enum Role {
     Declaration,
     Definition,
@@ -30,7 +33,7 @@ pub enum Role {
 
 /// What a word before the result says: the linkage, where it is one, and whether a linkage has stood
 /// by now.
-#[derive(Clone, Copy, Debug, PartialEq, Eq)]
+#[derive(Clone, Copy)]
 struct Leading {
     linkage: Option<Linkage>,
     linked: bool,
@@ -286,8 +289,22 @@ pub fn name_refusal(head: Head) -> FaultKind
     }
 }
 
+/// What a token means where the name of such a function stands.
+#[tactic(auto, unfolding(lto_forms::specs::Rules::is_valued))]
+fn name_means<'a>(role: Role, linkage: Linkage, t: &Token<'a>) -> Result<Name<'a>, FaultKind>
+    ensures { result ≡ is_valued tokens name_refusal (names_of role linkage) global_named (tok t.now) }
+{
+    if is_name_of(role, linkage, t.head) {
+        match global_named(t) {
+            None => Err(FaultKind::Number),
+            Some(name) => Ok(name),
+        }
+    } else {
+        Err(name_refusal(t.head))
+    }
+}
+
 /// Takes the name of a function.
-#[tactic(auto, unfolding(lto_forms::specs::Rules::is_among))]
 fn function_name_at<'a>(
     role: Role,
     linkage: Linkage,
@@ -301,16 +318,10 @@ fn function_name_at<'a>(
             left,
             kind: FaultKind::Syntax,
         })),
-        Some(t) => {
-            if is_name_of(role, linkage, t.head) {
-                Ok(Name::of(t))
-            } else {
-                Err(ReadError::Fault(Fault {
-                    left,
-                    kind: name_refusal(t.head),
-                }))
-            }
-        }
+        Some(t) => match name_means(role, linkage, &t) {
+            Ok(x) => Ok(x),
+            Err(kind) => Err(ReadError::Fault(Fault { left, kind })),
+        },
     }
 }
 

@@ -7,12 +7,12 @@ ghost use Rattle.ir_lex.specs.Tok.{tok};
 ghost use Rattle.lto_forms.specs.Rules.{is_among};
 ghost use Rattle.ir_read.specs.Classes.{tokens, refusal, one_of_at};
 ghost use Rattle.ir_read.specs.Instructions.{WRAPS, is_nuw, with_wrap, no_flags, PREDICATES, predicate_of};
-ghost use Rattle.ir_read.specs.InstructionsAt.{wraps_at, on_two_at, wrapping_at, dividing_at, joining_at, comparing_at, casting_at, extending_at, narrowing_at, selecting_at, freezing_at, aligned_at, align_at, loading_at, storing_at};
+ghost use Rattle.ir_read.specs.InstructionsAt.{wraps_at, on_two_at, wrapping_at, dividing_at, joining_at, comparing_at, casting_at, extending_at, narrowing_at, other_at, arms_at, selecting_at, freezing_at, aligned_at, align_at, loading_at, stored_at, storing_to_at, storing_at};
 
 use crate::metadata::{attached_at, attachments_at};
 use crate::numerals::alignment_at;
 use crate::operands::{bit_at, integer_at, maybe_at, reg_at, scalar_at};
-use crate::raw::Instr;
+use crate::raw::{Argument, Instr, Operand};
 use crate::terminals::{expect, refusal};
 use crate::tokens::Tokens;
 use crate::values::{argument_at, operand_at, pointer_at};
@@ -248,15 +248,15 @@ pub fn narrowing_at<'a>(
     casting_at(alloc, op, tokens)
 }
 
-/// Reads what follows `select`.
-#[tactic(auto, unfolding(crate::specs::InstructionsAt::selecting_at))]
-pub fn selecting_at<'a>(alloc: Global, tokens: &mut Tokens<'_, 'a>) -> Result<Instr<'a>, ReadError>
-    ensures { Gives (λ x. (x, tokens.new)) result (selecting_at tokens.old) }
+/// Reads the second arm of a `select`.
+fn other_at<'a>(
+    alloc: Global,
+    condition: Operand<'a>,
+    if_true: Argument<'a>,
+    tokens: &mut Tokens<'_, 'a>,
+) -> Result<Instr<'a>, ReadError>
+    ensures { Gives (λ x. (x, tokens.new)) result (other_at condition.entry if_true.entry tokens.old) }
 {
-    let width = bit_at(tokens)?;
-    let condition = operand_at(alloc, Reg::Int(width), tokens)?;
-    expect(Head::Comma, tokens)?;
-    let if_true = argument_at(alloc, tokens)?;
     expect(Head::Comma, tokens)?;
     let if_false = argument_at(alloc, tokens)?;
     Ok(Instr::Select {
@@ -264,6 +264,29 @@ pub fn selecting_at<'a>(alloc: Global, tokens: &mut Tokens<'_, 'a>) -> Result<In
         if_true,
         if_false,
     })
+}
+
+/// Reads the arms of a `select`.
+fn arms_at<'a>(
+    alloc: Global,
+    condition: Operand<'a>,
+    tokens: &mut Tokens<'_, 'a>,
+) -> Result<Instr<'a>, ReadError>
+    ensures { Gives (λ x. (x, tokens.new)) result (arms_at condition.entry tokens.old) }
+{
+    expect(Head::Comma, tokens)?;
+    let if_true = argument_at(alloc, tokens)?;
+    other_at(alloc, condition, if_true, tokens)
+}
+
+/// Reads what follows `select`.
+#[tactic(auto, unfolding(crate::specs::InstructionsAt::selecting_at))]
+pub fn selecting_at<'a>(alloc: Global, tokens: &mut Tokens<'_, 'a>) -> Result<Instr<'a>, ReadError>
+    ensures { Gives (λ x. (x, tokens.new)) result (selecting_at tokens.old) }
+{
+    let width = bit_at(tokens)?;
+    let condition = operand_at(alloc, Reg::Int(width), tokens)?;
+    arms_at(alloc, condition, tokens)
 }
 
 /// Reads what follows `freeze`.
@@ -323,16 +346,16 @@ pub fn loading_at<'a>(alloc: Global, tokens: &mut Tokens<'_, 'a>) -> Result<Inst
     })
 }
 
-/// Reads what follows `store`.
-#[tactic(auto, unfolding(crate::specs::InstructionsAt::storing_at))]
-pub fn storing_at<'a>(alloc: Global, tokens: &mut Tokens<'_, 'a>) -> Result<Instr<'a>, ReadError>
-    ensures { Gives (λ x. (x, tokens.new)) result (storing_at tokens.old) }
+/// Reads the alignment of a `store`.
+fn stored_at<'a>(
+    alloc: Global,
+    reg: Reg,
+    value: Operand<'a>,
+    address: Operand<'a>,
+    tokens: &mut Tokens<'_, 'a>,
+) -> Result<Instr<'a>, ReadError>
+    ensures { Gives (λ x. (x, tokens.new)) result (stored_at reg value.entry address.entry tokens.old) }
 {
-    let reg = scalar_at(tokens)?;
-    let value = operand_at(alloc, reg, tokens)?;
-    expect(Head::Comma, tokens)?;
-    pointer_at(tokens)?;
-    let address = operand_at(alloc, Reg::Ptr, tokens)?;
     let align = align_at(alloc, tokens)?;
     Ok(Instr::Store {
         reg,
@@ -340,4 +363,29 @@ pub fn storing_at<'a>(alloc: Global, tokens: &mut Tokens<'_, 'a>) -> Result<Inst
         address,
         align,
     })
+}
+
+/// Reads what follows the value of a `store`.
+fn storing_to_at<'a>(
+    alloc: Global,
+    reg: Reg,
+    value: Operand<'a>,
+    tokens: &mut Tokens<'_, 'a>,
+) -> Result<Instr<'a>, ReadError>
+    ensures { Gives (λ x. (x, tokens.new)) result (storing_to_at reg value.entry tokens.old) }
+{
+    expect(Head::Comma, tokens)?;
+    pointer_at(tokens)?;
+    let address = operand_at(alloc, Reg::Ptr, tokens)?;
+    stored_at(alloc, reg, value, address, tokens)
+}
+
+/// Reads what follows `store`.
+#[tactic(auto, unfolding(crate::specs::InstructionsAt::storing_at))]
+pub fn storing_at<'a>(alloc: Global, tokens: &mut Tokens<'_, 'a>) -> Result<Instr<'a>, ReadError>
+    ensures { Gives (λ x. (x, tokens.new)) result (storing_at tokens.old) }
+{
+    let reg = scalar_at(tokens)?;
+    let value = operand_at(alloc, reg, tokens)?;
+    storing_to_at(alloc, reg, value, tokens)
 }

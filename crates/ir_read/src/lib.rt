@@ -87,6 +87,7 @@ pub use name::Name;
 pub use numerals::alignment_at;
 pub use numerals::decimal;
 pub use operands::bit_at;
+pub use operands::global_named;
 pub use operands::integer_at;
 pub use operands::local_at;
 pub use operands::maybe_at;

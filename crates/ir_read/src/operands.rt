@@ -9,7 +9,7 @@ ghost use Rattle.lto_forms.specs.Readers.{Gives};
 ghost use Rattle.lto_forms.specs.Rules.{is_among, is_exact, is_valued};
 ghost use Rattle.ir_read.specs.Classes.{tokens, refusal};
 ghost use Rattle.ir_read.specs.Literals.{IsWidth};
-ghost use Rattle.ir_read.specs.Operands.{INTEGER, REG, SCALAR, RESULT, LOCAL, IsReg, type_refusal, memory_refusal, width, reg_of, is_bit, result_of, is_numeral, named, number_means, local_value, classes_of, operand_of};
+ghost use Rattle.ir_read.specs.Operands.{INTEGER, REG, SCALAR, RESULT, LOCAL, IsReg, type_refusal, memory_refusal, width, reg_of, is_bit, result_of, is_numeral, named_by, named, group_named, global_named, number_means, local_value, global_value, classes_of, operand_of};
 ghost use Rattle.ir_read.specs.OperandsAt.{reg_at, integer_at, bit_at, scalar_at, result_at, local_at, simple_at, maybe_at};
 
 use crate::literals::literal;
@@ -231,12 +231,10 @@ fn is_numeral(bare: &[u8]) -> bool
     }
 }
 
-/// The name that a token writes, unless that is a number from `2^32` on.
-#[tactic(auto, unfolding(crate::specs::Operands::named))]
-pub fn named<'a>(t: &Token<'a>) -> Option<Name<'a>>
-    ensures { result ≡ named (tok t.now) }
+/// The name that a token writes by these bytes, unless they are a number from `2^32` on.
+fn named_by<'a>(t: &Token<'a>, bare: &[u8]) -> Option<Name<'a>>
+    ensures { result ≡ named_by (tok t.now) bare.now }
 {
-    let bare = t.bare();
     if is_numeral(bare) {
         match decimal(bare) {
             Some(n) if n < 4294967296 => Some(Name::of(*t)),
@@ -244,6 +242,25 @@ pub fn named<'a>(t: &Token<'a>) -> Option<Name<'a>>
         }
     } else {
         Some(Name::of(*t))
+    }
+}
+
+/// The name that a token writes, unless that is a number from `2^32` on.
+#[tactic(auto, unfolding(crate::specs::Operands::named))]
+pub fn named<'a>(t: &Token<'a>) -> Option<Name<'a>>
+    ensures { result ≡ named (tok t.now) }
+{
+    named_by(t, t.bare())
+}
+
+/// The name of an attribute group that a token writes, unless its number is `2^32` or more.
+#[tactic(auto, unfolding(crate::specs::Operands::group_named))]
+pub fn group_named<'a>(t: &Token<'a>) -> Option<Name<'a>>
+    ensures { result ≡ group_named (tok t.now) }
+{
+    match t.text {
+        [] => named_by(t, &[]),
+        [_mark, digits @ ..] => named_by(t, digits),
     }
 }
 
@@ -278,6 +295,16 @@ pub fn local_at<'a>(tokens: &mut Tokens<'_, 'a>) -> Result<Name<'a>, ReadError>
     }
 }
 
+/// The name that a token of a global's class writes, unless that is a number from `2^32` on.
+pub fn global_named<'a>(t: &Token<'a>) -> Option<Name<'a>>
+    ensures { result ≡ global_named (tok t.now) }
+{
+    match t.head {
+        Head::NumberedGlobal | Head::NumberedDefinition => named(t),
+        _ => Some(Name::of(*t)),
+    }
+}
+
 fn number_means<'a>(reg: Reg, t: &Token<'a>) -> Result<Operand<'a>, FaultKind>
     requires { IsReg reg }
     ensures { result ≡ number_means reg (tok t.now) }
@@ -300,6 +327,16 @@ fn local_value<'a>(t: &Token<'a>) -> Result<Operand<'a>, FaultKind>
     }
 }
 
+/// A global that is written by its number.
+fn global_value<'a>(t: &Token<'a>) -> Result<Operand<'a>, FaultKind>
+    ensures { result ≡ global_value (tok t.now) }
+{
+    match named(t) {
+        None => Err(FaultKind::Number),
+        Some(name) => Ok(Operand::Global(name)),
+    }
+}
+
 /// What a token means where an operand of a type may stand.
 #[tactic(auto, unfolding(lto_forms::specs::Rules::is_valued))]
 pub fn operand_means<'a>(reg: Reg, t: &Token<'a>) -> Result<Operand<'a>, FaultKind>
@@ -313,9 +350,8 @@ pub fn operand_means<'a>(reg: Reg, t: &Token<'a>) -> Result<Operand<'a>, FaultKi
         Head::False => Ok(Operand::Number { width: 1, bits: 0 }),
         Head::Null => Ok(Operand::Null),
         Head::Poison => Ok(Operand::Poison(reg)),
-        Head::Global | Head::NumberedGlobal | Head::NumberedDefinition => {
-            Ok(Operand::Global(Name::of(*t)))
-        }
+        Head::Global => Ok(Operand::Global(Name::of(*t))),
+        Head::NumberedGlobal | Head::NumberedDefinition => global_value(t),
         head => Err(refusal(head)),
     }
 }

@@ -1,7 +1,7 @@
 //! Where in a module an item may begin.
 
 /// What stands before an item.
-#[derive(Clone, Copy, Debug, PartialEq, Eq)]
+#[derive(Clone, Copy)]
 pub enum Before {
     /// Nothing, or a whole item.
     Item,
@@ -13,7 +13,7 @@ pub enum Before {
 
 /// Where the next item may stand: what stands before it, and how many global names there may still
 /// be.
-#[derive(Clone, Copy, Debug, PartialEq, Eq)]
+#[derive(Clone, Copy)]
 pub struct Position {
     pub before: Before,
     pub names: usize,

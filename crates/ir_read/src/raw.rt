@@ -309,12 +309,14 @@ pub struct Head<'a> {
     pub groups: Rows<Name<'a>>,
 }
 
-/// An initialiser without parts, or the beginning of one with parts. `Bytes` has the string.
+/// An initialiser without parts, or the beginning of one with parts. `Bytes` has the string, and
+/// `Number` a number behind a shape that is no scalar as it is written: a type name may stand for one.
 #[derive(Drop)]
 pub enum InitHead<'a> {
     Plain(Operand<'a>),
     Zeros,
     Bytes(Name<'a>),
+    Number(Name<'a>),
     Array,
     Struct { packed: bool },
 }

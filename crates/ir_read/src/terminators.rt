@@ -7,13 +7,13 @@ ghost use Rattle.lto_forms.specs.Rules.{is_among, is_valued};
 ghost use Rattle.ir_read.specs.Classes.{tokens, refusal, one_of_at};
 ghost use Rattle.ir_read.specs.Operands.{IsReg};
 ghost use Rattle.ir_read.specs.Terminators.{case_classes, matched_of, number_matched, ENDS, ending_of};
-ghost use Rattle.ir_read.specs.TerminatorsAt.{returning_at, target_at, branching_at, constant_at, case_of_at, case_at, cases_at, end_of_cases_at, switching_at, behind_end_at, terminator_at};
+ghost use Rattle.ir_read.specs.TerminatorsAt.{returning_at, target_at, branches_at, branching_at, constant_at, case_of_at, case_at, cases_at, end_of_cases_at, switched_at, switches_at, switching_at, behind_end_at, terminator_at};
 
 use crate::literals::literal;
 use crate::metadata::attachments_at;
 use crate::name::Name;
 use crate::operands::{bit_at, integer_at, local_at, reg_at, result_at, type_refusal};
-use crate::raw::{Argument, Case, Terminator};
+use crate::raw::{Argument, Case, Operand, Terminator};
 use crate::terminals::{expect, refusal};
 use crate::tokens::Tokens;
 use crate::values::operand_at;
@@ -23,7 +23,7 @@ use lto_forms::{Fault, FaultKind, ReadError};
 use std::alloc::Global;
 
 /// What a terminator begins with.
-#[derive(Clone, Copy, Debug, PartialEq, Eq)]
+#[derive(Clone, Copy)]
 pub enum End {
     Ret,
     Br,
@@ -32,7 +32,7 @@ pub enum End {
 }
 
 /// What a terminator begins with, and the line that it begins on.
-#[derive(Clone, Copy, Debug, PartialEq, Eq)]
+#[derive(Clone, Copy)]
 pub struct Ending {
     pub end: End,
     pub line: u32,
@@ -46,7 +46,7 @@ pub struct Ended<'a> {
 }
 
 /// The number of a case: its width and its bits.
-#[derive(Clone, Copy, Debug, PartialEq, Eq)]
+#[derive(Clone, Copy)]
 pub struct Matched {
     pub width: u8,
     pub bits: u64,
@@ -75,6 +75,24 @@ pub fn target_at<'a>(tokens: &mut Tokens<'_, 'a>) -> Result<Name<'a>, ReadError>
     local_at(tokens)
 }
 
+/// Reads the targets behind a condition.
+fn branches_at<'a>(
+    condition: Operand<'a>,
+    tokens: &mut Tokens<'_, 'a>,
+) -> Result<Terminator<'a>, ReadError>
+    ensures { Gives (λ x. (x, tokens.new)) result (branches_at condition.entry tokens.old) }
+{
+    expect(Head::Comma, tokens)?;
+    let if_true = target_at(tokens)?;
+    expect(Head::Comma, tokens)?;
+    let if_false = target_at(tokens)?;
+    Ok(Terminator::Branch {
+        condition,
+        if_true,
+        if_false,
+    })
+}
+
 /// Reads what follows `br`.
 #[tactic(auto, unfolding(crate::specs::TerminatorsAt::branching_at))]
 fn branching_at<'a>(alloc: Global, tokens: &mut Tokens<'_, 'a>) -> Result<Terminator<'a>, ReadError>
@@ -86,15 +104,7 @@ fn branching_at<'a>(alloc: Global, tokens: &mut Tokens<'_, 'a>) -> Result<Termin
     } else {
         let width = bit_at(tokens)?;
         let condition = operand_at(alloc, Reg::Int(width), tokens)?;
-        expect(Head::Comma, tokens)?;
-        let if_true = target_at(tokens)?;
-        expect(Head::Comma, tokens)?;
-        let if_false = target_at(tokens)?;
-        Ok(Terminator::Branch {
-            condition,
-            if_true,
-            if_false,
-        })
+        branches_at(condition, tokens)
     }
 }
 
@@ -195,15 +205,16 @@ fn end_of_cases_at(tokens: &mut Tokens) -> Result<(), ReadError>
     }
 }
 
-/// Reads what follows `switch`.
-#[tactic(auto, unfolding(crate::specs::TerminatorsAt::switching_at))]
-fn switching_at<'a>(alloc: Global, tokens: &mut Tokens<'_, 'a>) -> Result<Terminator<'a>, ReadError>
-    ensures { Gives (λ x. (x, tokens.new)) result (switching_at tokens.old) }
+/// Reads the cases of a `switch`.
+fn switched_at<'a>(
+    alloc: Global,
+    width: u8,
+    value: Operand<'a>,
+    default: Name<'a>,
+    tokens: &mut Tokens<'_, 'a>,
+) -> Result<Terminator<'a>, ReadError>
+    ensures { Gives (λ x. (x, tokens.new)) result (switched_at width value.entry default.entry tokens.old) }
 {
-    let width = integer_at(tokens)?;
-    let value = operand_at(alloc, Reg::Int(width), tokens)?;
-    expect(Head::Comma, tokens)?;
-    let default = target_at(tokens)?;
     expect(Head::OpenBracket, tokens)?;
     let cases = cases_at(alloc, tokens)?;
     end_of_cases_at(tokens)?;
@@ -213,6 +224,30 @@ fn switching_at<'a>(alloc: Global, tokens: &mut Tokens<'_, 'a>) -> Result<Termin
         default,
         cases: Rows::of(cases),
     })
+}
+
+/// Reads what follows the value of a `switch`.
+fn switches_at<'a>(
+    alloc: Global,
+    width: u8,
+    value: Operand<'a>,
+    tokens: &mut Tokens<'_, 'a>,
+) -> Result<Terminator<'a>, ReadError>
+    ensures { Gives (λ x. (x, tokens.new)) result (switches_at width value.entry tokens.old) }
+{
+    expect(Head::Comma, tokens)?;
+    let default = target_at(tokens)?;
+    switched_at(alloc, width, value, default, tokens)
+}
+
+/// Reads what follows `switch`.
+#[tactic(auto, unfolding(crate::specs::TerminatorsAt::switching_at))]
+fn switching_at<'a>(alloc: Global, tokens: &mut Tokens<'_, 'a>) -> Result<Terminator<'a>, ReadError>
+    ensures { Gives (λ x. (x, tokens.new)) result (switching_at tokens.old) }
+{
+    let width = integer_at(tokens)?;
+    let value = operand_at(alloc, Reg::Int(width), tokens)?;
+    switches_at(alloc, width, value, tokens)
 }
 
 #[tactic(auto, unfolding(lto_forms::specs::Rules::is_among))]

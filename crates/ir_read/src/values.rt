@@ -6,16 +6,16 @@ ghost use Rattle.ir_lex.specs.Tok.{tok};
 ghost use Rattle.lto_forms.specs.Alphabet.{among};
 ghost use Rattle.lto_forms.specs.Readers.{Gives, done, follow};
 ghost use Rattle.lto_forms.specs.Rules.{is_valued};
-ghost use Rattle.ir_read.specs.Classes.{tokens, refusal, itself, one_of_at};
+ghost use Rattle.ir_read.specs.Classes.{tokens, refusal, one_of_at};
 ghost use Rattle.ir_read.specs.Literals.{IsWidth};
-ghost use Rattle.ir_read.specs.Operands.{IsReg};
+ghost use Rattle.ir_read.specs.Operands.{IsReg, global_named};
 ghost use Rattle.ir_read.specs.Values.{GLOBAL, NUMBER, STEPPING, index_of, is_inbounds, or_inbounds};
-ghost use Rattle.ir_read.specs.ValuesAt.{address_at, argument_at, closing_at, closing_one_at, index_at, index_number_at, indices_at, opened_at, opening_at, openings_at, operand_at, pointer_at, reached_at, stepping_at};
+ghost use Rattle.ir_read.specs.ValuesAt.{address_at, argument_at, closing_at, closing_one_at, global_at, index_at, index_number_at, indices_at, opened_at, opening_at, openings_at, operand_at, pointer_at, reached_at, stepping_at};
 
 use crate::address::{Address, Index, Level, Steps};
 use crate::literals::literal;
 use crate::name::Name;
-use crate::operands::{integer_at, reg_at, simple_at, type_refusal};
+use crate::operands::{global_named, integer_at, reg_at, simple_at, type_refusal};
 use crate::raw::{Argument, Operand};
 use crate::shape::Typed;
 use crate::shapes::memory_shape_at;
@@ -223,10 +223,22 @@ fn openings_at<'a>(
     Ok(levels)
 }
 
+#[tactic(auto, unfolding(lto_forms::specs::Rules::is_valued))]
+fn global_means<'a>(t: &Token<'a>) -> Result<Name<'a>, FaultKind>
+    ensures { result ≡ is_valued tokens refusal GLOBAL global_named (tok t.now) }
+{
+    match t.head {
+        Head::Global | Head::NumberedGlobal | Head::NumberedDefinition => match global_named(t) {
+            None => Err(FaultKind::Number),
+            Some(name) => Ok(name),
+        },
+        head => Err(refusal(head)),
+    }
+}
+
 /// Takes the name of a global.
-#[tactic(auto, unfolding(lto_forms::specs::Rules::is_among))]
 pub fn global_at<'a>(tokens: &mut Tokens<'_, 'a>) -> Result<Name<'a>, ReadError>
-    ensures { Gives (λ x. (x, tokens.new)) result (one_of_at GLOBAL itself tokens.old) }
+    ensures { Gives (λ x. (x, tokens.new)) result (global_at tokens.old) }
 {
     let left = tokens.left();
     match tokens.take() {
@@ -234,12 +246,9 @@ pub fn global_at<'a>(tokens: &mut Tokens<'_, 'a>) -> Result<Name<'a>, ReadError>
             left,
             kind: FaultKind::Syntax,
         })),
-        Some(t) => match t.head {
-            Head::Global | Head::NumberedGlobal | Head::NumberedDefinition => Ok(Name::of(t)),
-            head => Err(ReadError::Fault(Fault {
-                left,
-                kind: refusal(head),
-            })),
+        Some(t) => match global_means(&t) {
+            Ok(x) => Ok(x),
+            Err(kind) => Err(ReadError::Fault(Fault { left, kind })),
         },
     }
 }

@@ -8,7 +8,7 @@ ghost use Rattle.ir_stages.specs.Circles.{circles_in};
 
 use crate::mark::{Mark, Marks};
 use crate::uses::uses;
-use ir_names::{Graph, ResolveError, Types, circles_of};
+use ir_names::{Graph, ResolveError, TypeNames, circles_of};
 use std::alloc::{AllocError, Global};
 
 /// One more place, where there is one.
@@ -24,7 +24,7 @@ fn put(row: &mut Vec<usize>, place: Option<usize>) -> Result<(), AllocError>
 /// The place of the definition of a name that is used, where it is defined.
 fn with_place<'t, 'a>(
     alloc: Global,
-    types: &Types<'t, 'a>,
+    types: &TypeNames<'t, 'a>,
     row: &mut Vec<usize>,
     mark: &Mark<'t, 'a>,
 ) -> Result<(), ResolveError>
@@ -43,7 +43,7 @@ fn with_place<'t, 'a>(
 /// The places of the definitions of the names that are used and defined.
 fn places<'t, 'a>(
     alloc: Global,
-    types: &Types<'t, 'a>,
+    types: &TypeNames<'t, 'a>,
     rows: &[Mark<'t, 'a>],
 ) -> Result<Vec<usize>, ResolveError>
     ensures { Settles (λ v. v.items) result (Ok (places types.now (marks rows.now))) }
@@ -58,7 +58,7 @@ fn places<'t, 'a>(
 /// The type names in the shape of the definition at a place.
 fn uses_at<'t, 'a>(
     alloc: Global,
-    types: &Types<'t, 'a>,
+    types: &TypeNames<'t, 'a>,
     place: usize,
 ) -> Result<Marks<'t, 'a>, AllocError>
     ensures { IfOk result (λ m. m ≡ uses_in (typing.shape_at types.now place)) }
@@ -76,7 +76,7 @@ fn uses_at<'t, 'a>(
 /// The places that the definition at a place leads to.
 fn row_of<'t, 'a>(
     alloc: Global,
-    types: &Types<'t, 'a>,
+    types: &TypeNames<'t, 'a>,
     place: usize,
 ) -> Result<Vec<usize>, ResolveError>
     ensures { Settles (λ v. v.items) result (Ok (places types.now (uses_in (typing.shape_at types.now place)))) }
@@ -86,7 +86,7 @@ fn row_of<'t, 'a>(
 }
 
 /// The graph of type names: from each definition an edge to that of each name in its shape.
-fn graph_of<'t, 'a>(alloc: Global, types: &Types<'t, 'a>) -> Result<Graph, ResolveError>
+fn graph_of<'t, 'a>(alloc: Global, types: &TypeNames<'t, 'a>) -> Result<Graph, ResolveError>
     ensures { Settles (λ g. g) result (Ok (graph_of types.now)) }
 {
     let mut graph = Graph::new(alloc);
@@ -98,7 +98,10 @@ fn graph_of<'t, 'a>(alloc: Global, types: &Types<'t, 'a>) -> Result<Graph, Resol
 
 /// Of each definition whether it holds itself.
 #[tactic(auto, unfolding(crate::specs::Circles::circles_in))]
-pub fn circles_in<'t, 'a>(alloc: Global, types: &Types<'t, 'a>) -> Result<Vec<bool>, ResolveError>
+pub fn circles_in<'t, 'a>(
+    alloc: Global,
+    types: &TypeNames<'t, 'a>,
+) -> Result<Vec<bool>, ResolveError>
     ensures { Settles (λ v. v.items) result (Ok (circles_in types.now)) }
 {
     let graph = graph_of(alloc, types)?;

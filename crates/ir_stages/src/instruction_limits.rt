@@ -6,7 +6,7 @@ ghost use Rattle.ir_names.specs.Stages as stages;
 ghost use Rattle.ir_stages.specs.Reserved.{reserved};
 
 use crate::limits::{operand_within, shape_within};
-use ir_names::{Locals, ResolveError, Types, instr_in};
+use ir_names::{ResolveError, Types, allocated};
 use ir_read::{Argument, Block, Incoming, Instr, Line, Operand, Terminator, Typed};
 use std::alloc::Global;
 
@@ -61,8 +61,8 @@ fn reserved_within<'t, 'a>(
     ensures { Settles (λ u. u) result (stages.marks_within types.now (reserved instr.now)) }
 {
     match instr {
-        Instr::Alloca { .. } => {
-            instr_in(alloc, types, &Locals::new(alloc), instr)?;
+        Instr::Alloca { typed, count, .. } => {
+            allocated(alloc, types, typed, *count)?;
             Ok(())
         }
         _ => Ok(()),

@@ -11,7 +11,7 @@ ghost use Rattle.ir_stages.specs.MarkViews.{standing, marks};
 
 use crate::circles::circles_in;
 use crate::mark::{Mark, Marks};
-use ir_names::{Fault, FaultKind, ResolveError, Types};
+use ir_names::{Fault, FaultKind, ResolveError, TypeNames, Types};
 use ir_read::{Name, Shape, Typed};
 use std::alloc::Global;
 
@@ -37,7 +37,7 @@ fn shape_if<'t, 'a>(typed: &'t Option<Typed<'a>>) -> Option<&'t Shape<'a>>
 
 fn with_first<'t, 'a>(
     alloc: Global,
-    types: &mut Types<'t, 'a>,
+    types: &mut TypeNames<'t, 'a>,
     mark: &Mark<'t, 'a>,
 ) -> Result<(), ResolveError>
     ensures { Settles (λ _. types.new) result (Ok (first_types types.old (standing mark.now))) }
@@ -49,10 +49,13 @@ fn with_first<'t, 'a>(
 }
 
 /// The first definition of each type name.
-fn first_types<'t, 'a>(alloc: Global, rows: &[Mark<'t, 'a>]) -> Result<Types<'t, 'a>, ResolveError>
+fn first_types<'t, 'a>(
+    alloc: Global,
+    rows: &[Mark<'t, 'a>],
+) -> Result<TypeNames<'t, 'a>, ResolveError>
     ensures { Settles (λ t. t) result (Ok (first_types [] (marks rows.now))) }
 {
-    let mut types = Types::new(alloc);
+    let mut types = TypeNames::new(alloc);
     'each: for mark in rows {
         with_first(alloc, &mut types, mark)?;
     }
@@ -62,7 +65,7 @@ fn first_types<'t, 'a>(alloc: Global, rows: &[Mark<'t, 'a>]) -> Result<Types<'t,
 /// Whether the definition of a name holds itself.
 fn holds_itself<'t, 'a>(
     alloc: Global,
-    all: &Types<'t, 'a>,
+    all: &TypeNames<'t, 'a>,
     circles: &[bool],
     name: &Name<'a>,
 ) -> Result<bool, ResolveError>
@@ -86,7 +89,7 @@ fn is_marked(circles: &[bool], place: Option<usize>) -> bool
 /// A type name that is used: it is defined, not opaque, and doesn't hold itself.
 fn use_in<'t, 'a>(
     alloc: Global,
-    all: &Types<'t, 'a>,
+    all: &TypeNames<'t, 'a>,
     circles: &[bool],
     name: &Name<'a>,
 ) -> Result<(), ResolveError>
@@ -102,9 +105,9 @@ fn use_in<'t, 'a>(
 
 fn typed_by<'t, 'a>(
     alloc: Global,
-    all: &Types<'t, 'a>,
+    all: &TypeNames<'t, 'a>,
     circles: &[bool],
-    types: &mut Types<'t, 'a>,
+    types: &mut TypeNames<'t, 'a>,
     mark: &Mark<'t, 'a>,
 ) -> Result<(), ResolveError>
     requires { circles.now ≡ circles_in all.now }
@@ -119,14 +122,14 @@ fn typed_by<'t, 'a>(
 
 fn all_typed<'t, 'a>(
     alloc: Global,
-    all: &Types<'t, 'a>,
+    all: &TypeNames<'t, 'a>,
     circles: &[bool],
     rows: &[Mark<'t, 'a>],
-) -> Result<Types<'t, 'a>, ResolveError>
+) -> Result<TypeNames<'t, 'a>, ResolveError>
     requires { circles.now ≡ circles_in all.now }
     ensures { Settles (λ t. t) result (all_typed all.now [] (marks rows.now)) }
 {
-    let mut types = Types::new(alloc);
+    let mut types = TypeNames::new(alloc);
     'each: for mark in rows {
         typed_by(alloc, all, circles, &mut types, mark)?;
     }
@@ -142,5 +145,7 @@ pub fn types_in<'t, 'a>(alloc: Global, marks: &Marks<'t, 'a>) -> Result<Types<'t
     let rows = marks.as_slice();
     let all = first_types(alloc, rows)?;
     let circles = circles_in(alloc, &all)?;
-    all_typed(alloc, &all, &circles, rows)
+    let names = all_typed(alloc, &all, &circles, rows)?;
+    let types = Types::of(alloc, names)?;
+    Ok(types)
 }

@@ -43,7 +43,7 @@ module _ {T A : Type 0} (a : A) where
   swapped_in_front (Err Number) r u rest s = tt
   swapped_in_front (Err Syntax) r u rest s = (s.0, ap in_front s.1)
   swapped_in_front (Err Profile) r u rest s = (s.0, ap in_front s.1)
-  swapped_in_front (Err Limit) r u rest s = (s.0, ap in_front s.1)
+  swapped_in_front (Err Limit) r u rest s = tt
 
 module _ {T : Type 0} (alphabet : Alphabet T) where
   module _ {S A : Type 0} (final : S → Bool) (begins first more : S → T → Bool) (after : T → Bool) (g wide : S → Form T (A × S)) (f : S → Reader T (A × S)) (laws : (s : S) → Lawful alphabet (g s) (wide s) (f s) (first s) (more s) false)
@@ -375,7 +375,7 @@ module _ {T : Type 0} (alphabet : Alphabet T) where
     swap_err n s Number front u rest' w = tt
     swap_err n s Syntax front u rest' w = (w.0, ap (λ (y : Result ((A × S) × List T) Fault). follow y (further n)) w.1)
     swap_err n s Profile front u rest' w = (w.0, ap (λ (y : Result ((A × S) × List T) Fault). follow y (further n)) w.1)
-    swap_err n s Limit front u rest' w = (w.0, ap (λ (y : Result ((A × S) × List T) Fault). follow y (further n)) w.1)
+    swap_err n s Limit front u rest' w = tt
 
     swapped_stop : (s : S) (front : List T) (t u : T) (rest rest' : List T) → is_number alphabet t ≡ true → alphabet.class u ≡ alphabet.class t → stop s (front ++ t ∷ rest) ≡ stop s (front ++ u ∷ rest')
     swapped_stop s [] t u rest rest' n n' = ap (λ (b : Bool). final s && not b) (alike s t u n n')

@@ -110,11 +110,11 @@ module _ {T : Type 0} (alphabet : Alphabet T) where
 
   -- ---- one token
 
-  refused : {A : Type 0} (l k : FaultKind) → l ≡ k → (m : Result A FaultKind) → SameRefusal {A = A} (Err l) m → (k ≡ Number → ⊥) → (u : T) (rest : List T) → (k' : FaultKind) × (token_means u rest m ≡ fault_at k' (u ∷ rest))
-  refused Number k e m s never u rest = absurd (never (sym e))
-  refused Syntax k e m s never u rest = (s.0, ap (token_means u rest) s.1)
-  refused Profile k e m s never u rest = (s.0, ap (token_means u rest) s.1)
-  refused Limit k e m s never u rest = (s.0, ap (token_means u rest) s.1)
+  refused : {A : Type 0} (l k : FaultKind) → l ≡ k → (m : Result A FaultKind) → SameRefusal {A = A} (Err l) m → (k ≡ Number → ⊥) → (k ≡ Limit → ⊥) → (u : T) (rest : List T) → (k' : FaultKind) × (token_means u rest m ≡ fault_at k' (u ∷ rest))
+  refused Number k e m s never bounded u rest = absurd (never (sym e))
+  refused Syntax k e m s never bounded u rest = (s.0, ap (token_means u rest) s.1)
+  refused Profile k e m s never bounded u rest = (s.0, ap (token_means u rest) s.1)
+  refused Limit k e m s never bounded u rest = absurd (bounded (sym e))
 
   module _ {A : Type 0} (meaning : T → Result A FaultKind) (first : T → Bool) where
     sound_means : (t : T) (ts rest : List T) (a : A) (m : Result A FaultKind) → meaning t ≡ m → token_means t ts m ≡ reads a rest → (front : List T) × (t ∷ ts ≡ front ++ rest) × form.token meaning front a
@@ -197,9 +197,9 @@ module _ {T : Type 0} (alphabet : Alphabet T) where
     swap_here t u rest rest' (Ok a) (Err k) m' s h = absurd cc
     swap_here t u rest rest' (Err k) (Ok b) m' s h = absurd cc
     swap_here t u rest rest' (Err Number) (Err l) m' s h = tt
-    swap_here t u rest rest' (Err Syntax) (Err l) m' s h = refused l Syntax (ap (λ (x : Fault). x.kind) (wrong_is (record { left = length (t ∷ rest); kind = l }) (record { left = length (t ∷ rest); kind = Syntax }) h)) m' s (λ e. cc) u rest'
-    swap_here t u rest rest' (Err Profile) (Err l) m' s h = refused l Profile (ap (λ (x : Fault). x.kind) (wrong_is (record { left = length (t ∷ rest); kind = l }) (record { left = length (t ∷ rest); kind = Profile }) h)) m' s (λ e. cc) u rest'
-    swap_here t u rest rest' (Err Limit) (Err l) m' s h = refused l Limit (ap (λ (x : Fault). x.kind) (wrong_is (record { left = length (t ∷ rest); kind = l }) (record { left = length (t ∷ rest); kind = Limit }) h)) m' s (λ e. cc) u rest'
+    swap_here t u rest rest' (Err Syntax) (Err l) m' s h = refused l Syntax (ap (λ (x : Fault). x.kind) (wrong_is (record { left = length (t ∷ rest); kind = l }) (record { left = length (t ∷ rest); kind = Syntax }) h)) m' s (λ e. cc) (λ e. cc) u rest'
+    swap_here t u rest rest' (Err Profile) (Err l) m' s h = refused l Profile (ap (λ (x : Fault). x.kind) (wrong_is (record { left = length (t ∷ rest); kind = l }) (record { left = length (t ∷ rest); kind = Profile }) h)) m' s (λ e. cc) (λ e. cc) u rest'
+    swap_here t u rest rest' (Err Limit) (Err l) m' s h = tt
 
     swap_means : (t u v : T) (front rest rest' : List T) (o m : Result A FaultKind) → token_means v (front ++ t ∷ rest) m ≡ ends o (t ∷ rest) → Swapped o (token_means v (front ++ u ∷ rest') m) u rest'
     swap_means t u v front rest rest' (Ok a) (Ok b) h =
@@ -421,7 +421,7 @@ module _ {T : Type 0} (alphabet : Alphabet T) where
     swap_err Number front t u rest rest' s = tt
     swap_err Syntax front t u rest rest' s = (s.0, ap (λ (y : Result (A × List T) Fault). follow y h) s.1)
     swap_err Profile front t u rest rest' s = (s.0, ap (λ (y : Result (A × List T) Fault). follow y h) s.1)
-    swap_err Limit front t u rest rest' s = (s.0, ap (λ (y : Result (A × List T) Fault). follow y h) s.1)
+    swap_err Limit front t u rest rest' s = tt
 
     swap_mid : (front mid : List T) (t u : T) (rest rest' : List T) (a : A) → is_number alphabet t ≡ true → alphabet.class u ≡ alphabet.class t → f (front ++ (mid ++ t ∷ rest)) ≡ reads a (mid ++ t ∷ rest) → f (front ++ (mid ++ u ∷ rest')) ≡ reads a (mid ++ u ∷ rest')
     swap_mid front [] t u rest rest' a n n' i = law.swap front t u rest rest' (Ok a) n n' i
@@ -706,7 +706,7 @@ module _ {T : Type 0} (alphabet : Alphabet T) where
         refuses Number = tt
         refuses Syntax = (Limit, refl)
         refuses Profile = (Limit, refl)
-        refuses Limit = (Limit, refl)
+        refuses Limit = tt
 
         by_test : (b b' : Bool) → b ≡ b' → (o : Result (List A) FaultKind) → cond b (fault_at Limit (t ∷ rest)) (reads {A = List A} [] (t ∷ rest)) ≡ ends o (t ∷ rest) → Swapped o (cond b' (fault_at Limit (u ∷ rest')) (reads {A = List A} [] (u ∷ rest'))) u rest'
         by_test true false e o d = absurd cc
@@ -894,7 +894,7 @@ module _ {T : Type 0} (alphabet : Alphabet T) where
 
   -- ---- a reading that is barred here by a limit
 
-  module _ {A : Type 0} (g wide : Form T A) (f : Reader T A) (begins first more : T → Bool) (empty : Bool) (law : Lawful alphabet g wide f first more empty) (alike : (t u : T) → is_number alphabet t ≡ true → alphabet.class u ≡ alphabet.class t → begins t ≡ begins u) (without : (t : T) → first t ≡ true → begins t ≡ false) (opens : (t : T) → begins t ≡ true → (more' : List T) × (a : A) × wide (t ∷ more') a × AllReal alphabet more') where
+  module _ {A : Type 0} (g wide : Form T A) (f : Reader T A) (begins first more : T → Bool) (empty : Bool) (law : Lawful alphabet g wide f first more empty) (alike : (t u : T) → is_number alphabet t ≡ true → alphabet.class u ≡ alphabet.class t → (begins t ≡ begins u) ⊎ (empty ≡ false)) (without : (t : T) → first t ≡ true → begins t ≡ false) (opens : (t : T) → begins t ≡ true → (more' : List T) × (a : A) × wide (t ∷ more') a × AllReal alphabet more') where
     abbrev barred : Reader T A
     barred = pick begins (fault_at Limit) f
 
@@ -971,11 +971,30 @@ module _ {T : Type 0} (alphabet : Alphabet T) where
         refuses Number = tt
         refuses Syntax = (Limit, refl)
         refuses Profile = (Limit, refl)
-        refuses Limit = (Limit, refl)
+        refuses Limit = tt
 
-        by_test : (b b' : Bool) → b ≡ b' → (o : Result A FaultKind) → cond b (fault_at Limit (t ∷ rest)) (f (t ∷ rest)) ≡ ends o (t ∷ rest) → Swapped o (cond b' (fault_at Limit (u ∷ rest')) (f (u ∷ rest'))) u rest'
-        by_test true false e o d = absurd cc
-        by_test false true e o d = absurd cc
+        bounded : (k : FaultKind) (r : Result (A × List T) Fault) → Limit ≡ k → Swapped {A = A} (Err k) r u rest'
+        bounded k r e = subst (λ (x : FaultKind). Swapped {A = A} (Err x) r u rest') e tt
+
+        same_or : (b b' : Bool) → (b ≡ b') ⊎ (empty ≡ false) → b ≡ false → b' ≡ true → empty ≡ false
+        same_or true b' e p q = absurd cc
+        same_or false true (inl e) p q = absurd cc
+        same_or false true (inr e) p q = e
+        same_or false false e p q = absurd cc
+
+        both : true ≡ false → ⊥
+        both e = cc
+
+        -- nothing isn't read, so the token is
+        taken : (a : A) (front : List T) → t ∷ rest ≡ front ++ t ∷ rest → g front a → empty ≡ false → ⊥
+        taken a [] e s p = both (sym (law.nothing a s) ∙ p)
+        taken a (v ∷ front) e s p = omega (arith, ap length e, length-append front (t ∷ rest))
+
+        by_test : (b b' : Bool) → (b ≡ b') ⊎ (empty ≡ false) → (o : Result A FaultKind) → cond b (fault_at Limit (t ∷ rest)) (f (t ∷ rest)) ≡ ends o (t ∷ rest) → Swapped o (cond b' (fault_at Limit (u ∷ rest')) (f (u ∷ rest'))) u rest'
+        by_test true false e (Ok a) d = absurd cc
+        by_test true false e (Err k) d = bounded k (f (u ∷ rest')) (ap (λ (x : Fault). x.kind) (wrong_is (record { left = length (t ∷ rest); kind = Limit }) (record { left = length (t ∷ rest); kind = k }) d))
+        by_test false true e (Ok a) d = let s = law.sound (t ∷ rest) (t ∷ rest) a d in absurd (taken a s.0 s.1 s.2 (same_or false true e refl refl))
+        by_test false true e (Err k) d = refuses k
         by_test true true e (Ok a) d = absurd cc
         by_test true true e (Err k) d = refuses k
         by_test false false e o d = law.swap [] t u rest rest' o n n' d

@@ -9,5 +9,6 @@ pub mod Places
 pub mod Rules
 pub mod Runs
 pub mod Stars
+pub mod Unlimited
 pub mod Whole
 pub mod ChainLoops

@@ -11,6 +11,7 @@ use Rattle.lto_forms.specs.Lawful.{IsRanged, SameRefusal}
 use Rattle.lto_forms.specs.Readers.{Reader, fault_at, done, ◌>>=◌, token_at, pick, many_at, star_at, upto_at, optional_at}
 use Rattle.lto_forms.specs.Rules.{Opens, Rule, IsWithin, disjoint, subset, in_range, is_class, is_among, is_exact, is_valued}
 use Rattle.lto_forms.proofs.Composed.{all_real, cons_is, gives_lawful, token_lawful, both_lawful, pick_lawful, many_lawful, star_lawful, barred_lawful, widened}
+use Rattle.lto_forms.proofs.Unlimited.{all_lawful}
 
 and_parts : (a b : Bool) → a && b ≡ true → (a ≡ true) × (b ≡ true)
 and_parts true b h = (refl, h)
@@ -85,7 +86,7 @@ same_refl (Ok a) = tt
 same_refl (Err Number) = tt
 same_refl (Err Syntax) = (Syntax, refl)
 same_refl (Err Profile) = (Profile, refl)
-same_refl (Err Limit) = (Limit, refl)
+same_refl (Err Limit) = tt
 
 abbrev refuse : {A : Type 0} → FaultKind → Result A FaultKind
 refuse k = Err k
@@ -158,10 +159,20 @@ module _ {T : Type 0} (alphabet : Alphabet T) where
             (λ t p. contains-append ms bs (alphabet.class t) (or_parts _ _ p));
       }
 
+  -- the same of a form whose first token may be out of range without the limits too
+  pub any_number : {A : Type 0} {g wide : Form T A} {f : Reader T A} {xs ms : List ℕ} (bs : List ℕ) → Rule alphabet g wide f xs ms false → subset xs bs ≡ true → disjoint ms bs ≡ true → Rule alphabet (form.Star g) (form.Star wide) (star_at (among alphabet bs) f) xs (ms ++ bs) true
+  any_number {g = g} {wide = wide} {f = f} {xs = xs} {ms = ms} bs law s d =
+      record {
+        law = widened alphabet (among alphabet xs) (among alphabet (ms ++ bs))
+            (all_lawful alphabet g wide f (among alphabet bs) (among alphabet xs) (among alphabet ms) law.law (alike_of bs) (λ t p. within_of xs bs s (alphabet.class t) p) (λ t p q. apart_from ms bs d (alphabet.class t) p q))
+            (λ t p. p)
+            (λ t p. contains-append ms bs (alphabet.class t) (or_parts _ _ p));
+      }
+
   pub no_room : {A : Type 0} {g wide : Form T A} {f : Reader T A} {xs ms : List ℕ} {e : Bool} (bs : List ℕ) → Rule alphabet g wide f xs ms e → Opens alphabet bs wide → disjoint xs bs ≡ true → Rule alphabet g wide (pick (among alphabet bs) (fault_at Limit) f) xs (ms ++ bs) e
   no_room {g = g} {wide = wide} {f = f} {xs = xs} {ms = ms} {e = e} bs law o d = record {
     law = widened alphabet (among alphabet xs) (among alphabet (ms ++ bs))
-        (barred_lawful alphabet g wide f (among alphabet bs) (among alphabet xs) (among alphabet ms) e law.law (alike_of bs) (λ t p. is_false (contains bs (alphabet.class t)) (λ q. apart_from xs bs d (alphabet.class t) p q)) o)
+        (barred_lawful alphabet g wide f (among alphabet bs) (among alphabet xs) (among alphabet ms) e law.law (λ t u n m. inl (alike_of bs t u n m)) (λ t p. is_false (contains bs (alphabet.class t)) (λ q. apart_from xs bs d (alphabet.class t) p q)) o)
         (λ t p. p)
         (λ t p. contains-append ms bs (alphabet.class t) (or_parts _ _ p));
   }

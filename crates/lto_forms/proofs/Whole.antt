@@ -121,15 +121,15 @@ module _ {T : Type 0} (alphabet : Alphabet T) where
         apart a us (Ok b) e = never us (reads_is a b [] (u ∷ us) e).1
         apart a us (Err k) e = cc
 
-    of_swapped : (k : FaultKind) (r : Result (A × List T) Fault) (u : T) (rest : List T) → (k ≡ Number → ⊥) → Swapped {A = A} (Err k) r u rest → (o : Result A FaultKind) × (r ≡ ends o (u ∷ rest))
-    of_swapped Number r u rest never s = absurd (never refl)
-    of_swapped Syntax r u rest never s = (Err s.0, s.1)
-    of_swapped Profile r u rest never s = (Err s.0, s.1)
-    of_swapped Limit r u rest never s = (Err s.0, s.1)
+    of_swapped : (k : FaultKind) (r : Result (A × List T) Fault) (u : T) (rest : List T) → (k ≡ Number → ⊥) → (k ≡ Limit → ⊥) → Swapped {A = A} (Err k) r u rest → (o : Result A FaultKind) × (r ≡ ends o (u ∷ rest))
+    of_swapped Number r u rest never bounded s = absurd (never refl)
+    of_swapped Syntax r u rest never bounded s = (Err s.0, s.1)
+    of_swapped Profile r u rest never bounded s = (Err s.0, s.1)
+    of_swapped Limit r u rest never bounded s = absurd (bounded refl)
 
-    no_number_err : (ts : List T) (left : ℕ) (k : FaultKind) → (k ≡ Number → ⊥) → f ts ≡ wrong (record { left = left; kind = k }) → NoNumberGoesOn alphabet g ts left
-    no_number_err ts left k never h front t rest whole here n u m =
-        swapped_dead front u (λ rest'. of_swapped k (f (front ++ u ∷ rest')) u rest' never (law.swap front t u rest rest' (Err k) n m (ap f (sym whole) ∙ h ∙ ap (λ (l : ℕ). wrong (record { left = l; kind = k })) (sym here))))
+    no_number_err : (ts : List T) (left : ℕ) (k : FaultKind) → (k ≡ Number → ⊥) → (k ≡ Limit → ⊥) → f ts ≡ wrong (record { left = left; kind = k }) → NoNumberGoesOn alphabet g ts left
+    no_number_err ts left k never bounded h front t rest whole here n u m =
+        swapped_dead front u (λ rest'. of_swapped k (f (front ++ u ∷ rest')) u rest' never bounded (law.swap front t u rest rest' (Err k) n m (ap f (sym whole) ∙ h ∙ ap (λ (l : ℕ). wrong (record { left = l; kind = k })) (sym here))))
 
     no_number_ok : (ts : List T) (v : T) (vs : List T) (a : A) → f ts ≡ reads a (v ∷ vs) → NoNumberGoesOn alphabet g ts (length (v ∷ vs))
     no_number_ok ts v vs a h front t rest whole here n u m =
@@ -142,9 +142,9 @@ module _ {T : Type 0} (alphabet : Alphabet T) where
       where
         by_kind : (k : FaultKind) → e.kind ≡ k → FitsKind alphabet g ts e.left k
         by_kind Number d = law.number ts e.left (h ∙ ap (λ (k : FaultKind). wrong (record { left = e.left; kind = k })) d)
-        by_kind Syntax d = no_number_err ts e.left Syntax (λ x. cc) (h ∙ ap (λ (k : FaultKind). wrong (record { left = e.left; kind = k })) d)
-        by_kind Profile d = no_number_err ts e.left Profile (λ x. cc) (h ∙ ap (λ (k : FaultKind). wrong (record { left = e.left; kind = k })) d)
-        by_kind Limit d = no_number_err ts e.left Limit (λ x. cc) (h ∙ ap (λ (k : FaultKind). wrong (record { left = e.left; kind = k })) d)
+        by_kind Syntax d = no_number_err ts e.left Syntax (λ x. cc) (λ x. cc) (h ∙ ap (λ (k : FaultKind). wrong (record { left = e.left; kind = k })) d)
+        by_kind Profile d = no_number_err ts e.left Profile (λ x. cc) (λ x. cc) (h ∙ ap (λ (k : FaultKind). wrong (record { left = e.left; kind = k })) d)
+        by_kind Limit d = tt
 
     kind_ended : (ts rest : List T) (a : A) (e : Fault) → f ts ≡ reads a rest → ended extra a rest ≡ wrong e → FitsKind alphabet g ts e.left e.kind
     kind_ended ts [] a e h d = absurd cc
@@ -155,7 +155,7 @@ module _ {T : Type 0} (alphabet : Alphabet T) where
         by_kind Number never = absurd (never refl)
         by_kind Syntax never = no_number_ok ts t rest a h
         by_kind Profile never = no_number_ok ts t rest a h
-        by_kind Limit never = no_number_ok ts t rest a h
+        by_kind Limit never = tt
 
     kind_result : (ts : List T) (e : Fault) (r : Result (A × List T) Fault) → f ts ≡ r → whole_of extra r ≡ wrong e → FitsKind alphabet g ts e.left e.kind
     kind_result ts e (Ok x) h d = kind_ended ts x.1 x.0 e h d

@@ -50,12 +50,13 @@ module _ {T : Type 0} (alphabet : Alphabet T) where
   abbrev pub NoNumberGoesOn : {A : Type 0} → Form T A → List T → ℕ → Type 0
   NoNumberGoesOn g ts left = (front : List T) (t : T) (rest : List T) → ts ≡ front ++ t ∷ rest → length (t ∷ rest) ≡ left → is_number alphabet t ≡ true → (u : T) → alphabet.class u ≡ alphabet.class t → Extends g (front ++ u ∷ []) → ⊥
 
-  -- a fault is a number out of range exactly where a token that writes another, of the same class, goes on there
+  -- a fault is a number out of range only where a token that writes another, of the same class, goes on there; where one does, it is
+  -- that or a limit
   abbrev pub FitsKind : {A : Type 0} → Form T A → List T → ℕ → FaultKind → Type 0
   FitsKind g ts left Number = NumberGoesOn g ts left
   FitsKind g ts left Syntax = NoNumberGoesOn g ts left
   FitsKind g ts left Profile = NoNumberGoesOn g ts left
-  FitsKind g ts left Limit = NoNumberGoesOn g ts left
+  FitsKind g ts left Limit = Unit {0}
 
   -- without the limits the first of the last tokens, so many, goes on
   pub record LimitGoesOn {A : Type 0} (wide : Form T A) (ts : List T) (left : ℕ) : Type 0 where

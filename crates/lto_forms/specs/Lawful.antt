@@ -18,21 +18,22 @@ abbrev pub Stops : {T : Type 0} → (T → Bool) → List T → Type 0
 Stops more [] = Unit {0}
 Stops more (t ∷ ts) = more t ≡ false
 
--- what reading gives where a token that writes another number stands in the place of the next one, which writes one
+-- what reading gives where a token that writes another number stands in the place of the next one, which writes one: of a number
+-- that is out of range, or past a limit, nothing is said
 abbrev pub Swapped : {T A : Type 0} → Result A FaultKind → Result (A × List T) Fault → T → List T → Type 0
 Swapped (Ok a) r u rest = r ≡ Ok (a, u ∷ rest)
 Swapped (Err Number) r u rest = Unit {0}
 Swapped (Err Syntax) r u rest = (k : FaultKind) × (r ≡ fault_at k (u ∷ rest))
 Swapped (Err Profile) r u rest = (k : FaultKind) × (r ≡ fault_at k (u ∷ rest))
-Swapped (Err Limit) r u rest = (k : FaultKind) × (r ≡ fault_at k (u ∷ rest))
+Swapped (Err Limit) r u rest = Unit {0}
 
--- a refusal of a token that writes a number, but for its range, is a refusal of each of its class
+-- a refusal of a token that writes a number, but for its range or a limit, is a refusal of each of its class
 abbrev pub SameRefusal : {A : Type 0} → Result A FaultKind → Result A FaultKind → Type 0
 SameRefusal {A} (Ok a) m = Unit {0}
 SameRefusal {A} (Err Number) m = Unit {0}
 SameRefusal {A} (Err Syntax) m = (k : FaultKind) × (m ≡ Err k)
 SameRefusal {A} (Err Profile) m = (k : FaultKind) × (m ≡ Err k)
-SameRefusal {A} (Err Limit) m = (k : FaultKind) × (m ≡ Err k)
+SameRefusal {A} (Err Limit) m = Unit {0}
 
 -- the first is past a limit, or they are one
 abbrev pub Agreed : {T A : Type 0} → Result (A × List T) Fault → Result (A × List T) Fault → Type 0
@@ -78,7 +79,7 @@ module _ {T : Type 0} (alphabet : Alphabet T) where
     pub local : (front : List T) (t : T) (rest rest' : List T) (o : Result A FaultKind) → f (front ++ t ∷ rest) ≡ ends o (t ∷ rest) → f (front ++ t ∷ rest') ≡ ends o (t ∷ rest')
     -- where a number is out of range, another one goes on
     pub number : (ts : List T) (left : ℕ) → f ts ≡ Err (record { left = left; kind = Number }) → NumberGoesOn alphabet g ts left
-    -- another fault at a token that writes a number comes for each of its class there
+    -- a fault but of a range or a limit at a token that writes a number comes for each of its class there
     pub swap : (front : List T) (t u : T) (rest rest' : List T) (o : Result A FaultKind) → is_number alphabet t ≡ true → alphabet.class u ≡ alphabet.class t → f (front ++ t ∷ rest) ≡ ends o (t ∷ rest) → Swapped o (f (front ++ u ∷ rest')) u rest'
     -- what is spelled so is spelled so without the limits
     pub contains : (ts : List T) (a : A) → g ts a → wide ts a

@@ -25,9 +25,9 @@ pub fn listing_is_read()
     ensures only { (most room : ℕ) (ts : List Sign) (ns : List ℕ) → listing most room ts ns → list_of most room ts ≡ Ok ns }
 {}
 
-/// A fault stands at the first token at which no reading goes on, which is one place; it is a
-/// number out of range exactly where another number goes on there, and a limit exactly where a
-/// reading without the limit goes on.
+/// A fault stands at the first token at which no reading goes on, which is one place. It is a number
+/// out of range only where another number goes on there, and where one does it is that or a limit; it
+/// is a limit exactly where a reading without the limit goes on.
 pub fn listing_faults()
     ensures stops { (most room : ℕ) (ts : List Sign) (e : Fault) → list_of most room ts ≡ Err e → StopsAt signs (listing most room) ts e.left }
     ensures place { (most room : ℕ) (ts : List Sign) (n m : ℕ) → StopsAt signs (listing most room) ts n → StopsAt signs (listing most room) ts m → n ≡ m }

@@ -10,6 +10,7 @@ use Rattle.ir_lex.specs.Tok.{Tok}
 use Rattle.ir_print.specs.Blocks as printed
 use Rattle.ir_print.specs.Blocks.{phis, phi_line, content, labelled, further_blocks}
 use Rattle.ir_print.specs.Instructions.{lines}
+use Rattle.ir_read.specs.Addressing.{slots_fit}
 use Rattle.ir_read.specs.Operands.{local}
 use Rattle.ir_read.specs.ShapeForms.{memory_shape}
 use Rattle.ir_read.specs.declared.raw.Block as raw_block
@@ -36,7 +37,7 @@ use Rattle.reading_back.proofs.Terminators.{terminator_read}
 abbrev AreLines : List Line → List (Option raw_line.Line) → Type 0
 AreLines ls os = Kept IsLine ls os × (length os ≡ length ls)
 
-all_lines_read : (room : ℕ) (ls : List Line) → length ls ≤ room → Each LineReadable ls → Reads (Many (line local memory_shape) room) (AreLines ls) (lines ls)
+all_lines_read : (room : ℕ) (ls : List Line) → length ls ≤ room → Each LineReadable ls → Reads (Many (line local slots_fit memory_shape) room) (AreLines ls) (lines ls)
 all_lines_read room [] few h = no_more_within room (kept_none IsLine, refl)
 all_lines_read zero (l ∷ ls) few h = absurd (omega (arith, few))
 all_lines_read (suc room) (l ∷ ls) few h = one_more_within room (line_read l h.0) (all_lines_read room ls (omega (arith, few)) h.1) (λ o os p q. (kept_more IsLine p q.0, ap suc q.1))

@@ -1,19 +1,21 @@
 -- The tokens of printed text are each of the class that their text has alone, and so are tokens that a reading keeps.
-use Rattle.std.proofs.Common.{◌≡◌, ℕ, Bool, true, false, cond, Ok, Err, List, [], ◌∷◌, ◌++◌, refl, sym, subst}
+use Rattle.std.proofs.Common.{◌≡◌, ℕ, Bool, true, false, cond, Option, None, Some, Ok, Err, List, [], ◌∷◌, ◌++◌, refl, sym, ap, subst}
 use Rattle.std.specs.List.{AllByRecursion as Each}
 use Rattle.ir_lex.specs.Blanks.{line_behind}
 use Rattle.ir_lex.specs.Heads.{number, head_of}
 use Rattle.ir_lex.specs.Pieces.{Piece}
 use Rattle.ir_lex.specs.Tok.{Tok}
-use Rattle.ir_read.specs.Classes.{tokens, itself}
+use Rattle.ir_read.proofs.OperandRules.{global_is}
+use Rattle.ir_read.specs.Classes.{tokens}
 use Rattle.ir_read.specs.FunctionHeads.{head, name_refusal, names_of}
+use Rattle.ir_read.specs.Operands.{global_named}
 use Rattle.ir_read.specs.declared.function_heads.Role.{Role}
 use Rattle.ir_read.specs.declared.raw.Head.{Head}
 use Rattle.lto_forms.specs.Alphabet.{contains}
 use Rattle.lto_forms.specs.declared.fault.FaultKind.{FaultKind}
 use Rattle.lto_forms.specs.Forms as form
 use Rattle.lto_forms.specs.Forms.{Form, token}
-use Rattle.lto_forms.specs.Rules.{is_among}
+use Rattle.lto_forms.specs.Rules.{in_range, is_valued}
 use Rattle.round_trip.specs.Texts.{tokens_before}
 use Rattle.reading_back.specs.Reads.{Reads}
 
@@ -38,15 +40,19 @@ before_others (x ∷ xs) ys h = (h.0, before_others xs ys h.1)
 
 -- a token that is kept as it stands
 module _ (refuse : ℕ → FaultKind) (classes : List ℕ) where
-  same_token : (t a : Tok) → is_among tokens refuse classes itself t ≡ Ok a → t ≡ a
-  unfolding is_among
+  same_token : (t a : Tok) → is_valued tokens refuse classes global_named t ≡ Ok a → t ≡ a
+  unfolding is_valued
   same_token t a e = by_test (contains classes (number t.head)) e
     where
-      by_test : (b : Bool) → cond b (Ok t) (Err (refuse (number t.head))) ≡ Ok a → t ≡ a
-      by_test true e = cc
-      by_test false e = absurd cc
+      in_reach : (o : Option Tok) → in_range o ≡ Ok a → o ≡ Some a
+      in_reach None q = absurd cc
+      in_reach (Some u) q = let same : u ≡ a = cc in ap (λ (x : Tok). Some x) same
 
-  kept_classed : (ts : List Tok) (a : Tok) → Each IsClassed ts → token (is_among tokens refuse classes itself) ts a → IsClassed a
+      by_test : (b : Bool) → cond b (in_range (global_named t)) (Err (refuse (number t.head))) ≡ Ok a → t ≡ a
+      by_test true q = global_is t.head t a (in_reach (global_named t) q)
+      by_test false q = absurd cc
+
+  kept_classed : (ts : List Tok) (a : Tok) → Each IsClassed ts → token (is_valued tokens refuse classes global_named) ts a → IsClassed a
   kept_classed [] a h g = absurd g
   kept_classed (t ∷ []) a h g = subst IsClassed (same_token t a g) h.0
   kept_classed (t ∷ u ∷ ts) a h g = absurd g

@@ -16,7 +16,7 @@ use Rattle.ir_read.specs.Literals.{literal}
 use Rattle.ir_read.specs.Operands.{simple}
 use Rattle.ir_read.specs.ShapeForms.{memory_shape}
 use Rattle.ir_read.specs.Values as values
-use Rattle.ir_read.specs.declared.raw.Operand as raw_operand
+use Rattle.ir_read.specs.declared.raw.InitHead as raw_head
 use Rattle.ir_read.specs.declared.raw.Operand.TheVariants as ro
 use Rattle.ir_tree.specs.Names.{quoted}
 use Rattle.ir_tree.specs.declared.operand.Operand.{Operand}
@@ -29,13 +29,15 @@ use Rattle.lto_forms.specs.declared.fault.FaultKind.{FaultKind}
 use Rattle.lto_forms.specs.Forms as form
 use Rattle.lto_forms.specs.Forms.{Form, token}
 use Rattle.lto_forms.specs.Rules.{is_valued}
+use Rattle.printed_modules.specs.Variables.{IsInitHead}
 use Rattle.printed_modules.specs.VariablesReadable.{ConstantReadable}
+use Rattle.ir_tree.specs.declared.init_node.InitHead.TheVariants.{Plain}
 use Rattle.round_trip.proofs.Classes.{global_class}
 use Rattle.round_trip.specs.Texts.{tokens_before}
 use Rattle.reading_back.specs.Printed.{IsOperand}
 use Rattle.reading_back.specs.Readable.{NumberReadable, SymbolReadable}
 use Rattle.reading_back.specs.Reads.{Reads}
-use Rattle.reading_back.proofs.Composed.{left, right}
+use Rattle.reading_back.proofs.Composed.{last, left, nothing, right}
 use Rattle.reading_back.proofs.Constants.{ReadsNumbers, number_read}
 use Rattle.reading_back.proofs.Operands.{operand_read}
 use Rattle.reading_back.proofs.Tokens.{Means, single, by_value}
@@ -47,7 +49,7 @@ abbrev numbers_type : Option Reg → Reg
 numbers_type None = Ptr
 numbers_type (Some r) = r
 
-reads_numbers : (s : Option Reg) → ReadsNumbers (numbers_type s) CONSTANTS (constant_of s) ro.Number
+reads_numbers : (s : Option Reg) → ReadsNumbers (numbers_type s) CONSTANTS (constant_of s) (λ w bits. read.plain (ro.Number w bits))
 reads_numbers s = record {
   true_there = refl;
   false_there = refl;
@@ -57,9 +59,9 @@ reads_numbers s = record {
   is_number = λ w e t h. by_scalar s w e t h;
 }
   where
-    by_scalar : (s : Option Reg) (w : ℕ) → numbers_type s ≡ Int w → (t : Tok) → t.head ≡ heads.Number → constant_of s t ≡ option_map (ro.Number w) (literal w t.text)
+    by_scalar : (s : Option Reg) (w : ℕ) → numbers_type s ≡ Int w → (t : Tok) → t.head ≡ heads.Number → constant_of s t ≡ option_map (λ bits. read.plain (ro.Number w bits)) (literal w t.text)
     by_scalar None w e t h = absurd cc
-    by_scalar (Some r) w e t h = subst (λ (g : Reg). constant_of (Some g) t ≡ option_map (ro.Number w) (literal w t.text)) (sym e) (ap (λ (g : Head). constant_by g (Some (Int w)) t) h)
+    by_scalar (Some r) w e t h = subst (λ (g : Reg). constant_of (Some g) t ≡ option_map (λ bits. read.plain (ro.Number w bits)) (literal w t.text)) (sym e) (ap (λ (g : Head). constant_by g (Some (Int w)) t) h)
 
 number_of_type : (s : Option Reg) (w bits : ℕ) → NumberReadable (type_of s) w bits → NumberReadable (numbers_type s) w bits
 number_of_type (Some r) w bits h = h
@@ -83,7 +85,7 @@ unfolding head_of word_head listed_head words_6
 poison_class = refl
 
 -- what a word of this class means
-word_means : (s : Option Reg) (x : Operand) (text : List ℕ) (h : Head) (o : raw_operand.Operand) → head_of kinds.Word text [] ≡ h → contains CONSTANTS (number h) ≡ true → ((t : Tok) → constant_by h s t ≡ Some o) → IsOperand x o → Means (is_valued tokens refusal CONSTANTS (constant_of s)) (IsOperand x) kinds.Word text
+word_means : (s : Option Reg) (x : Operand) (text : List ℕ) (h : Head) (o : raw_head.InitHead) → head_of kinds.Word text [] ≡ h → contains CONSTANTS (number h) ≡ true → ((t : Tok) → constant_by h s t ≡ Some o) → IsInitHead (Plain x) o → Means (is_valued tokens refusal CONSTANTS (constant_of s)) (IsInitHead (Plain x)) kinds.Word text
 word_means s x text h o e c m p =
     by_value refusal CONSTANTS (constant_of s) kinds.Word text (ap (λ (g : Head). contains CONSTANTS (number g)) e ∙ c)
     (λ t i. (o, ap (λ (g : Head). constant_by g s t) (i.head ∙ e) ∙ m t, p))
@@ -103,28 +105,28 @@ module _ (s : Option Reg) (blank : List ℕ) (symbol : tree_symbol.Symbol) (offs
   is_zero : nat_eq offset 0 ≡ true → offset ≡ 0
   is_zero e = grind arith
 
-  bare_read : nat_eq offset 0 ≡ true → Reads (read.single s) (IsOperand (Symbol symbol offset)) (global blank symbol.name)
+  bare_read : nat_eq offset 0 ≡ true → Reads (read.single s) (IsInitHead (Plain (Symbol symbol offset))) (global blank symbol.name)
   bare_read e =
       let c = global_class symbol.name h.name h.ordinary in
       single blank kinds.Global _ _ (by_value refusal CONSTANTS (constant_of s) kinds.Global (64 ∷ quoted symbol.name) (ap (λ (g : Head). contains CONSTANTS (number g)) c)
-      (λ t i. (ro.Global t, ap (λ (g : Head). constant_by g s t) (i.head ∙ c), (record { kind = i.kind; text = i.text }, is_zero e))))
+      (λ t i. (read.plain (ro.Global t), ap (λ (g : Head). constant_by g s t) (i.head ∙ c), (record { kind = i.kind; text = i.text }, is_zero e))))
 
   by_offset : (b : Bool) → nat_eq offset 0 ≡ b
       → Reads (form.either (values.address memory_shape) (simple Ptr)) (IsOperand (Symbol symbol offset)) (cond b (global blank symbol.name) (word blank (codes "getelementptr") ++ displaced symbol.name offset))
-      → Reads (form.either (values.address memory_shape) (read.single s)) (IsOperand (Symbol symbol offset)) (cond b (global blank symbol.name) (word blank (codes "getelementptr") ++ displaced symbol.name offset))
+      → Reads (form.either (form.◌>>=◌ (values.address memory_shape) (λ v. form.gives (read.plain v))) (read.single s)) (IsInitHead (Plain (Symbol symbol offset))) (cond b (global blank symbol.name) (word blank (codes "getelementptr") ++ displaced symbol.name offset))
   by_offset true e r = right _ (bare_read e)
-  by_offset false e r = left _ (first_of_two _ _ _ _ r)
+  by_offset false e r = left _ (last (first_of_two _ _ _ _ r) (λ v p. nothing p))
 
-  symbol_read : Reads (constant memory_shape s) (IsOperand (Symbol symbol offset)) (printed.address blank symbol.name offset)
+  symbol_read : Reads (constant memory_shape s) (IsInitHead (Plain (Symbol symbol offset))) (printed.address blank symbol.name offset)
   unfolding constant values.operand
   symbol_read = by_offset (nat_eq offset 0) refl (operand_read blank Ptr (Symbol symbol offset) h)
 
 -- ---- constants
 
-pub constant_read : (s : Option Reg) (blank : List ℕ) (x : Operand) → ConstantReadable (type_of s) x → Reads (constant memory_shape s) (IsOperand x) (printed.operand blank x)
+pub constant_read : (s : Option Reg) (blank : List ℕ) (x : Operand) → ConstantReadable (type_of s) x → Reads (constant memory_shape s) (IsInitHead (Plain x)) (printed.operand blank x)
 unfolding constant
 constant_read s blank (Local n) h = absurd h
 constant_read s blank (Number w bits) h = right _ (number_read (reads_numbers s) blank w bits (number_of_type s w bits h) (refl, refl))
-constant_read s blank Null h = right _ (single blank kinds.Word _ _ (word_means s Null (codes "null") heads.Null ro.Null null_class refl (λ t. refl) tt))
-constant_read s blank (Poison r) h = right _ (single blank kinds.Word _ _ (word_means s (Poison r) (codes "poison") heads.Poison (ro.Poison (type_of s)) poison_class refl (λ t. refl) (sym h)))
+constant_read s blank Null h = right _ (single blank kinds.Word _ _ (word_means s Null (codes "null") heads.Null (read.plain ro.Null) null_class refl (λ t. refl) tt))
+constant_read s blank (Poison r) h = right _ (single blank kinds.Word _ _ (word_means s (Poison r) (codes "poison") heads.Poison (read.plain (ro.Poison (type_of s))) poison_class refl (λ t. refl) (sym h)))
 constant_read s blank (Symbol symbol offset) h = symbol_read s blank symbol offset h

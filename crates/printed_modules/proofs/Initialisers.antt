@@ -24,8 +24,10 @@ use Rattle.ir_read.specs.declared.raw.InitPart as raw_part
 use Rattle.ir_read.specs.declared.raw.InitPart.TheVariants as rp
 use Rattle.ir_tree.specs.Forms.{Form}
 use Rattle.ir_tree.specs.Initials.{Initial, Initials, plain, zeros, bytes, elements, members, no_initials, initial, head_of as tree_head, parts_of, all_parts}
+use Rattle.ir_tree.specs.declared.init_node.InitHead.TheVariants.{Plain}
 use Rattle.ir_tree.specs.declared.init_node.InitPart.{InitPart}
 use Rattle.ir_tree.specs.declared.init_node.InitPart.TheVariants.{Typed, End}
+use Rattle.ir_tree.specs.declared.operand.Operand.{Operand}
 use Rattle.lto_forms.specs.Chained.{Chain}
 use Rattle.printed_modules.specs.Variables.{IsInitHead, IsInitPart, IsInit}
 use Rattle.printed_modules.specs.VariablesReadable.{InitialReadable, InitialsReadable}
@@ -88,9 +90,17 @@ unfolding aggregate_begin structure_begin packed_begin
 structure_read false vs = right _ (left _ (last (open_brace_read space) (λ a u. nothing (refl, refl))))
 structure_read true vs = right _ (right _ (then open_angle_read (λ a u. last brace_read (λ b v. nothing (refl, refl)))))
 
+plain_begins : (x : Operand) (h : raw_head.InitHead) → IsInitHead (Plain x) h → Begins (plain x) h
+plain_begins x (rh.Plain y) p = (p, refl)
+plain_begins x rh.Zeros p = absurd p
+plain_begins x (rh.Bytes text) p = absurd p
+plain_begins x (rh.Number t) p = absurd p
+plain_begins x rh.Array p = absurd p
+plain_begins x (rh.Struct packed) p = absurd p
+
 beginning_read : (f : Form) (v : Initial) → InitialReadable f v → Reads (beginning memory_shape (scalar_of (written_shape f))) (Begins v) (begin_pieces v)
-unfolding beginning read.plain
-beginning_read f (plain x) h = right _ (right _ (right _ (last (constant_read (scalar_of (written_shape f)) space x h) (λ y p. nothing (p, refl)))))
+unfolding beginning
+beginning_read f (plain x) h = right _ (right _ (right _ (known_as (Begins (plain x)) (λ y p. plain_begins x y p) (constant_read (scalar_of (written_shape f)) space x h))))
 beginning_read f zeros h = left _ (known_as (Begins zeros) (λ x e. subst (Begins zeros) (sym e) (tt, refl)) zeros_read)
 beginning_read f (bytes text) h = right _ (left _ (bytes_read text))
 beginning_read f (elements vs) h = right _ (right _ (left _ (array_read vs)))

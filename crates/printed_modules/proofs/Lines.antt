@@ -14,6 +14,7 @@ use Rattle.ir_print.specs.Instructions.{opcode, conversion, instruction, line_of
 use Rattle.ir_print.specs.Operands.{typed}
 use Rattle.ir_print.specs.Tokens.{space, indent, word}
 use Rattle.ir_print.specs.Types.{register}
+use Rattle.ir_read.specs.Addressing.{slots_fit}
 use Rattle.ir_read.specs.Classes.{refusal, one_of}
 use Rattle.ir_read.specs.Instructions.{casting}
 use Rattle.ir_read.specs.Operands.{local}
@@ -176,7 +177,7 @@ kept_read : {g : Form Tok raw_instr.Instr} {P : raw_instr.Instr → Type 0} {ps 
 unfolding read.kept
 kept_read r = last r (λ i p. nothing (i, refl, p))
 
-opcode_behind : (named : Bool) (op : BinaryOp) {P : raw_instr.Instr → Type 0} {ps : List Piece} → Reads (behind_opcode op) P ps → Reads (behind memory_shape named (opcode_by (binary_class op))) (IsSomeWith P) ps
+opcode_behind : (named : Bool) (op : BinaryOp) {P : raw_instr.Instr → Type 0} {ps : List Piece} → Reads (behind_opcode op) P ps → Reads (behind slots_fit memory_shape named (opcode_by (binary_class op))) (IsSomeWith P) ps
 opcode_behind named binary.Add r = attended_read r
 opcode_behind named binary.Sub r = attended_read r
 opcode_behind named binary.Mul r = attended_read r
@@ -199,7 +200,7 @@ casting_read op from x to r p s =
 
 -- behind `sext` no flag may stand
 conversion_behind : (named : Bool) (op : CastOp) (from : Reg) (x : Operand) (to : Reg) → IsReg from → OperandReadable from x → IsReg to
-    → Reads (behind memory_shape named (opcode_by (cast_class op))) (IsSomeWith (IsInstr (Cast op from x to))) (typed space from x ++ (word space (codes "to") ++ register space to))
+    → Reads (behind slots_fit memory_shape named (opcode_by (cast_class op))) (IsSomeWith (IsInstr (Cast op from x to))) (typed space from x ++ (word space (codes "to") ++ register space to))
 conversion_behind named casts.Zext from x to r p s = attended_read (cast_read casts.Zext from x to r p s)
 conversion_behind named casts.Sext from x to r p s = attended_read (casting_read casts.Sext from x to r p s)
 conversion_behind named casts.Trunc from x to r p s = attended_read (cast_read casts.Trunc from x to r p s)
@@ -210,7 +211,7 @@ record IsSplit (i : Instr) : Type 0 where
   rest : List Piece
   is_word : IsWord (word_class i) text
   whole : (blank : List ℕ) → instruction blank i ≡ word blank text ++ rest
-  reads : (named : Bool) → Reads (behind memory_shape named (opcode_by (word_class i))) (IsSomeWith (IsInstruction i)) rest
+  reads : (named : Bool) → Reads (behind slots_fit memory_shape named (opcode_by (word_class i))) (IsSomeWith (IsInstruction i)) rest
 
 split : (i : Instr) → InstructionReadable i → IsSplit i
 unfolding head_of word_head listed_head words_3 words_4 words_5 words_6 words_13
@@ -229,24 +230,24 @@ split (Phi reg (first ∷ is)) h = record { text = codes "phi"; rest = _; is_wor
 
 -- ---- lines
 
-plain_line_read : (i : Instr) → IsSplit i → Reads (plain_line memory_shape) (IsSomeWith (IsLine (record { local = None; instr = i }))) (instruction indent i)
+plain_line_read : (i : Instr) → IsSplit i → Reads (plain_line slots_fit memory_shape) (IsSomeWith (IsLine (record { local = None; instr = i }))) (instruction indent i)
 unfolding plain_line
 plain_line_read i s =
-    subst (λ (qs : List Piece). Reads (plain_line memory_shape) (IsSomeWith (IsLine (record { local = None; instr = i }))) qs) (sym (s.whole indent))
-    (then (begun_read (word_class i) s.text s.is_word (stating i)) (λ b e. last (subst (λ (o : Opcode). Reads (behind memory_shape false o) (IsSomeWith (IsInstruction i)) s.rest) (sym e) (s.reads false))
+    subst (λ (qs : List Piece). Reads (plain_line slots_fit memory_shape) (IsSomeWith (IsLine (record { local = None; instr = i }))) qs) (sym (s.whole indent))
+    (then (begun_read (word_class i) s.text s.is_word (stating i)) (λ b e. last (subst (λ (o : Opcode). Reads (behind slots_fit memory_shape false o) (IsSomeWith (IsInstruction i)) s.rest) (sym e) (s.reads false))
     (λ j p. nothing (_, ap (lined None b.line) p.1, (refl, p.2)))))
 
-named_line_read : (n : ℕ) (i : Instr) → IsSmall n → MayHaveName i → IsSplit i → Reads (named_line local memory_shape) (IsSomeWith (IsLine (record { local = Some n; instr = i }))) (line_of (Some n) i)
+named_line_read : (n : ℕ) (i : Instr) → IsSmall n → MayHaveName i → IsSplit i → Reads (named_line local slots_fit memory_shape) (IsSomeWith (IsLine (record { local = Some n; instr = i }))) (line_of (Some n) i)
 unfolding named_line line_behind
 named_line_read n i small named s =
     then (local_read indent n small) (λ t p. then (equals_read space) (λ a u.
-    subst (λ (qs : List Piece). Reads (one_of GIVING opcode_of >>= λ o. behind memory_shape true o >>= λ j. gives (lined (Some t) t.line j)) (IsSomeWith (IsLine (record { local = Some n; instr = i }))) qs) (sym (s.whole space))
+    subst (λ (qs : List Piece). Reads (one_of GIVING opcode_of >>= λ o. behind slots_fit memory_shape true o >>= λ j. gives (lined (Some t) t.line j)) (IsSomeWith (IsLine (record { local = Some n; instr = i }))) qs) (sym (s.whole space))
     (next _ (giving_read (word_class i) s.text s.is_word (giving i named)) (last (s.reads true) (λ j q. nothing (_, ap (lined (Some t) t.line) q.1, (p, q.2)))))))
 
-line_by : (name : Option ℕ) (i : Instr) → InstructionReadable i → ResultReadable i name → Reads (line local memory_shape) (IsSomeWith (IsLine (record { local = name; instr = i }))) (line_of name i)
+line_by : (name : Option ℕ) (i : Instr) → InstructionReadable i → ResultReadable i name → Reads (line local slots_fit memory_shape) (IsSomeWith (IsLine (record { local = name; instr = i }))) (line_of name i)
 unfolding line
 line_by None i h r = right _ (plain_line_read i (split i h))
 line_by (Some n) i h r = left _ (named_line_read n i r.0 r.1 (split i h))
 
-pub line_read : (l : Line) → LineReadable l → Reads (line local memory_shape) (IsSomeWith (IsLine l)) (line_of l.local l.instr)
+pub line_read : (l : Line) → LineReadable l → Reads (line local slots_fit memory_shape) (IsSomeWith (IsLine l)) (line_of l.local l.instr)
 line_read l h = line_by l.local l.instr h.0 h.1

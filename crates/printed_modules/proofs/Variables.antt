@@ -12,6 +12,7 @@ use Rattle.ir_print.specs.Tokens.{tight, space, word, global}
 use Rattle.ir_print.specs.Types.{shape}
 use Rattle.ir_print.specs.Variables as printed
 use Rattle.ir_print.specs.Variables.{kind_word, given}
+use Rattle.ir_read.specs.Operands.{global_by, global_named}
 use Rattle.ir_read.specs.Classes.{refusal, one_of, itself}
 use Rattle.ir_read.specs.FunctionHeads.{LINKAGES, linkage_by, linkage_word, with_linkage, name_refusal}
 use Rattle.ir_read.specs.ShapeForms.{memory_shape}
@@ -33,14 +34,14 @@ use Rattle.reading_back.specs.Printed.{IsGlobal, written_shape}
 use Rattle.reading_back.specs.Reads.{Reads, Any}
 use Rattle.reading_back.proofs.Composed.{then, next, last, nothing, left, right, no_more}
 use Rattle.reading_back.proofs.Rooms.{memory_shape_read}
-use Rattle.reading_back.proofs.Tokens.{single, by_classes}
+use Rattle.reading_back.proofs.Tokens.{single, by_classes, by_value}
 use Rattle.reading_back.proofs.Words.{equals_read}
 
 -- ---- before the shape
 
 name_read : (name : List ℕ) → IsName name → IsOrdinary name → Reads variable_name (IsGlobal name) (global tight name)
 name_read name n o =
-    single tight kinds.Global _ _ (by_classes name_refusal NAMES itself kinds.Global (64 ∷ quoted name) (ap (λ (g : Head). contains NAMES (number g)) (global_class name n o)) (λ t i. record { kind = i.kind; text = i.text }))
+    single tight kinds.Global _ _ (by_value name_refusal NAMES global_named kinds.Global (64 ∷ quoted name) (ap (λ (g : Head). contains NAMES (number g)) (global_class name n o)) (λ t i. (t, ap (λ (g : Head). global_by g t) (i.head ∙ global_class name n o), record { kind = i.kind; text = i.text })))
 
 no_qualifiers : Reads qualifiers Any []
 unfolding qualifiers
@@ -103,7 +104,7 @@ given_read v (Some i) h = last (initialiser_read v.shape i h) (λ x p. nothing p
 
 -- ---- variables
 
-pub variable_read : (v : Variable) → VariableReadable v → Reads (variable_line memory_shape) (IsVariableItem v) (printed.variable v)
+pub variable_read : (v : Variable) → VariableReadable v → Reads (variable_line variable_name memory_shape) (IsVariableItem v) (printed.variable v)
 unfolding variable_line behind_kind
 variable_read v h =
     let l : Option Linkage = written_linkage v.init v.linkage in

@@ -5,7 +5,7 @@ ghost use Rattle.ir_bodies.specs.Blocks.{blocks, definition};
 ghost use Rattle.ir_bodies.specs.Calls.{calling};
 ghost use Rattle.ir_bodies.specs.Lines.{line};
 ghost use Rattle.ir_globals.specs.Initialisers.{initialiser, scalar_of};
-ghost use Rattle.ir_globals.specs.Variables.{variable_line};
+ghost use Rattle.ir_globals.specs.Variables.{variable_line, variable_name};
 ghost use Rattle.ir_items.specs.Modules.{whole_module};
 ghost use Rattle.ir_lex.specs.Lexing.{AreTokens};
 ghost use Rattle.ir_lex.specs.Tok.{Tok};
@@ -17,6 +17,7 @@ ghost use Rattle.ir_print.specs.Operands.{operand, all_typed};
 ghost use Rattle.ir_print.specs.Tokens.{space, tight, mark};
 ghost use Rattle.ir_print.specs.Types as types;
 ghost use Rattle.ir_print.specs.Variables as variables;
+ghost use Rattle.ir_read.specs.Addressing.{slots_fit};
 ghost use Rattle.ir_read.specs.Operands.{local};
 ghost use Rattle.ir_read.specs.ShapeForms.{memory_shape};
 ghost use Rattle.ir_read.specs.declared.raw.Item.{Item};
@@ -51,7 +52,7 @@ pub fn calls_are_read()
 /// A printed line, an instruction with the name of its result, is read and kept (LangRef,
 /// "Instruction Reference").
 pub fn lines_are_read()
-    ensures { (l : Line) → LineReadable l → Reads (line local memory_shape) (IsSomeWith (IsLine l)) (line_of l.local l.instr) }
+    ensures { (l : Line) → LineReadable l → Reads (line local slots_fit memory_shape) (IsSomeWith (IsLine l)) (line_of l.local l.instr) }
 {}
 
 /// Printed blocks are read within limits on how many there are behind the entry and how many
@@ -66,7 +67,7 @@ pub fn definitions_are_read()
 /// "Global Variables" and "Complex Constants").
 pub fn variables_are_read()
     ensures initialiser { (f : Form) (v : Initial) → InitialReadable f v → Reads (initialiser memory_shape (scalar_of (written_shape f))) (IsInit v) (variables.value v) }
-    ensures variable { (v : Variable) → VariableReadable v → Reads (variable_line memory_shape) (IsVariableItem v) (variables.variable v) }
+    ensures variable { (v : Variable) → VariableReadable v → Reads (variable_line variable_name memory_shape) (IsVariableItem v) (variables.variable v) }
 {}
 
 /// The tokens of a printed module spell, by the grammar of whole modules, the items that are printed,

@@ -11,7 +11,7 @@ use Rattle.ir_print.specs.Instructions.{pointer_to}
 use Rattle.ir_print.specs.Operands.{further_typed}
 use Rattle.ir_print.specs.Tokens.{space, word, comma, optional}
 use Rattle.ir_print.specs.Types.{shape}
-use Rattle.ir_read.specs.Addressing.{one_slot, slots_behind, reserving, indexing, further, keep, indices, addressing}
+use Rattle.ir_read.specs.Addressing.{one_slot, slots_behind, reserving, indexing, further, keep, indices, addressing, slots_fit}
 use Rattle.ir_read.specs.Classes.{refusal, one_of}
 use Rattle.ir_read.specs.Phis.{anywhere}
 use Rattle.ir_read.specs.ShapeForms.{memory_shape}
@@ -37,13 +37,13 @@ use Rattle.reading_back.proofs.Words.{comma_read}
 
 -- ---- alloca
 
-slot_read : (n : ℕ) → IsAlignment n → Reads slots_behind (λ s. (s.count ≡ 1) × (s.align ≡ Some n)) (printed.aligned n)
+slot_read : (fits : ℕ → Bool) (n : ℕ) → IsAlignment n → Reads (slots_behind fits) (λ s. (s.count ≡ 1) × (s.align ≡ Some n)) (printed.aligned n)
 unfolding slots_behind one_slot
-slot_read n a = left _ (then comma_read (λ b u. right _ (last (aligned_read n a) (λ m e. nothing (refl, e)))))
+slot_read fits n a = left _ (then comma_read (λ b u. right _ (last (aligned_read n a) (λ m e. nothing (refl, e)))))
 
-pub alloca_read : (f : Form) (n : ℕ) → Reads memory_shape (IsShape f) (shape space f) → IsAlignment n → Reads (reserving memory_shape) (IsInstr (Alloca f n)) (shape space f ++ printed.aligned n)
+pub alloca_read : (f : Form) (n : ℕ) → Reads memory_shape (IsShape f) (shape space f) → IsAlignment n → Reads (reserving slots_fit memory_shape) (IsInstr (Alloca f n)) (shape space f ++ printed.aligned n)
 unfolding reserving
-alloca_read f n s a = then s (λ typed p. last (slot_read n a) (λ slots q. nothing (p, q.0, q.1)))
+alloca_read f n s a = then s (λ typed p. last (slot_read (slots_fit typed.shape) n a) (λ slots q. nothing (p, q.0, q.1)))
 
 -- ---- getelementptr
 

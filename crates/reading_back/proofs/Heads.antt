@@ -10,6 +10,7 @@ use Rattle.ir_print.specs.Functions as printed
 use Rattle.ir_print.specs.Functions.{signature, attributes, body, definition}
 use Rattle.ir_print.specs.Tokens.{tight, space, word, mark, comma, global}
 use Rattle.ir_print.specs.Types.{register, result}
+use Rattle.ir_read.specs.Operands.{global_by, global_named}
 use Rattle.ir_read.specs.Attributes.{parameter_attributes}
 use Rattle.ir_read.specs.Classes.{refusal, itself}
 use Rattle.ir_read.specs.FunctionHeads as read
@@ -35,7 +36,7 @@ use Rattle.reading_back.specs.Readable.{ParamReadable, HeadReadable}
 use Rattle.reading_back.specs.Reads.{Reads, Any}
 use Rattle.reading_back.proofs.Composed.{then, next, last, nothing, regroup, left, right, no_more, no_more_within, one_more_within, chain_ends, chain_goes_on}
 use Rattle.reading_back.proofs.Names.{local_read}
-use Rattle.reading_back.proofs.Tokens.{single, by_class, by_classes}
+use Rattle.reading_back.proofs.Tokens.{single, by_class, by_classes, by_value}
 use Rattle.reading_back.proofs.Types.{register_read, result_read}
 use Rattle.reading_back.proofs.Words.{comma_read, open_paren_read, close_paren_read}
 
@@ -81,8 +82,8 @@ global_in roles.Definition l = by_test (is_local l)
 
 name_read : (role : Role) (l : Linkage) (name : List ℕ) → IsName name → IsOrdinary name → Reads (function_name role l) (IsGlobal name) (global space name)
 name_read role l name n o =
-    single space kinds.Global _ _ (by_classes name_refusal (names_of role l) itself kinds.Global (64 ∷ quoted name) (ap (λ (g : class.Head). contains (names_of role l) (number g)) (global_class name n o) ∙ global_in role l)
-    (λ t i. record { kind = i.kind; text = i.text }))
+    single space kinds.Global _ _ (by_value name_refusal (names_of role l) global_named kinds.Global (64 ∷ quoted name) (ap (λ (g : class.Head). contains (names_of role l) (number g)) (global_class name n o) ∙ global_in role l)
+    (λ t i. (t, ap (λ (g : class.Head). global_by g t) (i.head ∙ global_class name n o), record { kind = i.kind; text = i.text })))
 
 -- ---- parameters
 

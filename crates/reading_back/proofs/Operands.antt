@@ -11,6 +11,7 @@ use Rattle.ir_print.specs.Operands as printed
 use Rattle.ir_print.specs.Operands.{address, displaced}
 use Rattle.ir_print.specs.Tokens as piece
 use Rattle.ir_print.specs.Tokens.{tight, space, word, mark, comma, width, global, signed, signed_piece}
+use Rattle.ir_read.specs.Operands.{global_by, global_named}
 use Rattle.ir_read.specs.Classes.{tokens, refusal, one_of, itself}
 use Rattle.ir_read.specs.Literals.{literal}
 use Rattle.ir_read.specs.Operands.{classes_of, operand_by, operand_of, simple}
@@ -171,9 +172,9 @@ unfolding closing_one
 closing_read typed offset p lt =
     then (only (index_read offset lt)) (λ all h. last (close_paren_read tight) (λ a u. nothing (record { over_bytes = p; index = h.0; one_index = h.1; width = h.2.0; bits = h.2.1 })))
 
-global_name_read : (blank name : List ℕ) (offset : ℕ) → SymbolReadable name offset → Reads (one_of GLOBAL itself) (IsGlobal name) (global blank name)
+global_name_read : (blank name : List ℕ) (offset : ℕ) → SymbolReadable name offset → Reads read.global (IsGlobal name) (global blank name)
 global_name_read blank name offset r =
-    single blank kinds.Global _ _ (by_classes refusal GLOBAL itself kinds.Global (global_text name) (ap (λ (g : Head). contains GLOBAL (number g)) (global_class name r.name r.ordinary)) (λ t i. is_global name t i))
+    single blank kinds.Global _ _ (by_value refusal GLOBAL global_named kinds.Global (global_text name) (ap (λ (g : Head). contains GLOBAL (number g)) (global_class name r.name r.ordinary)) (λ t i. (t, ap (λ (g : Head). global_by g t) (i.head ∙ global_class name r.name r.ordinary), is_global name t i)))
 
 -- @g, i64 N)
 reached_read : (typed : Typed) (name : List ℕ) (offset : ℕ) → typed.shape ≡ written.int 8 → SymbolReadable name offset

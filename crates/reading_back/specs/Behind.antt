@@ -9,7 +9,7 @@ use Rattle.ir_tree.specs.declared.instr.CastOp.TheVariants as casts
 use Rattle.ir_tree.specs.declared.instr.Instr.{Instr}
 use Rattle.ir_tree.specs.declared.instr.Instr.TheVariants.{Binary, Icmp, Cast, Select, Freeze, Alloca, Load, Store, Address, Call, Phi}
 use Rattle.lto_forms.specs.Forms.{Form, ◌>>=◌}
-use Rattle.ir_read.specs.Addressing.{reserving, addressing}
+use Rattle.ir_read.specs.Addressing.{reserving, addressing, slots_fit}
 use Rattle.ir_read.specs.Classes.{the}
 use Rattle.ir_read.specs.Instructions.{wrapping, dividing, joining, on_two, no_flags, comparing, extending, narrowing, selecting, freezing, loading, storing}
 use Rattle.ir_read.specs.Phis.{phi}
@@ -58,7 +58,7 @@ behind_word (Icmp predicate reg left right) = comparing memory_shape
 behind_word (Cast op from value to) = behind_conversion op
 behind_word (Select condition if_true if_false) = selecting memory_shape
 behind_word (Freeze reg value) = freezing memory_shape
-behind_word (Alloca shape align) = reserving memory_shape
+behind_word (Alloca shape align) = reserving slots_fit memory_shape
 behind_word (Load reg address align) = loading memory_shape
 behind_word (Store reg value address align) = storing memory_shape
 behind_word (Address inbounds shape base indices) = addressing memory_shape

@@ -1,9 +1,12 @@
 -- Variables whose names resolve are formed.
-use Rattle.std.proofs.Common.{◌≡◌, ℕ, ◌≤◌, List, [], ◌∷◌, ◌++◌, Option, Some, None, Ok, refl, arith}
+use Rattle.std.proofs.Common.{◌≡◌, ℕ, ◌≤◌, Bool, true, false, if◌then◌else◌, List, [], ◌∷◌, ◌++◌, Option, Some, None, Ok, refl, arith}
 use Rattle.std.specs.Prelude.{All}
 use Rattle.std.specs.List.{AllByRecursion as Each}
 use Rattle.std.proofs.lemmas.List.Elements.{All-from_recursion, All-nil, recursion_from_All}
 use Rattle.ir_lex.specs.Quotes.{content}
+use Rattle.ir_lex.specs.Tok.{Tok}
+use Rattle.ir_read.specs.Literals.{literal}
+use Rattle.ir_read.proofs.LiteralRange.{literal_fits}
 use Rattle.ir_read.specs.declared.raw.Init as raw_init
 use Rattle.ir_read.specs.declared.raw.InitHead as raw_head
 use Rattle.ir_read.specs.declared.raw.InitHead.TheVariants as rh
@@ -11,7 +14,7 @@ use Rattle.ir_read.specs.declared.raw.InitPart as raw_part
 use Rattle.ir_read.specs.declared.raw.InitPart.TheVariants as rp
 use Rattle.ir_read.specs.declared.raw.Operand as raw_operand
 use Rattle.ir_read.specs.declared.raw.Operand.TheVariants as ro
-use Rattle.ir_tree.specs.Formed.{IsReg, IsShape}
+use Rattle.ir_tree.specs.Formed.{IsReg, IsShape, IsWidth}
 use Rattle.ir_tree.specs.Forms.{Form, int, pointer, array, structure}
 use Rattle.ir_tree.specs.Initials.{Initial, Initials, Levels, around, begun, headed, levels, read, tree_of}
 use Rattle.ir_tree.specs.Layout.{align}
@@ -28,8 +31,8 @@ use Rattle.ir_names.specs.Bodies.{align_or, operand_in}
 use Rattle.ir_names.specs.Locals.{none_known}
 use Rattle.ir_names.specs.Settled.{◌>>=◌}
 use Rattle.ir_names.specs.Symbols.{symbol_of}
-use Rattle.ir_names.specs.Types.{Types, expanded}
-use Rattle.ir_names.specs.Variables.{constant_for, constant_type, head_in, init_if, init_in, part_in, variable_in}
+use Rattle.ir_names.specs.Types.{Types, is_width, expanded}
+use Rattle.ir_names.specs.Variables.{constant_for, constant_type, head_in, init_if, init_in, literal_or, number_for, part_in, variable_in}
 use Rattle.resolved_forms.specs.Laws.{VariablesAreFormed}
 use Rattle.resolved_forms.specs.Written.{HeadWritten, InitWritten, OperandWritten, PartWritten}
 use Rattle.resolved_forms.proofs.Alignments.{aligned, shape_align}
@@ -70,10 +73,32 @@ for_formed : (f : Form) → IsReg (constant_type f) → (x : Operand) → Consta
 for_formed f t (to.Poison reg) h = t
 for_formed f t x h = h
 
+-- a literal of an integer that memory holds, or one of i1
+number_formed : (f : Form) (t : Tok) → ConstantFormed (number_for f t)
+number_formed (int w) t = by_width (is_width w) refl
+  where
+    one_bit : ConstantFormed (to.Number 1 0)
+    one_bit = ((omega arith, omega arith), omega arith)
+
+    wide : (w : ℕ) → is_width w ≡ true → IsWidth w
+    wide w h = (grind (arith, h), grind (arith, h))
+
+    by_bits : IsWidth w → (o : Option ℕ) → literal w t.text ≡ o → ConstantFormed (literal_or w o)
+    by_bits h None e = one_bit
+    by_bits h (Some bits) e = (h, literal_fits w t.text bits e)
+
+    by_width : (b : Bool) → is_width w ≡ b → ConstantFormed (literal_or w (if b then literal w t.text else None))
+    by_width true h = by_bits (wide w h) (literal w t.text) refl
+    by_width false h = one_bit
+number_formed pointer t = ((omega arith, omega arith), omega arith)
+number_formed (array n of) t = ((omega arith, omega arith), omega arith)
+number_formed (structure packed parts) t = ((omega arith, omega arith), omega arith)
+
 head_formed : (types : Types) (f : Form) → IsReg (constant_type f) → (h : raw_head.InitHead) → HeadWritten h → Gives (head_in types none_known f h) HeadFormed
 head_formed types f t (rh.Plain operand) w = bind ConstantFormed HeadFormed _ _ (constant_formed types operand w) (λ o g. gives HeadFormed (th.Plain (constant_for f o)) (for_formed f t o g))
 head_formed types f t rh.Zeros w = gives HeadFormed th.Zeros tt
 head_formed types f t (rh.Bytes string) w = gives HeadFormed (th.Bytes (content string.kind string.text)) tt
+head_formed types f t (rh.Number number) w = gives HeadFormed (th.Plain (number_for f number)) (number_formed f number)
 head_formed types f t rh.Array w = gives HeadFormed th.Array tt
 head_formed types f t (rh.Struct packed) w = gives HeadFormed (th.Struct packed) tt
 

@@ -1,10 +1,10 @@
 -- `alloca` and `getelementptr` that the grammar spells.
-use Rattle.std.proofs.Common.{Bool, true, false, [], Option, refl}
+use Rattle.std.proofs.Common.{ℕ, Bool, true, false, [], Option, refl}
 use Rattle.std.specs.List.{AllByRecursion as Each}
 use Rattle.std.specs.Prelude.{IfSome}
 use Rattle.std.proofs.lemmas.List.Elements.{All-from_recursion}
 use Rattle.ir_lex.specs.Tok.{Tok}
-use Rattle.ir_read.specs.Addressing.{addressing, attaching, behind_comma, further, indexing, indices, keep, many_slots, one_slot, reserving, slots_behind}
+use Rattle.ir_read.specs.Addressing.{addressing, attaching, behind_comma, further, indexing, indices, keep, many_slots, one_slot, reserving, slots_behind, slots_fit}
 use Rattle.ir_read.specs.ShapeForms.{memory_shape}
 use Rattle.ir_read.specs.declared.addressing.Slots.{Slots}
 use Rattle.ir_tree.specs.declared.operand.Reg.TheVariants.{Ptr}
@@ -20,21 +20,21 @@ use Rattle.spelled_forms.proofs.Shapes.{shape_written}
 abbrev SlotsWritten : Slots → Type 0
 SlotsWritten s = AlignWritten s.align
 
-many_written : Means many_slots SlotsWritten
+many_written : (fits : ℕ → Bool) → Means (many_slots fits) SlotsWritten
 unfolding many_slots
-many_written = skip _ (λ w. skip _ (λ n. follow align_written (λ a h. nothing h)))
+many_written fits = skip _ (λ w. skip _ (λ n. follow align_written (λ a h. nothing h)))
 
 one_written : Means one_slot SlotsWritten
 unfolding one_slot
 one_written = follow aligned_written (λ a h. nothing h)
 
-slots_written : Means slots_behind SlotsWritten
+slots_written : (fits : ℕ → Bool) → Means (slots_behind fits) SlotsWritten
 unfolding slots_behind
-slots_written = either_means (skip _ (λ _. either_means many_written one_written)) (nothing tt)
+slots_written fits = either_means (skip _ (λ _. either_means (many_written fits) one_written)) (nothing tt)
 
-pub reserving_written : (name : Option Tok) → Means (reserving memory_shape) (Named name)
+pub reserving_written : (name : Option Tok) → Means (reserving slots_fit memory_shape) (Named name)
 unfolding reserving
-reserving_written name = follow shape_written (λ typed h. follow slots_written (λ s g. nothing ((h, g), tt)))
+reserving_written name = follow shape_written (λ typed h. follow (slots_written (slots_fit typed.shape)) (λ s g. nothing ((h, g), tt)))
 
 -- ---- getelementptr
 

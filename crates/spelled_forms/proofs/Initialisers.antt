@@ -1,20 +1,23 @@
 -- Initialisers that the grammar spells.
-use Rattle.std.proofs.Common.{◌≡◌, Bool, true, false, List, [], ◌∷◌, Option, Some, None, subst, arith}
+use Rattle.std.proofs.Common.{◌≡◌, ℕ, Bool, true, false, List, [], ◌∷◌, Option, Some, None, subst, arith}
 use Rattle.std.specs.List.{AllByRecursion as Each}
 use Rattle.std.proofs.lemmas.List.Elements.{All-from_recursion}
-use Rattle.ir_globals.specs.Constants.{constant, constant_by, number_of, single, type_of}
-use Rattle.ir_globals.specs.Initialisers.{aggregate_begin, aggregate_of, array_begin, beginning, begun, behind, bytes, closed, initialiser, listed, packed_begin, part, part_shape, parts, piece, plain, scalar_of, structure_begin, zeros}
+use Rattle.ir_globals.specs.Constants.{constant, constant_by, number_of, plain, single, type_of}
+use Rattle.ir_globals.specs.Initialisers.{aggregate_begin, aggregate_of, array_begin, beginning, begun, behind, bytes, closed, initialiser, listed, packed_begin, part, part_shape, parts, piece, scalar_of, structure_begin, zeros}
 use Rattle.ir_globals.specs.declared.initialisers.Aggregate.{Aggregate}
 use Rattle.ir_lex.specs.Tok.{Tok}
 use Rattle.ir_lex.specs.declared.head.Head.{Head}
 use Rattle.ir_lex.specs.declared.head.Head.TheVariants as heads
+use Rattle.ir_read.proofs.LiteralRange.{literal_fits}
 use Rattle.ir_read.specs.Literals.{literal}
 use Rattle.ir_read.specs.ShapeForms.{memory_shape}
 use Rattle.ir_read.specs.Shapes as written
 use Rattle.ir_read.specs.Shapes.{Written}
+use Rattle.ir_read.specs.declared.raw.InitHead.{InitHead}
+use Rattle.ir_read.specs.declared.raw.InitHead.TheVariants as inits
 use Rattle.ir_read.specs.declared.raw.InitPart.{InitPart}
 use Rattle.ir_read.specs.declared.raw.InitPart.TheVariants as init_parts
-use Rattle.ir_read.specs.declared.raw.Operand.{Operand}
+use Rattle.ir_read.specs.Operands.{named}
 use Rattle.ir_read.specs.declared.raw.Operand.TheVariants as operands
 use Rattle.ir_tree.specs.Formed.{IsReg, IsResult}
 use Rattle.ir_tree.specs.declared.operand.Reg.{Reg}
@@ -23,7 +26,7 @@ use Rattle.resolved_forms.specs.Written.{HeadWritten, InitWritten, OperandWritte
 use Rattle.spelled_forms.specs.Items.{InitShaped, PartShaped}
 use Rattle.spelled_forms.proofs.Instructions.{stored_width}
 use Rattle.spelled_forms.proofs.Means.{Means, among_means, chain_means, either_means, follow, nothing, pushed, skip, valued_means}
-use Rattle.spelled_forms.proofs.Operands.{address_written, literal_fits, mapped, one_bit}
+use Rattle.spelled_forms.proofs.Operands.{address_written, mapped, one_bit}
 use Rattle.spelled_forms.proofs.Shapes.{TypedWritten, shape_written}
 
 -- the scalar that a shape is holds integers that registers hold
@@ -36,35 +39,35 @@ scalar_written (written.named name) h = tt
 
 -- ---- constants
 
-zero_bit : (o : Operand) → Some (operands.Number 1 0) ≡ Some o → OperandWritten o
-zero_bit o e = let same : operands.Number 1 0 ≡ o = cc in subst OperandWritten same (one_bit, omega arith)
+zero_bit : (o : InitHead) → Some (plain (operands.Number 1 0)) ≡ Some o → HeadWritten o
+zero_bit o e = let same : plain (operands.Number 1 0) ≡ o = cc in subst HeadWritten same (one_bit, omega arith)
 
-number_written : (scalar : Option Reg) → IsResult scalar → (t : Tok) (o : Operand) → number_of scalar t ≡ Some o → OperandWritten o
-number_written (Some (Int w)) h t o e = let found = mapped (operands.Number w) (literal w t.text) o e in subst OperandWritten found.2 (h, literal_fits w t.text found.0 found.1)
+number_written : (scalar : Option Reg) → IsResult scalar → (t : Tok) (o : InitHead) → number_of scalar t ≡ Some o → HeadWritten o
+number_written (Some (Int w)) h t o e = let found = mapped (λ (bits : ℕ). plain (operands.Number w bits)) (literal w t.text) o e in subst HeadWritten found.2 (h, literal_fits w t.text found.0 found.1)
 number_written (Some Ptr) h t o e = zero_bit o e
-number_written None h t o e = zero_bit o e
+number_written None h t o e = let same : inits.Number t ≡ o = cc in subst HeadWritten same tt
 
 type_written : (scalar : Option Reg) → IsResult scalar → IsReg (type_of scalar)
 type_written (Some r) h = h
 type_written None h = one_bit
 
-constant_class : (head : Head) (scalar : Option Reg) → IsResult scalar → (t : Tok) (o : Operand) → constant_by head scalar t ≡ Some o → OperandWritten o
+constant_class : (head : Head) (scalar : Option Reg) → IsResult scalar → (t : Tok) (o : InitHead) → constant_by head scalar t ≡ Some o → HeadWritten o
 constant_class heads.Number scalar h t o e = number_written scalar h t o e
-constant_class heads.True scalar h t o e = let same : operands.Number 1 1 ≡ o = cc in subst OperandWritten same (one_bit, omega arith)
+constant_class heads.True scalar h t o e = let same : plain (operands.Number 1 1) ≡ o = cc in subst HeadWritten same (one_bit, omega arith)
 constant_class heads.False scalar h t o e = zero_bit o e
-constant_class heads.Null scalar h t o e = let same : operands.Null ≡ o = cc in subst OperandWritten same tt
-constant_class heads.Poison scalar h t o e = let same : operands.Poison (type_of scalar) ≡ o = cc in subst OperandWritten same (type_written scalar h)
-constant_class heads.Global scalar h t o e = let same : operands.Global t ≡ o = cc in subst OperandWritten same tt
-constant_class heads.NumberedGlobal scalar h t o e = let same : operands.Global t ≡ o = cc in subst OperandWritten same tt
-constant_class heads.NumberedDefinition scalar h t o e = let same : operands.Global t ≡ o = cc in subst OperandWritten same tt
+constant_class heads.Null scalar h t o e = let same : plain operands.Null ≡ o = cc in subst HeadWritten same tt
+constant_class heads.Poison scalar h t o e = let same : plain (operands.Poison (type_of scalar)) ≡ o = cc in subst HeadWritten same (type_written scalar h)
+constant_class heads.Global scalar h t o e = let same : plain (operands.Global t) ≡ o = cc in subst HeadWritten same tt
+constant_class heads.NumberedGlobal scalar h t o e = let m = mapped (λ (name : Tok). plain (operands.Global name)) (named t) o e in subst HeadWritten m.2 tt
+constant_class heads.NumberedDefinition scalar h t o e = let m = mapped (λ (name : Tok). plain (operands.Global name)) (named t) o e in subst HeadWritten m.2 tt
 constant_class head scalar h t o e = absurd cc
 
-single_written : (scalar : Option Reg) → IsResult scalar → Means (single scalar) OperandWritten
+single_written : (scalar : Option Reg) → IsResult scalar → Means (single scalar) HeadWritten
 single_written scalar h = valued_means _ _ (λ t o s e. constant_class t.head scalar h t o e)
 
-constant_written : (scalar : Option Reg) → IsResult scalar → Means (constant memory_shape scalar) OperandWritten
+constant_written : (scalar : Option Reg) → IsResult scalar → Means (constant memory_shape scalar) HeadWritten
 unfolding constant
-constant_written scalar h = either_means (address_written memory_shape) (single_written scalar h)
+constant_written scalar h = either_means (follow (address_written memory_shape) (λ v g. nothing g)) (single_written scalar h)
 
 -- ---- beginnings
 
@@ -92,13 +95,9 @@ aggregate_written : Means aggregate_begin HeadWritten
 unfolding aggregate_begin
 aggregate_written = either_means array_written (either_means structure_written packed_written)
 
-plain_written : (scalar : Option Reg) → IsResult scalar → Means (plain memory_shape scalar) HeadWritten
-unfolding plain
-plain_written scalar h = follow (constant_written scalar h) (λ v g. nothing g)
-
 beginning_written : (scalar : Option Reg) → IsResult scalar → Means (beginning memory_shape scalar) HeadWritten
 unfolding beginning
-beginning_written scalar h = either_means zeros_written (either_means bytes_written (either_means aggregate_written (plain_written scalar h)))
+beginning_written scalar h = either_means zeros_written (either_means bytes_written (either_means aggregate_written (constant_written scalar h)))
 
 -- ---- parts
 

@@ -12,6 +12,7 @@ use Rattle.ir_lex.specs.declared.head.Head.{Head}
 use Rattle.ir_lex.specs.declared.head.Head.TheVariants as heads
 use Rattle.lto_forms.specs.Alphabet.{contains}
 use Rattle.lto_forms.specs.Forms.{Form}
+use Rattle.ir_read.specs.Addressing.{slots_fit}
 use Rattle.ir_read.specs.Instructions.{flags, no_flags, storing}
 use Rattle.ir_read.specs.ShapeForms.{memory_shape}
 use Rattle.ir_read.specs.declared.raw.Instr.{Instr}
@@ -92,7 +93,7 @@ module _ (name : Option Tok) where
   store_written : name ≡ None → Means (storing memory_shape) (Named name)
   store_written e = subst (λ n. Means (storing memory_shape) (Named n)) (sym e) storing_written
 
-  behind_written : (named : Bool) (o : Opcode) → OpcodeSuits o → Fits name o → Means (behind memory_shape named o) (λ i. IfSome i (Named name))
+  behind_written : (named : Bool) (o : Opcode) → OpcodeSuits o → Fits name o → Means (behind slots_fit memory_shape named o) (λ i. IfSome i (Named name))
   behind_written named (opcodes.Value o) h k = attended_written (operation_written o h)
   behind_written named opcodes.Phi h k = kept_written (phi_written name)
   behind_written named opcodes.Alloca h k = kept_written (reserving_written name)
@@ -108,23 +109,23 @@ lined_written : (name : Option Tok) (line : ℕ) (i : Option Instr) → IfSome i
 lined_written name line None h = tt
 lined_written name line (Some i) h = h
 
-line_behind_written : (name : Tok) → Means (line_behind memory_shape name) (λ l. IfSome l LineWritten)
+line_behind_written : (name : Tok) → Means (line_behind slots_fit memory_shape name) (λ l. IfSome l LineWritten)
 unfolding line_behind
 line_behind_written name =
     skip _ (λ _.
     follow {P = λ o. OpcodeSuits o × Fits (Some name) o} (among_means _ _ _ (λ t s c. (suits_by t.head, fits_by (Some name) t.head c))) (λ o h.
     follow (behind_written (Some name) true o h.0 h.1) (λ i g. nothing (lined_written (Some name) name.line i g))))
 
-named_written : (name : Form Tok Tok) → Means (named_line name memory_shape) (λ l. IfSome l LineWritten)
+named_written : (name : Form Tok Tok) → Means (named_line name slots_fit memory_shape) (λ l. IfSome l LineWritten)
 unfolding named_line
 named_written name = skip _ (λ n. line_behind_written n)
 
-plain_written : Means (plain_line memory_shape) (λ l. IfSome l LineWritten)
+plain_written : Means (plain_line slots_fit memory_shape) (λ l. IfSome l LineWritten)
 unfolding plain_line
 plain_written =
     follow {P = λ b. OpcodeSuits b.opcode} (among_means _ _ _ (λ t s c. suits_by t.head)) (λ b h.
     follow (behind_written None false b.opcode h (fits_none b.opcode)) (λ i g. nothing (lined_written None b.line i g)))
 
-pub line_written : (name : Form Tok Tok) → Means (line name memory_shape) (λ l. IfSome l LineWritten)
+pub line_written : (name : Form Tok Tok) → Means (line name slots_fit memory_shape) (λ l. IfSome l LineWritten)
 unfolding line
 line_written name = either_means (named_written name) plain_written

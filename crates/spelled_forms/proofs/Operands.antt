@@ -10,7 +10,8 @@ use Rattle.ir_lex.specs.declared.head.Head.TheVariants as heads
 use Rattle.lto_forms.specs.Alphabet.{contains}
 use Rattle.lto_forms.specs.Forms.{Form}
 use Rattle.ir_read.specs.Decimals.{decimal}
-use Rattle.ir_read.specs.Literals.{literal, negated, unsigned}
+use Rattle.ir_read.specs.Literals.{literal}
+use Rattle.ir_read.proofs.LiteralRange.{literal_fits}
 use Rattle.ir_read.specs.Operands.{SCALAR, bit, bits_of, integer, named, operand_by, reg, reg_of, result, result_of, scalar, simple, width}
 use Rattle.ir_read.specs.Values.{address, address_behind, argument, operand, reached}
 use Rattle.ir_read.specs.declared.raw.Operand.{Operand}
@@ -76,27 +77,6 @@ scalar_is t s c = by (nat_eq (number t.head) (number heads.Ptr)) refl
 pub scalar_written : Means scalar IsScalar
 scalar_written = among_means _ _ _ scalar_is
 
--- ---- literals
-
-rem_below : (x m : ℕ) → 0 < m → x % m < m
-rem_below x m h = omega arith
-
-pub literal_fits : (w : ℕ) (text : List ℕ) (bits : ℕ) → literal w text ≡ Some bits → bits < 2 ^ w
-unfolding literal
-literal_fits w text bits e = by (begins 45 text) e
-  where
-    minus : (n : ℕ) (b : Bool) → (if b then Some ((2 ^ w - n) % 2 ^ w) else None) ≡ Some bits → bits < 2 ^ w
-    minus n true e = let same : (2 ^ w - n) % 2 ^ w ≡ bits = cc in subst (λ k. k < 2 ^ w) same (rem_below (2 ^ w - n) (2 ^ w) (pow_pos w))
-    minus n false e = absurd cc
-
-    plain : (n : ℕ) (b : Bool) → nat_lt n (2 ^ w) ≡ b → (if b then Some n else None) ≡ Some bits → bits < 2 ^ w
-    plain n true g e = let same : n ≡ bits = cc (e) in subst (λ k. k < 2 ^ w) same (ltb-true n (2 ^ w) g)
-    plain n false g e = absurd (let no : None ≡ Some bits = e in cc)
-
-    by : (b : Bool) → (if b then negated w (decimal (drop 1 text)) else unsigned w (decimal text)) ≡ Some bits → bits < 2 ^ w
-    by true e = minus (decimal (drop 1 text)) (nat_le (decimal (drop 1 text)) (2 ^ (w - 1))) e
-    by false e = plain (decimal text) (nat_lt (decimal text) (2 ^ w)) refl e
-
 -- ---- operands
 
 abbrev From : {A B : Type 0} → (A → B) → Option A → B → Type 0
@@ -121,8 +101,8 @@ by_class heads.False r h t o e = let same : operands.Number 1 0 ≡ o = cc in su
 by_class heads.Null r h t o e = let same : operands.Null ≡ o = cc in subst OperandWritten same tt
 by_class heads.Poison r h t o e = let same : operands.Poison r ≡ o = cc in subst OperandWritten same h
 by_class heads.Global r h t o e = let same : operands.Global t ≡ o = cc in subst OperandWritten same tt
-by_class heads.NumberedGlobal r h t o e = let same : operands.Global t ≡ o = cc in subst OperandWritten same tt
-by_class heads.NumberedDefinition r h t o e = let same : operands.Global t ≡ o = cc in subst OperandWritten same tt
+by_class heads.NumberedGlobal r h t o e = let m = mapped operands.Global (named t) o e in subst OperandWritten m.2 tt
+by_class heads.NumberedDefinition r h t o e = let m = mapped operands.Global (named t) o e in subst OperandWritten m.2 tt
 by_class head r h t o e = absurd cc
 
 pub token_written : (r : Reg) → IsReg r → (t : Tok) (o : Operand) → operand_by t.head r t ≡ Some o → OperandWritten o

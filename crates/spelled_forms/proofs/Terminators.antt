@@ -4,6 +4,7 @@ use Rattle.std.proofs.lemmas.List.Elements.{All-from_recursion}
 use Rattle.ir_lex.specs.Tok.{Tok}
 use Rattle.ir_lex.specs.declared.head.Head.{Head}
 use Rattle.ir_lex.specs.declared.head.Head.TheVariants as heads
+use Rattle.ir_read.proofs.LiteralRange.{literal_fits}
 use Rattle.ir_read.specs.Literals.{literal}
 use Rattle.ir_read.specs.ShapeForms.{memory_shape}
 use Rattle.ir_read.specs.Terminators.{behind_end, branching, case, case_of, constant, matched, matched_by, matched_number, returned, returning, switching, terminator}
@@ -15,7 +16,7 @@ use Rattle.ir_tree.specs.declared.operand.Reg.{Reg}
 use Rattle.ir_tree.specs.declared.operand.Reg.TheVariants.{Int, Ptr}
 use Rattle.resolved_forms.specs.Written.{CaseWritten, EndWritten}
 use Rattle.spelled_forms.proofs.Means.{Means, either_means, follow, nothing, skip, star_means, valued_means}
-use Rattle.spelled_forms.proofs.Operands.{bit_written, integer_written, literal_fits, mapped, one_bit, operand_written, reg_written, result_written}
+use Rattle.spelled_forms.proofs.Operands.{bit_written, integer_written, mapped, one_bit, operand_written, reg_written, result_written}
 
 returned_written : (r : Option Reg) → IsResult r → Means (returned memory_shape r) EndWritten
 returned_written None h = nothing tt

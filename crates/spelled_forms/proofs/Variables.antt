@@ -2,7 +2,7 @@
 use Rattle.std.proofs.Common.{◌≡◌, ℕ, Bool, true, false, Option, Some, None, refl}
 use Rattle.ir_globals.specs.Initialisers.{scalar_of}
 use Rattle.ir_globals.specs.TypeDefinitions.{defined, type_line}
-use Rattle.ir_globals.specs.Variables.{aligned, behind_kind, further, in_comdat, is_declared, marked, tail, value, variable_line, with_align}
+use Rattle.ir_globals.specs.Variables.{aligned, behind_kind, further, in_comdat, is_declared, marked, tail, value, variable_line, variable_name, with_align}
 use Rattle.ir_lex.specs.Tok.{Tok}
 use Rattle.ir_names.specs.Types.{shape_if}
 use Rattle.ir_read.specs.FunctionHeads.{with_linkage}
@@ -71,7 +71,7 @@ behind_kind_written name l constant =
     follow (value_written (is_declared l) (scalar_of typed.shape) (scalar_written typed.shape h)) (λ init g.
     follow tail_written (λ align k. nothing (record { shape = h; align = k; init = g.written; declared = λ e. external_if l (g.none e) }, g.shaped))))
 
-pub variable_written : Means (variable_line memory_shape) ItemWritten
+pub variable_written : Means (variable_line variable_name memory_shape) ItemWritten
 unfolding variable_line
 variable_written = skip _ (λ name. skip _ (λ _. skip _ (λ l. skip _ (λ constant. behind_kind_written name l constant))))
 

@@ -15,7 +15,7 @@ use Rattle.ir_tree.specs.declared.function.Linkage.{Linkage}
 use Rattle.lto_forms.specs.Alphabet.{contains}
 use Rattle.spelled_within.specs.Spelled.{FewParams, NameSpelled}
 use Rattle.spelled_within.proofs.Bodies.{many_few}
-use Rattle.spelled_within.proofs.Means.{Means, among_means, either_means, follow, nothing, skip}
+use Rattle.spelled_within.proofs.Means.{Means, global_means, either_means, follow, nothing, skip}
 
 params_few : (room : ℕ) → Means (params room) (λ ps. length ps ≤ suc room)
 unfolding params listed_params some_params
@@ -32,7 +32,7 @@ among_global false true false e = refl
 among_global false false c e = absurd cc
 
 pub variable_name_spelled : Means variable_name NameSpelled
-variable_name_spelled = among_means _ _ _ (λ t s c. s.named (among_global (nat_eq (number t.head) (number heads.Global)) (nat_eq (number t.head) (number heads.NumberedDefinition)) (nat_eq (number t.head) (number heads.NumberedGlobal)) c))
+variable_name_spelled = global_means _ _ (λ t s c. s.named (among_global (nat_eq (number t.head) (number heads.Global)) (nat_eq (number t.head) (number heads.NumberedDefinition)) (nat_eq (number t.head) (number heads.NumberedGlobal)) c))
 
 -- a lifetime marker, which is dropped, has no name of this kind
 abbrev pub Marked : Role → Tok → Type 0
@@ -56,8 +56,8 @@ unmarked_global false false b c e f = absurd cc
 
 function_name_spelled : (role : Role) (l : Linkage) → Means (function_name role l) (Marked role)
 function_name_spelled roles.Declaration l =
-    among_means _ _ _ (λ t s c f. s.named (unmarked_global (nat_eq (number t.head) (number heads.LifetimeMarker)) (nat_eq (number t.head) (number heads.Global)) (nat_eq (number t.head) (number heads.NumberedGlobal)) (nat_eq (number t.head) (number heads.NumberedDefinition)) c f))
-function_name_spelled roles.Definition l = among_means _ _ _ (λ t s c. s.named (by t (is_local l) c))
+    global_means _ _ (λ t s c f. s.named (unmarked_global (nat_eq (number t.head) (number heads.LifetimeMarker)) (nat_eq (number t.head) (number heads.Global)) (nat_eq (number t.head) (number heads.NumberedGlobal)) (nat_eq (number t.head) (number heads.NumberedDefinition)) c f))
+function_name_spelled roles.Definition l = global_means _ _ (λ t s c. s.named (by t (is_local l) c))
   where
     by : (t : Tok) (b : Bool) → contains (if b then NUMBERED ++ function_names else function_names) (number t.head) ≡ true → contains GLOBAL (number t.head) ≡ true
     by t true c = numbered_global (nat_eq (number t.head) (number heads.Global)) (nat_eq (number t.head) (number heads.NumberedGlobal)) (nat_eq (number t.head) (number heads.NumberedDefinition)) c

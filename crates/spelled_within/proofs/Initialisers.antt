@@ -1,8 +1,8 @@
 -- Initialisers that the grammar spells: counts of the shapes of their parts, constants of integers behind these, and strings of
 -- bytes.
-use Rattle.std.proofs.Common.{◌≡◌, Bool, true, false, inl, inr, List, [], ◌∷◌, Option, Some, None, refl, subst}
+use Rattle.std.proofs.Common.{◌≡◌, ℕ, Bool, true, false, inl, inr, List, [], ◌∷◌, Option, Some, None, option_map, refl, subst}
 use Rattle.std.specs.List.{AllByRecursion as Each}
-use Rattle.ir_globals.specs.Constants.{constant, constant_by, number_of, single, type_of}
+use Rattle.ir_globals.specs.Constants.{constant, constant_by, number_of, plain, single, type_of}
 use Rattle.ir_globals.specs.Initialisers as initial
 use Rattle.ir_globals.specs.Initialisers.{aggregate_of, scalar_of}
 use Rattle.ir_globals.specs.Variables.{value}
@@ -15,7 +15,9 @@ use Rattle.ir_read.specs.ShapeForms.{memory_shape}
 use Rattle.ir_read.specs.Shapes as shapes
 use Rattle.ir_read.specs.Shapes.{Written}
 use Rattle.ir_read.specs.declared.raw.InitPart.TheVariants as init_parts
-use Rattle.ir_read.specs.declared.raw.Operand.{Operand}
+use Rattle.ir_read.specs.declared.raw.InitHead.{InitHead}
+use Rattle.ir_read.specs.declared.raw.InitHead.TheVariants as inits
+use Rattle.ir_read.specs.Operands.{named}
 use Rattle.ir_read.specs.declared.raw.Operand.TheVariants as operands
 use Rattle.ir_read.specs.declared.shape.Typed.{Typed}
 use Rattle.spelled_within.specs.Spelled.{BeginningSpelled, ConstantSpelled, Counted, InitSpelled, PartSpelled}
@@ -25,43 +27,51 @@ use Rattle.spelled_within.proofs.Shapes.{TypedCounted, shape_counted}
 
 -- ---- constants
 
-one_bit : (s : Written) (o : Operand) → Some (operands.Number 1 0) ≡ Some o → ConstantSpelled s o
-one_bit s o e = let same : operands.Number 1 0 ≡ o = cc in subst (ConstantSpelled s) same (inl refl)
+one_bit : (s : Written) (o : InitHead) → Some (plain (operands.Number 1 0)) ≡ Some o → BeginningSpelled s o
+one_bit s o e = let same : plain (operands.Number 1 0) ≡ o = cc in subst (BeginningSpelled s) same (inl refl)
 
-number_spelled : (s : Written) (t : Tok) (o : Operand) → number_of (scalar_of s) t ≡ Some o → ConstantSpelled s o
-number_spelled (shapes.int w) t o e = from_literal (operands.Number w) (ConstantSpelled (shapes.int w)) (λ n. inr refl) (literal w t.text) o e
+-- the number itself
+kept : (s : Written) (t : Tok) (o : InitHead) → Some (inits.Number t) ≡ Some o → BeginningSpelled s o
+kept s t o e = let same : inits.Number t ≡ o = cc in subst (BeginningSpelled s) same tt
+
+number_spelled : (s : Written) (t : Tok) (o : InitHead) → number_of (scalar_of s) t ≡ Some o → BeginningSpelled s o
+number_spelled (shapes.int w) t o e = from_literal (λ (bits : ℕ). plain (operands.Number w bits)) (BeginningSpelled (shapes.int w)) (λ n. inr refl) (literal w t.text) o e
 number_spelled shapes.pointer t o e = one_bit shapes.pointer o e
-number_spelled (shapes.array count of) t o e = one_bit (shapes.array count of) o e
-number_spelled (shapes.structure packed parts) t o e = one_bit (shapes.structure packed parts) o e
-number_spelled (shapes.named name) t o e = one_bit (shapes.named name) o e
+number_spelled (shapes.array count of) t o e = kept (shapes.array count of) t o e
+number_spelled (shapes.structure packed parts) t o e = kept (shapes.structure packed parts) t o e
+number_spelled (shapes.named name) t o e = kept (shapes.named name) t o e
 
-constant_class : (head : Head) (s : Written) (t : Tok) (o : Operand) → constant_by head (scalar_of s) t ≡ Some o → ConstantSpelled s o
+global_spelled : (s : Written) (t : Option Tok) (o : InitHead) → option_map (λ (name : Tok). plain (operands.Global name)) t ≡ Some o → BeginningSpelled s o
+global_spelled s None o e = absurd cc
+global_spelled s (Some t) o e = let same : plain (operands.Global t) ≡ o = cc in subst (BeginningSpelled s) same tt
+
+constant_class : (head : Head) (s : Written) (t : Tok) (o : InitHead) → constant_by head (scalar_of s) t ≡ Some o → BeginningSpelled s o
 constant_class heads.Number s t o e = number_spelled s t o e
-constant_class heads.True s t o e = let same : operands.Number 1 1 ≡ o = cc in subst (ConstantSpelled s) same (inl refl)
+constant_class heads.True s t o e = let same : plain (operands.Number 1 1) ≡ o = cc in subst (BeginningSpelled s) same (inl refl)
 constant_class heads.False s t o e = one_bit s o e
-constant_class heads.Null s t o e = let same : operands.Null ≡ o = cc in subst (ConstantSpelled s) same tt
-constant_class heads.Poison s t o e = let same : operands.Poison (type_of (scalar_of s)) ≡ o = cc in subst (ConstantSpelled s) same tt
-constant_class heads.Global s t o e = let same : operands.Global t ≡ o = cc in subst (ConstantSpelled s) same tt
-constant_class heads.NumberedGlobal s t o e = let same : operands.Global t ≡ o = cc in subst (ConstantSpelled s) same tt
-constant_class heads.NumberedDefinition s t o e = let same : operands.Global t ≡ o = cc in subst (ConstantSpelled s) same tt
+constant_class heads.Null s t o e = let same : plain operands.Null ≡ o = cc in subst (BeginningSpelled s) same tt
+constant_class heads.Poison s t o e = let same : plain (operands.Poison (type_of (scalar_of s))) ≡ o = cc in subst (BeginningSpelled s) same tt
+constant_class heads.Global s t o e = let same : plain (operands.Global t) ≡ o = cc in subst (BeginningSpelled s) same tt
+constant_class heads.NumberedGlobal s t o e = global_spelled s (named t) o e
+constant_class heads.NumberedDefinition s t o e = global_spelled s (named t) o e
 constant_class head s t o e = absurd cc
 
-single_spelled : (s : Written) → Means (single (scalar_of s)) (ConstantSpelled s)
+single_spelled : (s : Written) → Means (single (scalar_of s)) (BeginningSpelled s)
 single_spelled s = valued_means _ _ (λ t o c e. constant_class t.head s t o e)
 
-constant_spelled : (s : Written) → Means (constant memory_shape (scalar_of s)) (ConstantSpelled s)
+constant_spelled : (s : Written) → Means (constant memory_shape (scalar_of s)) (BeginningSpelled s)
 unfolding constant
-constant_spelled s = either_means (address_means (λ a. tt)) (single_spelled s)
+constant_spelled s = either_means (follow {P = ConstantSpelled s} (address_means (λ a. tt)) (λ v g. nothing g)) (single_spelled s)
 
 -- ---- beginnings
 
 beginning_spelled : (s : Written) → Means (initial.beginning memory_shape (scalar_of s)) (BeginningSpelled s)
-unfolding initial.beginning initial.zeros initial.bytes initial.aggregate_begin initial.array_begin initial.structure_begin initial.packed_begin initial.plain
+unfolding initial.beginning initial.zeros initial.bytes initial.aggregate_begin initial.array_begin initial.structure_begin initial.packed_begin
 beginning_spelled s =
     either_means (skip _ (λ _. nothing tt))
     (either_means (among_means _ _ _ (λ t c k. c.bytes))
     (either_means (either_means (skip _ (λ _. nothing tt)) (either_means (skip _ (λ _. nothing tt)) (skip _ (λ _. skip _ (λ _. nothing tt)))))
-    (follow (constant_spelled s) (λ v g. nothing g))))
+    (constant_spelled s)))
 
 -- ---- parts
 

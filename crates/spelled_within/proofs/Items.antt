@@ -4,7 +4,7 @@ use Rattle.std.specs.List.{AllByRecursion as Each, fold}
 use Rattle.std.specs.Prelude.{IfSome}
 use Rattle.ir_bodies.specs.Blocks.{definition}
 use Rattle.ir_globals.specs.TypeDefinitions.{defined, type_line}
-use Rattle.ir_globals.specs.Variables.{behind_kind, is_declared, variable_line}
+use Rattle.ir_globals.specs.Variables.{behind_kind, is_declared, variable_line, variable_name}
 use Rattle.ir_items.specs.Items as whole
 use Rattle.ir_items.specs.Modules.{FURTHER_PARAMETERS, GLOBAL_NAMES, whole_module}
 use Rattle.ir_lex.specs.Heads.{number}
@@ -41,7 +41,7 @@ definition_spelled : Means (definition FURTHER_PARAMETERS) ItemSpelled
 unfolding definition
 definition_spelled = skip _ (λ _. follow (head_spelled roles.Definition) (λ h few. skip _ (λ k. skip _ (λ _. follow body_spelled (λ bs g. skip _ (λ _. nothing (few, g)))))))
 
-variable_spelled : Means (variable_line memory_shape) ItemSpelled
+variable_spelled : Means (variable_line variable_name memory_shape) ItemSpelled
 unfolding variable_line behind_kind
 variable_spelled =
     follow variable_name_spelled (λ name n.

@@ -1,6 +1,6 @@
 -- Lines that the grammar spells: an `alloca` reserves fewer than 2^64 shapes, a phi has an entry, and constants are of the types
 -- that stand before them.
-use Rattle.std.proofs.Common.{ℕ, ◌≤◌, max, min, Bool, true, false, drop, Option, Some, None, subst, arith}
+use Rattle.std.proofs.Common.{◌≡◌, ℕ, ◌≤◌, max, min, Bool, true, false, if◌then◌else◌, drop, Option, Some, None, subst, arith}
 use Rattle.std.specs.Prelude.{IfSome}
 use Rattle.ir_bodies.specs.Calls.{tail_calling}
 use Rattle.ir_bodies.specs.Lines.{attended, behind, kept, line, line_behind, lined, named_line, operation, plain_line}
@@ -10,10 +10,11 @@ use Rattle.ir_bodies.specs.declared.opcodes.Operation.{Operation}
 use Rattle.ir_bodies.specs.declared.opcodes.Operation.TheVariants as operations
 use Rattle.ir_lex.specs.Heads.{width_of}
 use Rattle.ir_lex.specs.Tok.{Tok}
-use Rattle.ir_read.specs.Addressing.{many_slots, one_slot, reserving, slots_behind}
+use Rattle.ir_read.specs.Addressing.{slots_fit}
+use Rattle.ir_read.specs.Addressing.{fitting, many_slots, one_slot, reserving, slots_behind}
 use Rattle.ir_read.specs.Instructions as instr
 use Rattle.ir_read.specs.Operands.{width}
-use Rattle.ir_read.specs.ShapeForms.{memory_shape}
+use Rattle.ir_read.specs.ShapeForms.{memory_shape, count_of}
 use Rattle.ir_read.specs.declared.addressing.Slots.{Slots}
 use Rattle.ir_read.specs.declared.raw.Instr.{Instr}
 use Rattle.ir_tree.specs.declared.instr.BinaryOp.{BinaryOp}
@@ -46,18 +47,29 @@ width_narrow t = by (width_of (drop 1 t.text))
     by : (n : ℕ) → min 64 (max 1 n) ≤ 64
     by n = omega arith
 
-slots_counted : Means slots_behind SlotsCounted
+fitting_is : (fits : ℕ → Bool) (o : Option ℕ) (n : ℕ) → fitting fits o ≡ Some n → o ≡ Some n
+fitting_is fits None n e = absurd cc
+fitting_is fits (Some m) n e = by (fits m) e
+  where
+    by : (b : Bool) → (if b then Some m else None) ≡ Some n → Some m ≡ Some n
+    by true d = d
+    by false d = absurd cc
+
+wide_narrow : (w : ℕ) → w ≤ 64 → max 1 w ≤ 64
+wide_narrow w le = omega (arith, le)
+
+slots_counted : (fits : ℕ → Bool) → Means (slots_behind fits) SlotsCounted
 unfolding slots_behind many_slots one_slot
-slots_counted =
+slots_counted fits =
     either_means
     (skip _ (λ _.
-    either_means (follow {P = λ w. w ≤ 64} (among_means _ _ _ (λ t s c. width_narrow t)) (λ w le. follow {P = IsCount} (valued_means _ _ (λ t n s e. counted_fits w le t.text n e)) (λ n c. skip _ (λ a. nothing c))))
+    either_means (follow {P = λ w. w ≤ 64} (among_means _ _ _ (λ t s c. width_narrow t)) (λ w le. follow {P = IsCount} (valued_means _ _ (λ t n s e. counted_fits (max 1 w) (wide_narrow w le) t.text n (fitting_is fits (count_of (max 1 w) t) n e))) (λ n c. skip _ (λ a. nothing c))))
     (skip _ (λ a. nothing one_count))))
     (nothing one_count)
 
-reserving_spelled : Means (reserving memory_shape) InstrSpelled
+reserving_spelled : Means (reserving slots_fit memory_shape) InstrSpelled
 unfolding reserving
-reserving_spelled = follow shape_counted (λ typed h. follow slots_counted (λ s g. nothing (h, g)))
+reserving_spelled = follow shape_counted (λ typed h. follow (slots_counted (slots_fit typed.shape)) (λ s g. nothing (h, g)))
 
 on_two_spelled : (op : BinaryOp) (f : Flags) → Means (instr.on_two memory_shape op f) InstrSpelled
 unfolding instr.on_two
@@ -87,7 +99,7 @@ kept_spelled : {g : Form Tok Instr} → Means g InstrSpelled → Means (kept g) 
 unfolding kept
 kept_spelled h = follow h (λ i k. nothing k)
 
-behind_spelled : (named : Bool) (o : Opcode) → Means (behind memory_shape named o) IfSpelled
+behind_spelled : (named : Bool) (o : Opcode) → Means (behind slots_fit memory_shape named o) IfSpelled
 unfolding attended tail_calling instr.loading instr.storing
 behind_spelled named (opcodes.Value o) = follow (operation_spelled o) (λ i k. skip _ (λ _. nothing k))
 behind_spelled named opcodes.Phi = kept_spelled phi_spelled
@@ -105,7 +117,7 @@ lined_spelled : (name : Option Tok) (line : ℕ) (i : Option Instr) → IfSpelle
 lined_spelled name line None h = tt
 lined_spelled name line (Some i) h = h
 
-pub line_spelled : (name : Form Tok Tok) → Means (line name memory_shape) (λ l. IfSome l LineSpelled)
+pub line_spelled : (name : Form Tok Tok) → Means (line name slots_fit memory_shape) (λ l. IfSome l LineSpelled)
 unfolding line named_line line_behind plain_line
 line_spelled name =
     either_means (skip _ (λ n. skip _ (λ _. skip _ (λ o. follow (behind_spelled true o) (λ i g. nothing (lined_spelled (Some n) n.line i g))))))

@@ -11,6 +11,8 @@ use Rattle.lto_forms.specs.Forms.{Form}
 use Rattle.lto_forms.specs.Rules.{in_range, is_among, is_valued}
 use Rattle.lto_forms.specs.declared.fault.FaultKind.{FaultKind}
 use Rattle.ir_read.specs.Classes.{tokens}
+use Rattle.ir_read.specs.Operands.{global_named}
+use Rattle.ir_read.proofs.OperandRules.{global_is}
 use Rattle.round_trip.proofs.Instructions.{each_left, each_right}
 use Rattle.spelled_within.specs.Tokens.{IsCut}
 
@@ -74,6 +76,14 @@ unfolding is_valued
 valued_means {A} refuse classes {value} {P} f =
     token_means (λ t a s h.
     let yes = accepted (contains classes (number t.head)) (in_range (value t)) (refuse (number t.head)) a h in f t a s (valued (value t) a yes.1))
+
+-- a global's name, which stands for itself
+pub global_means : (refuse : ℕ → FaultKind) (classes : List ℕ) {P : Tok → Type 0} → ((t : Tok) → IsCut t → contains classes (number t.head) ≡ true → P t) → Means (form.token (is_valued tokens refuse classes global_named)) P
+unfolding is_valued
+global_means refuse classes {P} f =
+    token_means (λ t a s h.
+    let yes = accepted (contains classes (number t.head)) (in_range (global_named t)) (refuse (number t.head)) a h in
+    subst P (global_is t.head t a (valued (global_named t) a yes.1)) (f t s yes.0))
 
 -- ---- lists
 

@@ -43,6 +43,10 @@ local_spelled : (r : Reg) (t : Option Tok) (o : Operand) → option_map operands
 local_spelled r None o e = absurd cc
 local_spelled r (Some t) o e = let same : operands.Local t ≡ o = cc in subst (OperandSpelled r) same tt
 
+global_spelled : (r : Reg) (t : Option Tok) (o : Operand) → option_map operands.Global t ≡ Some o → OperandSpelled r o
+global_spelled r None o e = absurd cc
+global_spelled r (Some t) o e = let same : operands.Global t ≡ o = cc in subst (OperandSpelled r) same tt
+
 by_class : (head : Head) (r : Reg) (t : Tok) (o : Operand) → operand_by head r t ≡ Some o → OperandSpelled r o
 by_class heads.Number r t o e = bits_spelled r t o e
 by_class heads.Local r t o e = local_spelled r (named t) o e
@@ -51,8 +55,8 @@ by_class heads.False r t o e = let same : operands.Number 1 0 ≡ o = cc in subs
 by_class heads.Null r t o e = let same : operands.Null ≡ o = cc in subst (OperandSpelled r) same tt
 by_class heads.Poison r t o e = let same : operands.Poison r ≡ o = cc in subst (OperandSpelled r) same refl
 by_class heads.Global r t o e = let same : operands.Global t ≡ o = cc in subst (OperandSpelled r) same tt
-by_class heads.NumberedGlobal r t o e = let same : operands.Global t ≡ o = cc in subst (OperandSpelled r) same tt
-by_class heads.NumberedDefinition r t o e = let same : operands.Global t ≡ o = cc in subst (OperandSpelled r) same tt
+by_class heads.NumberedGlobal r t o e = global_spelled r (named t) o e
+by_class heads.NumberedDefinition r t o e = global_spelled r (named t) o e
 by_class head r t o e = absurd cc
 
 pub token_spelled : (r : Reg) (t : Tok) (o : Operand) → operand_by t.head r t ≡ Some o → OperandSpelled r o

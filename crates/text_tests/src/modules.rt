@@ -3,6 +3,7 @@ mod circles;
 mod constants;
 mod faults;
 mod names;
+mod ranges;
 mod shown;
 mod sizes;
 mod whole;

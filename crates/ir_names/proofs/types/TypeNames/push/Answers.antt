@@ -2,7 +2,7 @@ use Rattle.std.proofs.Common.{ap, sym, ◌∙◌, is_some, Ok}
 use Rattle.ir_names.specs.KeyViews.{key}
 use Rattle.ir_names.specs.Types.{Types, entry_of}
 use Rattle.ir_names.proofs.SameTypes.{pushed}
-use Rattle.ir_names.proofs.types.Types.push.Goals as goal
+use Rattle.ir_names.proofs.types.TypeNames.push.Goals as goal
 
 pub returns : goal.returns
 returns c =

@@ -1,6 +1,6 @@
 use Rattle.std.proofs.Common.{sym}
 use Rattle.ir_names.proofs.SameTypes.{entries, places}
-use Rattle.ir_names.proofs.types.Types.place_of.Goals as goal
+use Rattle.ir_names.proofs.types.TypeNames.place_of.Goals as goal
 
 pub returns-clause-place : goal.returns-clause-place
 returns-clause-place c = rw (sym c.self.view_is, c.get_index_of.ensures.index) (places c.args.wanted.now c.self.inside.map.entries)

@@ -1,6 +1,6 @@
 use Rattle.std.proofs.Common.{ap, sym, ◌∙◌}
 use Rattle.ir_names.proofs.SameTypes.{at_place, said, copied}
-use Rattle.ir_names.proofs.types.Types.shape_at.Goals as goal
+use Rattle.ir_names.proofs.types.TypeNames.shape_at.Goals as goal
 
 pub returns-in-None : goal.returns-in-None
 returns-in-None c =

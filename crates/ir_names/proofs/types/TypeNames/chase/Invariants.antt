@@ -1,6 +1,6 @@
 use Rattle.std.proofs.Common.{◌≡◌}
 use Rattle.ir_names.specs.Types.{chased, shape_at}
-use Rattle.ir_names.proofs.types.Types.chase.Given as goal
+use Rattle.ir_names.proofs.types.TypeNames.chase.Given as goal
 
 abbrev pub invariant-each : goal.invariant-each
 invariant-each l = chased l.left l.self l.line (shape_at l.self l.place) ≡ chased l.most l.self l.first_line (shape_at l.self l.first)
