@@ -24,9 +24,9 @@ use Rattle.ir_tree.specs.declared.operand.Reg.{Reg}
 use Rattle.ir_tree.specs.declared.operand.Symbol.{Symbol}
 use Rattle.ir_tree.specs.declared.rule.Rule.TheVariants.{TypeMismatch}
 use Rattle.read_again.proofs.Small.{BlockSmall, ResultSmall, block_small, given_small, local_small}
-use Rattle.printed_again.proofs.Walk.{BlockHas, blocks_have}
-use Rattle.read_within.specs.Typed.{FunctionTyped}
-use Rattle.read_within.specs.Within.{FunctionWithin, HasEntry, InstrWithin, ItemWithin, NameWithin, OffsetFits}
+use Rattle.read_again.proofs.Walk.{BlockHas, blocks_have}
+use Rattle.read_again.specs.Typed.{FunctionTyped}
+use Rattle.read_again.specs.Within.{FunctionWithin, HasEntry, InstrWithin, ItemWithin, NameWithin, OffsetFits}
 use Rattle.printed_modules.specs.Bodies.{phi_as_line, stated}
 use Rattle.printed_modules.specs.ModulesReadable.{FunctionReadable}
 use Rattle.printed_modules.specs.Readable.{InstructionReadable, ResultReadable, LineReadable, BlockReadable, BodyReadable}

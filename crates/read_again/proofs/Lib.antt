@@ -1,3 +1,18 @@
+pub mod Each
+pub mod Passing
+pub mod Names
+pub mod Operands
+pub mod Walk
+pub mod Bodies
+pub mod Initialisers
+pub mod Globals
+pub mod Modules
+pub mod Stages
+pub mod Counts
+pub mod TypesCounted
+pub mod Resolving
+pub mod ReadWithin
+pub mod ReadTyped
 pub mod Numbering
 pub mod Verified
 pub mod Resolved
@@ -8,4 +23,5 @@ pub mod Functions
 pub mod Variables
 pub mod Within
 pub mod Together
+pub mod InOrder
 pub mod Trips

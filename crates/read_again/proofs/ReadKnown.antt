@@ -11,7 +11,7 @@ use Rattle.ir_tree.specs.declared.module.GlobalValue.{GlobalValue}
 use Rattle.ir_tree.specs.declared.module.GlobalValue.TheVariants as globals
 use Rattle.ir_tree.specs.declared.module.Module.{Module}
 use Rattle.ir_tree.specs.declared.operand.Symbol.{Symbol}
-use Rattle.printed_again.specs.Known.{ModuleKnown, ValueKnown}
+use Rattle.read_again.specs.Known.{ModuleKnown, ValueKnown}
 use Rattle.read_again.specs.Numbered.{StringsAreBytes}
 use Rattle.read_again.proofs.Numbering.{ValueRight, read_right}
 use Rattle.read_again.proofs.ReadStrings.{read_strings}

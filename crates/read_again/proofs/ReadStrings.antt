@@ -37,7 +37,7 @@ use Rattle.ir_tree.specs.declared.init_node.InitPart.TheVariants as tp
 use Rattle.ir_tree.specs.declared.module.GlobalValue.{GlobalValue}
 use Rattle.ir_tree.specs.declared.module.GlobalValue.TheVariants as globals
 use Rattle.ir_tree.specs.declared.module.Module.{Module}
-use Rattle.read_within.proofs.Stages.{IfThere, one, put_each, read_variable, staged, took}
+use Rattle.read_again.proofs.Stages.{IfThere, one, put_each, read_variable, staged, took}
 use Rattle.spelled_within.proofs.Contents.{content_bytes}
 use Rattle.spelled_within.proofs.Cut.{tokens_cut}
 use Rattle.spelled_within.proofs.Items.{module_spelled}
@@ -88,6 +88,7 @@ module _ (types : Types) where
   head_bytes known s f (rh.Plain operand) h b e = let x = took (operand_in types known operand) (λ o. Ok (th.Plain (constant_for f o))) h e in subst HeadBytes (one x.2) tt
   head_bytes known s f rh.Zeros h b e = subst HeadBytes (one e) tt
   head_bytes known s f (rh.Bytes string) h b e = subst HeadBytes (one e) (content_bytes string.kind string.text b)
+  head_bytes known s f (rh.Number t) h b e = subst HeadBytes (one e) tt
   head_bytes known s f rh.Array h b e = subst HeadBytes (one e) tt
   head_bytes known s f (rh.Struct packed) h b e = subst HeadBytes (one e) tt
 

@@ -22,8 +22,8 @@ use Rattle.ir_tree.specs.declared.operand.Operand.{Operand}
 use Rattle.ir_tree.specs.declared.operand.Operand.TheVariants.{Local, Number, Null, Poison, Symbol}
 use Rattle.ir_tree.specs.declared.operand.Reg.{Reg}
 use Rattle.ir_tree.specs.declared.operand.Symbol as tree_symbol
-use Rattle.printed_again.proofs.Each.{front, back}
-use Rattle.printed_again.proofs.Walk.{BlockHas, blocks_have}
+use Rattle.read_again.proofs.Each.{front, back}
+use Rattle.read_again.proofs.Walk.{BlockHas, blocks_have}
 use Rattle.printed_modules.specs.Bodies.{phi_as_line}
 use Rattle.printed_resolves.proofs.Places.{local_defined, block_defined}
 use Rattle.printed_resolves.specs.Known.{IsDefinedAs, OperandKnown, ArgumentKnown, LineKnown, EndKnown, FirstIsNoPhi, BlockKnown, FunctionKnown}

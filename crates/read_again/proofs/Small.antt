@@ -10,8 +10,8 @@ use Rattle.ir_tree.specs.declared.block.Block.{Block}
 use Rattle.ir_tree.specs.declared.function.Function.{Function}
 use Rattle.ir_tree.specs.declared.function.Param.{Param}
 use Rattle.ir_tree.specs.declared.instr.Line.{Line}
-use Rattle.printed_again.proofs.Names.{at_place}
-use Rattle.read_within.specs.Within.{FunctionWithin}
+use Rattle.read_again.proofs.Names.{at_place}
+use Rattle.read_again.specs.Within.{FunctionWithin}
 use Rattle.printed_modules.specs.Bodies.{instructions, stated}
 use Rattle.printed_resolves.proofs.Places.{block_defined, local_defined}
 use Rattle.printed_resolves.specs.Sorts.{params_sorts, result_sort, lines_sorts, blocks_sorts, sorts, ParamsFollow, ResultFollows, LinesFollow, BlocksFollow, past, past_lines, past_params, IsNumbered}

@@ -1,12 +1,12 @@
 -- What is printed of modules that were read or verified is read again.
 use Rattle.ir_parse.specs.Laws.{ReadIsParsed}
-use Rattle.printed_again.specs.Laws.{ReadableIsRead}
+use Rattle.read_again.specs.Laws.{ReadableIsRead}
 use Rattle.read_again.specs.Laws.{ReadIsKnown, ReadIsReadAgain, VerifiedIsRead}
 use Rattle.read_again.proofs.Numbering.{read_numbered}
 use Rattle.read_again.proofs.ReadKnown.{read_known}
 use Rattle.read_again.proofs.Verified.{module_known}
 use Rattle.read_again.proofs.Within.{module_readable, verified_typed}
-use Rattle.read_within.specs.Laws.{ReadIsTyped, ReadIsWithin}
+use Rattle.read_again.specs.Laws.{ReadIsTyped, ReadIsWithin}
 
 pub is_known : ReadIsParsed → ReadIsKnown
 is_known parsed = read_known parsed

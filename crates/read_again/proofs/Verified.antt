@@ -11,9 +11,9 @@ use Rattle.ir_tree.specs.declared.module.Module.{Module}
 use Rattle.ir_tree.specs.declared.operand.Operand.{Operand}
 use Rattle.ir_tree.specs.declared.operand.Operand.TheVariants as operands
 use Rattle.ir_tree.specs.declared.operand.Symbol.{Symbol}
-use Rattle.printed_again.specs.Known.{ModuleKnown, ValueKnown}
+use Rattle.read_again.specs.Known.{ModuleKnown, ValueKnown}
 use Rattle.read_again.specs.Numbered.{InitialBytes, InitialsBytes, InitBytes, LocalsNumbered, ModuleNumbered, StringsAreBytes}
-use Rattle.printed_again.proofs.Each.{front, back}
+use Rattle.read_again.proofs.Each.{front, back}
 use Rattle.printed_resolves.proofs.Sound.{function_known}
 use Rattle.printed_resolves.specs.Homeless.{IsHomeless}
 use Rattle.printed_resolves.specs.Known.{InitialKnown, InitialsKnown, InitKnown, OperandKnown}

@@ -11,8 +11,8 @@ use Rattle.ir_tree.specs.declared.module.GlobalValue.TheVariants as globals
 use Rattle.ir_tree.specs.declared.module.Module.{Module}
 use Rattle.ir_tree.specs.declared.operand.Symbol.{Symbol}
 use Rattle.read_again.specs.Numbered.{LocalsNumbered}
-use Rattle.read_within.specs.Typed.{ModuleTyped, ValueTyped}
-use Rattle.read_within.specs.Within.{ModuleWithin, NameWithin, ValueWithin}
+use Rattle.read_again.specs.Typed.{ModuleTyped, ValueTyped}
+use Rattle.read_again.specs.Within.{ModuleWithin, NameWithin, ValueWithin}
 use Rattle.read_again.proofs.Functions.{function_readable, sound_typed}
 use Rattle.read_again.proofs.Variables.{fitting_typed, variable_readable}
 use Rattle.printed_modules.specs.ModulesReadable.{GlobalReadable, ModuleReadable}

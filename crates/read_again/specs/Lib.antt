@@ -1,3 +1,6 @@
+pub mod Known
+pub mod Within
+pub mod Typed
 pub mod Numbered
 pub mod Laws
 pub mod Trips

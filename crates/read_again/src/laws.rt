@@ -1,10 +1,61 @@
-//! Laws of modules that were read or verified, as functions whose contracts state them.
+//! Laws of modules that are printed, of those that were read, and of those that were verified, as functions whose contracts
+//! state them.
 
-ghost use Rattle.read_again.specs.Laws.{ReadIsKnown, ReadIsReadAgain, VerifiedIsRead};
+ghost use Rattle.read_again.specs.Laws.{ReadIsKnown, ReadIsNumbered, ReadIsReadAgain, ReadIsTyped, ReadIsWithin, ReadableIsRead, TextOrderIsNumbered, VerifiedIsRead};
 
+use ir_edit::text_order_counts;
 use ir_parse::read_is_parsed;
-use printed_again::readable_modules_are_read;
-use read_within::{read_modules_are_typed, read_modules_are_within};
+use printed_modules::modules_are_read;
+use resolved_forms::shapes_are_within;
+use spelled_forms::{items_are_written, tokens_are_sized, types_are_written};
+use spelled_within::{contents_are_bytes, items_are_within, tokens_are_cut};
+
+/// The text that is printed of a module that is readable, and whose names are known, is read as that
+/// module (LangRef, "Module Structure").
+pub fn readable_modules_are_read()
+    ensures { ReadableIsRead }
+{
+    modules_are_read();
+}
+
+/// A module that was read of bytes has names that can be written, so many globals, parameters, blocks
+/// and instructions as the grammar takes, counts and offsets below 2^64, phis with an entry at least,
+/// and a data layout that is supported or none (LangRef, "Identifiers", "phi Instruction", "Data
+/// Layout").
+pub fn read_modules_are_within()
+    ensures { ReadIsWithin }
+{
+    contents_are_bytes();
+    tokens_are_cut();
+    items_are_within();
+}
+
+/// In a module that was read of bytes each constant is of the type that stands before it, and is a
+/// word, as `true`, where it is not; the parts of initialisers are of shapes that memory may hold
+/// (LangRef, "Simple Constants", "Complex Constants").
+pub fn read_modules_are_typed()
+    ensures { ReadIsTyped }
+{
+    tokens_are_cut();
+    items_are_within();
+    tokens_are_sized();
+    items_are_written();
+    types_are_written();
+    shapes_are_within();
+}
+
+/// The locals of a module that was read of bytes are numbered along its text, and its strings are bytes (LangRef,
+/// "Identifiers").
+pub fn read_modules_are_numbered()
+    ensures { ReadIsNumbered }
+{}
+
+/// So are those of a formed function that was numbered in the order of its text.
+pub fn text_order_is_numbered()
+    ensures { TextOrderIsNumbered }
+{
+    text_order_counts();
+}
 
 /// The names of a module that was read of bytes are known: its locals are numbered along its text,
 /// each global name is there once and each that is used is there, and its strings are bytes (LangRef,

@@ -49,9 +49,9 @@ use Rattle.reading_back.specs.Readable.{CountsReadable}
 use Rattle.reading_back.specs.Typed.{ArgumentTyped, CaseTyped, EndTyped, ItemTyped, OperandTyped}
 use Rattle.spelled_within.specs.Spelled.{ArgumentSpelled, BlockSpelled, CaseSpelled, Counted, EndSpelled, HasIncoming, IncomingSpelled, InstrSpelled, OperandSpelled}
 use Rattle.spelled_within.proofs.Means.{joined}
-use Rattle.read_within.specs.Within.{HasEntry, InstrWithin, ItemWithin, OffsetFits}
-use Rattle.read_within.proofs.Counts.{TypesCounted, expanded_counts, expand_counts, within_counts}
-use Rattle.read_within.proofs.Stages.{one, parted, took}
+use Rattle.read_again.specs.Within.{HasEntry, InstrWithin, ItemWithin, OffsetFits}
+use Rattle.read_again.proofs.Counts.{TypesCounted, expanded_counts, expand_counts, within_counts}
+use Rattle.read_again.proofs.Stages.{one, parted, took}
 
 -- ---- what is made of it
 

@@ -25,13 +25,13 @@ use Rattle.ir_tree.specs.declared.function.Function.{Function}
 use Rattle.ir_tree.specs.declared.module.GlobalValue.{GlobalValue}
 use Rattle.ir_tree.specs.declared.module.GlobalValue.TheVariants as globals
 use Rattle.ir_tree.specs.declared.operand.Symbol.{Symbol}
-use Rattle.printed_again.specs.Known.{ValueKnown}
-use Rattle.printed_again.proofs.Bodies.{ArgumentNamed, ItemNamed, BlockNamed, blocks_named, blocks_inner}
-use Rattle.printed_again.proofs.Each.{joined}
-use Rattle.printed_again.proofs.Initialisers.{init_inner}
-use Rattle.printed_again.proofs.Names.{names_of, is_spelled, printed_name}
-use Rattle.printed_again.proofs.Operands.{Marks, typed_inner}
-use Rattle.printed_again.proofs.Passing.{Right, Inner, names_in, names_append, all_right, no_names}
+use Rattle.read_again.specs.Known.{ValueKnown}
+use Rattle.read_again.proofs.Bodies.{ArgumentNamed, ItemNamed, BlockNamed, blocks_named, blocks_inner}
+use Rattle.read_again.proofs.Each.{joined}
+use Rattle.read_again.proofs.Initialisers.{init_inner}
+use Rattle.read_again.proofs.Names.{names_of, is_spelled, printed_name}
+use Rattle.read_again.proofs.Operands.{Marks, typed_inner}
+use Rattle.read_again.proofs.Passing.{Right, Inner, names_in, names_append, all_right, no_names}
 use Rattle.printed_modules.specs.Modules.{global_value, IsFunctionOf, IsGlobalItem, IsItem}
 use Rattle.printed_modules.specs.ModulesReadable.{FunctionReadable, GlobalReadable}
 use Rattle.printed_modules.specs.Readable.{BlockReadable, BodyReadable}

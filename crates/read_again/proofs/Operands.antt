@@ -20,8 +20,8 @@ use Rattle.ir_tree.specs.declared.operand.Operand.{Operand}
 use Rattle.ir_tree.specs.declared.operand.Operand.TheVariants.{Local, Number, Null, Poison, Symbol}
 use Rattle.ir_tree.specs.declared.operand.Reg.{Reg}
 use Rattle.ir_tree.specs.declared.operand.Symbol as tree_symbol
-use Rattle.printed_again.proofs.Names.{names_of, is_there, printed_name}
-use Rattle.printed_again.proofs.Passing.{Inner}
+use Rattle.read_again.proofs.Names.{names_of, is_there, printed_name}
+use Rattle.read_again.proofs.Passing.{Inner}
 use Rattle.printed_resolves.proofs.Binds.{bound}
 use Rattle.printed_resolves.proofs.Shapes.{offset_again, shape_again}
 use Rattle.reading_back.specs.Printed.{written_shape, written_parts, IsGlobal, IsDisplaced, IsOperand}

@@ -20,10 +20,10 @@ use Rattle.ir_tree.specs.declared.operand.Operand.{Operand}
 use Rattle.ir_tree.specs.declared.operand.Operand.TheVariants.{Local}
 use Rattle.ir_tree.specs.declared.operand.Reg.{Reg}
 use Rattle.ir_tree.specs.declared.operand.Symbol as tree_symbol
-use Rattle.printed_again.proofs.Each.{front, back, joined, all_marks}
-use Rattle.printed_again.proofs.Names.{names_of}
-use Rattle.printed_again.proofs.Operands.{Marks, operand_inner, typed_inner}
-use Rattle.printed_again.proofs.Passing.{Inner}
+use Rattle.read_again.proofs.Each.{front, back, joined, all_marks}
+use Rattle.read_again.proofs.Names.{names_of}
+use Rattle.read_again.proofs.Operands.{Marks, operand_inner, typed_inner}
+use Rattle.read_again.proofs.Passing.{Inner}
 use Rattle.printed_modules.specs.Variables.{IsInitHead, IsInitPart, IsInit, IsInitOf}
 use Rattle.printed_modules.specs.VariablesReadable.{ConstantReadable, InitialReadable, InitialsReadable, InitReadable}
 use Rattle.reading_back.specs.Printed.{written_shape}

@@ -28,8 +28,8 @@ use Rattle.ir_read.specs.declared.raw.Terminator.TheVariants as re
 use Rattle.ir_read.specs.declared.shape.Typed.{Typed}
 use Rattle.spelled_within.specs.Spelled.{ItemSpelled, TypeCounted}
 use Rattle.spelled_within.proofs.Means.{joined}
-use Rattle.read_within.proofs.Counts.{TypesCounted}
-use Rattle.read_within.proofs.Stages.{one, took}
+use Rattle.read_again.proofs.Counts.{TypesCounted}
+use Rattle.read_again.proofs.Stages.{one, took}
 
 abbrev MarkCounted : Mark → Type 0
 MarkCounted (type_name name typed) = TypeCounted (shape_if typed)
@@ -107,6 +107,7 @@ head_fine : (h : InitHead) → Fine (head_marks h)
 head_fine (rh.Plain operand) = operand_fine operand
 head_fine rh.Zeros = tt
 head_fine (rh.Bytes string) = tt
+head_fine (rh.Number t) = tt
 head_fine rh.Array = tt
 head_fine (rh.Struct packed) = tt
 

@@ -1,6 +1,6 @@
 -- In a module that was read of bytes constants are of the types before them, and parts of initialisers of shapes that memory may
 -- hold.
-use Rattle.std.proofs.Common.{◌≡◌, ℕ, zero, suc, Bool, true, false, cond, ◌⊎◌, inl, inr, Option, Some, None, Result, Ok, Err, List, [], ◌∷◌, refl, sym, ap, subst}
+use Rattle.std.proofs.Common.{◌≡◌, ℕ, zero, suc, Bool, true, false, cond, if◌then◌else◌, ◌⊎◌, inl, inr, Option, Some, None, Result, Ok, Err, List, [], ◌∷◌, refl, sym, ap, subst}
 use Rattle.std.specs.List.{AllByRecursion as Each}
 use Rattle.std.specs.Prelude.{All}
 use Rattle.std.proofs.lemmas.List.Elements.{All-from_recursion, recursion_from_All}
@@ -12,11 +12,13 @@ use Rattle.ir_names.specs.Locals.{none_known, number_in}
 use Rattle.ir_names.specs.Settled.{◌>>=◌, each}
 use Rattle.ir_names.specs.Symbols.{symbol_of}
 use Rattle.ir_names.specs.Types.{Types, expand, expanded, head_of, is_width, limit, scalar}
-use Rattle.ir_names.specs.Variables.{constant_for, constant_type, head_in, part_in, init_in, init_if, variable_in}
+use Rattle.ir_names.specs.Variables.{constant_for, constant_type, head_in, literal_or, number_for, part_in, init_in, init_if, variable_in}
 use Rattle.ir_names.specs.declared.fault.Fault.{Fault}
 use Rattle.ir_names.specs.declared.groups.Groups.{Groups}
 use Rattle.ir_names.specs.declared.locals.Sort.TheVariants as sorts
 use Rattle.ir_parse.specs.Values.{put, value_in, values_in}
+use Rattle.ir_lex.specs.Tok.{Tok}
+use Rattle.ir_tree.specs.declared.operand.Reg.TheVariants.{Int}
 use Rattle.ir_read.specs.Shapes as shapes
 use Rattle.ir_read.specs.Shapes.{Written}
 use Rattle.ir_read.specs.declared.raw.Block as raw_block
@@ -32,7 +34,8 @@ use Rattle.ir_read.specs.declared.raw.Operand as raw_operand
 use Rattle.ir_read.specs.declared.raw.Operand.TheVariants as ro
 use Rattle.ir_read.specs.declared.raw.Variable as raw_variable
 use Rattle.ir_read.specs.declared.shape.Typed.{Typed}
-use Rattle.ir_tree.specs.Forms.{Form, int}
+use Rattle.ir_read.specs.Literals.{literal}
+use Rattle.ir_tree.specs.Forms.{Form, int, pointer, array, structure}
 use Rattle.ir_tree.specs.Initials.{Initial, Initials, Levels, around, begun, headed, levels, tree_of}
 use Rattle.ir_tree.specs.Items.{items_from}
 use Rattle.ir_tree.specs.declared.function.Function.{Function}
@@ -53,12 +56,12 @@ use Rattle.spelled_forms.specs.Items.{InitShaped, ItemWritten, PartShaped}
 use Rattle.spelled_forms.specs.Laws.{ItemsAreWritten, TokensAreSized, TypesAreWritten}
 use Rattle.spelled_within.specs.Laws.{ItemsAreWithin, TokensAreCut}
 use Rattle.spelled_within.specs.Spelled.{BeginningSpelled, BlockSpelled, ConstantSpelled, Counted, InitSpelled, ItemSpelled, PartSpelled}
-use Rattle.read_within.specs.Laws.{ReadIsTyped}
-use Rattle.read_within.specs.Typed.{FunctionTyped, InitialTyped, InitialsTyped, InitTyped, ValueTyped}
-use Rattle.read_within.proofs.Counts.{TypesCounted, expanded_counts}
-use Rattle.read_within.proofs.Resolving.{items_typed}
-use Rattle.read_within.proofs.Stages.{IfThere, one, put_each, read_function, read_variable, staged, took}
-use Rattle.read_within.proofs.TypesCounted.{types_counted}
+use Rattle.read_again.specs.Laws.{ReadIsTyped}
+use Rattle.read_again.specs.Typed.{FunctionTyped, InitialTyped, InitialsTyped, InitTyped, ValueTyped}
+use Rattle.read_again.proofs.Counts.{TypesCounted, expanded_counts}
+use Rattle.read_again.proofs.Resolving.{items_typed}
+use Rattle.read_again.proofs.Stages.{IfThere, one, put_each, read_function, read_variable, staged, took}
+use Rattle.read_again.proofs.TypesCounted.{types_counted}
 
 -- ---- the tree of the parts
 
@@ -132,11 +135,22 @@ module _ (types : Types) where
   constant_typed typed f (ro.Address steps) x h e d =
       let n = took (offset_behind 0 types steps.levels) (λ n. Ok (to.Symbol (symbol_of steps.name) n)) x d in subst (IsFor f) (one n.2) tt
 
+  number_for_typed : (f : Form) (t : Tok) → OperandTyped (constant_type f) (number_for f t)
+  number_for_typed (int w) t = by (if is_width w then literal w t.text else None)
+    where
+      by : (o : Option ℕ) → OperandTyped (Int w) (literal_or w o)
+      by None = inl refl
+      by (Some bits) = inr refl
+  number_for_typed pointer t = inl refl
+  number_for_typed (array n of) t = inl refl
+  number_for_typed (structure packed parts) t = inl refl
+
   head_typed : (typed : Typed) (f : Form) (r : raw_head.InitHead) (h : InitHead) → BeginningSpelled typed.shape r → expanded types typed ≡ Ok f → head_in types none_known f r ≡ Ok h → HeadTyped f h
   head_typed typed f (rh.Plain constant) h b e d =
       let x = took (operand_in types none_known constant) (λ o. Ok (th.Plain (constant_for f o))) h d in subst (HeadTyped f) (one x.2) (constant_typed typed f constant x.0 b e x.1)
   head_typed typed f rh.Zeros h b e d = subst (HeadTyped f) (one d) tt
   head_typed typed f (rh.Bytes string) h b e d = subst (HeadTyped f) (one d) tt
+  head_typed typed f (rh.Number t) h b e d = subst (HeadTyped f) (one d) (number_for_typed f t)
   head_typed typed f rh.Array h b e d = subst (HeadTyped f) (one d) tt
   head_typed typed f (rh.Struct packed) h b e d = subst (HeadTyped f) (one d) tt
 

@@ -1,5 +1,5 @@
-use Rattle.read_within.proofs.ReadTyped.{read_typed}
-use Rattle.read_within.proofs.laws.read_modules_are_typed.Goals as goal
+use Rattle.read_again.proofs.ReadTyped.{read_typed}
+use Rattle.read_again.proofs.laws.read_modules_are_typed.Goals as goal
 
 pub returns : goal.returns
 returns c =

@@ -30,11 +30,11 @@ use Rattle.ir_tree.specs.declared.operand.Operand.{Operand}
 use Rattle.ir_tree.specs.declared.operand.Reg.{Reg}
 use Rattle.ir_tree.specs.declared.operand.Reg.TheVariants.{Int, Ptr}
 use Rattle.ir_tree.specs.declared.operand.Symbol.{Symbol}
-use Rattle.printed_again.proofs.Each.{front, back, joined, both, all_marks}
-use Rattle.printed_again.proofs.Names.{names_of}
-use Rattle.printed_again.proofs.Operands.{Marks, alone, operand_inner, typed_inner, uses_none}
-use Rattle.printed_again.proofs.Passing.{Inner}
-use Rattle.printed_again.proofs.Walk.{BlockHas, blocks_have}
+use Rattle.read_again.proofs.Each.{front, back, joined, both, all_marks}
+use Rattle.read_again.proofs.Names.{names_of}
+use Rattle.read_again.proofs.Operands.{Marks, alone, operand_inner, typed_inner, uses_none}
+use Rattle.read_again.proofs.Passing.{Inner}
+use Rattle.read_again.proofs.Walk.{BlockHas, blocks_have}
 use Rattle.printed_modules.specs.Bodies.{phi_as_line, stated}
 use Rattle.printed_modules.specs.Printed.{IsInstruction, IsLine, IsContent, IsLabelled, AreBlocks}
 use Rattle.printed_modules.specs.Readable.{InstructionReadable, LineReadable, BlockReadable}

@@ -6,7 +6,7 @@ use Rattle.ir_tree.specs.declared.block.Block.{Block}
 use Rattle.ir_tree.specs.declared.block.Terminator.{Terminator}
 use Rattle.ir_tree.specs.declared.instr.Line.{Line}
 use Rattle.ir_tree.specs.declared.instr.Phi.{Phi}
-use Rattle.printed_again.proofs.Each.{front, back}
+use Rattle.read_again.proofs.Each.{front, back}
 use Rattle.printed_modules.specs.Bodies.{phi_as_line, stated}
 
 -- of each line, phis among them, and of the terminator

@@ -12,7 +12,7 @@ use Rattle.ir_read.specs.declared.shape.Typed.{Typed}
 use Rattle.ir_tree.specs.Forms.{Form, int, array, structure, forms_of}
 use Rattle.ir_tree.specs.Layout.{size}
 use Rattle.spelled_within.specs.Spelled.{AllCounted, Counted, TypeCounted}
-use Rattle.read_within.proofs.Stages.{one, took}
+use Rattle.read_again.proofs.Stages.{one, took}
 use Rattle.reading_back.specs.Readable.{CountsReadable, AllCountsReadable}
 
 abbrev pub TypesCounted : Types → Type 0

@@ -19,11 +19,11 @@ use Rattle.ir_tree.specs.Wholes.{GlobalFormed, GlobalKnown, symbols}
 use Rattle.ir_tree.specs.declared.module.GlobalValue.{GlobalValue}
 use Rattle.ir_tree.specs.declared.module.Module.{Module}
 use Rattle.ir_tree.specs.declared.operand.Symbol.{Symbol}
-use Rattle.printed_again.specs.Known.{ModuleKnown}
-use Rattle.printed_again.specs.Laws.{ReadableIsRead}
-use Rattle.printed_again.proofs.Globals.{AllStand, after_layout, after_triple, globals_stand}
-use Rattle.printed_again.proofs.Names.{fresh, names_differ, names_of}
-use Rattle.printed_again.proofs.Passing.{Fresh, Right, globals_pass, no_types, within_pass}
+use Rattle.read_again.specs.Known.{ModuleKnown}
+use Rattle.read_again.specs.Laws.{ReadableIsRead}
+use Rattle.read_again.proofs.Globals.{AllStand, after_layout, after_triple, globals_stand}
+use Rattle.read_again.proofs.Names.{fresh, names_differ, names_of}
+use Rattle.read_again.proofs.Passing.{Fresh, Right, globals_pass, no_types, within_pass}
 use Rattle.printed_modules.specs.Modules.{layout, triple, global_value, target, IsItem, AreItems}
 use Rattle.printed_modules.specs.ModulesReadable.{LayoutReadable, ModuleReadable}
 use Rattle.printed_resolves.proofs.Binds.{bound}

@@ -1,5 +1,5 @@
 -- A module that was read of bytes is within the limits.
-use Rattle.std.proofs.Common.{◌≡◌, ℕ, suc, ◌+◌, ◌≤◌, Bool, true, false, Option, Some, None, Result, Ok, List, [], ◌∷◌, length, refl, sym, ap, subst, ◌∙◌, arith}
+use Rattle.std.proofs.Common.{◌≡◌, ℕ, suc, ◌+◌, ◌≤◌, Bool, true, false, if◌then◌else◌, Option, Some, None, Result, Ok, List, [], ◌∷◌, length, refl, sym, ap, subst, ◌∙◌, arith}
 use Rattle.std.specs.List.{AllByRecursion as Each}
 use Rattle.std.specs.Prelude.{filter_map, IfSome}
 use Rattle.std.proofs.lemmas.List.Elements.{All-from_recursion}
@@ -13,8 +13,8 @@ use Rattle.ir_names.specs.Groups.{groups_of, is_noinline, is_optnone}
 use Rattle.ir_names.specs.Locals.{Known, none_known}
 use Rattle.ir_names.specs.Numbering.{locals_of}
 use Rattle.ir_names.specs.Settled.{◌>>=◌, each}
-use Rattle.ir_names.specs.Types.{Types, expanded}
-use Rattle.ir_names.specs.Variables.{constant_for, head_in, part_in, init_in, init_if, variable_in}
+use Rattle.ir_names.specs.Types.{Types, is_width, expanded}
+use Rattle.ir_names.specs.Variables.{constant_for, head_in, literal_or, number_for, part_in, init_in, init_if, variable_in}
 use Rattle.ir_names.specs.declared.block.Body.{Body}
 use Rattle.ir_names.specs.declared.fault.Fault.{Fault}
 use Rattle.ir_names.specs.declared.groups.Groups.{Groups}
@@ -33,7 +33,8 @@ use Rattle.ir_read.specs.declared.raw.Item.TheVariants as items
 use Rattle.ir_read.specs.declared.raw.Line as raw_line
 use Rattle.ir_read.specs.declared.raw.Param.{Param}
 use Rattle.ir_read.specs.declared.raw.Variable as raw_variable
-use Rattle.ir_tree.specs.Forms.{Form}
+use Rattle.ir_read.specs.Literals.{literal}
+use Rattle.ir_tree.specs.Forms.{Form, int, pointer, array, structure}
 use Rattle.ir_tree.specs.Initials.{Initial, Initials, Levels, around, begun, headed, levels, tree_of}
 use Rattle.ir_tree.specs.Names.{AllBytes}
 use Rattle.ir_tree.specs.Wholes.{all_operands, init_operands, global_symbol, initial_operands, symbols}
@@ -54,12 +55,12 @@ use Rattle.printed_modules.specs.ModulesReadable.{LayoutReadable}
 use Rattle.spelled_within.specs.Laws.{ContentsAreBytes, ItemsAreWithin, TokensAreCut}
 use Rattle.spelled_within.specs.Spelled.{BodySpelled, Counted, FewParams, HeadSpelled, ItemSpelled, LayoutSpelled, NameSpelled, count_in, count_of, lines_in as raw_lines}
 use Rattle.spelled_within.proofs.Means.{joined}
-use Rattle.read_within.specs.Laws.{ReadIsWithin}
-use Rattle.read_within.specs.Within.{FunctionWithin, NameWithin, OffsetFits, ValueWithin, VariableWithin}
-use Rattle.read_within.proofs.Counts.{TypesCounted, expanded_counts}
-use Rattle.read_within.proofs.Resolving.{block_with, items_within, line_of, operand_fits}
-use Rattle.read_within.proofs.Stages.{IfThere, one, parted, put_each, read_function, read_variable, staged, took}
-use Rattle.read_within.proofs.TypesCounted.{types_counted}
+use Rattle.read_again.specs.Laws.{ReadIsWithin}
+use Rattle.read_again.specs.Within.{FunctionWithin, NameWithin, OffsetFits, ValueWithin, VariableWithin}
+use Rattle.read_again.proofs.Counts.{TypesCounted, expanded_counts}
+use Rattle.read_again.proofs.Resolving.{block_with, items_within, line_of, operand_fits}
+use Rattle.read_again.proofs.Stages.{IfThere, one, parted, put_each, read_function, read_variable, staged, took}
+use Rattle.read_again.proofs.TypesCounted.{types_counted}
 
 -- ---- the layout
 
@@ -175,11 +176,22 @@ module _ (types : Types) where
   for_fits f (to.Poison reg) h = tt
   for_fits f x h = h
 
+  number_fits : (f : Form) (t : Tok) → OffsetFits (number_for f t)
+  number_fits (int w) t = by (if is_width w then literal w t.text else None)
+    where
+      by : (o : Option ℕ) → OffsetFits (literal_or w o)
+      by None = tt
+      by (Some bits) = tt
+  number_fits pointer t = tt
+  number_fits (array n of) t = tt
+  number_fits (structure packed parts) t = tt
+
   head_fits : (f : Form) (r : raw_head.InitHead) (h : InitHead) → head_in types none_known f r ≡ Ok h → HeadFits h
   head_fits f (rh.Plain operand) h e =
       let x = took (operand_in types none_known operand) (λ o. Ok (th.Plain (constant_for f o))) h e in subst HeadFits (one x.2) (for_fits f x.0 (operand_fits types none_known operand x.0 x.1))
   head_fits f rh.Zeros h e = subst HeadFits (one e) tt
   head_fits f (rh.Bytes string) h e = subst HeadFits (one e) tt
+  head_fits f (rh.Number t) h e = subst HeadFits (one e) (number_fits f t)
   head_fits f rh.Array h e = subst HeadFits (one e) tt
   head_fits f (rh.Struct packed) h e = subst HeadFits (one e) tt
 

@@ -1,9 +1,0 @@
-pub mod Each
-pub mod Passing
-pub mod Names
-pub mod Operands
-pub mod Walk
-pub mod Bodies
-pub mod Initialisers
-pub mod Globals
-pub mod Modules
