@@ -1,5 +1,5 @@
 -- Sound, and better in every program, by passes in a row.
-use Rattle.std.proofs.Common.{◌≡◌, ℕ, zero, suc, ◌+◌, ◌-◌, ◌*◌, ◌^◌, ◌≤◌, Bool, true, false, length, arith, mul-pos, subst, sym}
+use Rattle.std.proofs.Common.{◌≡◌, ℕ, zero, suc, ◌+◌, ◌-◌, ◌*◌, ◌^◌, ◌≤◌, Bool, true, false, List, length, Option, arith, mul-pos, subst, sym}
 use Rattle.std.proofs.lemmas.Nat.{pow_pos}
 use Rattle.ir_tree.specs.Rules.{Sound}
 use Rattle.ir_tree.specs.declared.function.Function.{Function}
@@ -19,8 +19,12 @@ use Rattle.ir_facts.specs.Steps.{RoundsAreBetter}
 use Rattle.slot_promote.specs.Laws.{PromotedIsBetter, PromotedIsSound}
 use Rattle.slot_promote.specs.Laws as slots
 use Rattle.slot_promote.specs.Promoted.{promoted_function}
-use Rattle.back_end.specs.Laws.{TurnIsBetter}
+use Rattle.back_end.specs.Inlinable.{AreSound}
+use Rattle.back_end.specs.Laws.{MadeIsInOrder, TurnIsBetter}
 use Rattle.back_end.specs.Made.{AreTurns, IsBetterEverywhere, IsMade, MadeWhere}
+use Rattle.back_end.specs.Walk.{AreWalks}
+use Rattle.back_end.specs.WalkLaws.{WalkIsBetter}
+use Rattle.back_end.proofs.Walks as walked
 
 some_times : (a b : ℕ) → 1 ≤ a → 1 ≤ b → 1 ≤ a * b
 some_times a b h k = omega (arith, mul-pos {m = a} {n = b} (omega (arith, h)) (omega (arith, k)))
@@ -40,7 +44,7 @@ within : (f g : Function) (bound : ℕ) → 1 ≤ bound → ((p : Program) → I
 within f g bound some better = record { bound = bound; some = some; better = better }
 
 -- sound, and better in every program
-abbrev pub Kept : Function → Function → Type 0
+abbrev Kept : Function → Function → Type 0
 Kept f g = Sound g × IsBetterEverywhere g f
 
 further : (f g h : Function) → Kept f g → Kept g h → Kept f h
@@ -92,6 +96,7 @@ turn_keeps laws f g sound turn = further f a g one (further a (simplified a) g t
 -- ---- their order
 
 pub record OrderLaws : Type 0 where
+  pub walk : WalkIsBetter
   pub promoted : PromotedIsBetter
   pub promoted_sound : PromotedIsSound
   pub turn : TurnIsBetter
@@ -110,12 +115,40 @@ module _ (laws : OrderLaws) where
   numbers_keep : (f : Function) → Sound f → Kept f (in_text_order f)
   numbers_keep f sound = (laws.numbered_sound f sound, within f (in_text_order f) 1 (omega arith) (λ p formed. laws.numbered p formed f))
 
-  where_keeps : (b : Bool) (f g : Function) → Sound f → MadeWhere b f g → Kept f g
-  where_keeps true f g sound e = is_itself f g sound e
-  where_keeps false f g sound (h, turns, e) =
-      let promoted = promotion_keeps f sound in
-      let turned = turns_keep 3 (promoted_function f) h promoted.0 turns in
-      subst (Kept f) (sym e) (further f (promoted_function f) (in_text_order h) promoted (further (promoted_function f) h (in_text_order h) turned (numbers_keep h turned.0)))
+  module _ (bodies : List ℕ → Option Function) (sounds : AreSound bodies) where
+    walks_keep : (n : ℕ) (f g : Function) → Sound f → AreWalks n bodies f g → walked.Kept bodies f g
+    unfolding AreWalks
+    walks_keep zero f g sound e = walked.is_itself bodies f g sound e
+    walks_keep (suc n) f g sound (h, one, rest) = let kept = laws.walk bodies f h sound sounds one in walked.further bodies f h g kept (walks_keep n h g kept.0 rest)
 
-  pub made_keeps : (f g : Function) → Sound f → IsMade f g → Kept f g
-  made_keeps f g sound made = where_keeps f.optnone f g sound made
+    where_keeps : (b : Bool) (f g : Function) → Sound f → MadeWhere b bodies f g → walked.Kept bodies f g
+    where_keeps true f g sound e = walked.is_itself bodies f g sound e
+    where_keeps false f g sound optimised = walked.further bodies f optimised.walked g inlined (with_bodies optimised.walked g later)
+      where
+        inlined : walked.Kept bodies f optimised.walked
+        inlined = walks_keep 3 f optimised.walked sound optimised.walks
+
+        later : Kept optimised.walked g
+        later =
+            let promoted = promotion_keeps optimised.walked inlined.0 in
+            let turned = turns_keep 3 (promoted_function optimised.walked) optimised.turned promoted.0 optimised.turns in
+            subst (Kept optimised.walked) (sym optimised.order)
+            (further optimised.walked (promoted_function optimised.walked) (in_text_order optimised.turned) promoted
+            (further (promoted_function optimised.walked) optimised.turned (in_text_order optimised.turned) turned (numbers_keep optimised.turned turned.0)))
+
+        with_bodies : (f g : Function) → Kept f g → walked.Kept bodies f g
+        with_bodies f g (sound, better) = (sound, record { bound = better.bound; some = better.some; better = λ p formed own. better.better p formed })
+
+  pub made_keeps : (bodies : List ℕ → Option Function) (f g : Function) → Sound f → AreSound bodies → IsMade bodies f g → walked.Kept bodies f g
+  made_keeps bodies f g sound sounds made = where_keeps bodies sounds f.optnone f g sound made
+
+  module _ (bodies : List ℕ → Option Function) (sounds : AreSound bodies) where
+    where_in_order : (b : Bool) (f g : Function) → Sound f → b ≡ false → MadeWhere b bodies f g → (h : Function) × Sound h × (g ≡ in_text_order h)
+    where_in_order true f g sound other made = absurd (cc other)
+    where_in_order false f g sound other optimised =
+        let inlined = walks_keep bodies sounds 3 f optimised.walked sound optimised.walks in
+        let promoted = promotion_keeps optimised.walked inlined.0 in
+        (optimised.turned, (turns_keep 3 (promoted_function optimised.walked) optimised.turned promoted.0 optimised.turns).0, optimised.order)
+
+  pub made_in_order : MadeIsInOrder
+  made_in_order bodies f g sound sounds other made = where_in_order bodies sounds f.optnone f g sound other made

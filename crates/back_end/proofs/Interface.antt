@@ -19,8 +19,12 @@ use Rattle.ir_facts.specs.Steps.{AreRounds, IsApplied, IsRound, IsStep, ends_of}
 use Rattle.slot_promote.specs.Promoted.{blocks_with, end_at, first_at, next_number, promoted_function}
 use Rattle.slot_promote.specs.Slots.{promoted_slots}
 use Rattle.slot_promote.specs.Values.{placed}
-use Rattle.back_end.specs.Laws.{HasInterfaceOf, has_blocks}
-use Rattle.back_end.specs.Made.{AreTurns, IsMade, IsTurn, MadeWhere}
+use Rattle.inline_site.specs.Inlined.{IsInlined}
+use Rattle.inline_site.specs.Laws.{InlinedKeepsInterface, IsSameButBlocks}
+use Rattle.back_end.specs.Inlinable.{has_blocks}
+use Rattle.back_end.specs.Laws.{HasInterfaceOf, MadeHasInterface}
+use Rattle.back_end.specs.Made.{AreTurns, IsTurn, MadeWhere}
+use Rattle.back_end.specs.Walk.{AreWalks, Walks, next_place}
 
 pub itself : (f : Function) → HasInterfaceOf f f
 itself f = record { symbol = refl; linkage = refl; result = refl; params = refl; noinline = refl; optnone = refl; blocks = refl }
@@ -156,12 +160,43 @@ unfolding AreTurns
 turns_interface zero f g e = is_itself f g e
 turns_interface (suc n) f g (h, one, rest) = both f h g (turn_interface f h one) (turns_interface n h g rest)
 
-where_interface : (b : Bool) (f g : Function) → MadeWhere b f g → HasInterfaceOf f g
-where_interface true f g e = is_itself f g e
-where_interface false f g (h, turns, e) =
-    subst (HasInterfaceOf f) (sym e)
-    (both f (promoted_function f) (in_text_order h) (promoted_interface f)
-    (both (promoted_function f) h (in_text_order h) (turns_interface 3 (promoted_function f) h turns) (numbered_interface h)))
+-- ---- walks
 
-pub made_interface : (f g : Function) → IsMade f g → HasInterfaceOf f g
-made_interface f g made = where_interface f.optnone f g made
+some_blocks : (bs : List Block) → bs ≢ [] → has_blocks bs ≡ true
+some_blocks [] some = absurd (some refl)
+some_blocks (b ∷ bs) some = refl
+
+module _ (inlined : InlinedKeepsInterface) (bodies : List ℕ → Option Function) where
+  inlined_interface : (f c g : Function) (place : ℕ) → IsInlined f place c (Some g) → HasInterfaceOf f g
+  inlined_interface f c g place is = let same : IsSameButBlocks f g = inlined f c g place is in record {
+    symbol = same.symbol;
+    linkage = same.linkage;
+    result = same.result;
+    params = ap (λ (ps : List Param). map (λ p. p.reg) ps) same.params;
+    noinline = same.noinline;
+    optnone = same.optnone;
+    blocks = some_blocks g.blocks same.new ∙ sym (some_blocks f.blocks same.old);
+  }
+
+  walk_interface : (k from : ℕ) (f g : Function) → Walks k bodies from f g → HasInterfaceOf f g
+  unfolding Walks
+  walk_interface zero from f g (none, e) = is_itself f g e
+  walk_interface (suc k) from f g (place, c, first, h, is, rest) = both f h g (inlined_interface f c h place is) (walk_interface k (next_place f place h) h g rest)
+
+  walks_interface : (n : ℕ) (f g : Function) → AreWalks n bodies f g → HasInterfaceOf f g
+  unfolding AreWalks
+  walks_interface zero f g e = is_itself f g e
+  walks_interface (suc n) f g (h, (k, walk), rest) = both f h g (walk_interface k 1 f h walk) (walks_interface n h g rest)
+
+  -- ---- all of it
+
+  where_interface : (b : Bool) (f g : Function) → MadeWhere b bodies f g → HasInterfaceOf f g
+  where_interface true f g e = is_itself f g e
+  where_interface false f g made =
+      subst (HasInterfaceOf f) (sym made.order)
+      (both f made.walked (in_text_order made.turned) (walks_interface 3 f made.walked made.walks)
+      (both made.walked (promoted_function made.walked) (in_text_order made.turned) (promoted_interface made.walked)
+      (both (promoted_function made.walked) made.turned (in_text_order made.turned) (turns_interface 3 (promoted_function made.walked) made.turned made.turns) (numbered_interface made.turned))))
+
+pub made_interface : InlinedKeepsInterface → MadeHasInterface
+made_interface inlined bodies f g made = where_interface inlined bodies f.optnone f g made

@@ -1,5 +1,5 @@
 -- No two functions are made of a sound one.
-use Rattle.std.proofs.Common.{◌≡◌, ◌∙◌, ℕ, zero, suc, Bool, true, false, ap, subst, sym}
+use Rattle.std.proofs.Common.{◌≡◌, ◌∙◌, ℕ, zero, suc, Bool, true, false, List, Option, ap, subst, sym}
 use Rattle.ir_tree.specs.Rules.{Sound}
 use Rattle.ir_tree.specs.declared.function.Function.{Function}
 use Rattle.ir_edit.specs.Numbered.{in_text_order}
@@ -16,9 +16,14 @@ use Rattle.ir_facts.specs.Steps.{AppliedIsOne, RoundsAreBetter}
 use Rattle.slot_promote.specs.Laws.{PromotedIsSound}
 use Rattle.slot_promote.specs.Promoted.{promoted_function}
 use Rattle.back_end.specs.Laws.{MadeIsOne, TurnIsBetter}
+use Rattle.back_end.specs.Inlinable.{AreSound}
 use Rattle.back_end.specs.Made.{AreTurns, IsTurn, MadeWhere}
+use Rattle.back_end.specs.Walk.{AreWalks}
+use Rattle.back_end.specs.WalkLaws.{WalkIsBetter, WalkIsOne}
 
 pub record OneLaws : Type 0 where
+  pub walk : WalkIsBetter
+  pub walk_one : WalkIsOne
   pub promoted_sound : PromotedIsSound
   pub turn : TurnIsBetter
   pub rounds : RoundsAreBetter
@@ -52,10 +57,26 @@ module _ (laws : OneLaws) where
   turns_are_one (suc n) f g h sound (k, first, rest) (l, other, more) =
       turns_are_one n k g h (laws.turn f k sound first).0 rest (subst (λ (s : Function). AreTurns n s h) (turn_is_one f l k sound other first) more)
 
-  where_is_one : (b : Bool) (f g h : Function) → Sound f → MadeWhere b f g → MadeWhere b f h → g ≡ h
-  where_is_one true f g h sound a b = a ∙ sym b
-  where_is_one false f g h sound (k, turns, a) (l, others, b) =
-      a ∙ ap in_text_order (turns_are_one 3 (promoted_function f) k l (laws.promoted_sound f sound) turns others) ∙ sym b
+  module _ (bodies : List ℕ → Option Function) (sounds : AreSound bodies) where
+    walks_are_one : (n : ℕ) (f g h : Function) → Sound f → AreWalks n bodies f g → AreWalks n bodies f h → g ≡ h
+    unfolding AreWalks
+    walks_are_one zero f g h sound a b = a ∙ sym b
+    walks_are_one (suc n) f g h sound (k, first, rest) (l, other, more) =
+        walks_are_one n k g h (laws.walk bodies f k sound sounds first).0 rest (subst (λ (s : Function). AreWalks n bodies s h) (laws.walk_one bodies f l k other first) more)
+
+    walks_sound : (n : ℕ) (f g : Function) → Sound f → AreWalks n bodies f g → Sound g
+    unfolding AreWalks
+    walks_sound zero f g sound e = subst Sound (sym e) sound
+    walks_sound (suc n) f g sound (h, one, rest) = walks_sound n h g (laws.walk bodies f h sound sounds one).0 rest
+
+    where_is_one : (b : Bool) (f g h : Function) → Sound f → MadeWhere b bodies f g → MadeWhere b bodies f h → g ≡ h
+    where_is_one true f g h sound a b = a ∙ sym b
+    where_is_one false f g h sound a b =
+        a.order
+        ∙ ap in_text_order
+        (turns_are_one 3 (promoted_function a.walked) a.turned b.turned (laws.promoted_sound a.walked (walks_sound 3 f a.walked sound a.walks)) a.turns
+        (subst (λ (w : Function). AreTurns 3 (promoted_function w) b.turned) (walks_are_one 3 f b.walked a.walked sound b.walks a.walks) b.turns))
+        ∙ sym b.order
 
   pub made_once : MadeIsOne
-  made_once f g h sound a b = where_is_one f.optnone f g h sound a b
+  made_once bodies f g h sound sounds a b = where_is_one bodies sounds f.optnone f g h sound a b

@@ -1,9 +1,15 @@
 //! The order of the passes.
 ghost use Rattle.std.specs.Prelude.{◌≡◌, IfOk};
 ghost use Rattle.ir_tree.specs.Rules.{Sound};
-ghost use Rattle.back_end.specs.Made.{AreTurns, IsBetterEverywhere, IsMade, IsOptimised, IsTurn};
+ghost use Rattle.back_end.specs.Inlinable.{AreSound};
+ghost use Rattle.back_end.specs.Made.{AreTurns, IsMade, IsOptimised, IsTurn};
+ghost use Rattle.back_end.specs.Walk.{AreWalks};
+ghost use Rattle.back_end.specs.WalkLaws.{IsBetterWith};
+ghost use Rattle.back_end.specs.Walking.{bodies_in};
 
+use crate::bodies::Bodies;
 use crate::laws::{made_is_better, turn_is_better};
+use crate::walker::walk;
 use block_merge::merge;
 use block_trim::trim;
 use branch_simplify::branches;
@@ -41,38 +47,56 @@ fn turns(alloc: Global, f: &Function) -> Result<Function, AllocError>
     Ok(g)
 }
 
-/// Stack slots as values, three turns, and then numbers in the order of the text.
-fn optimised(alloc: Global, f: &Function) -> Result<Function, AllocError>
+/// Three walks.
+fn walks(alloc: Global, bodies: &Bodies<'_>, f: &Function) -> Result<Function, AllocError>
     requires sound { Sound f.now }
-    ensures { IfOk result (λ g. IsOptimised f.now g) }
+    requires bodies { AreSound (bodies_in bodies.now) }
+    ensures walks { IfOk result (λ g. AreWalks 3 (bodies_in bodies.now) f.now g) }
+    ensures sound { IfOk result (λ g. Sound g) }
 {
-    let promoted = promote(alloc, f)?;
+    let once = walk(alloc, bodies, f)?;
+    let twice = walk(alloc, bodies, &once)?;
+    let g = walk(alloc, bodies, &twice)?;
+    Ok(g)
+}
+
+/// Bodies inlined, stack slots as values, three turns, and then numbers in the order of the text.
+fn optimised(alloc: Global, bodies: &Bodies<'_>, f: &Function) -> Result<Function, AllocError>
+    requires sound { Sound f.now }
+    requires bodies { AreSound (bodies_in bodies.now) }
+    ensures { IfOk result (λ g. IsOptimised (bodies_in bodies.now) f.now g) }
+{
+    let walked = walks(alloc, bodies, f)?;
+    let promoted = promote(alloc, &walked)?;
     let turned = turns(alloc, &promoted)?;
     let g = renumber(alloc, &turned)?;
     Ok(g)
 }
 
-fn made(alloc: Global, f: &Function) -> Result<Function, AllocError>
+fn made(alloc: Global, bodies: &Bodies<'_>, f: &Function) -> Result<Function, AllocError>
     requires sound { Sound f.now }
-    ensures { IfOk result (λ g. IsMade f.now g) }
+    requires bodies { AreSound (bodies_in bodies.now) }
+    ensures { IfOk result (λ g. IsMade (bodies_in bodies.now) f.now g) }
 {
     if f.optnone {
         f.duplicate(alloc)
     } else {
-        optimised(alloc, f)
+        optimised(alloc, bodies, f)
     }
 }
 
-/// What the back end makes of a sound function: optimised, unless it is `optnone` (LangRef, "Function Attributes").
+/// What the back end makes of a sound function with these bodies: optimised, unless it is `optnone` (LangRef, "Function
+/// Attributes").
 ///
-/// It is sound, and better in every program. A number past 32 bits is answered as want of memory.
-pub fn compile(alloc: Global, f: &Function) -> Result<Function, AllocError>
+/// It is sound, and better in every program whose own the bodies are. A number past 32 bits is answered as want of memory.
+pub fn compile(alloc: Global, bodies: &Bodies<'_>, f: &Function) -> Result<Function, AllocError>
     requires sound { Sound f.now }
-    ensures made { IfOk result (λ g. IsMade f.now g) }
-    ensures better { IfOk result (λ g. IsBetterEverywhere g f.now) }
+    requires bodies { AreSound (bodies_in bodies.now) }
+    ensures made { IfOk result (λ g. IsMade (bodies_in bodies.now) f.now g) }
+    ensures better { IfOk result (λ g. IsBetterWith (bodies_in bodies.now) g f.now) }
     ensures sound { IfOk result (λ g. Sound g) }
 {
     made_is_better();
-    let g = made(alloc, f)?;
+    let g = made(alloc, bodies, f)?;
     Ok(g)
 }

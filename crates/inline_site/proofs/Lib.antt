@@ -9,6 +9,7 @@ mod Fitting
 mod Fixed
 mod Fresh
 mod InlinedSound
+mod Interface
 mod Known
 mod Laid
 mod Leading
@@ -22,13 +23,14 @@ mod MovedTypes
 mod Naming
 mod Numbered
 mod Once
+mod OneSite
 mod Places
 mod Putting
 mod Returned
 mod Rooms
 mod Sparing
 mod Spliced
-mod Standing
+pub mod Standing
 mod Twice
 mod TypedLocals
 mod Types

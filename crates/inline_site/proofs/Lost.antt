@@ -252,7 +252,7 @@ module _ (free : ℕ) (callee : Function) (as' : List Argument) (x : ℕ) (is : 
 
 -- ---- the function
 
-params_same : (ps : List Param) → map (param_edited (λ n. n)) ps ≡ ps
+pub params_same : (ps : List Param) → map (param_edited (λ n. n)) ps ≡ ps
 params_same [] = refl
 params_same (p ∷ ps) = ap (λ (l : List Param). p ∷ l) (params_same ps)
 

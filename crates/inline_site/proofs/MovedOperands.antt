@@ -23,7 +23,7 @@ use Rattle.ir_edit.specs.Substituted.{or_local, replacement}
 use Rattle.ir_edit.proofs.Tally.{tally, tally_both, tally_once}
 use Rattle.edge_counts.proofs.Everywhere.{all_front}
 use Rattle.inline_site.specs.Copies.{bound, first_free}
-use Rattle.inline_site.specs.Sites.{argument_types, param_types}
+use Rattle.ir_tree.specs.Types.{argument_types, param_types}
 use Rattle.inline_site.proofs.EditedItems.{IsConstant}
 use Rattle.inline_site.proofs.Elements.{In, in_either, in_front, in_mapped}
 use Rattle.inline_site.proofs.Fresh.{local_below, local_once, new_past}

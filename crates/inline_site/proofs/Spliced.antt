@@ -36,7 +36,8 @@ use Rattle.ir_better.proofs.Numbers.Renumbered.{renumbered_better}
 use Rattle.inline_site.specs.Copies.{behind_call, copied, copied_number, copied_operand, first_free}
 use Rattle.inline_site.specs.Inlined.{before_call, entry_named, entry_of, inlined, leading_to, named, phi_named, result_given, result_phis, return_entries}
 use Rattle.inline_site.specs.Laws.{IsBetter, IsOwn}
-use Rattle.inline_site.specs.Sites.{IsCallOf, Site, StandsAt, argument_types, param_types}
+use Rattle.ir_tree.specs.Types.{argument_types, param_types}
+use Rattle.inline_site.specs.Sites.{IsCallOf, Site, StandsAt}
 use Rattle.inline_site.proofs.Final.{final_apart, final_number, shifts, stays}
 use Rattle.inline_site.proofs.Fitting.{BlockFits, BlocksFit, LinesFit, LocalBelow, PhisFit, blocks_below, fit_back, fit_front, fits, lines_back, lines_front}
 use Rattle.inline_site.proofs.Fixed.{end_fixed, lines_fixed, operand_fixed}

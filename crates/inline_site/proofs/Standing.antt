@@ -10,17 +10,17 @@ use Rattle.ir_meaning.specs.Program.{counted}
 use Rattle.inline_site.specs.Sites.{IsAt, Site, StandsAt, counted_in}
 
 -- a line is one of its block's
-within : (block : Block) (before after : List Line) (call : Line) → block.lines ≡ before ++ call ∷ after → length before + 1 ≤ length block.lines
+pub within : (block : Block) (before after : List Line) (call : Line) → block.lines ≡ before ++ call ∷ after → length before + 1 ≤ length block.lines
 within block before after call e =
     let many : length block.lines ≡ length (before ++ call ∷ after) = ap length e in
     let both : length (before ++ call ∷ after) ≡ length before + length (call ∷ after) = length-append before (call ∷ after) in
     omega (arith, many, both)
 
 -- the line at a place is one of the block up to which the place reaches
-abbrev Found : Block → ℕ → Block → List Line → Type 0
+abbrev pub Found : Block → ℕ → Block → List Line → Type 0
 Found b left block before = (block ≡ b) × (left ≡ length block.phis + (length before + 1))
 
-found_in : (bs : List Block) (i left : ℕ) (b : Block) → slice_get bs i ≡ Some b → 1 ≤ left → left ≤ counted b
+pub found_in : (bs : List Block) (i left : ℕ) (b : Block) → slice_get bs i ≡ Some b → 1 ≤ left → left ≤ counted b
     → (front back : List Block) (block : Block) (before after : List Line) (call : Line) → bs ≡ front ++ block ∷ back → block.lines ≡ before ++ call ∷ after
     → counted_in (take i bs) + left ≡ counted_in front + (length block.phis + (length before + 1)) → Found b left block before
 found_in [] i left b at some most front back block before after call e lines place = absurd (cc at)

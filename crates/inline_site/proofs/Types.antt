@@ -3,7 +3,7 @@ use Rattle.std.proofs.Common.{◌≡◌, ℕ, zero, suc, ◌+◌, ◌<◌, List,
 use Rattle.std.proofs.lemmas.List.{map-append, take_more}
 use Rattle.ir_tree.specs.declared.function.Param.{Param}
 use Rattle.ir_tree.specs.declared.operand.Argument.{Argument}
-use Rattle.inline_site.specs.Sites.{argument_types, param_types}
+use Rattle.ir_tree.specs.Types.{argument_types, param_types}
 
 pub types_more : (as' : List Argument) (ps : List Param) (i : ℕ) (a : Argument) (p : Param) → i < length as' → i < length ps → (get_or as' i a).reg ≡ (get_or ps i p).reg
     → argument_types (take i as') ≡ param_types (take i ps) → argument_types (take (i + 1) as') ≡ param_types (take (i + 1) ps)

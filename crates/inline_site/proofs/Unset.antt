@@ -78,8 +78,8 @@ module _ (op : Operand → Operand) (value : Operand → Value) (same : (o : Ope
   exit_same (Return None) = refl
   exit_same (Return (Some a)) = λ i. Leaves (Some (same a.operand i))
   exit_same (Jump target) = refl
-  exit_same (Branch condition if_true if_false) = λ i. by_value (side if_true if_false) (same condition i)
-  exit_same (Switch width operand default cases) = (λ i. by_value (λ n. targets_same cases n i) (same operand i))
+  exit_same (Branch condition if_true if_false) = λ i. by_value 1 (side if_true if_false) (same condition i)
+  exit_same (Switch width operand default cases) = (λ i. by_value width (λ n. targets_same cases n i) (same operand i))
     where
       targets_same : (cs : List Case) (n : ℕ) → case_target (map (case_edited (λ k. k)) cs) default n ≡ case_target cs default n
       targets_same [] n = refl

@@ -1,5 +1,5 @@
 -- What inlining keeps: the function is better in every program whose body of the callee is the one that is inlined, and sound.
-use Rattle.std.specs.Prelude.{◌≡◌, ℕ, List, All, Option, Some, None}
+use Rattle.std.specs.Prelude.{◌≡◌, ◌≢◌, ℕ, List, [], All, Option, Some, None}
 use Rattle.ir_tree.specs.Items.{items}
 use Rattle.ir_tree.specs.Rules.{Sound}
 use Rattle.ir_tree.specs.Wholes.{ItemKnown}
@@ -10,7 +10,7 @@ use Rattle.ir_meaning.specs.Near.{BetterThan}
 use Rattle.ir_meaning.specs.Program.{Program}
 use Rattle.ir_better.specs.Formed.{IsFormed}
 use Rattle.inline_site.specs.Inlined.{IsInlined}
-use Rattle.inline_site.specs.Sites.{param_types}
+use Rattle.ir_tree.specs.Types.{param_types}
 
 -- the program's function of the callee's name is the callee, and of its type
 pub record IsOwn (p : Program) (callee : Function) : Type 0 where
@@ -26,7 +26,13 @@ abbrev pub IsBetterIfGiven : Option Function → Function → Function → Type 
 IsBetterIfGiven None f callee = Unit {0}
 IsBetterIfGiven (Some g) f callee = IsBetter g f callee
 
--- a sound function with a sound callee's body in the place of a call is sound
+-- ---- the laws
+
+-- a sound function with a sound callee's body in the place of a call is better in each of these programs
+abbrev pub InlinedIsBetter : Type 0
+InlinedIsBetter = (f callee g : Function) (place : ℕ) → IsInlined f place callee (Some g) → Sound f → Sound callee → IsBetter g f callee
+
+-- and sound
 abbrev pub InlinedIsSound : Type 0
 InlinedIsSound = (f callee g : Function) (place : ℕ) → IsInlined f place callee (Some g) → Sound f → Sound callee → Sound g
 
@@ -35,3 +41,21 @@ abbrev pub InlinedIsKnown : Type 0
 InlinedIsKnown =
     (f callee g : Function) (place : ℕ) (known : List Symbol) → IsInlined f place callee (Some g) → Sound f → Sound callee
     → All (ItemKnown known) (items f) → All (ItemKnown known) (items callee) → All (ItemKnown known) (items g)
+
+-- no two functions are what inlining at a place gives
+abbrev pub InlinedIsOne : Type 0
+InlinedIsOne = (f callee g h : Function) (place : ℕ) → IsInlined f place callee (Some g) → IsInlined f place callee (Some h) → g ≡ h
+
+-- both have blocks, and all else is the same
+pub record IsSameButBlocks (f g : Function) : Type 0 where
+  pub symbol : g.symbol ≡ f.symbol
+  pub linkage : g.linkage ≡ f.linkage
+  pub result : g.result ≡ f.result
+  pub params : g.params ≡ f.params
+  pub noinline : g.noinline ≡ f.noinline
+  pub optnone : g.optnone ≡ f.optnone
+  pub old : f.blocks ≢ []
+  pub new : g.blocks ≢ []
+
+abbrev pub InlinedKeepsInterface : Type 0
+InlinedKeepsInterface = (f callee g : Function) (place : ℕ) → IsInlined f place callee (Some g) → IsSameButBlocks f g

@@ -1,14 +1,13 @@
 -- A call at a place of a function.
-use Rattle.std.specs.Prelude.{◌≡◌, ℕ, ◌+◌, List, [], ◌∷◌, ◌++◌, length, map}
+use Rattle.std.specs.Prelude.{◌≡◌, ℕ, ◌+◌, List, [], ◌∷◌, ◌++◌, length}
+use Rattle.ir_tree.specs.Types.{argument_types, param_types}
 use Rattle.ir_tree.specs.declared.block.Block.{Block}
 use Rattle.ir_tree.specs.declared.function.Function.{Function}
-use Rattle.ir_tree.specs.declared.function.Param.{Param}
 use Rattle.ir_tree.specs.declared.instr.Instr.{Instr}
 use Rattle.ir_tree.specs.declared.instr.Instr.TheVariants.{Call}
 use Rattle.ir_tree.specs.declared.instr.Line.{Line}
 use Rattle.ir_tree.specs.declared.operand.Argument.{Argument}
 use Rattle.ir_tree.specs.declared.operand.Operand.TheVariants.{Symbol as Named}
-use Rattle.ir_tree.specs.declared.operand.Reg.{Reg}
 use Rattle.ir_meaning.specs.Program.{counted}
 
 -- an instruction's site: its block between the blocks before and behind, and the instruction between the others of its block
@@ -37,12 +36,6 @@ pub record IsAt (bs : List Block) (block line : ℕ) (s : Site) : Type 0 where
   pub lines : s.block.lines ≡ s.before ++ s.call ∷ s.after
   pub front : length s.front ≡ block
   pub before : length s.before ≡ line
-
-abbrev pub argument_types : List Argument → List Reg
-argument_types arguments = map (λ a. a.reg) arguments
-
-abbrev pub param_types : List Param → List Reg
-param_types params = map (λ p. p.reg) params
 
 -- the instruction is a direct call of the callee, of its type, with these arguments
 pub record IsCallOf (callee : Function) (instr : Instr) (arguments : List Argument) : Type 0 where

@@ -1,5 +1,5 @@
 //! Functions that calls are inlined into, one after another.
-ghost use Rattle.std.specs.Prelude.{◌≡◌, ◌<◌, ◌+◌, [], ◌++◌, length, map, take, drop, None, IfOk, IfSome};
+ghost use Rattle.std.specs.Prelude.{◌≡◌, ◌<◌, ◌+◌, [], ◌++◌, length, map, take, drop, None, Some, IfOk, IfSome};
 ghost use Rattle.ir_tree.specs.Rules.{Sound};
 ghost use Rattle.inline_site.specs.Callers.{IsReady, caller_of, function_of, made_of, with_middle, without};
 ghost use Rattle.inline_site.specs.Inlined.{IsInlined, named};
@@ -9,7 +9,7 @@ use crate::free::past_all;
 use crate::middle::{Middle, middle_at};
 use crate::splice::Halves;
 use ir_edit::substitute;
-use ir_tree::{Block, Duplicate, Function, Operand, Reg, Rows};
+use ir_tree::{Block, Duplicate, Function, Operand, Reg, Rows, Symbol};
 use std::alloc::{AllocError, Global};
 
 /// A function that calls are inlined into: its blocks are moved and not copied.
@@ -93,6 +93,20 @@ impl Caller {
         })
     }
 
+    /// The blocks of the function.
+    pub fn blocks(&self) -> &[Block]
+        ensures { result.now ≡ (function_of self.now).blocks }
+    {
+        &self.blocks
+    }
+
+    /// The symbol of the function.
+    pub fn symbol(&self) -> &Symbol
+        ensures { result.now ≡ (function_of self.now).symbol }
+    {
+        &self.outline.symbol
+    }
+
     /// The function; nothing is copied.
     pub fn into_function(self) -> Function
         ensures { result ≡ function_of self }
@@ -122,6 +136,15 @@ impl Caller {
         }
     }
 
+    /// The function with poison at each use of a local.
+    fn poisoned(self, alloc: Global, local: u32, reg: Reg) -> Result<Function, AllocError>
+        ensures { IfOk result (λ g. g ≡ without (Some (local, reg)) (function_of self)) }
+    {
+        let f = self.into_function();
+        let g = substitute(alloc, &f, &[(local, Operand::Poison(reg))])?;
+        Ok(g)
+    }
+
     /// Poison at each use of a result that no return gives.
     fn without(self, alloc: Global, lost: Option<(u32, Reg)>) -> Result<Caller, AllocError>
         ensures function { IfOk result (λ c. function_of c ≡ without lost (function_of self)) }
@@ -131,8 +154,7 @@ impl Caller {
             return Ok(self);
         };
         let free = self.free;
-        let f = self.into_function();
-        let g = substitute(alloc, &f, &[(local, Operand::Poison(reg))])?;
+        let g = self.poisoned(alloc, local, reg)?;
         let outline = outline_of(alloc, &g)?;
         let blocks = blocks_of(alloc, g.blocks.as_slice())?;
         Ok(Caller {

@@ -2,6 +2,8 @@
 ghost use Rattle.std.specs.Prelude.{◌≡◌, List, [], ◌∷◌, ◌++◌, map, IfOk};
 ghost use Rattle.ir_tree.specs.declared.block.Block.{Block};
 ghost use Rattle.ir_tree.specs.Rules.{Sound};
+ghost use Rattle.ir_edit.specs.Edited.{shifted};
+ghost use Rattle.ir_edit.specs.Numbered.{in_text_order};
 ghost use Rattle.inline_site.specs.Copies.{behind_call, bound, copied};
 ghost use Rattle.inline_site.specs.Copying.{empty, opened, shifted_by};
 
@@ -31,6 +33,16 @@ fn opened(alloc: Global, callee: &Function, last: u32) -> Result<Function, Alloc
         optnone: callee.optnone,
         blocks,
     })
+}
+
+/// The callee with the empty block at its end, numbered in the order of its text and then from this number on.
+fn moved(alloc: Global, callee: &Function, last: u32, free: u32) -> Result<Function, AllocError>
+    ensures { IfOk result (λ g. g ≡ shifted free (in_text_order (opened last callee.now))) }
+{
+    let callee_opened = opened(alloc, callee, last)?;
+    let numbered = renumber(alloc, &callee_opened)?;
+    let moved = shift_numbers(alloc, &numbered, free)?;
+    Ok(moved)
 }
 
 /// Each parameter's number with this added to it, and the argument.
@@ -78,9 +90,7 @@ pub(crate) fn copied(
     ensures { IfOk result (λ rows. Sound callee.now → rows ≡ copied free callee.now arguments.now ++ empty (behind_call free callee.now) ∷ []) }
 {
     let last = first_free(callee)?;
-    let callee_opened = opened(alloc, callee, last)?;
-    let numbered = renumber(alloc, &callee_opened)?;
-    let moved = shift_numbers(alloc, &numbered, free)?;
+    let moved = moved(alloc, callee, last, free)?;
     let behind = last_number(moved.blocks.as_slice());
     let Some(by) = behind.checked_add(1) else {
         return Err(AllocError);

@@ -6,10 +6,10 @@
 //! numbers after the caller's greatest, in the order of the text (`specs/Copies.antt`); all else keeps its number, and stack
 //! slots stay at their place.
 //!
-//! The result is sound where both functions are, and uses no other symbols than they do (`specs/Laws.antt`); it is better in
-//! every program in which the callee's body is the program's own. `inline_at` inlines at one call. A `Caller` is a function
+//! The result is one, sound where both functions are, and uses no other symbols than they do (`specs/Laws.antt`); it is better
+//! in every program in which the callee's body is the program's own. `inline_at` inlines at one call. A `Caller` is a function
 //! that calls are inlined into one after another: it keeps the first number that is free, and its blocks move and aren't
-//! copied.
+//! copied. `arguments_of` tells whether an instruction is a call that may take a body.
 //!
 //! Below this crate stand `ir_tree`, `ir_edit`, whose edits make the copy, and `edge_counts`, `ir_meaning` and `ir_better` for
 //! what is proved. Inlining into a `Caller` copies the callee and the block of the call, with one look-up in a table for each
@@ -31,4 +31,7 @@ mod splice;
 
 pub use caller::{Caller, Tried};
 pub use inline::inline_at;
-pub use laws::{inlined_is_known, inlined_is_sound};
+pub use laws::{
+    inlined_is_better, inlined_is_known, inlined_is_one, inlined_is_sound, inlined_keeps_interface,
+};
+pub use site::arguments_of;

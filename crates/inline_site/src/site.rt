@@ -3,7 +3,8 @@ ghost use Rattle.std.specs.Prelude.{◌≡◌, ◌↔◌, ◌<◌, List, Some, I
 ghost use Rattle.ir_tree.specs.declared.block.Block.{Block};
 ghost use Rattle.ir_tree.specs.declared.operand.Argument.{Argument};
 ghost use Rattle.inline_site.specs.Copying.{site_of};
-ghost use Rattle.inline_site.specs.Sites.{IsAt, IsCallOf, Site, StandsAt, argument_types, param_types};
+ghost use Rattle.ir_tree.specs.Types.{argument_types, param_types};
+ghost use Rattle.inline_site.specs.Sites.{IsAt, IsCallOf, Site, StandsAt};
 
 use ir_tree::{Argument, Block, Function, Instr, Line, Operand, Param, Reg};
 
@@ -84,7 +85,7 @@ fn have_types(arguments: &[Argument], params: &[Param]) -> bool
 }
 
 /// The arguments of a direct call of the callee, of its type; none where the instruction is no such call.
-pub(crate) fn arguments_of<'a>(callee: &Function, instr: &'a Instr) -> Option<&'a [Argument]>
+pub fn arguments_of<'a>(callee: &Function, instr: &'a Instr) -> Option<&'a [Argument]>
     ensures { MatchOption result ((arguments : List Argument) → IsCallOf callee.now instr.now arguments → ⊥) (λ arguments. IsCallOf callee.now instr.now arguments.now) }
 {
     match instr {

@@ -1,8 +1,10 @@
 -- What is true of links.
 use Rattle.std.specs.Prelude.{◌≡◌, ℕ, List}
+use Rattle.ir_tree.specs.Wholes.{IsVerified}
 use Rattle.ir_tree.specs.declared.module.Module.{Module}
 use Rattle.lto_fault.specs.declared.kind.Kind.{Kind}
 use Rattle.link_one.specs.Accepted.{Accepts, Refuses}
+use Rattle.link_one.specs.Linked.{IsLinked}
 use Rattle.link_one.specs.Linking.{IsLinkOf}
 
 -- what is accepted isn't refused
@@ -19,4 +21,8 @@ RefusedIsOne = (bytes : List ℕ) (line other : ℕ) (kind another : Kind) → R
 
 -- no bytes are linked to two texts
 abbrev pub LinkedIsOne : Type 0
-LinkedIsOne = (exports : List (List ℕ)) (bytes text other : List ℕ) → IsLinkOf exports bytes text → IsLinkOf exports bytes other → text ≡ other
+LinkedIsOne = (exports : List (List ℕ)) (limit : ℕ) (bytes text other : List ℕ) → IsLinkOf exports limit bytes text → IsLinkOf exports limit bytes other → text ≡ other
+
+-- the linked module of a verified one is verified
+abbrev pub LinkedIsVerified : Type 0
+LinkedIsVerified = (limit : ℕ) (m l : Module) → IsVerified m → IsLinked limit m l → IsVerified l

@@ -8,6 +8,7 @@ ghost use Rattle.link_one.specs.declared.link.LinkError.TheVariants.{NoMemory};
 use crate::kind::{fault_kind, rule_kind};
 use crate::laws::linked_is_one;
 use crate::linked::linked;
+use back_end::made_has_interface;
 use ir_parse::{ReadError, parse};
 use ir_print::print;
 use ir_tree::{Text, Verified};
@@ -60,14 +61,16 @@ pub fn accepted(alloc: Global, bytes: &[u8]) -> Result<Verified, LinkError>
     }
 }
 
-/// The text of the linked module of this one. Every link of bytes that are accepted as it has this text, whatever is
-/// exported. A number past 32 bits in a linked function is answered as want of memory.
-pub fn link_text(alloc: Global, m: &Verified) -> Result<Text, AllocError>
-    ensures linked { IfOk result (λ text. (exports : List (List ℕ)) (bytes : List ℕ) → Accepts bytes m.now → IsLinkOf exports bytes text) }
-    ensures only { IfOk result (λ text. (exports : List (List ℕ)) (bytes : List ℕ) → Accepts bytes m.now → IsOnlyLinkOf exports bytes text) }
+/// The text of the linked module of this one, in which bodies of no more than `limit` phis, instructions and terminators are
+/// inlined. Every link of bytes that are accepted as it has this text, whatever is exported. A number past 32 bits in a linked
+/// function is answered as want of memory.
+pub fn link_text(alloc: Global, m: &Verified, limit: u32) -> Result<Text, AllocError>
+    ensures linked { IfOk result (λ text. (exports : List (List ℕ)) (bytes : List ℕ) → Accepts bytes m.now → IsLinkOf exports limit bytes text) }
+    ensures only { IfOk result (λ text. (exports : List (List ℕ)) (bytes : List ℕ) → Accepts bytes m.now → IsOnlyLinkOf exports limit bytes text) }
 {
+    made_has_interface();
     linked_is_one();
-    let l = linked(alloc, m)?;
+    let l = linked(alloc, m, limit)?;
     let text = print(alloc, &l)?;
     Ok(text)
 }

@@ -1,7 +1,10 @@
 //! Rows of the tables: a module before a pass, and what the pass makes of its first function.
-ghost use Rattle.std.specs.Prelude.{IfSome};
+ghost use Rattle.std.specs.Prelude.{IfOk, IfSome};
+ghost use Rattle.back_end.specs.Inlinable.{AreSound};
+ghost use Rattle.back_end.specs.Walking.{bodies_in};
 ghost use Rattle.ir_tree.specs.Rules.{Sound};
 
+use back_end::{Bodies, compile, walk};
 use block_merge::merge;
 use block_trim::trim;
 use branch_simplify::branches;
@@ -35,6 +38,10 @@ pub(crate) enum Pass {
     Inline(u32),
     /// The module's second function inlined at two places, one after the other.
     InlineTwice(u32, u32),
+    /// One walk that inlines the module's bodies up to a limit.
+    Walk(u32),
+    /// All of the back end, with the module's bodies up to a limit.
+    Made(u32),
 }
 
 /// The name of a row, the pass, the text of a module before it, and the printed text of the module's first function after it.
@@ -112,8 +119,39 @@ fn inlined_at_each(
     Ok(caller.into_function())
 }
 
-/// What a pass makes of a function.
-fn made(alloc: Global, pass: Pass, f: &Function, callee: &Function) -> Result<Function, AllocError>
+/// The bodies of a module up to a limit.
+fn bodies(alloc: Global, module: &Verified, limit: u32) -> Result<Bodies<'_>, AllocError>
+    ensures { IfOk result (λ b. AreSound (bodies_in b)) }
+{
+    let bodies = Bodies::of(alloc, module.module().globals.as_slice(), limit)?;
+    Ok(bodies)
+}
+
+/// One walk over the first function of a module.
+fn walked(alloc: Global, module: &Verified, limit: u32) -> Result<Option<Function>, AllocError> {
+    let bodies = bodies(alloc, module, limit)?;
+    match first(module) {
+        Some(f) => Ok(Some(walk(alloc, &bodies, f)?)),
+        None => Ok(None),
+    }
+}
+
+/// The first function of a module as the back end makes it.
+fn compiled(alloc: Global, module: &Verified, limit: u32) -> Result<Option<Function>, AllocError> {
+    let bodies = bodies(alloc, module, limit)?;
+    match first(module) {
+        Some(f) => Ok(Some(compile(alloc, &bodies, f)?)),
+        None => Ok(None),
+    }
+}
+
+/// What a pass over one function makes of it.
+fn passed(
+    alloc: Global,
+    pass: Pass,
+    f: &Function,
+    callee: &Function,
+) -> Result<Function, AllocError>
     requires sound { Sound f.now }
 {
     match pass {
@@ -127,6 +165,22 @@ fn made(alloc: Global, pass: Pass, f: &Function, callee: &Function) -> Result<Fu
         Pass::Joined => joined(alloc, f),
         Pass::Inline(place) => inlined(alloc, f, place, callee),
         Pass::InlineTwice(one, other) => inlined_at_each(alloc, f, &[one, other], callee),
+        Pass::Walk(_) | Pass::Made(_) => f.duplicate(alloc),
+    }
+}
+
+/// What is made of the first function of a module; none where it doesn't begin with a function.
+fn made(alloc: Global, pass: Pass, module: &Verified) -> Result<Option<Function>, AllocError> {
+    match pass {
+        Pass::Walk(limit) => walked(alloc, module, limit),
+        Pass::Made(limit) => compiled(alloc, module, limit),
+        _ => match first(module) {
+            Some(f) => {
+                let callee = second(module).unwrap_or(f);
+                Ok(Some(passed(alloc, pass, f, callee)?))
+            }
+            None => Ok(None),
+        },
     }
 }
 
@@ -136,11 +190,9 @@ pub(crate) fn after(alloc: Global, pass: Pass, text: &[u8]) -> Result<Option<Tex
     let Some(module) = read(alloc, text) else {
         return Ok(None);
     };
-    let Some(f) = first(&module) else {
+    let Some(g) = made(alloc, pass, &module)? else {
         return Ok(None);
     };
-    let callee = second(&module).unwrap_or(f);
-    let g = made(alloc, pass, f, callee)?;
     let text = print_function(alloc, &g)?;
     Ok(Some(text))
 }

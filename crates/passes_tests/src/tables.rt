@@ -3,3 +3,4 @@ mod facts;
 mod inlining;
 mod needed;
 mod slots;
+mod walks;

@@ -3,6 +3,8 @@ use Rattle.back_end.proofs.laws.made_is_one.Goals as goal
 
 pub returns : goal.returns
 returns c = made_once (record {
+  walk = c.walk_is_better.ensures;
+  walk_one = c.walk_is_one.ensures;
   promoted_sound = c.promoted_is_sound.ensures;
   turn = c.turn_is_better.ensures;
   rounds = c.rounds_are_better.ensures;

@@ -2,8 +2,6 @@ use Rattle.std.proofs.Common.{◌≡◌, ℕ, ◌+◌, List, map, ◌∙◌, ap}
 use Rattle.ir_tree.specs.declared.function.Function.{Function}
 use Rattle.ir_tree.specs.declared.function.Param.{Param}
 use Rattle.ir_tree.specs.declared.operand.Operand.{Operand}
-use Rattle.ir_edit.specs.Edited.{shifted}
-use Rattle.ir_edit.specs.Numbered.{in_text_order}
 use Rattle.ir_edit.specs.Substituted.{substituted}
 use Rattle.inline_site.specs.Copies.{bound}
 use Rattle.inline_site.specs.Copying.{shifted_by}
@@ -12,7 +10,7 @@ use Rattle.inline_site.proofs.copy.copied.Goals as goal
 
 pub returns : goal.returns
 returns c = λ sound.
-    let moved_is : c.in_ok-moved.moved ≡ moved c.args.free c.in_ok-last.last c.args.callee.now = c.in_ok-moved.ensures ∙ ap (shifted c.args.free) (c.in_ok-numbered.ensures ∙ ap in_text_order c.in_ok-callee_opened.ensures) in
+    let moved_is : c.in_ok-moved.moved ≡ moved c.args.free c.in_ok-last.last c.args.callee.now = c.in_ok-moved.ensures in
     copied_is c.args.free c.in_ok-last.last c.in-Some.by c.args.callee.now c.args.arguments.now c.in_ok-replacements.replacements.items c.in_ok-moved.moved c.in_ok-copy.copy sound.formed c.in_ok-last.ensures moved_is
     (c.in-Some.ensures.1
     ∙ ap (λ (n : ℕ). n + 1)

@@ -1,5 +1,5 @@
 use Rattle.std.proofs.Common.{◌≡◌, take}
-use Rattle.inline_site.specs.Sites.{argument_types, param_types}
+use Rattle.ir_tree.specs.Types.{argument_types, param_types}
 use Rattle.inline_site.proofs.site.have_types.Given as goal
 
 abbrev pub invariant-loop-place : goal.invariant-loop-place

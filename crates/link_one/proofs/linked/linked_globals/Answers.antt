@@ -1,4 +1,5 @@
 use Rattle.std.proofs.Common.{arith}
+use Rattle.back_end.specs.Walking.{bodies_in}
 use Rattle.link_one.specs.Bettered.{GlobalBetter}
 use Rattle.link_one.specs.Linked.{IsLinkedGlobal}
 use Rattle.link_one.proofs.Zipping.{zip_next}
@@ -6,6 +7,6 @@ use Rattle.link_one.proofs.linked.linked_globals.Goals as goal
 
 pub each-preserved : goal.each-preserved
 each-preserved c = record {
-  made = zip_next IsLinkedGlobal c.args.globals.now c.each.global-index c.global-item.result (omega arith) c.global-item.is c.each.rows c.push.new.self c.in_ok-linked_global.field-0 c.each.invariant.made c.in_ok-linked_global.ensures.made c.in_ok-push.ensures.ok;
-  better = zip_next GlobalBetter c.args.globals.now c.each.global-index c.global-item.result (omega arith) c.global-item.is c.each.rows c.push.new.self c.in_ok-linked_global.field-0 c.each.invariant.better c.in_ok-linked_global.ensures.better c.in_ok-push.ensures.ok;
+  made = zip_next (IsLinkedGlobal (bodies_in c.args.bodies.now)) c.args.globals.now c.each.global-index c.global-item.result (omega arith) c.global-item.is c.each.rows c.push.new.self c.in_ok-linked_global.field-0 c.each.invariant.made c.in_ok-linked_global.ensures.made c.in_ok-push.ensures.ok;
+  better = zip_next (GlobalBetter (bodies_in c.args.bodies.now)) c.args.globals.now c.each.global-index c.global-item.result (omega arith) c.global-item.is c.each.rows c.push.new.self c.in_ok-linked_global.field-0 c.each.invariant.better c.in_ok-linked_global.ensures.better c.in_ok-push.ensures.ok;
 }

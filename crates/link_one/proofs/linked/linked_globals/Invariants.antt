@@ -1,11 +1,12 @@
 use Rattle.std.proofs.Common.{take}
 use Rattle.std.specs.List.{AllZip}
+use Rattle.back_end.specs.Walking.{bodies_in}
 use Rattle.link_one.specs.Linked.{IsLinkedGlobal}
 use Rattle.link_one.specs.Bettered.{GlobalBetter}
 use Rattle.link_one.proofs.linked.linked_globals.Given as goal
 
 abbrev pub invariant-each : goal.invariant-each
 invariant-each l = record {
-  made : AllZip IsLinkedGlobal (take l.global-index l.globals) l.rows;
-  better : AllZip GlobalBetter (take l.global-index l.globals) l.rows;
+  made : AllZip (IsLinkedGlobal (bodies_in l.bodies)) (take l.global-index l.globals) l.rows;
+  better : AllZip (GlobalBetter (bodies_in l.bodies)) (take l.global-index l.globals) l.rows;
 }

@@ -1,0 +1,10 @@
+use Rattle.std.proofs.Common.{◌≡◌, ◌∙◌, List, All, ap, subst, sym}
+use Rattle.ir_tree.specs.Wholes.{GlobalSound}
+use Rattle.ir_tree.specs.declared.module.GlobalValue.{GlobalValue}
+use Rattle.ir_tree.specs.declared.module.Module.{Module}
+use Rattle.passes_tests.proofs.rows.bodies.Goals as goal
+
+pub returns : goal.returns
+returns c =
+    let globals : c.as_slice.result.now ≡ c.args.module.now.globals = c.as_slice.ensures ∙ ap (λ (m : Module). m.globals) c.module.ensures.module in
+    c.in_ok-bodies.ensures.sound (subst (λ (gs : List GlobalValue). All GlobalSound gs) (sym globals) c.module.ensures.sound.sound)
