@@ -1,3 +1,6 @@
+pub mod Counted
 pub mod Numbered
 pub mod Inside
 pub mod Sized
+mod Parts
+pub mod Verified

@@ -11,10 +11,10 @@ use Rattle.std.specs.Prelude.{codes}
 use Rattle.std.specs.Str.{bytes_eq}
 use Rattle.ir_meaning.specs.Frame.{AHost, AVariable, GetChar, Missing, PutChar, value_of}
 use Rattle.ir_meaning.specs.Memory.{Memory}
-use Rattle.ir_meaning.specs.Symbols.{symbol_eq}
+use Rattle.ir_tree.specs.Symbols.{symbol_eq}
 use Rattle.ir_meaning.specs.declared.value.Value.{Value}
 use Rattle.ir_better.specs.Formed.{IsFormed}
-use Rattle.ir_program.specs.Programs.{Body, Definition, Storage, behind, body_of, defined, definition_from, definition_of, kind_of, opening_from, or_else, program_of, signature_of, storage_in, storage_of, symbol_of, undefined_kind}
+use Rattle.ir_program.specs.Programs.{Body, Definition, Storage, behind, body_of, defined, defined_blocks, defined_init, definition_from, definition_of, is_declared, kind_of, opening_from, or_else, program_of, signature_of, storage_in, storage_of, symbol_of, undefined_kind}
 
 -- a variable has this number
 abbrev NumberedBy : ℕ → Option Definition → Type 0
@@ -23,12 +23,12 @@ NumberedBy n (Some (Body f)) = Unit {0}
 NumberedBy n (Some (Storage k v init)) = k ≡ n
 
 defined_numbered : (n : ℕ) (g : GlobalValue) → NumberedBy n (defined n g)
-defined_numbered n (global.Function f) = at f.blocks
+defined_numbered n (global.Function f) = at (defined_blocks f)
   where
     at : (blocks : List Block) → NumberedBy n (body_of blocks f)
     at [] = tt
     at (b ∷ bs) = tt
-defined_numbered n (global.Variable v) = at v.init
+defined_numbered n (global.Variable v) = at (defined_init v)
   where
     at : (init : Option Initial) → NumberedBy n (storage_of init n v)
     at None = tt
@@ -36,11 +36,8 @@ defined_numbered n (global.Variable v) = at v.init
 
 -- the number of a variable isn't in its block
 pub storage_same : (value : Operand → Value) (n m : ℕ) (g : GlobalValue) (rest : Memory) → storage_in value (defined n g) rest ≡ storage_in value (defined m g) rest
-storage_same value n m (global.Function f) rest = at f.blocks
-  where
-    at : (blocks : List Block) → storage_in value (body_of blocks f) rest ≡ storage_in value (body_of blocks f) rest
-    at blocks = refl
-storage_same value n m (global.Variable v) rest = at v.init
+storage_same value n m (global.Function f) rest = refl
+storage_same value n m (global.Variable v) rest = at (defined_init v)
   where
     at : (init : Option Initial) → storage_in value (storage_of init n v) rest ≡ storage_in value (storage_of init m v) rest
     at None = refl
@@ -67,14 +64,19 @@ numbered value (g ∷ gs) n s k v init e =
     (numbered_behind value (defined n g) (definition_from (behind n (defined n g)) gs s) (symbol_eq (symbol_of g) s) n k v init (opening_from value gs)
     (defined_numbered n g) (numbered value gs (behind n (defined n g)) s k v init) e)
 
-no_variable : (number : ℕ) (home : Option ℕ) (name : List ℕ) → undefined_kind home name ≡ AVariable number → ⊥
-no_variable number None name e = at (bytes_eq name (codes "putchar")) (bytes_eq name (codes "getchar")) e
+no_outside : (number : ℕ) (home : Option ℕ) (name : List ℕ) → undefined_kind home name ≡ AVariable number → ⊥
+no_outside number None name e = at (bytes_eq name (codes "putchar")) (bytes_eq name (codes "getchar")) e
   where
     at : (b c : Bool) → cond b (AHost PutChar) (cond c (AHost GetChar) Missing) ≡ AVariable number → ⊥
     at true c e = cc
     at false true e = cc
     at false false e = cc
-no_variable number (Some k) name e = cc
+no_outside number (Some k) name e = cc
+
+-- a symbol that isn't defined is no variable
+pub no_variable : (number : ℕ) (declared : Bool) (s : Symbol) → kind_of declared s None ≡ AVariable number → ⊥
+no_variable number true s e = no_outside number s.home s.name e
+no_variable number false s e = cc e
 
 variable_number : (j number : ℕ) → AVariable j ≡ AVariable number → j ≡ number
 variable_number j number e = cc
@@ -82,8 +84,8 @@ variable_number j number e = cc
 pub programs_formed : (gs : List GlobalValue) → IsFormed (program_of gs)
 programs_formed gs s number = at (definition_of gs s) refl
   where
-    at : (d : Option Definition) → definition_of gs s ≡ d → kind_of s d ≡ AVariable number → number < length (program_of gs).opening
-    at None there e = absurd (no_variable number s.home s.name e)
+    at : (d : Option Definition) → definition_of gs s ≡ d → kind_of (is_declared gs s) s d ≡ AVariable number → number < length (program_of gs).opening
+    at None there e = absurd (no_variable number (is_declared gs s) s e)
     at (Some (Body f)) there e = absurd (cc e)
     at (Some (Storage j v init)) there e =
         subst (λ (i : ℕ). i < length (program_of gs).opening) (variable_number j number e) (omega (arith, numbered (value_of (signature_of gs) []) gs 0 s j v init there))

@@ -1,3 +1,4 @@
 pub mod Constants
 pub mod Programs
+pub mod Runnable
 pub mod Laws

@@ -1,8 +1,10 @@
 -- The program that global values mean (LangRef, "Module Structure", "Global Variables", "Functions").
-use Rattle.std.specs.Prelude.{ℕ, suc, true, not, if◌then◌else◌, List, [], ◌∷◌, Option, Some, None, codes}
+use Rattle.std.specs.Prelude.{ℕ, suc, Bool, true, not, if◌then◌else◌, List, [], ◌∷◌, Option, Some, None, codes}
+use Rattle.std.specs.List.{list_any}
 use Rattle.std.specs.Str.{bytes_eq}
 use Rattle.ir_tree.specs.Initials.{Initial}
 use Rattle.ir_tree.specs.Layout.{size}
+use Rattle.ir_tree.specs.Linkages.{defines}
 use Rattle.ir_tree.specs.declared.block.Block.{Block}
 use Rattle.ir_tree.specs.declared.function.Function.{Function}
 use Rattle.ir_tree.specs.declared.function.Param.{Param}
@@ -15,7 +17,7 @@ use Rattle.ir_tree.specs.declared.operand.Symbol.{Symbol}
 use Rattle.ir_meaning.specs.Frame.{AFunction, AHost, AVariable, GetChar, Kind, Missing, PutChar, Signature, value_of}
 use Rattle.ir_meaning.specs.Memory.{Memory, MemoryBlock}
 use Rattle.ir_meaning.specs.Program.{Program}
-use Rattle.ir_meaning.specs.Symbols.{symbol_eq}
+use Rattle.ir_tree.specs.Symbols.{symbol_eq}
 use Rattle.ir_meaning.specs.declared.value.Value.{Value}
 use Rattle.ir_program.specs.Constants.{initial_bytes}
 
@@ -34,10 +36,18 @@ abbrev pub storage_of : Option Initial → ℕ → Variable → Option Definitio
 storage_of None n v = None
 storage_of (Some init) n v = Some (Storage n v init)
 
+-- the body of a function and the initialiser of a variable, where they define them; a copy of another module's definition is a
+-- declaration (LangRef, "Linkage Types": `available_externally`)
+abbrev pub defined_blocks : Function → List Block
+defined_blocks f = if defines f.linkage then f.blocks else []
+
+abbrev pub defined_init : Variable → Option Initial
+defined_init v = if defines v.linkage then v.init else None
+
 -- a function without blocks and a variable without an initialiser are declarations
 abbrev pub defined : ℕ → GlobalValue → Option Definition
-defined n (global.Function f) = body_of f.blocks f
-defined n (global.Variable v) = storage_of v.init n v
+defined n (global.Function f) = body_of (defined_blocks f) f
+defined n (global.Variable v) = storage_of (defined_init v) n v
 
 abbrev pub symbol_of : GlobalValue → Symbol
 symbol_of (global.Function f) = f.symbol
@@ -68,6 +78,10 @@ abbrev pub regs_of : List Param → List Reg
 regs_of [] = []
 regs_of (p ∷ ps) = p.reg ∷ regs_of ps
 
+-- the symbol of a name that modules share
+abbrev pub shared : List ℕ → Symbol
+shared name = record { home = None; name = name }
+
 -- a function of the outside, by its name
 abbrev pub host_of : List ℕ → Kind
 host_of name = if bytes_eq name (codes "putchar") then AHost PutChar else (if bytes_eq name (codes "getchar") then AHost GetChar else Missing)
@@ -77,13 +91,18 @@ abbrev pub undefined_kind : Option ℕ → List ℕ → Kind
 undefined_kind None name = host_of name
 undefined_kind (Some k) name = Missing
 
-abbrev pub kind_of : Symbol → Option Definition → Kind
-kind_of s None = undefined_kind s.home s.name
-kind_of s (Some (Body f)) = AFunction (regs_of f.params) f.result
-kind_of s (Some (Storage n v init)) = AVariable n
+-- what a symbol is that is defined so; one that isn't is a function of the outside only where it is declared
+abbrev pub kind_of : Bool → Symbol → Option Definition → Kind
+kind_of declared s None = if declared then undefined_kind s.home s.name else Missing
+kind_of declared s (Some (Body f)) = AFunction (regs_of f.params) f.result
+kind_of declared s (Some (Storage n v init)) = AVariable n
+
+-- a global value declares or defines the symbol
+abbrev pub is_declared : List GlobalValue → Symbol → Bool
+is_declared gs s = list_any (λ g. symbol_eq (symbol_of g) s) gs
 
 abbrev pub signature_of : List GlobalValue → Signature
-signature_of gs = record { kind = λ s. kind_of s (definition_of gs s) }
+signature_of gs = record { kind = λ s. kind_of (is_declared gs s) s (definition_of gs s) }
 
 abbrev pub code_of : Option Definition → Option Function
 code_of None = None

@@ -1,5 +1,5 @@
 //! The laws, as functions whose contracts state them.
-ghost use Rattle.ir_program.specs.Laws.{InitialisersHaveTheirSize, ProgramsAreFormed, ProgramsOpenInside};
+ghost use Rattle.ir_program.specs.Laws.{InitialisersHaveTheirSize, ProgramsAreFormed, ProgramsOpenInside, VerifiedIsRunnable};
 
 /// The number of a variable's symbol is one of the variables.
 pub fn programs_are_formed()
@@ -14,4 +14,10 @@ pub fn programs_open_inside()
 /// An initialiser that fits a shape within the limits has as many bytes as the shape (LangRef, "Data Layout").
 pub fn initialisers_have_their_size()
     ensures { InitialisersHaveTheirSize }
+{}
+
+/// The global values of a module that was verified can be run: each symbol stands once, each instruction is formed, each shape
+/// is laid out, and each initialiser fits its shape.
+pub fn verified_is_runnable()
+    ensures { VerifiedIsRunnable }
 {}

@@ -4,7 +4,6 @@ mod Tasking
 mod Placing
 mod Leaving
 mod Blocking
-mod Parts
 mod Sounding
 mod Meaning
 mod Whole

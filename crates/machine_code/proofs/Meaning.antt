@@ -1,17 +1,11 @@
 -- What was made of a function is code of it: it means the same by position, what is known before the run is valid, and its lines can run.
 use Rattle.std.proofs.Common.{◌≡◌, ℕ, zero, suc, ◌+◌, ◌<◌, Bool, true, false, nat_eq, if◌then◌else◌, List, [], ◌∷◌, length, slice_get, Option, Some, None, refl, sym, ap, ap₂, subst, ◌∙◌}
-use Rattle.std.specs.Prelude.{All}
 use Rattle.std.specs.List.{AllZip}
-use Rattle.std.proofs.lemmas.List.Elements.{All-head, All-tail}
-use Rattle.ir_tree.specs.Items.{reads}
-use Rattle.ir_tree.specs.Wholes.{IsKnown as IsListed}
 use Rattle.ir_tree.specs.declared.block.Block.{Block as MeantBlock}
 use Rattle.ir_tree.specs.declared.function.Function.{Function as MeantFunction}
 use Rattle.ir_tree.specs.declared.instr.Incoming.{Incoming}
 use Rattle.ir_tree.specs.declared.instr.Line.{Line as MeantLine}
 use Rattle.ir_tree.specs.declared.instr.Phi.{Phi as MeantPhi}
-use Rattle.ir_tree.specs.declared.operand.Argument.{Argument}
-use Rattle.ir_tree.specs.declared.operand.Operand.{Operand}
 use Rattle.ir_tree.specs.declared.operand.Symbol.{Symbol}
 use Rattle.ir_meaning.specs.Act.{incoming_value, phis_bound}
 use Rattle.ir_meaning.specs.Frame.{Locals, Signature, value_of}
@@ -29,57 +23,46 @@ use Rattle.machine_steps.specs.Code.{IsBlock, IsBlockKnown, counted_before}
 use Rattle.machine_steps.specs.declared.code.Block.{Block}
 use Rattle.machine_steps.specs.declared.code.Function.{Function}
 use Rattle.machine_code.specs.Addresses.{AreValid, HasAddresses}
-use Rattle.machine_code.specs.Blocks.{IsBlockFor, IsEdge, IsFunctionFor, IsLineFor, IsListedBlock, IsPhi}
+use Rattle.machine_code.specs.Blocks.{IsBlockFor, IsEdge, IsFunctionFor, IsLineFor, IsPhi}
 use Rattle.machine_code.specs.declared.addresses.Addresses.{Addresses}
-use Rattle.machine_memory.proofs.Lists.{all_got}
 use Rattle.machine_code.proofs.Zips.{zip_got, zip_long, zip_other}
 
 -- ---- phis
 
 module _ (t : Addresses) (names : List Symbol) (sig : Signature) (h : HasAddresses names sig t) where
-  abbrev Listed : Incoming → Type 0
-  Listed e = IsListed names e.value
-
-  edge_placed : (locals : Locals) (from : ℕ) (es : List Incoming) (ds : List Edge) → AllZip (IsEdge t) es ds → All Listed es → incoming_value sig locals from es ≡ edge_meant names locals from ds
-  edge_placed locals from [] [] z k = refl
-  edge_placed locals from [] (d ∷ ds) z k = absurd z
-  edge_placed locals from (e ∷ es) [] z k = absurd z
-  edge_placed locals from (e ∷ es) (d ∷ ds) z k =
-      by (nat_eq e.from from) (edge_placed locals from es ds z.1 (All-tail Listed e es k)) ∙ ap (λ (n : ℕ). if nat_eq n from then source_meant names locals d.source else edge_meant names locals from ds) (sym z.0.from) where
+  edge_placed : (locals : Locals) (from : ℕ) (es : List Incoming) (ds : List Edge) → AllZip (IsEdge t) es ds → incoming_value sig locals from es ≡ edge_meant names locals from ds
+  edge_placed locals from [] [] z = refl
+  edge_placed locals from [] (d ∷ ds) z = absurd z
+  edge_placed locals from (e ∷ es) [] z = absurd z
+  edge_placed locals from (e ∷ es) (d ∷ ds) z =
+      by (nat_eq e.from from) (edge_placed locals from es ds z.1) ∙ ap (λ (n : ℕ). if nat_eq n from then source_meant names locals d.source else edge_meant names locals from ds) (sym z.0.from) where
         by : (v : Bool) → incoming_value sig locals from es ≡ edge_meant names locals from ds →
             (if v then value_of sig locals e.value else incoming_value sig locals from es) ≡ (if v then source_meant names locals d.source else edge_meant names locals from ds)
-        by true rest = sym (z.0.stands.means names sig h (All-head Listed e es k) locals)
+        by true rest = sym (z.0.stands.means names sig h locals)
         by false rest = rest
 
-  abbrev ListedPhi : MeantPhi → Type 0
-  ListedPhi p = All Listed p.incoming
-
-  phis_placed : (locals : Locals) (from : ℕ) (after : Locals) (ps : List MeantPhi) (qs : List Phi) → AllZip (IsPhi t) ps qs → All ListedPhi ps →
-      phis_bound sig locals from ps after ≡ phis_meant names locals from qs after
-  phis_placed locals from after [] [] z k = refl
-  phis_placed locals from after [] (q ∷ qs) z k = absurd z
-  phis_placed locals from after (p ∷ ps) [] z k = absurd z
-  phis_placed locals from after (p ∷ ps) (q ∷ qs) z k =
-      ap₂ (λ (x : ℕ) (v : MeantValue). (x, v) ∷ phis_bound sig locals from ps after) (sym z.0.local) (edge_placed locals from p.incoming q.edges.items z.0.edges (All-head ListedPhi p ps k))
-      ∙ ap (λ (ls : Locals). (q.local, edge_meant names locals from q.edges.items) ∷ ls) (phis_placed locals from after ps qs z.1 (All-tail ListedPhi p ps k))
+  phis_placed : (locals : Locals) (from : ℕ) (after : Locals) (ps : List MeantPhi) (qs : List Phi) → AllZip (IsPhi t) ps qs → phis_bound sig locals from ps after ≡ phis_meant names locals from qs after
+  phis_placed locals from after [] [] z = refl
+  phis_placed locals from after [] (q ∷ qs) z = absurd z
+  phis_placed locals from after (p ∷ ps) [] z = absurd z
+  phis_placed locals from after (p ∷ ps) (q ∷ qs) z =
+      ap₂ (λ (x : ℕ) (v : MeantValue). (x, v) ∷ phis_bound sig locals from ps after) (sym z.0.local) (edge_placed locals from p.incoming q.edges.items z.0.edges)
+      ∙ ap (λ (ls : Locals). (q.local, edge_meant names locals from q.edges.items) ∷ ls) (phis_placed locals from after ps qs z.1)
 
   -- ---- blocks
 
-  abbrev ListedLine : MeantLine → Type 0
-  ListedLine l = All (λ (a : Argument). IsListed names a.operand) (reads l.instr)
-
-  pub block_means : (blocks : List MeantBlock) (q before : ℕ) (b : MeantBlock) (c : Block) → IsListedBlock names b → IsBlockFor t blocks before b c → before ≡ counted_before blocks q → IsBlock names sig blocks q b c
-  block_means blocks q before b c k f e = record {
+  pub block_means : (blocks : List MeantBlock) (q before : ℕ) (b : MeantBlock) (c : Block) → IsBlockFor t blocks before b c → before ≡ counted_before blocks q → IsBlock names sig blocks q b c
+  block_means blocks q before b c f e = record {
     number = f.number;
     before = f.before ∙ ap (λ (n : ℕ). n + length b.phis) e;
     short = f.short;
-    phis = λ locals from after. phis_placed locals from after b.phis c.phis.items f.phis k.phis;
+    phis = λ locals from after. phis_placed locals from after b.phis c.phis.items f.phis;
     long = zip_long (IsLineFor t) b.lines c.lines.items f.lines;
-    lines = λ n l line gl gline. line_means l line (zip_got (IsLineFor t) b.lines c.lines.items n l line f.lines gl gline) (all_got ListedLine b.lines n l gl k.lines);
-    exit = λ locals. f.exit.means names sig h k.end locals;
+    lines = λ n l line gl gline. line_means l line (zip_got (IsLineFor t) b.lines c.lines.items n l line f.lines gl gline);
+    exit = λ locals. f.exit.means names sig h locals;
   } where
-    line_means : (l : MeantLine) (line : Line) → IsLineFor t l line → ListedLine l → IsLine names sig l line
-    line_means l line g j = record { local = g.local; task = λ locals. g.task.means names sig h j locals }
+    line_means : (l : MeantLine) (line : Line) → IsLineFor t l line → IsLine names sig l line
+    line_means l line g = record { local = g.local; task = λ locals. g.task.means names sig h locals }
 
 -- ---- what is known before the run
 

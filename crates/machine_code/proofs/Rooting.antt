@@ -1,4 +1,4 @@
--- What is found under a name is a root of the module, and each root is found.
+-- What is found under a name is a root of the program, and each root is found.
 use Rattle.std.proofs.Common.{◌≡◌, ◌⊎◌, inl, inr, ℕ, ◌<◌, Bool, true, false, if◌then◌else◌, List, [], ◌∷◌, length, slice_get, Option, Some, None, refl, sym, ap, subst, ◌∙◌, arith}
 use Rattle.std.specs.Prelude.{All}
 use Rattle.std.proofs.lemmas.List.Elements.{All-cons, All-head, All-nil, All-tail}
@@ -10,13 +10,14 @@ use Rattle.ir_tree.specs.declared.module.GlobalValue.{GlobalValue}
 use Rattle.ir_tree.specs.declared.module.GlobalValue.TheVariants as global
 use Rattle.ir_tree.specs.declared.operand.Reg.{Reg}
 use Rattle.ir_tree.specs.declared.operand.Reg.TheVariants.{Int, Ptr}
+use Rattle.ir_tree.specs.declared.operand.Symbol.{Symbol}
 use Rattle.ir_meaning.specs.Frame.{AFunction, AHost, AVariable, Kind, Missing}
 use Rattle.ir_machine.specs.declared.scalar.Base.{Base}
 use Rattle.ir_machine.specs.declared.scalar.Base.TheVariants as base
 use Rattle.ir_calls.specs.Calls.{IsKind}
 use Rattle.ir_calls.specs.declared.call.Entity.{Entity}
 use Rattle.ir_calls.specs.declared.call.Entity.TheVariants as entity
-use Rattle.ir_program.specs.Programs.{body_of, kind_of, regs_of, symbol_of}
+use Rattle.ir_program.specs.Programs.{body_of, defined_blocks, kind_of, regs_of, shared, symbol_of}
 use Rattle.machine_steps.specs.Code.{function_in, locals_of}
 use Rattle.machine_steps.specs.Steps.{CanBegin}
 use Rattle.machine_steps.specs.declared.code.Code.{Code}
@@ -24,7 +25,7 @@ use Rattle.machine_steps.specs.declared.code.Function.{Function}
 use Rattle.machine_code.specs.Addresses.{base_in}
 use Rattle.machine_code.specs.Blocks.{IsFunctionFor}
 use Rattle.machine_code.specs.Lowered.{IsMadeOf}
-use Rattle.machine_memory.specs.Tables.{IsBased, base_at, base_of, bytes_of, kind_at, number_at}
+use Rattle.machine_memory.specs.Tables.{base_of, bytes_of, kind_at, number_at}
 use Rattle.machine_code.specs.Programs.{IsBodyFor, IsBodyOf, IsEntityFor}
 use Rattle.machine_code.specs.Roots.{IsRoot, are_integers, index_in, integers_of, only_integers}
 use Rattle.machine_code.specs.declared.code.Lowered.{Lowered}
@@ -88,19 +89,19 @@ some_entity (Some e) types h = (e, (refl, h))
 
 -- ---- a function that is defined
 
-kind_defined : (n : ℕ) (f : MeantFunction) → 0 < length f.blocks → kind_at n (global.Function f) ≡ AFunction (regs_of f.params) f.result
-kind_defined n f l = by f.blocks l where
-  by : (bs : List Block) → 0 < length bs → kind_of f.symbol (body_of bs f) ≡ AFunction (regs_of f.params) f.result
+kind_defined : (n : ℕ) (f : MeantFunction) → 0 < length (defined_blocks f) → kind_at n (global.Function f) ≡ AFunction (regs_of f.params) f.result
+kind_defined n f l = by (defined_blocks f) l where
+  by : (bs : List Block) → 0 < length bs → kind_of true f.symbol (body_of bs f) ≡ AFunction (regs_of f.params) f.result
   by [] h = absurd (omega (arith, h))
   by (b ∷ bs) h = refl
 
-kind_known : (x : Entity) (n : ℕ) (f : MeantFunction) → 0 < length f.blocks → IsKind x (kind_at n (global.Function f)) → IsKind x (AFunction (regs_of f.params) f.result)
+kind_known : (x : Entity) (n : ℕ) (f : MeantFunction) → 0 < length (defined_blocks f) → IsKind x (kind_at n (global.Function f)) → IsKind x (AFunction (regs_of f.params) f.result)
 kind_known x n f l k = subst (λ (z : Kind). IsKind x z) (kind_defined n f l) k
 
-made_code : (l : Lowered) (g : GlobalValue) (f : Function) → IsBodyFor l.addresses g (Some f) → (m : MeantFunction) × ((g ≡ global.Function m) × ((0 < length m.blocks) × IsFunctionFor l.addresses m f))
+made_code : (l : Lowered) (g : GlobalValue) (f : Function) → IsBodyFor l.addresses g (Some f) → (m : MeantFunction) × ((g ≡ global.Function m) × ((0 < length (defined_blocks m)) × IsFunctionFor l.addresses m f))
 made_code l (global.Variable v) f k = absurd (cc k)
-made_code l (global.Function m) f k = by m.blocks refl k where
-  by : (bs : List Block) → m.blocks ≡ bs → IsBodyOf l.addresses m bs (Some f) → (x : MeantFunction) × ((global.Function m ≡ global.Function x) × ((0 < length x.blocks) × IsFunctionFor l.addresses x f))
+made_code l (global.Function m) f k = by (defined_blocks m) refl k where
+  by : (bs : List Block) → defined_blocks m ≡ bs → IsBodyOf l.addresses m bs (Some f) → (x : MeantFunction) × ((global.Function m ≡ global.Function x) × ((0 < length (defined_blocks x)) × IsFunctionFor l.addresses x f))
   by [] e j = absurd (cc j)
   by (b ∷ bs) e j = (m, (refl, (omega (arith, ap (λ (xs : List Block). length xs) e), j)))
 
@@ -119,10 +120,10 @@ integers_all m entity.Other k = absurd (other k) where
 
 -- ---- roots
 
-pub is_root : (gs : List GlobalValue) (l : Lowered) (name : List ℕ) (i : ℕ) (types : List Reg) → IsMadeOf gs l → Some i ≡ index_in (base_in l.addresses name) →
+pub is_root : (gs : List GlobalValue) (l : Lowered) (name : List ℕ) (i : ℕ) (types : List Reg) → IsMadeOf gs l → Some i ≡ index_in (base_in l.addresses (shared name)) →
     Some types ≡ integers_of (slice_get l.code.entities.items i) → CanBegin l.code i (length types) → IsRoot gs name i types
 is_root gs l name i types h at integers (f, (code, count)) =
-    let d = h.table.only name (base.Function i) (function_base (base_in l.addresses name) i at) in
+    let d = h.table.only (shared name) (base.Function i) (function_base (base_in l.addresses (shared name)) i at) in
     let k = index_based d.index i (kind_at (number_at 0 gs d.index) d.value) (bytes_of d.value) d.base in
     let here : slice_get gs i ≡ Some d.value = ap (λ (j : ℕ). slice_get gs j) (sym k) ∙ d.there in
     let body = zip_got (IsBodyFor l.addresses) gs l.code.functions.items i d.value (Some f) h.bodies here (some_code (slice_get l.code.functions.items i) f (sym code)) in
@@ -135,28 +136,31 @@ is_root gs l name i types h at integers (f, (code, count)) =
     record {
       function = m.0;
       there = here ∙ ap Some m.1.0;
-      named = sym (ap (λ (x : GlobalValue). (symbol_of x).name) m.1.0) ∙ d.name;
+      named = sym (ap (λ (x : GlobalValue). symbol_of x) m.1.0) ∙ d.symbol;
       defined = m.1.1.0;
       integers = integers_yes m.0.params found.0;
       typed = found.1;
     }
 
 module _ (gs : List GlobalValue) (l : Lowered) (name : List ℕ) (i : ℕ) (types : List Reg) (h : IsMadeOf gs l) (r : IsRoot gs name i types) where
-  pub root_indexed : index_in (base_in l.addresses name) ≡ Some i
+  there : slice_get gs i ≡ Some (global.Function r.function)
+  there = r.there
+
+  pub root_indexed : index_in (base_in l.addresses (shared name)) ≡ Some i
   root_indexed =
       ap (λ (o : Option Base). index_in o)
-      (sym (ap (λ (x : List ℕ). base_in l.addresses x) r.named) ∙ h.table.found i (global.Function r.function) r.there
+      (sym (ap (λ (s : Symbol). base_in l.addresses s) r.named) ∙ h.table.found i (global.Function r.function) there
       ∙ ap (λ (k : Kind). base_of i k 0) (kind_defined (number_at 0 gs i) r.function r.defined))
 
   pub root_integers : integers_of (slice_get l.code.entities.items i) ≡ Some types
   root_integers =
-      let e = zip_beside IsEntityFor gs l.code.entities.items i (global.Function r.function) h.entities r.there in
+      let e = zip_beside IsEntityFor gs l.code.entities.items i (global.Function r.function) h.entities there in
       let is = kind_known e.0 (number_at 0 gs i) r.function r.defined (e.1.1 (number_at 0 gs i)) in
       ap (λ (o : Option Entity). integers_of o) e.1.0 ∙ integers_all r.function e.0 is ∙ integers_are (regs_of r.function.params) (integers_no r.function.params r.integers) ∙ ap Some r.typed
 
   pub root_begins : CanBegin l.code i (length types)
   root_begins =
-      let o = zip_beside (IsBodyFor l.addresses) gs l.code.functions.items i (global.Function r.function) h.bodies r.there in
-      let f = body_code l r.function r.function.blocks r.defined o.0 o.1.1 in
+      let o = zip_beside (IsBodyFor l.addresses) gs l.code.functions.items i (global.Function r.function) h.bodies there in
+      let f = body_code l r.function (defined_blocks r.function) r.defined o.0 o.1.1 in
       let count = ap (λ (xs : List ℕ). length xs) f.1.1.params ∙ long_locals r.function.params ∙ sym (long_types r.function.params) ∙ ap (λ (xs : List Reg). length xs) r.typed in
       (f.0, (ap (λ (x : Option (Option Function)). function_in x) o.1.0 ∙ f.1.0, count))

@@ -10,14 +10,14 @@ use Rattle.machine_memory.specs.Addresses as symbols
 use Rattle.machine_memory.specs.Addresses.{address_at}
 use Rattle.machine_code.specs.declared.addresses.Addresses.{Addresses}
 
--- what the address of the symbol of a name is based on, where it has one
-abbrev pub base_in : Addresses → List ℕ → Option Base
-base_in t name = symbols.base_in t.bases name
+-- what the address of a symbol is based on, where it has one
+abbrev pub base_in : Addresses → Symbol → Option Base
+base_in t s = symbols.base_in t.bases s
 
--- each of these symbols has the address that it has in the program
+-- each symbol has the address that it has in the program, or poison where it has none
 abbrev pub HasAddresses : List Symbol → Signature → Addresses → Type 0
 HasAddresses names sig t = symbols.HasAddresses names sig t.bases
 
 -- each address is valid in this memory: a function is of the table of symbols, a block is as its handle says
 abbrev pub AreValid : List Symbol → Memory → MeantMemory → Addresses → Type 0
-AreValid names m memory t = (name : List ℕ) (offset : ℕ) → IsValid names m memory (address_at (base_in t name) offset)
+AreValid names m memory t = (s : Symbol) (offset : ℕ) → IsValid names m memory (address_at (base_in t s) offset)

@@ -3,8 +3,6 @@ use Rattle.std.specs.Prelude.{◌≡◌, ℕ, ◌+◌, ◌<◌, ◌^◌, List, [
 use Rattle.std.specs.HashMap as hash
 use Rattle.std.specs.List.{AllZip}
 use Rattle.std.specs.Option.{unwrap_or}
-use Rattle.ir_tree.specs.Items.{end_reads, reads}
-use Rattle.ir_tree.specs.Wholes.{IsKnown as IsListed}
 use Rattle.ir_tree.specs.declared.block.Block.{Block as MeantBlock}
 use Rattle.ir_tree.specs.declared.block.Case.{Case as MeantCase}
 use Rattle.ir_tree.specs.declared.block.Terminator.{Terminator}
@@ -66,8 +64,7 @@ pub record IsCase (blocks : List MeantBlock) (c : MeantCase) (d : Case) : Type 0
 
 -- it leads, whatever the locals, to the positions of the blocks to which the terminator leads; what is known of it before the run is valid
 pub record IsExit (t : Addresses) (blocks : List MeantBlock) (e : Terminator) (x : Exit) : Type 0 where
-  pub means : (names : List Symbol) (sig : Signature) → HasAddresses names sig t → All (λ a. IsListed names a.operand) (end_reads e) →
-      (locals : Locals) → exit_meant names locals x ≡ at_positions blocks (exit_of (value_of sig locals) e)
+  pub means : (names : List Symbol) (sig : Signature) → HasAddresses names sig t → (locals : Locals) → exit_meant names locals x ≡ at_positions blocks (exit_of (value_of sig locals) e)
   pub known : (names : List Symbol) (m : Memory) (memory : MeantMemory) → AreValid names m memory t → IsExitKnown names m memory x
 
 -- ---- blocks and functions
@@ -98,9 +95,3 @@ IsSoundBlock b = All (λ l. IsSoundInstr l.instr) b.lines
 
 abbrev pub HasSoundInstrs : MeantFunction → Type 0
 HasSoundInstrs f = All IsSoundBlock f.blocks
-
--- the symbols that a block reads are among these
-pub record IsListedBlock (names : List Symbol) (b : MeantBlock) : Type 0 where
-  pub phis : All (λ p. All (λ e. IsListed names e.value) p.incoming) b.phis
-  pub lines : All (λ l. All (λ a. IsListed names a.operand) (reads l.instr)) b.lines
-  pub end : All (λ a. IsListed names a.operand) (end_reads b.end)

@@ -1,4 +1,4 @@
--- What lowering makes of a module.
+-- What lowering makes of global values.
 use Rattle.std.specs.Prelude.{List}
 use Rattle.std.specs.List.{AllZip}
 use Rattle.ir_tree.specs.Wholes.{symbols}

@@ -8,6 +8,7 @@ use Rattle.ir_meaning.specs.Frame.{AHost, Kind, Missing}
 use Rattle.ir_calls.specs.Calls.{IsKind, host_meant}
 use Rattle.ir_calls.specs.declared.call.Entity.{Entity}
 use Rattle.ir_calls.specs.declared.host.Host.{Host}
+use Rattle.ir_program.specs.Programs.{defined_blocks}
 use Rattle.machine_steps.specs.declared.code.Function.{Function as CodeFunction}
 use Rattle.machine_memory.specs.Tables.{kind_at}
 use Rattle.machine_code.specs.Blocks.{HasSoundInstrs, IsFunctionFor}
@@ -33,7 +34,7 @@ IsBodyOf t f (b ∷ bs) (Some g) = IsFunctionFor t f g
 -- the code of a function that is defined
 abbrev pub IsBodyFor : Addresses → GlobalValue → Option CodeFunction → Type 0
 IsBodyFor t (global.Variable v) o = o ≡ None
-IsBodyFor t (global.Function f) o = IsBodyOf t f f.blocks o
+IsBodyFor t (global.Function f) o = IsBodyOf t f (defined_blocks f) o
 
 -- each instruction is one of a sound function
 abbrev pub IsSoundGlobal : GlobalValue → Type 0

@@ -10,14 +10,14 @@ use Rattle.ir_machine.specs.declared.scalar.Base.{Base}
 use Rattle.ir_machine.specs.declared.scalar.Base.TheVariants.{Block, Function, Null}
 use Rattle.ir_calls.specs.declared.call.Entity.{Entity}
 use Rattle.ir_calls.specs.declared.call.Entity.TheVariants as entity
-use Rattle.ir_program.specs.Programs.{regs_of}
+use Rattle.ir_program.specs.Programs.{defined_blocks, regs_of, shared}
 
--- the function at an index goes by this name, is defined, and takes integers of these types
+-- the function at an index goes by this name, which modules share, is defined, and takes integers of these types
 pub record IsRoot (gs : List GlobalValue) (name : List ℕ) (i : ℕ) (types : List Reg) : Type 0 where
   pub function : MeantFunction
   pub there : slice_get gs i ≡ Some (global.Function function)
-  pub named : function.symbol.name ≡ name
-  pub defined : 0 < length function.blocks
+  pub named : function.symbol ≡ shared name
+  pub defined : 0 < length (defined_blocks function)
   pub integers : All (λ p. IsInteger p.reg) function.params
   pub typed : regs_of function.params ≡ types
 

@@ -1,6 +1,5 @@
 -- Operands and the sources that stand for them, where symbols have these addresses.
 use Rattle.std.specs.Prelude.{◌≡◌, List}
-use Rattle.ir_tree.specs.Wholes.{IsKnown as IsListed}
 use Rattle.ir_tree.specs.declared.operand.Argument.{Argument}
 use Rattle.ir_tree.specs.declared.operand.Operand.{Operand}
 use Rattle.ir_tree.specs.declared.operand.Symbol.{Symbol}
@@ -15,7 +14,7 @@ use Rattle.machine_code.specs.declared.addresses.Addresses.{Addresses}
 
 -- whatever the locals, the source has the value of the operand; what is known of it before the run is valid
 pub record StandsFor (t : Addresses) (o : Operand) (s : Source) : Type 0 where
-  pub means : (names : List Symbol) (sig : Signature) → HasAddresses names sig t → IsListed names o → (locals : Locals) → source_meant names locals s ≡ value_of sig locals o
+  pub means : (names : List Symbol) (sig : Signature) → HasAddresses names sig t → (locals : Locals) → source_meant names locals s ≡ value_of sig locals o
   pub known : (names : List Symbol) (m : Memory) (memory : MeantMemory) → AreValid names m memory t → IsKnown names m memory s
 
 -- the same with a type

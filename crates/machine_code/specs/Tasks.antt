@@ -1,8 +1,6 @@
 -- Instructions and the tasks that stand for them, where symbols have these addresses.
 use Rattle.std.specs.Prelude.{◌≡◌, ◌≤◌, List, All}
-use Rattle.ir_tree.specs.Items.{reads}
 use Rattle.ir_tree.specs.Layout.{IsLaidOut}
-use Rattle.ir_tree.specs.Wholes.{IsKnown as IsListed}
 use Rattle.ir_tree.specs.declared.instr.Instr.{Instr}
 use Rattle.ir_tree.specs.declared.instr.Instr.TheVariants as kind
 use Rattle.ir_tree.specs.declared.operand.Symbol.{Symbol}
@@ -30,7 +28,6 @@ IsSoundInstr _ = Unit {0}
 
 -- the task is the instruction's whatever the locals, what is known of it before the run is valid, and it can run
 pub record IsTask (t : Addresses) (i : Instr) (task : Task) : Type 0 where
-  pub means : (names : List Symbol) (sig : Signature) → HasAddresses names sig t → All (λ a. IsListed names a.operand) (reads i) →
-      (locals : Locals) → task_meant names locals task ≡ evaluate (value_of sig locals) i
+  pub means : (names : List Symbol) (sig : Signature) → HasAddresses names sig t → (locals : Locals) → task_meant names locals task ≡ evaluate (value_of sig locals) i
   pub known : (names : List Symbol) (m : Memory) (memory : MeantMemory) → AreValid names m memory t → IsTaskKnown names m memory task
   pub can : CanRun task

@@ -1,12 +1,14 @@
-//! The code of a module.
-ghost use Rattle.std.specs.Prelude.{◌≡◌, All, IfOk};
+//! The code of global values.
+ghost use Rattle.std.specs.Prelude.{All, IfOk};
 ghost use Rattle.std.specs.List.{AllZip};
+ghost use Rattle.ir_program.specs.Runnable.{AreRunnable};
 ghost use Rattle.machine_code.specs.Lowered.{IsLowered, IsMadeOf};
 ghost use Rattle.machine_code.specs.Programs.{IsBodyFor, IsSoundGlobal};
 
 use crate::addresses::Addresses;
 use crate::symbol::entities;
-use ir_tree::{GlobalValue, Verified};
+use ir_program::defined_blocks;
+use ir_tree::GlobalValue;
 use machine_memory::Bases;
 use machine_steps::{Code, Function};
 use std::alloc::{AllocError, Global};
@@ -24,7 +26,7 @@ impl<'a> Addresses<'a> {
         match global {
             GlobalValue::Variable(_) => Ok(None),
             GlobalValue::Function(function) => {
-                let count = function.blocks.len();
+                let count = defined_blocks(function).len();
                 if count == 0 {
                     Ok(None)
                 } else {
@@ -53,30 +55,31 @@ impl<'a> Addresses<'a> {
     }
 }
 
-/// A module as the machine runs it: its code, and what the addresses of its symbols are based on.
+/// Global values as the machine runs them: their code, and what the addresses of their symbols are based on.
 #[derive(Drop)]
 pub struct Lowered<'a> {
     pub code: Code<'a>,
     pub addresses: Addresses<'a>,
 }
 
-/// The code of a sound module. A symbol is known by the index of its global value, a register is the local of its number.
+/// The code of global values that can be run. A symbol is known by the index of its global value, a register is the local of its number.
 ///
-/// One pass over the module: time and memory are linear in it. Beside want of memory, `2^32` global values, or blocks in one
-/// function, and functions of `2^64` instructions are refused as too many for it.
-pub fn lower<'a>(alloc: Global, verified: &'a Verified) -> Result<Lowered<'a>, AllocError>
-    ensures code { IfOk result (λ l. IsLowered verified.entry.now.globals l.code) }
-    ensures made { IfOk result (λ l. IsMadeOf verified.entry.now.globals l) }
+/// One pass over the global values: time and memory are linear in them. Beside want of memory, `2^32` global values, or blocks in
+/// one function, and functions of `2^64` instructions are refused as too many for it.
+pub fn lower<'a>(alloc: Global, globals: &'a [GlobalValue]) -> Result<Lowered<'a>, AllocError>
+    requires { AreRunnable globals.now }
+    ensures code { IfOk result (λ l. IsLowered globals.entry.now l.code) }
+    ensures made { IfOk result (λ l. IsMadeOf globals.entry.now l) }
 {
-    let tree = verified.module();
-    let globals = tree.globals.as_slice();
     let bases = Bases::of(alloc, globals)?;
     let addresses = Addresses { bases };
     let entities = entities(alloc, globals)?;
     let functions = addresses.bodies(alloc, globals)?;
-    let code = Code {
-        entities,
-        functions,
-    };
-    Ok(Lowered { code, addresses })
+    Ok(Lowered {
+        code: Code {
+            entities,
+            functions,
+        },
+        addresses,
+    })
 }

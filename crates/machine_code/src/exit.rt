@@ -67,15 +67,16 @@ impl<'a> Addresses<'a> {
                 })
             }
             Terminator::Switch {
+                width,
                 value,
                 default,
                 cases,
-                ..
             } => {
                 let value = self.source(value);
                 let default = positions.at(*default);
                 let cases = cases_at(alloc, positions, cases.as_slice())?;
                 Ok(Exit::Switch {
+                    width: *width,
                     value,
                     default,
                     cases,

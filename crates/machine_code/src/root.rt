@@ -3,6 +3,7 @@ ghost use Rattle.std.specs.Prelude.{◌≡◌, ℕ, List, None, IfSome, length, 
 ghost use Rattle.ir_tree.specs.declared.module.GlobalValue.{GlobalValue};
 ghost use Rattle.ir_tree.specs.declared.operand.Reg.{Reg};
 ghost use Rattle.machine_steps.specs.Steps.{CanBegin};
+ghost use Rattle.ir_program.specs.Programs.{shared};
 ghost use Rattle.machine_code.specs.Addresses.{base_in};
 ghost use Rattle.machine_code.specs.Lowered.{IsMadeOf};
 ghost use Rattle.machine_code.specs.Roots.{IsRoot, are_integers, index_in, integers_of, only_integers};
@@ -11,6 +12,7 @@ use crate::code::Lowered;
 use ir_calls::Entity;
 use ir_machine::Base;
 use ir_tree::Reg;
+use machine_memory::Key;
 
 /// A function in which a run can begin: the index of its symbol, and the types of its parameters, which are integers.
 #[derive(Clone, Copy)]
@@ -44,13 +46,13 @@ fn only_integers(types: &[Reg]) -> Option<&[Reg]>
 }
 
 impl<'a> Lowered<'a> {
-    /// The index of the function on which the address of a name's symbol is based.
+    /// The index of the function on which the address of the symbol of a name is based that modules share.
     fn index_of(&self, name: &[u8]) -> Option<u32>
-        ensures { result ≡ index_in (base_in self.now.addresses name.now) }
+        ensures { result ≡ index_in (base_in self.now.addresses (shared name.now)) }
     {
-        let base = self.addresses.bases.by_name.get(&name)?;
+        let base = self.addresses.bases.get(Key { home: None, name })?;
         match base {
-            Base::Function(index) => Some(*index),
+            Base::Function(index) => Some(index),
             Base::Null | Base::Block(_) => None,
         }
     }
@@ -68,7 +70,7 @@ impl<'a> Lowered<'a> {
         }
     }
 
-    /// The function of a name in which a run can begin: one that is defined, and whose parameters are integers.
+    /// The function of a name that modules share in which a run can begin: one that is defined, and whose parameters are integers.
     pub fn root(&self, name: &[u8]) -> Option<Root<'_>>
         ensures begins { IfSome result (λ r. CanBegin self.now.code r.index (length r.params.now)) }
         ensures some { IfSome result (λ r. (gs : List GlobalValue) → IsMadeOf gs self.now → IsRoot gs name.now r.index r.params.now) }

@@ -6,6 +6,7 @@ ghost use Rattle.ir_program.specs.Programs.{regs_of, undefined_kind};
 ghost use Rattle.machine_code.specs.Programs.{IsEntityFor, host_kind};
 
 use ir_calls::{Entity, Host};
+use ir_program::{defined_blocks, defined_init};
 use ir_tree::{GlobalValue, Param, Reg, Symbol};
 use std::alloc::{AllocError, Global};
 
@@ -54,7 +55,7 @@ fn entity(alloc: Global, global: &GlobalValue) -> Result<Entity, AllocError>
 {
     match global {
         GlobalValue::Function(function) => {
-            let count = function.blocks.len();
+            let count = defined_blocks(function).len();
             if count == 0 {
                 Ok(undefined_entity(&function.symbol))
             } else {
@@ -65,7 +66,7 @@ fn entity(alloc: Global, global: &GlobalValue) -> Result<Entity, AllocError>
                 })
             }
         }
-        GlobalValue::Variable(variable) => match &variable.init {
+        GlobalValue::Variable(variable) => match defined_init(variable) {
             Some(_) => Ok(Entity::Other),
             None => Ok(undefined_entity(&variable.symbol)),
         },

@@ -1,19 +1,18 @@
 -- The memory of all variables is the one that the program begins with.
-use Rattle.std.proofs.Common.{◌≡◌, ◌⊎◌, inl, inr, ℕ, zero, suc, ◌+◌, ◌<◌, ◌≤◌, true, List, [], ◌∷◌, length, map, slice_get, Option, Some, None, refl, sym, ap, subst, ◌∙◌, arith}
+use Rattle.std.proofs.Common.{◌≡◌, inl, inr, ℕ, zero, suc, ◌+◌, ◌<◌, ◌≤◌, List, [], ◌∷◌, length, map, slice_get, Option, Some, None, refl, sym, ap, subst, ◌∙◌, arith}
 use Rattle.std.proofs.lemmas.List.{length-map, take_all}
 use Rattle.std.proofs.lemmas.Option.{slice_get-map, slice_get_within}
 use Rattle.std.specs.Prelude.{All, option_map}
+use Rattle.ir_tree.specs.Formed.{Distinct}
 use Rattle.ir_tree.specs.Initials.{Initial}
-use Rattle.ir_tree.specs.Layout.{size}
-use Rattle.ir_tree.specs.Wholes.{GlobalFormed, GlobalSound, IsVerified, Whole, symbols}
+use Rattle.ir_tree.specs.Wholes.{symbols}
 use Rattle.ir_tree.specs.declared.function.Variable.{Variable}
 use Rattle.ir_tree.specs.declared.module.GlobalValue.{GlobalValue}
 use Rattle.ir_tree.specs.declared.module.GlobalValue.TheVariants as global
-use Rattle.ir_tree.specs.declared.module.Module.{Module}
 use Rattle.ir_tree.specs.declared.operand.Operand.{Operand}
 use Rattle.ir_tree.specs.declared.operand.Symbol.{Symbol}
-use Rattle.ir_meaning.specs.Frame.{AVariable, value_of}
-use Rattle.ir_meaning.specs.Memory.{Memory as MeantMemory, MemoryBlock, size_or_zero}
+use Rattle.ir_meaning.specs.Frame.{value_of}
+use Rattle.ir_meaning.specs.Memory.{Memory as MeantMemory, size_or_zero}
 use Rattle.ir_meaning.specs.declared.value.Value.{Value}
 use Rattle.ir_machine.specs.Blocks.{block_meant}
 use Rattle.ir_machine.specs.Memories.{InMemory, IsBase, IsHandle, Stands, block_at}
@@ -21,19 +20,18 @@ use Rattle.ir_machine.specs.Names.{IsNamed}
 use Rattle.ir_machine.specs.declared.block.Block.{Block}
 use Rattle.ir_machine.specs.declared.memory.Memory.{Memory}
 use Rattle.ir_machine.specs.declared.scalar.Base.{Base}
-use Rattle.ir_machine.specs.declared.scalar.Base.TheVariants.{Null}
 use Rattle.ir_machine.specs.declared.scalar.Pointer.{Pointer}
-use Rattle.ir_frames.specs.Locals.{IsMemory}
 use Rattle.ir_program.specs.Programs.{Body, Definition, Storage, behind, block_of, defined, opening_from, program_of, signature_of, storage_in, storage_of}
 use Rattle.ir_program.proofs.Numbered.{storage_same}
-use Rattle.machine_memory.specs.Addresses.{HoldsFrom, IsBaseIn, base_in, value_in}
+use Rattle.ir_program.specs.Runnable.{AreRunnable, IsRunnableGlobal}
+use Rattle.machine_memory.specs.Addresses.{IsBaseIn, value_in}
 use Rattle.machine_memory.specs.Openings.{HoldsVariables, IsGlobalSound, IsOpening}
-use Rattle.machine_memory.specs.Tables.{IsTable, bytes_of, kind_at, number_at}
+use Rattle.machine_memory.specs.Tables.{IsGlobalLaidOut, IsTable, bytes_of, number_at}
 use Rattle.machine_memory.specs.declared.bases.Bases.{Bases}
-use Rattle.machine_memory.proofs.Addressing.{base_valid}
+use Rattle.machine_memory.proofs.Addressing.{base_valid, has_addresses}
 use Rattle.machine_memory.proofs.Agreeing.{opening_is}
 use Rattle.machine_memory.proofs.Lists.{there}
-use Rattle.machine_memory.proofs.Storing.{AreAdded, IsVariable, storage_is, variable_is}
+use Rattle.machine_memory.proofs.Storing.{AreAdded, IsVariable, variable_is}
 
 -- ---- the block of a variable
 
@@ -81,26 +79,29 @@ block_at_number value (x ∷ gs) n (suc i) g k v init e d = by (defined n x) ref
 
 -- ---- memory
 
-module _ (gs : List GlobalValue) (w : Whole gs) (t : Bases) (table : IsTable gs t) (k : ℕ) (past : length gs ≤ k) (m : Memory) (h : AreAdded t gs k m.blocks.items) (made : m.made ≡ length m.blocks.items) where
+module _ (gs : List GlobalValue) (once : Distinct (symbols gs)) (t : Bases) (table : IsTable gs t) (k : ℕ) (past : length gs ≤ k) (m : Memory) (h : AreAdded t gs k m.blocks.items) (made : m.made ≡ length m.blocks.items) where
+  abbrev names : List Symbol
+  names = symbols gs
+
   abbrev memory : MeantMemory
   memory = (program_of gs).opening
 
-  is : map (λ (b : Block). block_meant (symbols gs) b) m.blocks.items ≡ memory
-  is = h.means (symbols gs) ∙ ap (λ (xs : List GlobalValue). opening_from (value_in t (symbols gs)) xs) (take_all k gs past) ∙ opening_is gs w t table
+  is : map (λ (b : Block). block_meant names b) m.blocks.items ≡ memory
+  is = h.means names ∙ ap (λ (xs : List GlobalValue). opening_from (value_in t names) xs) (take_all k gs past) ∙ opening_is names (signature_of gs) t (has_addresses gs once t table) gs
 
   long : length m.blocks.items ≡ length memory
-  long = sym (length-map m.blocks.items (λ (b : Block). block_meant (symbols gs) b)) ∙ ap length is
+  long = sym (length-map m.blocks.items (λ (b : Block). block_meant names b)) ∙ ap length is
 
-  got : (q : ℕ) → slice_get memory q ≡ option_map (λ (b : Block). block_meant (symbols gs) b) (block_at m q)
-  got q = ap (λ (x : MeantMemory). slice_get x q) (sym is) ∙ slice_get-map (λ (b : Block). block_meant (symbols gs) b) m.blocks.items q
+  got : (q : ℕ) → slice_get memory q ≡ option_map (λ (b : Block). block_meant names b) (block_at m q)
+  got q = ap (λ (x : MeantMemory). slice_get x q) (sym is) ∙ slice_get-map (λ (b : Block). block_meant names b) m.blocks.items q
 
-  stands : Stands (symbols gs) m memory
+  stands : Stands names m memory
   stands = record {
     made = made ∙ long;
     held = λ q b e.
         ap (λ (n : ℕ). slice_get memory n) (h.numbers q b e)
         ∙ got q
-        ∙ ap (λ (o : Option Block). option_map (λ (c : Block). block_meant (symbols gs) c) o) e;
+        ∙ ap (λ (o : Option Block). option_map (λ (c : Block). block_meant names c) o) e;
     rising = λ q r b c l e f. omega (arith, l, h.numbers q b e, h.numbers r c f);
   }
 
@@ -121,20 +122,27 @@ module _ (gs : List GlobalValue) (w : Whole gs) (t : Bases) (table : IsTable gs 
   variables : HoldsVariables gs m memory
   variables i n g e kind = let d = variable_is (number_at 0 gs i) g n kind in handle i n g e d.0 d.1.0 d.1.1
 
-  sound : (p : Pointer) → InMemory m p → IsBase m memory p.base × IsNamed (symbols gs) p.base
+  sound : (p : Pointer) → InMemory m p → IsBase m memory p.base × IsNamed names p.base
   sound p (q, (b, (e, held))) = by (h.holds q b e p held) where
-    by : IsBaseIn t p.base → IsBase m memory p.base × IsNamed (symbols gs) p.base
-    by (inl none) = subst (λ (x : Base). IsBase m memory x × IsNamed (symbols gs) x) (sym none) (tt, tt)
-    by (inr (name, f)) = base_valid gs m memory variables name p.base (table.only name p.base f)
+    by : IsBaseIn t p.base → IsBase m memory p.base × IsNamed names p.base
+    by (inl none) = subst (λ (x : Base). IsBase m memory x × IsNamed names x) (sym none) (tt, tt)
+    by (inr (s, f)) = base_valid gs m memory variables s p.base (table.only s p.base f)
 
   pub is_opening : IsOpening gs m
   is_opening = record { memory = record { stands = stands; sound = sound }; variables = variables }
 
 -- ---- what is sound
 
-sound_global : (g : GlobalValue) → GlobalFormed g → GlobalSound g → IsGlobalSound g
-sound_global (global.Variable v) f s = (f.shape.sized, s)
-sound_global (global.Function b) f s = tt
+sound_global : (g : GlobalValue) → IsRunnableGlobal g → IsGlobalSound g
+sound_global (global.Variable v) h = h
+sound_global (global.Function b) h = tt
 
-pub sound_globals : (m : Module) → IsVerified m → All IsGlobalSound m.globals
-sound_globals m v = λ i d l. sound_global _ (v.whole.formed i d l) (v.sound i d l)
+pub sound_globals : (gs : List GlobalValue) → AreRunnable gs → All IsGlobalSound gs
+sound_globals gs a = λ i d l. sound_global _ (a.each i d l)
+
+laid_global : (g : GlobalValue) → IsRunnableGlobal g → IsGlobalLaidOut g
+laid_global (global.Variable v) h = h.0
+laid_global (global.Function b) h = tt
+
+pub laid_globals : (gs : List GlobalValue) → AreRunnable gs → All IsGlobalLaidOut gs
+laid_globals gs a = λ i d l. laid_global _ (a.each i d l)

@@ -1,5 +1,5 @@
 -- The flat form of an initialiser is laid out as the tree is, and there is place for each part.
-use Rattle.std.proofs.Common.{◌≡◌, ℕ, ◌+◌, ◌-◌, ◌≤◌, ◌^◌, Bool, true, false, List, [], ◌∷◌, ◌++◌, refl, sym, ap, subst, ◌∙◌, append_assoc, arith}
+use Rattle.std.proofs.Common.{◌≡◌, ℕ, ◌+◌, ◌-◌, ◌≤◌, ◌^◌, Bool, true, false, List, ◌∷◌, ◌++◌, refl, sym, ap, subst, ◌∙◌, append_assoc, arith}
 use Rattle.ir_tree.specs.Fits.{AllFit, AllOf, Fits, count, shapes}
 use Rattle.ir_tree.specs.Forms.{Form, Forms, array, structure}
 use Rattle.ir_tree.specs.Initials.{Initial, Initials, plain, zeros, bytes, elements, members, no_initials, initial, head_of, parts_of, all_parts}
@@ -11,7 +11,7 @@ use Rattle.ir_tree.proofs.Layouts.{align_least, ends_least, rounded_least, size_
 use Rattle.ir_meaning.specs.declared.value.Byte.{Byte}
 use Rattle.ir_meaning.specs.declared.value.Value.{Value}
 use Rattle.ir_program.specs.Constants.{element_bytes, initial_bytes, member_bytes, zero_bytes}
-use Rattle.machine_memory.specs.Images.{Admits, TakesAll, head_bytes, opened_by, padding, part_bytes, parts_bytes}
+use Rattle.machine_memory.specs.Images.{Admits, TakesAll, head_bytes, opened_by, parts_bytes}
 use Rattle.machine_memory.specs.declared.open.Open.{Open}
 use Rattle.machine_memory.specs.declared.open.Open.TheVariants.{Elements, Members}
 

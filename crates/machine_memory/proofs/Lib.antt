@@ -1,10 +1,11 @@
 pub mod Lists
 mod Telling
+mod Keys
 pub mod Naming
 pub mod Tabling
-pub mod Addressing
 mod Laying
 mod Writing
-mod Agreeing
 mod Storing
-mod Beginning
+pub mod Addressing
+mod Agreeing
+pub mod Beginning

@@ -1,19 +1,18 @@
--- The symbols of a module, and what each is in its program.
-use Rattle.std.proofs.Common.{◌≡◌, ◌≢◌, ℕ, zero, suc, ◌<◌, Bool, true, false, if◌then◌else◌, List, [], ◌∷◌, map, length, get_or, slice_get, Option, Some, None, refl, sym, ap, subst, ◌∙◌, arith}
-use Rattle.std.specs.Prelude.{All, Contains}
+-- The symbols of a program, and what each is in it.
+use Rattle.std.proofs.Common.{◌≡◌, ◌≢◌, ◌⊎◌, inl, inr, ℕ, zero, suc, ◌<◌, Bool, true, false, ◌||◌, if◌then◌else◌, List, [], ◌∷◌, length, slice_get, Option, Some, None, refl, sym, ap, ◌∙◌, arith}
+use Rattle.std.proofs.lemmas.Map.Keys.{any_passes_from_place}
 use Rattle.ir_tree.specs.Formed.{Distinct}
-use Rattle.ir_tree.specs.Wholes.{Whole, global_symbol, symbols}
-use Rattle.ir_tree.specs.declared.function.Function.{Function}
+use Rattle.ir_tree.specs.Wholes.{global_symbol, symbols}
 use Rattle.ir_tree.specs.declared.module.GlobalValue.{GlobalValue}
 use Rattle.ir_tree.specs.declared.module.GlobalValue.TheVariants as global
 use Rattle.ir_tree.specs.declared.operand.Symbol.{Symbol}
-use Rattle.ir_meaning.specs.Symbols.{symbol_eq}
-use Rattle.ir_better.proofs.Names.Moved.{symbol_same, symbol_true}
+use Rattle.ir_tree.specs.Symbols.{symbol_eq}
+use Rattle.ir_tree.proofs.Symbols.{symbol_same, symbol_true}
 use Rattle.ir_machine.specs.Meant.{symbol_at, symbol_or_none}
 use Rattle.ir_machine.specs.Names.{AreDistinct}
-use Rattle.ir_program.specs.Programs.{Definition, behind, code_of, defined, definition_from, definition_of, kind_of, or_else, program_of, signature_of, symbol_of}
-use Rattle.machine_memory.specs.Tables.{HaveDistinctNames, kind_at, number_at}
-use Rattle.machine_memory.proofs.Lists.{all_got, read_got, there}
+use Rattle.ir_program.specs.Programs.{Definition, behind, code_of, defined, definition_from, definition_of, is_declared, kind_of, or_else, program_of, signature_of, symbol_of}
+use Rattle.machine_memory.specs.Tables.{kind_at, number_at}
+use Rattle.machine_memory.proofs.Lists.{there}
 
 pub same_symbol : (g : GlobalValue) → global_symbol g ≡ symbol_of g
 same_symbol (global.Variable v) = refl
@@ -35,24 +34,36 @@ symbol_is gs i g e = ap (λ (o : Option Symbol). symbol_or_none o) (got_symbol g
 pub global_there : (gs : List GlobalValue) (i : ℕ) → i < length (symbols gs) → (g : GlobalValue) × (slice_get gs i ≡ Some g)
 global_there gs i l = let s = there (symbols gs) i l in let g = symbol_got gs i s.0 s.1 in (g.0, g.1.0)
 
-pub listed_there : (gs : List GlobalValue) (s : Symbol) → Contains (symbols gs) s → (i : ℕ) × ((g : GlobalValue) × ((slice_get gs i ≡ Some g) × (symbol_of g ≡ s)))
-listed_there gs s c = (c.0, symbol_got gs c.0 s (read_got (symbols gs) c.0 s c.1 (sym c.2)))
+-- ---- where a symbol stands
+
+abbrev pub Stands : List GlobalValue → Symbol → Type 0
+Stands gs s = (i : ℕ) × ((g : GlobalValue) × ((slice_get gs i ≡ Some g) × (symbol_of g ≡ s)))
+
+abbrev pub StandsNot : List GlobalValue → Symbol → Type 0
+StandsNot gs s = (k : ℕ) (h : GlobalValue) → slice_get gs k ≡ Some h → symbol_eq (symbol_of h) s ≡ false
+
+not_further : (g : GlobalValue) (gs : List GlobalValue) (s : Symbol) → symbol_eq (symbol_of g) s ≡ false → StandsNot gs s → StandsNot (g ∷ gs) s
+not_further g gs s e none zero h f = let same : g ≡ h = cc f in ap (λ (x : GlobalValue). symbol_eq (symbol_of x) s) (sym same) ∙ e
+not_further g gs s e none (suc k) h f = none k h f
+
+pub stands : (gs : List GlobalValue) (s : Symbol) → Stands gs s ⊎ StandsNot gs s
+stands [] s = inr (λ k h e. absurd (cc e))
+stands (g ∷ gs) s = by (symbol_eq (symbol_of g) s) refl (stands gs s) where
+  by : (b : Bool) → symbol_eq (symbol_of g) s ≡ b → Stands gs s ⊎ StandsNot gs s → Stands (g ∷ gs) s ⊎ StandsNot (g ∷ gs) s
+  by true e rest = inl (0, (g, (refl, symbol_true (symbol_of g) s e)))
+  by false e (inl (i, x)) = inl (suc i, x)
+  by false e (inr none) = inr (not_further g gs s e none)
 
 -- ---- each symbol stands once
 
-same_record : (s u : Symbol) → s.home ≡ u.home → s.name ≡ u.name → s ≡ u
+pub same_record : (s u : Symbol) → s.home ≡ u.home → s.name ≡ u.name → s ≡ u
 same_record s u e f = ap (λ (h : Option ℕ). record { home = h; name = s.name }) e ∙ ap (λ (n : List ℕ). record { home = u.home; name = n }) f
 
-pub distinct_names : (gs : List GlobalValue) → Whole gs → HaveDistinctNames gs
-distinct_names gs w i j g h e f n = w.once i j (symbol_of g) (got_symbol gs i g e) (got_symbol gs j h f ∙ ap Some (sym same)) where
-  homeless : (k : ℕ) (x : GlobalValue) → slice_get gs k ≡ Some x → (symbol_of x).home ≡ None
-  homeless k x z = all_got (λ (s : Symbol). s.home ≡ None) (symbols gs) k (symbol_of x) (got_symbol gs k x z) w.homeless
+pub one_place : (gs : List GlobalValue) → Distinct (symbols gs) → (i j : ℕ) (g h : GlobalValue) → slice_get gs i ≡ Some g → slice_get gs j ≡ Some h → symbol_of g ≡ symbol_of h → i ≡ j
+one_place gs once i j g h e f same = once i j (symbol_of g) (got_symbol gs i g e) (got_symbol gs j h f ∙ ap Some (sym same))
 
-  same : symbol_of g ≡ symbol_of h
-  same = same_record (symbol_of g) (symbol_of h) (homeless i g e ∙ sym (homeless j h f)) n
-
-pub distinct_symbols : (gs : List GlobalValue) → Whole gs → AreDistinct (symbols gs)
-distinct_symbols gs w i j l m ne = by (symbol_eq (symbol_at (symbols gs) i) (symbol_at (symbols gs) j)) refl where
+pub distinct_symbols : (gs : List GlobalValue) → Distinct (symbols gs) → AreDistinct (symbols gs)
+distinct_symbols gs once i j l m ne = by (symbol_eq (symbol_at (symbols gs) i) (symbol_at (symbols gs) j)) refl where
   at : (k : ℕ) → k < length (symbols gs) → slice_get (symbols gs) k ≡ Some (symbol_at (symbols gs) k)
   at k b = let s = there (symbols gs) k b in s.1 ∙ ap Some (sym (ap (λ (o : Option Symbol). symbol_or_none o) s.1))
 
@@ -60,15 +71,15 @@ distinct_symbols gs w i j l m ne = by (symbol_eq (symbol_at (symbols gs) i) (sym
   by false e = e
   by true e =
       let same = symbol_true (symbol_at (symbols gs) i) (symbol_at (symbols gs) j) e in
-      absurd (ne (w.once i j (symbol_at (symbols gs) i) (at i l) (at j m ∙ ap Some (sym same))))
+      absurd (ne (once i j (symbol_at (symbols gs) i) (at i l) (at j m ∙ ap Some (sym same))))
 
-apart : (gs : List GlobalValue) → Whole gs → (i : ℕ) (g : GlobalValue) → slice_get gs i ≡ Some g → (k : ℕ) (h : GlobalValue) → slice_get gs k ≡ Some h → k ≢ i → symbol_eq (symbol_of h) (symbol_of g) ≡ false
-apart gs w i g e k h f ne = by (symbol_eq (symbol_of h) (symbol_of g)) refl where
+apart : (gs : List GlobalValue) → Distinct (symbols gs) → (i : ℕ) (g : GlobalValue) → slice_get gs i ≡ Some g → (k : ℕ) (h : GlobalValue) → slice_get gs k ≡ Some h → k ≢ i → symbol_eq (symbol_of h) (symbol_of g) ≡ false
+apart gs once i g e k h f ne = by (symbol_eq (symbol_of h) (symbol_of g)) refl where
   by : (v : Bool) → symbol_eq (symbol_of h) (symbol_of g) ≡ v → symbol_eq (symbol_of h) (symbol_of g) ≡ false
   by false z = z
   by true z =
       let same = symbol_true (symbol_of h) (symbol_of g) z in
-      absurd (ne (w.once k i (symbol_of h) (got_symbol gs k h f) (got_symbol gs i g e ∙ ap Some (sym same))))
+      absurd (ne (once k i (symbol_of h) (got_symbol gs k h f) (got_symbol gs i g e ∙ ap Some (sym same))))
 
 -- ---- definitions
 
@@ -76,7 +87,7 @@ or_none : (o : Option Definition) → or_else o None ≡ o
 or_none None = refl
 or_none (Some d) = refl
 
-none_from : (n : ℕ) (gs : List GlobalValue) (s : Symbol) → ((k : ℕ) (h : GlobalValue) → slice_get gs k ≡ Some h → symbol_eq (symbol_of h) s ≡ false) → definition_from n gs s ≡ None
+pub none_from : (n : ℕ) (gs : List GlobalValue) (s : Symbol) → StandsNot gs s → definition_from n gs s ≡ None
 none_from n [] s a = refl
 none_from n (g ∷ gs) s a =
     ap (λ (b : Bool). or_else (if b then defined n g else None) (definition_from (behind n (defined n g)) gs s)) (a 0 g refl)
@@ -94,11 +105,21 @@ found_from n (x ∷ gs) s (suc i) g e f a =
     ap (λ (b : Bool). or_else (if b then defined n x else None) (definition_from (behind n (defined n x)) gs s)) (a 0 x refl (λ q. absurd (omega (arith, q))))
     ∙ found_from (behind n (defined n x)) gs s i g e f (λ k h z ne. a (suc k) h z (λ q. ne (omega (arith, q))))
 
-pub definition_is : (gs : List GlobalValue) → Whole gs → (i : ℕ) (g : GlobalValue) → slice_get gs i ≡ Some g → definition_of gs (symbol_of g) ≡ defined (number_at 0 gs i) g
-definition_is gs w i g e = found_from 0 gs (symbol_of g) i g e refl (apart gs w i g e)
+pub definition_is : (gs : List GlobalValue) → Distinct (symbols gs) → (i : ℕ) (g : GlobalValue) → slice_get gs i ≡ Some g → definition_of gs (symbol_of g) ≡ defined (number_at 0 gs i) g
+definition_is gs once i g e = found_from 0 gs (symbol_of g) i g e refl (apart gs once i g e)
 
-pub kind_is : (gs : List GlobalValue) → Whole gs → (i : ℕ) (g : GlobalValue) → slice_get gs i ≡ Some g → (signature_of gs).kind (symbol_of g) ≡ kind_at (number_at 0 gs i) g
-kind_is gs w i g e = ap (λ (d : Option Definition). kind_of (symbol_of g) d) (definition_is gs w i g e)
+-- a symbol is declared where it stands, and nowhere else
+declared_there : (gs : List GlobalValue) (s : Symbol) (i : ℕ) (g : GlobalValue) → slice_get gs i ≡ Some g → symbol_eq (symbol_of g) s ≡ true → is_declared gs s ≡ true
+declared_there gs s i g e same = any_passes_from_place (λ (x : GlobalValue). symbol_eq (symbol_of x) s) gs i g e same
 
-pub code_is : (gs : List GlobalValue) → Whole gs → (i : ℕ) (g : GlobalValue) → slice_get gs i ≡ Some g → (program_of gs).code (symbol_of g) ≡ code_of (defined (number_at 0 gs i) g)
-code_is gs w i g e = ap (λ (d : Option Definition). code_of d) (definition_is gs w i g e)
+pub undeclared : (gs : List GlobalValue) (s : Symbol) → StandsNot gs s → is_declared gs s ≡ false
+undeclared [] s none = refl
+undeclared (g ∷ gs) s none = ap (λ (b : Bool). b || is_declared gs s) (none 0 g refl) ∙ undeclared gs s (λ k h e. none (suc k) h e)
+
+pub kind_is : (gs : List GlobalValue) → Distinct (symbols gs) → (i : ℕ) (g : GlobalValue) → slice_get gs i ≡ Some g → (signature_of gs).kind (symbol_of g) ≡ kind_at (number_at 0 gs i) g
+kind_is gs once i g e =
+    ap (λ (b : Bool). kind_of b (symbol_of g) (definition_of gs (symbol_of g))) (declared_there gs (symbol_of g) i g e (symbol_same (symbol_of g) (symbol_of g) refl))
+    ∙ ap (λ (d : Option Definition). kind_of true (symbol_of g) d) (definition_is gs once i g e)
+
+pub code_is : (gs : List GlobalValue) → Distinct (symbols gs) → (i : ℕ) (g : GlobalValue) → slice_get gs i ≡ Some g → (program_of gs).code (symbol_of g) ≡ code_of (defined (number_at 0 gs i) g)
+code_is gs once i g e = ap (λ (d : Option Definition). code_of d) (definition_is gs once i g e)

@@ -1,8 +1,6 @@
 -- The blocks of variables in the order of the global values.
-use Rattle.std.proofs.Common.{◌≡◌, ◌⊎◌, inl, inr, ℕ, zero, suc, ◌+◌, Bool, true, false, not, cond, List, [], ◌∷◌, ◌++◌, length, map, slice_get, take, Option, Some, None, refl, sym, ap, subst, ◌∙◌, arith}
+use Rattle.std.proofs.Common.{◌≡◌, ◌⊎◌, inl, inr, ℕ, zero, suc, ◌+◌, true, not, List, [], ◌∷◌, ◌++◌, length, map, slice_get, take, Option, Some, None, refl, sym, ap, subst, ◌∙◌, arith}
 use Rattle.std.proofs.lemmas.List.{append-nil, length-append, map-append}
-use Rattle.std.specs.Prelude.{codes}
-use Rattle.std.specs.Str.{bytes_eq}
 use Rattle.ir_tree.specs.Initials.{Initial}
 use Rattle.ir_tree.specs.Layout.{size}
 use Rattle.ir_tree.specs.declared.block.Block.{Block as MeantBlock}
@@ -12,7 +10,7 @@ use Rattle.ir_tree.specs.declared.module.GlobalValue.{GlobalValue}
 use Rattle.ir_tree.specs.declared.module.GlobalValue.TheVariants as global
 use Rattle.ir_tree.specs.declared.operand.Operand.{Operand}
 use Rattle.ir_tree.specs.declared.operand.Symbol.{Symbol}
-use Rattle.ir_meaning.specs.Frame.{AHost, AVariable, GetChar, Missing, PutChar}
+use Rattle.ir_meaning.specs.Frame.{AVariable}
 use Rattle.ir_meaning.specs.Memory.{Memory as MeantMemory, MemoryBlock}
 use Rattle.ir_meaning.specs.declared.value.Byte.{Byte}
 use Rattle.ir_meaning.specs.declared.value.Value.{Value}
@@ -21,8 +19,8 @@ use Rattle.ir_machine.specs.Bytes.{bytes_len, bytes_meant}
 use Rattle.ir_machine.specs.declared.block.Block.{Block}
 use Rattle.ir_machine.specs.declared.bytes.Bytes.{Bytes}
 use Rattle.ir_program.specs.Constants.{initial_bytes}
-use Rattle.ir_program.specs.Programs.{Body, Definition, Storage, behind, block_of, body_of, defined, kind_of, opening_from, storage_in, storage_of, symbol_of, undefined_kind}
-use Rattle.ir_program.proofs.Numbered.{storage_same}
+use Rattle.ir_program.specs.Programs.{Body, Definition, Storage, behind, body_of, defined, defined_blocks, defined_init, kind_of, opening_from, storage_in, storage_of, symbol_of}
+use Rattle.ir_program.proofs.Numbered.{no_variable, storage_same}
 use Rattle.machine_memory.specs.Addresses.{HoldsFrom, value_in}
 use Rattle.machine_memory.specs.Openings.{IsAdded, IsVariableBlock}
 use Rattle.machine_memory.specs.Tables.{kind_at, number_at}
@@ -35,16 +33,16 @@ use Rattle.machine_memory.proofs.Tabling.{next_at, no_number}
 -- the variable that defines its symbol
 pub record IsVariable (n : ℕ) (g : GlobalValue) (k : ℕ) (v : Variable) (begins : Initial) : Type 0 where
   pub value : g ≡ global.Variable v
-  pub init : v.init ≡ Some begins
+  pub init : defined_init v ≡ Some begins
   pub number : k ≡ n
 
 pub storage_is : (n : ℕ) (g : GlobalValue) (k : ℕ) (v : Variable) (init : Initial) → defined n g ≡ Some (Storage k v init) → IsVariable n g k v init
-storage_is n (global.Function f) k v init e = by f.blocks e where
+storage_is n (global.Function f) k v init e = by (defined_blocks f) e where
   by : (bs : List MeantBlock) → body_of bs f ≡ Some (Storage k v init) → IsVariable n (global.Function f) k v init
   by [] e' = absurd (cc e')
   by (b ∷ bs) e' = absurd (cc e')
-storage_is n (global.Variable w) k v init e = by w.init refl e where
-  by : (o : Option Initial) → w.init ≡ o → storage_of o n w ≡ Some (Storage k v init) → IsVariable n (global.Variable w) k v init
+storage_is n (global.Variable w) k v init e = by (defined_init w) refl e where
+  by : (o : Option Initial) → defined_init w ≡ o → storage_of o n w ≡ Some (Storage k v init) → IsVariable n (global.Variable w) k v init
   by None i e' = absurd (cc e')
   by (Some x) i e' =
       let both : Some (Storage n w x) ≡ Some (Storage k v init) = e' in
@@ -53,23 +51,15 @@ storage_is n (global.Variable w) k v init e = by w.init refl e where
       let number : n ≡ k = cc both in
       record {
         value = ap (λ (y : Variable). global.Variable y) same;
-        init = sym (ap (λ (y : Variable). y.init) same) ∙ i ∙ ap (λ (y : Initial). Some y) other;
+        init = sym (ap (λ (y : Variable). defined_init y) same) ∙ i ∙ ap (λ (y : Initial). Some y) other;
         number = sym number;
       }
-
-outside_apart : (number : ℕ) (home : Option ℕ) (name : List ℕ) → undefined_kind home name ≡ AVariable number → ⊥
-outside_apart number None name e = at (bytes_eq name (codes "putchar")) (bytes_eq name (codes "getchar")) e where
-  at : (b c : Bool) → cond b (AHost PutChar) (cond c (AHost GetChar) Missing) ≡ AVariable number → ⊥
-  at true c e' = cc e'
-  at false true e' = cc e'
-  at false false e' = cc e'
-outside_apart number (Some k) name e = cc e
 
 -- what is a variable in the program is one that is defined, under its number
 pub variable_is : (m : ℕ) (g : GlobalValue) (n : ℕ) → kind_at m g ≡ AVariable n → (v : Variable) × ((init : Initial) × IsVariable m g n v init)
 variable_is m g n e = by (defined m g) refl e where
-  by : (d : Option Definition) → defined m g ≡ d → kind_of (symbol_of g) d ≡ AVariable n → (v : Variable) × ((init : Initial) × IsVariable m g n v init)
-  by None h k = absurd (outside_apart n (symbol_of g).home (symbol_of g).name k)
+  by : (d : Option Definition) → defined m g ≡ d → kind_of true (symbol_of g) d ≡ AVariable n → (v : Variable) × ((init : Initial) × IsVariable m g n v init)
+  by None h k = absurd (no_variable n true (symbol_of g) k)
   by (Some (Body f)) h k = absurd (cc k)
   by (Some (Storage j v init)) h k =
       let same : j ≡ n = cc k in
@@ -161,12 +151,12 @@ module _ (t : Bases) (gs : List GlobalValue) (k : ℕ) (g : GlobalValue) (here :
 
 -- a function adds nothing, whether it is defined or not
 pub function_added : (t : Bases) (old : List Block) (g : GlobalValue) (f : Function) → g ≡ global.Function f → IsAdded t old (defined (length old) g) old
-function_added t old g f e = subst (λ (x : GlobalValue). IsAdded t old (defined (length old) x) old) (sym e) (by f.blocks) where
+function_added t old g f e = subst (λ (x : GlobalValue). IsAdded t old (defined (length old) x) old) (sym e) (by (defined_blocks f)) where
   by : (bs : List MeantBlock) → IsAdded t old (body_of bs f) old
   by [] = refl
   by (b ∷ bs) = refl
 
-pub variable_added : (t : Bases) (old new : List Block) (g : GlobalValue) (v : Variable) (init : Initial) (b : Block) → g ≡ global.Variable v → v.init ≡ Some init → IsVariableBlock t (length old) v init b → new ≡ old ++ b ∷ [] →
+pub variable_added : (t : Bases) (old new : List Block) (g : GlobalValue) (v : Variable) (init : Initial) (b : Block) → g ≡ global.Variable v → defined_init v ≡ Some init → IsVariableBlock t (length old) v init b → new ≡ old ++ b ∷ [] →
     IsAdded t old (defined (length old) g) new
 variable_added t old new g v init b e some is more =
     subst (λ (x : GlobalValue). IsAdded t old (defined (length old) x) new) (sym e) (subst (λ (o : Option Initial). IsAdded t old (storage_of o (length old) v) new) (sym some) (b, (is, more)))

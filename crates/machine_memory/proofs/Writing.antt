@@ -1,5 +1,5 @@
 -- Images that are written from the front.
-use Rattle.std.proofs.Common.{◌≡◌, ℕ, suc, ◌+◌, ◌-◌, ◌/◌, ◌^◌, ◌≤◌, ◌<◌, Bool, if◌then◌else◌, Option, Some, None, List, [], ◌∷◌, ◌++◌, length, get_or, map, replicate, drop, take, reverse, ◌⊎◌, inl, inr, refl, sym, ap, subst, ◌∙◌, append_assoc, arith}
+use Rattle.std.proofs.Common.{◌≡◌, ℕ, suc, ◌+◌, ◌-◌, ◌/◌, ◌^◌, ◌≤◌, ◌<◌, Bool, if◌then◌else◌, Some, None, List, [], ◌∷◌, ◌++◌, length, get_or, map, drop, reverse, ◌⊎◌, inl, inr, refl, sym, ap, subst, ◌∙◌, append_assoc, arith}
 use Rattle.std.proofs.Math.Nat.{mod-eq_of_lt}
 use Rattle.std.proofs.Math.Seq.{drop-append-add, drop-cons, take-append_seam}
 use Rattle.std.proofs.lemmas.Bool.{lt-ltb}
@@ -10,7 +10,7 @@ use Rattle.ir_tree.specs.Initials.{Initial, flat_of, head_of, parts_of}
 use Rattle.ir_tree.specs.Layout.{IsLaidOut, size}
 use Rattle.ir_tree.specs.declared.init_node.InitHead.{InitHead}
 use Rattle.ir_tree.specs.declared.init_node.InitPart.{InitPart}
-use Rattle.ir_tree.specs.declared.init_node.InitPart.TheVariants.{End, Typed}
+use Rattle.ir_tree.specs.declared.init_node.InitPart.TheVariants.{Typed}
 use Rattle.ir_tree.specs.declared.operand.Operand.{Operand}
 use Rattle.ir_tree.specs.declared.operand.Reg.{Reg}
 use Rattle.ir_tree.specs.declared.operand.Reg.TheVariants.{Int}
@@ -26,13 +26,12 @@ use Rattle.ir_machine.specs.Bytes.{bytes_len, bytes_meant}
 use Rattle.ir_machine.specs.Meant.{meant}
 use Rattle.ir_machine.specs.Origins.{Holds, HoldsNone, HoldsNoMore}
 use Rattle.ir_machine.specs.declared.bytes.Bytes.{Bytes}
-use Rattle.ir_machine.specs.declared.scalar.Pointer.{Pointer}
 use Rattle.ir_machine.specs.declared.scalar.Scalar.{Scalar}
 use Rattle.ir_machine.specs.declared.scalar.Scalar.TheVariants as scalar
 use Rattle.ir_program.specs.Constants.{initial_bytes, scalar_bytes, zero_bytes}
 use Rattle.ir_program.proofs.Sized.{initial_size}
 use Rattle.machine_memory.specs.Addresses.{HoldsFrom, IsBaseIn, IsFrom, KeepsFrom, value_in}
-use Rattle.machine_memory.specs.Images.{Admits, IsWritten, Takes, TakesAll, Wrote, head_bytes, left_of, open_behind, opened_by, padding, part_bytes, parts_bytes, past}
+use Rattle.machine_memory.specs.Images.{IsWritten, TakesAll, Wrote, head_bytes, open_behind, opened_by, padding, part_bytes, parts_bytes}
 use Rattle.machine_memory.specs.declared.bases.Bases.{Bases}
 use Rattle.machine_memory.specs.declared.image.Image.{Image}
 use Rattle.machine_memory.specs.declared.open.Open.{Open}

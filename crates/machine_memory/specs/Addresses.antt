@@ -1,7 +1,7 @@
 -- The addresses of a program's symbols, and the values of constants.
-use Rattle.std.specs.Prelude.{◌≡◌, ℕ, ◌⊎◌, List, Contains, Option, Some, None}
+use Rattle.std.specs.Prelude.{◌≡◌, ℕ, ◌⊎◌, List, Option, Some, None}
 use Rattle.std.specs.HashMap as hash
-use Rattle.std.specs.Str.{bytes_eq}
+use Rattle.ir_tree.specs.Symbols.{symbol_eq}
 use Rattle.ir_tree.specs.declared.operand.Operand.{Operand}
 use Rattle.ir_tree.specs.declared.operand.Operand.TheVariants as operand
 use Rattle.ir_tree.specs.declared.operand.Symbol.{Symbol}
@@ -17,19 +17,27 @@ use Rattle.ir_machine.specs.declared.scalar.Pointer.{Pointer}
 use Rattle.ir_machine.specs.declared.scalar.Scalar.{Scalar}
 use Rattle.ir_machine.specs.declared.scalar.Scalar.TheVariants as scalar
 use Rattle.machine_memory.specs.declared.bases.Bases.{Bases}
+use Rattle.machine_memory.specs.declared.key.Key.{Key}
 
--- what the address of the symbol of a name is based on, where it has one
-abbrev pub base_in : Bases → List ℕ → Option Base
-base_in t name = hash.get_by (λ key. bytes_eq name key.now) t.by_name
+-- ---- symbols as keys
+
+abbrev pub key_symbol : Key → Symbol
+key_symbol k = record { home = k.home; name = k.name.now }
+
+-- ---- addresses
+
+-- what the address of a symbol is based on, where it has one
+abbrev pub base_in : Bases → Symbol → Option Base
+base_in t s = hash.get_by (λ key. symbol_eq s (key_symbol key)) t.by_symbol
 
 -- the address at an offset; without a base it is poison
 abbrev pub address_at : Option Base → ℕ → Scalar
 address_at None offset = scalar.Poison
 address_at (Some base) offset = scalar.Pointer (record { base = base; offset = offset })
 
--- each of these symbols has the address that it has in the program
+-- each symbol has the address that it has in the program, or poison where it has none
 abbrev pub HasAddresses : List Symbol → Signature → Bases → Type 0
-HasAddresses names sig t = (s : Symbol) (offset : ℕ) → Contains names s → meant names (address_at (base_in t s.name) offset) ≡ named (sig.kind s) s offset
+HasAddresses names sig t = (s : Symbol) (offset : ℕ) → meant names (address_at (base_in t s) offset) ≡ named (sig.kind s) s offset
 
 -- the value of a constant; a local is none, and has no value
 abbrev pub constant_in : Bases → Operand → Scalar
@@ -37,7 +45,7 @@ constant_in t (operand.Local x) = scalar.Poison
 constant_in t (operand.Number width bits) = scalar.Number bits
 constant_in t operand.Null = scalar.Pointer null
 constant_in t (operand.Poison reg) = scalar.Poison
-constant_in t (operand.Symbol s offset) = address_at (base_in t s.name) offset
+constant_in t (operand.Symbol s offset) = address_at (base_in t s) offset
 
 -- what it means, by what symbols are
 abbrev pub value_in : Bases → List Symbol → Operand → Value
@@ -45,7 +53,7 @@ value_in t names o = meant names (constant_in t o)
 
 -- null, or what the address of a symbol is based on
 abbrev pub IsBaseIn : Bases → Base → Type 0
-IsBaseIn t b = (b ≡ Null) ⊎ ((name : List ℕ) × (base_in t name ≡ Some b))
+IsBaseIn t b = (b ≡ Null) ⊎ ((s : Symbol) × (base_in t s ≡ Some b))
 
 abbrev pub IsFrom : Bases → Scalar → Type 0
 IsFrom t (scalar.Number n) = Unit {0}

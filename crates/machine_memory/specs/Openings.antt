@@ -1,4 +1,4 @@
--- The memory that a run of a module begins with.
+-- The memory that a run of a program begins with.
 use Rattle.std.specs.Prelude.{◌≡◌, ℕ, List, [], ◌∷◌, ◌++◌, slice_get, Option, Some, None}
 use Rattle.ir_tree.specs.Fits.{FitsShape}
 use Rattle.ir_tree.specs.Initials.{Initial}

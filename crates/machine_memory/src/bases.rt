@@ -1,18 +1,23 @@
 //! What the addresses of symbols are based on (LangRef, "Module Structure", "Functions", "Global Variables").
-ghost use Rattle.std.specs.Prelude.{◌≡◌, ◌↔◌, ◌<◌, ℕ, All, IfOk, IsTrue, List, OnOk};
-ghost use Rattle.ir_program.specs.Programs.{behind, defined, symbol_of, undefined_kind};
-ghost use Rattle.machine_memory.specs.Addresses.{IsFrom, address_at, base_in, constant_in};
-ghost use Rattle.machine_memory.specs.Tables.{HaveDistinctNames, IsGlobalLaidOut, IsTable, base_at, base_of, is_outside, noted};
+ghost use Rattle.std.specs.Prelude.{◌≡◌, ℕ, ◌<◌, All, IfOk, OnOk};
+ghost use Rattle.ir_tree.specs.Formed.{Distinct};
+ghost use Rattle.ir_tree.specs.Wholes.{symbols};
+ghost use Rattle.ir_tree.specs.declared.operand.Symbol.{Symbol};
+ghost use Rattle.ir_program.specs.Programs.{behind, defined, undefined_kind};
+ghost use Rattle.machine_memory.specs.Addresses.{IsFrom, address_at, base_in, constant_in, key_symbol};
+ghost use Rattle.machine_memory.specs.Tables.{IsGlobalLaidOut, IsTable, base_at, base_of, is_outside, noted};
 
+use crate::key::Key;
 use ir_machine::{Base, Handle, Pointer, Scalar};
+use ir_program::{defined_blocks, defined_init, symbol_of};
 use ir_tree::{GlobalValue, Operand, Symbol, size_of};
 use std::alloc::{AllocError, Global};
 use std::collections::HashMap;
 
-/// A symbol table: what the address of each symbol is based on, by name. What has no address isn't there.
+/// A symbol table: what the address of each symbol is based on. What has no address isn't there.
 #[derive(Drop)]
 pub struct Bases<'a> {
-    pub by_name: HashMap<&'a [u8], Base>,
+    pub by_symbol: HashMap<Key<'a>, Base>,
 }
 
 /// Whether a symbol that isn't defined names a function of the outside.
@@ -50,14 +55,14 @@ fn base(global: &GlobalValue, index: u32, number: usize) -> Option<Base>
 {
     match global {
         GlobalValue::Function(function) => {
-            let count = function.blocks.len();
+            let count = defined_blocks(function).len();
             if count == 0 {
                 undefined_base(&function.symbol, index)
             } else {
                 Some(Base::Function(index))
             }
         }
-        GlobalValue::Variable(variable) => match &variable.init {
+        GlobalValue::Variable(variable) => match defined_init(variable) {
             Some(_) => {
                 let size = size_of(&variable.shape);
                 Some(Base::Block(Handle {
@@ -71,16 +76,6 @@ fn base(global: &GlobalValue, index: u32, number: usize) -> Option<Base>
     }
 }
 
-/// The name of a global value.
-fn name_of(global: &GlobalValue) -> &[u8]
-    ensures { result.now ≡ (symbol_of global.now).name }
-{
-    match global {
-        GlobalValue::Function(function) => function.symbol.name.as_slice(),
-        GlobalValue::Variable(variable) => variable.symbol.name.as_slice(),
-    }
-}
-
 /// The number of the next variable behind a global value, before which it is this.
 fn next_number(number: usize, global: &GlobalValue) -> usize
     requires { number < usize.MAX }
@@ -88,7 +83,7 @@ fn next_number(number: usize, global: &GlobalValue) -> usize
 {
     match global {
         GlobalValue::Function(_) => number,
-        GlobalValue::Variable(variable) => match &variable.init {
+        GlobalValue::Variable(variable) => match defined_init(variable) {
             Some(_) => number + 1,
             None => number,
         },
@@ -96,49 +91,57 @@ fn next_number(number: usize, global: &GlobalValue) -> usize
 }
 
 impl<'a> Bases<'a> {
-    /// Notes what the address of a global value's symbol is based on, where it has one.
-    fn note(&mut self, global: &'a GlobalValue, base: Option<Base>) -> Result<(), AllocError>
-        ensures { OnOk result ((name : List ℕ) → base_in self.new name ≡ noted (symbol_of global.entry.now).name base name (base_in self.old name)) }
+    /// Notes what the address of a symbol is based on, where it has one.
+    fn note(&mut self, key: Key<'a>, base: Option<Base>) -> Result<(), AllocError>
+        ensures { OnOk result ((s : Symbol) → base_in self.new s ≡ noted (key_symbol key.entry) base s (base_in self.old s)) }
     {
         let Some(base) = base else {
             return Ok(());
         };
-        self.by_name.insert(name_of(global), base)?;
+        self.by_symbol.insert(key, base)?;
         Ok(())
     }
 
-    /// The symbol table of global values, whose names are distinct, by one pass. Time and memory are linear in their number.
+    /// The symbol table of global values, none of whose symbols stands twice, by one pass. Time and memory are linear in their
+    /// number.
     ///
     /// Beside want of memory, `2^32` global values or more are refused as too many for it.
     pub fn of(alloc: Global, globals: &'a [GlobalValue]) -> Result<Bases<'a>, AllocError>
         requires { All IsGlobalLaidOut globals.now }
-        ensures { IfOk result (λ t. HaveDistinctNames globals.entry.now → IsTable globals.entry.now t) }
+        ensures { IfOk result (λ t. Distinct (symbols globals.entry.now) → IsTable globals.entry.now t) }
     {
-        if globals.len() > u32::MAX as usize {
+        if globals.len() > 0xFFFF_FFFF {
             return Err(AllocError);
         }
         let mut bases = Bases {
-            by_name: HashMap::new(alloc),
+            by_symbol: HashMap::new(alloc),
         };
         let mut number: usize = 0;
         for index in 0..globals.len() {
             let global = &globals[index];
             let made = base(global, index as u32, number);
-            bases.note(global, made)?;
+            bases.note(Key::of(symbol_of(global)), made)?;
             number = next_number(number, global);
         }
         Ok(bases)
     }
 
+    /// What the address of a symbol is based on, where it has one.
+    pub fn get(&self, key: Key<'_>) -> Option<Base>
+        ensures { result ≡ base_in self.now (key_symbol key.entry) }
+    {
+        match self.by_symbol.get(&key) {
+            Some(base) => Some(*base),
+            None => None,
+        }
+    }
+
     /// The address of a symbol at an offset in bytes, or poison where it has none.
     pub fn address(&self, symbol: &Symbol, offset: u64) -> Scalar
-        ensures { result ≡ address_at (base_in self.now symbol.now.name) offset }
+        ensures { result ≡ address_at (base_in self.now symbol.now) offset }
     {
-        match self.by_name.get(&symbol.name.as_slice()) {
-            Some(base) => Scalar::Pointer(Pointer {
-                base: *base,
-                offset,
-            }),
+        match self.get(Key::of(symbol)) {
+            Some(base) => Scalar::Pointer(Pointer { base, offset }),
             None => Scalar::Poison,
         }
     }

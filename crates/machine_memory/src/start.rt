@@ -3,13 +3,15 @@ ghost use Rattle.std.specs.Prelude.{length, IfOk, OnOk};
 ghost use Rattle.ir_tree.specs.Fits.{Fits};
 ghost use Rattle.ir_tree.specs.Layout.{IsLaidOut};
 ghost use Rattle.ir_program.specs.Programs.{defined};
+ghost use Rattle.ir_program.specs.Runnable.{AreRunnable};
 ghost use Rattle.machine_memory.specs.Openings.{IsAdded, IsGlobalSound, IsOpening, IsVariableBlock};
 ghost use Rattle.machine_memory.specs.Tables.{IsTable};
 
 use crate::bases::Bases;
 use crate::image::bytes_of;
 use ir_machine::{Block, Memory};
-use ir_tree::{GlobalValue, Init, Variable, Verified};
+use ir_program::defined_init;
+use ir_tree::{GlobalValue, Init, Variable};
 use std::alloc::{AllocError, Global};
 
 /// The block of a variable that is defined, of this number.
@@ -45,7 +47,7 @@ fn add(
 {
     match global {
         GlobalValue::Function(_) => Ok(()),
-        GlobalValue::Variable(variable) => match &variable.init {
+        GlobalValue::Variable(variable) => match defined_init(variable) {
             Some(init) => {
                 let made = block_of(alloc, bases, variable, init, blocks.len())?;
                 blocks.push(made)?;
@@ -56,16 +58,19 @@ fn add(
     }
 }
 
-/// The memory that a run of a sound module begins with, where this is the module's symbol table: the block of each variable that
+/// The memory that a run of global values begins with that can be run, where this is their symbol table: the block of each variable that
 /// is defined, with the bytes of its initialiser, at the position of its number. What is declared alone has no block.
 ///
 /// Time and memory are linear in the initialisers and the bytes of the variables.
-pub fn opening(alloc: Global, verified: &Verified, bases: &Bases<'_>) -> Result<Memory, AllocError>
-    requires { IsTable verified.now.globals bases.now }
-    ensures { IfOk result (λ m. IsOpening verified.now.globals m) }
+pub fn opening(
+    alloc: Global,
+    globals: &[GlobalValue],
+    bases: &Bases<'_>,
+) -> Result<Memory, AllocError>
+    requires runnable { AreRunnable globals.now }
+    requires table { IsTable globals.now bases.now }
+    ensures { IfOk result (λ m. IsOpening globals.now m) }
 {
-    let tree = verified.module();
-    let globals = tree.globals.as_slice();
     let mut blocks = Vec::new(alloc);
     for global in globals {
         add(alloc, bases, global, &mut blocks)?;

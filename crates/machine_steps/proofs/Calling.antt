@@ -6,10 +6,11 @@ use Rattle.ir_tree.specs.declared.operand.Reg.{Reg}
 use Rattle.ir_tree.specs.declared.operand.Reg.TheVariants.{Int}
 use Rattle.ir_tree.specs.declared.operand.Symbol.{Symbol}
 use Rattle.ir_meaning.specs.Act.{Act}
-use Rattle.ir_meaning.specs.Execute.{Asked, Broke, calls_host, calls_kind, calls_value, gets_char, host_params, puts_char, reg_eq, regs_eq, result_eq}
+use Rattle.ir_meaning.specs.Execute.{Asked, Broke, calls_host, calls_kind, calls_value, gets_char, host_params, puts_bits, puts_char, reg_eq, regs_eq, result_eq}
 use Rattle.ir_meaning.specs.Fault as fault
 use Rattle.ir_meaning.specs.Frame.{AFunction, AHost, AVariable, Locals, GetChar, Host, Kind, Missing, PutChar}
 use Rattle.ir_meaning.specs.Memory.{Memory as MeantMemory}
+use Rattle.ir_meaning.specs.Operate.{bits_of}
 use Rattle.ir_meaning.specs.Program as program
 use Rattle.ir_meaning.specs.Program.{Next, advance, go_in}
 use Rattle.ir_meaning.specs.declared.fault.Cause.TheVariants.{CallOfAnotherType, CallOfNoFunction}
@@ -29,12 +30,14 @@ types_long (a ∷ more) (b ∷ bs) h = by (reg_eq a b) h (types_long more bs) wh
   by true k rest = ap suc (rest k)
   by false k rest = absurd (cc k)
 
+bits_ask_none : (memory : MeantMemory) (place : ℕ) (bits : Option ℕ) (s : Symbol) (vs : List Value) → puts_bits memory place bits ≡ Asked s vs → ⊥
+bits_ask_none memory place None s vs h = cc h
+bits_ask_none memory place (Some n) s vs h = cc h
+
 put_asks_none : (memory : MeantMemory) (place : ℕ) (values : List Value) (s : Symbol) (vs : List Value) → puts_char memory place values ≡ Asked s vs → ⊥
 put_asks_none memory place [] s vs h = cc h
-put_asks_none memory place (Number n ∷ []) s vs h = cc h
-put_asks_none memory place (Number n ∷ v ∷ more) s vs h = cc h
-put_asks_none memory place (Pointer base offset ∷ more) s vs h = cc h
-put_asks_none memory place (Poison ∷ more) s vs h = cc h
+put_asks_none memory place (v ∷ []) s vs h = bits_ask_none memory place (bits_of 32 v) s vs h
+put_asks_none memory place (v ∷ w ∷ more) s vs h = cc h
 
 get_asks_none : (memory : MeantMemory) (place : ℕ) (byte : Option ℕ) (s : Symbol) (vs : List Value) → gets_char memory place byte ≡ Asked s vs → ⊥
 get_asks_none memory place None s vs h = cc h

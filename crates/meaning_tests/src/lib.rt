@@ -22,3 +22,5 @@ mod numbers;
 mod openings;
 #[cfg(test)]
 mod programs;
+#[cfg(test)]
+mod texts;

@@ -1,11 +1,8 @@
 //! Small modules, and their code.
+use crate::texts::{begun, globals_of, read};
 use ir_calls::{Entity, Exit, Host};
 use ir_frames::{Source, Task};
-use ir_parse::parse;
-use ir_tree::{Reg, Verified};
-use ir_verify::verify;
-use machine_code::lower;
-use std::alloc::Global;
+use ir_tree::Reg;
 
 const TEXT: &[u8] = b"@v = global i32 7, align 4
 declare i32 @putchar(i32)
@@ -29,20 +26,10 @@ define void @g(ptr %q) {
 }
 ";
 
-fn sound(alloc: Global) -> Option<Verified> {
-    let Ok(parsed) = parse(alloc, TEXT) else {
-        return None;
-    };
-    match verify(alloc, parsed) {
-        Ok(verified) => Some(verified),
-        Err(_) => None,
-    }
-}
-
 #[test]
 fn runs_begin_in_functions_of_integers(rt: HostRuntime) {
-    let verified = sound(rt.alloc()).expect(&rt, "sound");
-    let lowered = lower(rt.alloc(), &verified).expect(&rt, "memory");
+    let verified = read(rt.alloc(), TEXT).expect(&rt, "sound");
+    let (lowered, _memory) = begun(rt.alloc(), globals_of(&verified)).expect(&rt, "memory");
     let root = lowered.root(b"f").expect(&rt, "a root");
     assert!(rt; root.index == 3);
     assert!(rt; root.params.len() == 2);
@@ -56,8 +43,8 @@ fn runs_begin_in_functions_of_integers(rt: HostRuntime) {
 
 #[test]
 fn symbols_are_what_the_module_says(rt: HostRuntime) {
-    let verified = sound(rt.alloc()).expect(&rt, "sound");
-    let lowered = lower(rt.alloc(), &verified).expect(&rt, "memory");
+    let verified = read(rt.alloc(), TEXT).expect(&rt, "sound");
+    let (lowered, _memory) = begun(rt.alloc(), globals_of(&verified)).expect(&rt, "memory");
     let entities = &lowered.code.entities;
     assert!(rt; entities.len() == 5);
     assert!(rt; matches!(&entities[0], Entity::Other));
@@ -70,8 +57,8 @@ fn symbols_are_what_the_module_says(rt: HostRuntime) {
 
 #[test]
 fn blocks_stand_by_position(rt: HostRuntime) {
-    let verified = sound(rt.alloc()).expect(&rt, "sound");
-    let lowered = lower(rt.alloc(), &verified).expect(&rt, "memory");
+    let verified = read(rt.alloc(), TEXT).expect(&rt, "sound");
+    let (lowered, _memory) = begun(rt.alloc(), globals_of(&verified)).expect(&rt, "memory");
     let first = lowered.code.block(3, 0).expect(&rt, "a block");
     assert!(rt; first.lines.len() == 3);
     assert!(rt; matches!(first.lines[0].task, Task::Reserve { size: 12, align: 4 }));

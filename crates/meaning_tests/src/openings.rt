@@ -1,10 +1,7 @@
 //! The memory that runs of a small module begin with.
+use crate::texts::{begun, globals_of, read};
 use ir_machine::{Base, Handle, Memory, Outcome, Pointer, Scalar};
-use ir_parse::parse;
-use ir_tree::{Reg, Verified};
-use ir_verify::verify;
-use machine_code::lower;
-use machine_memory::opening;
+use ir_tree::Reg;
 use std::alloc::Global;
 
 const TEXT: &[u8] =
@@ -25,23 +22,11 @@ define i32 @f() {
 }
 ";
 
-fn sound(alloc: Global, text: &[u8]) -> Option<Verified> {
-    let Ok(parsed) = parse(alloc, text) else {
-        return None;
-    };
-    match verify(alloc, parsed) {
-        Ok(verified) => Some(verified),
-        Err(_) => None,
-    }
-}
-
 /// The memory with which runs of a module begin.
-fn begun(alloc: Global, text: &[u8]) -> Option<Memory> {
-    let verified = sound(alloc, text)?;
-    match lower(alloc, &verified) {
-        Ok(lowered) => opening(alloc, &verified, &lowered.addresses.bases).ok(),
-        Err(_) => None,
-    }
+fn memory_of(alloc: Global, text: &[u8]) -> Option<Memory> {
+    let verified = read(alloc, text)?;
+    let (_lowered, memory) = begun(alloc, globals_of(&verified))?;
+    Some(memory)
 }
 
 /// An address in the block of a number.
@@ -73,7 +58,7 @@ fn is_word(memory: &Memory, number: usize, offset: u64, value: u64) -> bool {
 
 #[test]
 fn members_stand_behind_padding(rt: HostRuntime) {
-    let memory = begun(rt.alloc(), TEXT).expect(&rt, "memory");
+    let memory = memory_of(rt.alloc(), TEXT).expect(&rt, "memory");
     assert!(rt; memory.blocks.len() == 5);
     assert!(rt; memory.made == 5);
     assert!(rt; memory.blocks[0].bytes.len() == 12);
@@ -88,7 +73,7 @@ fn members_stand_behind_padding(rt: HostRuntime) {
 
 #[test]
 fn texts_and_zeros_are_bytes(rt: HostRuntime) {
-    let memory = begun(rt.alloc(), TEXT).expect(&rt, "memory");
+    let memory = memory_of(rt.alloc(), TEXT).expect(&rt, "memory");
     assert!(rt; memory.blocks.len() == 5);
     assert!(rt; memory.blocks[0].writable);
     assert!(rt; !memory.blocks[1].writable);
@@ -102,7 +87,7 @@ fn texts_and_zeros_are_bytes(rt: HostRuntime) {
 
 #[test]
 fn pointers_are_addresses(rt: HostRuntime) {
-    let memory = begun(rt.alloc(), TEXT).expect(&rt, "memory");
+    let memory = memory_of(rt.alloc(), TEXT).expect(&rt, "memory");
     let text = memory.load(Reg::Ptr, address(4, 0), 8);
     assert!(rt;
         matches!(
@@ -137,7 +122,7 @@ fn pointers_are_addresses(rt: HostRuntime) {
 
 #[test]
 fn large_variables_have_their_bytes(rt: HostRuntime) {
-    let memory = begun(rt.alloc(), LARGE).expect(&rt, "memory");
+    let memory = memory_of(rt.alloc(), LARGE).expect(&rt, "memory");
     assert!(rt; memory.blocks.len() == 1);
     assert!(rt; memory.blocks[0].align == 16);
     assert!(rt; memory.blocks[0].bytes.len() == 16_777_216);

@@ -1,5 +1,6 @@
 -- The live definitions in their order, each under its final name, are what is emitted.
-use Rattle.std.proofs.Common.{◌≡◌, ◌≢◌, ℕ, zero, suc, Bool, true, false, cond, List, [], ◌∷◌, map, filter, option_map, Option, Some, None, slice_get, refl, sym, ap, ◌∙◌, subst, arith}
+use Rattle.std.proofs.Common.{◌≡◌, ◌≢◌, ℕ, zero, suc, Bool, true, false, ◌||◌, cond, List, [], ◌∷◌, map, filter, option_map, Option, Some, None, slice_get, refl, sym, ap, ◌∙◌, subst, arith}
+use Rattle.ir_tree.specs.Linkages.{defines}
 use Rattle.ir_tree.specs.Formed.{Distinct}
 use Rattle.ir_tree.specs.Initials.{Initial}
 use Rattle.ir_tree.specs.Wholes.{global_symbol, symbols}
@@ -10,14 +11,15 @@ use Rattle.ir_tree.specs.declared.module.GlobalValue.{GlobalValue}
 use Rattle.ir_tree.specs.declared.module.GlobalValue.TheVariants as global
 use Rattle.ir_tree.specs.declared.operand.Symbol.{Symbol}
 use Rattle.ir_meaning.specs.Refine.{Naming}
-use Rattle.ir_meaning.specs.Symbols.{symbol_eq}
+use Rattle.ir_tree.specs.Symbols.{symbol_eq}
 use Rattle.ir_better.specs.Rename.{block_under}
-use Rattle.ir_better.proofs.Names.Moved.{both, symbol_same, symbol_true}
-use Rattle.ir_program.specs.Programs.{Body, Definition, Storage, behind, body_of, defined, definition_from, or_else, storage_of, symbol_of}
+use Rattle.ir_better.proofs.Names.Moved.{both}
+use Rattle.ir_tree.proofs.Symbols.{symbol_same, symbol_true}
+use Rattle.ir_program.specs.Programs.{Body, Definition, Storage, behind, body_of, defined, definition_from, is_declared, or_else, storage_of, symbol_of}
 use Rattle.merge_meaning.specs.Globals.{function_under, global_under, initial_under, named_by, variable_under}
 use Rattle.merge_meaning.specs.Laws.{EmissionIsEmitted}
 use Rattle.merge_meaning.specs.Linked.{AreFinal, IsUnder, emission}
-use Rattle.merge_meaning.proofs.Looked.{StandsIn, further, others_once, same_symbol, skipped, some_is}
+use Rattle.merge_meaning.proofs.Looked.{StandsIn, further, known_declared, others_once, same_symbol, skipped, some_is}
 use Rattle.merge_meaning.proofs.Names.{clash, not_true}
 
 -- ---- one definition
@@ -32,8 +34,16 @@ storages t n k v None = tt
 storages t n k v (Some init) = (refl, refl, refl, refl)
 
 one_under : (t : Naming) (n k : ℕ) (g : GlobalValue) → IsUnder t (defined n g) (defined k (global_under t g))
-one_under t n k (global.Function f) = bodies t f f.blocks
-one_under t n k (global.Variable v) = storages t n k v v.init
+one_under t n k (global.Function f) = by (defines f.linkage)
+  where
+    by : (counts : Bool) → IsUnder t (body_of (cond counts f.blocks []) f) (body_of (cond counts (map (block_under t) f.blocks) []) (function_under t f))
+    by true = bodies t f f.blocks
+    by false = tt
+one_under t n k (global.Variable v) = by (defines v.linkage)
+  where
+    by : (counts : Bool) → IsUnder t (storage_of (cond counts v.init None) n v) (storage_of (cond counts (option_map (initial_under t) v.init) None) k (variable_under t v))
+    by true = storages t n k v v.init
+    by false = tt
 
 pub symbol_under : (t : Naming) (g : GlobalValue) → symbol_of (global_under t g) ≡ t.symbol (symbol_of g)
 symbol_under t (global.Function f) = refl
@@ -52,7 +62,7 @@ either_under t true (Some (Storage k v init)) (Some (Body g)) d' e' first rest =
 
 -- ---- no symbol twice
 
-distinct_more : (u : Symbol) (ss : List Symbol) → (StandsIn ss u → ⊥) → Distinct ss → Distinct (u ∷ ss)
+pub distinct_more : (u : Symbol) (ss : List Symbol) → (StandsIn ss u → ⊥) → Distinct ss → Distinct (u ∷ ss)
 distinct_more u ss new once zero zero x a b = refl
 distinct_more u ss new once zero (suc j) x a b = absurd (new (j, b ∙ sym a))
 distinct_more u ss new once (suc i) zero x a b = absurd (new (i, a ∙ sym b))
@@ -85,6 +95,26 @@ module _ (live : Symbol → Bool) (final : Symbol → Symbol) (r : AreFinal live
           (sym (skipped (symbol_eq (symbol_of g) s) (defined n g) (definition_from (behind n (defined n g)) hs s)
           (not_true (symbol_eq (symbol_of g) s) (λ e. clash (live (symbol_of g)) a (ap live (symbol_true (symbol_of g) s e) ∙ lives)))))
           (rest (behind n (defined n g)) k)
+
+  -- what is declared and live has its final name there
+  emitted_declared : (hs : List GlobalValue) (s : Symbol) → live s ≡ true → is_declared hs s ≡ true → is_declared (emission live final hs) (final s) ≡ true
+  emitted_declared [] s lives e = absurd (cc e)
+  emitted_declared (g ∷ hs) s lives e = by (symbol_eq (symbol_of g) s) refl (live (symbol_of g)) refl e (emitted_declared hs s lives)
+    where
+      either_true : (a b : Bool) → b ≡ true → (a || b) ≡ true
+      either_true true b f = refl
+      either_true false b f = f
+
+      by : (a : Bool) → symbol_eq (symbol_of g) s ≡ a → (b : Bool) → live (symbol_of g) ≡ b → (a || is_declared hs s) ≡ true
+          → (is_declared hs s ≡ true → is_declared (emission live final hs) (final s) ≡ true)
+          → is_declared (map (global_under (named_by final)) (cond b (g ∷ filter (λ h. live (symbol_of h)) hs) (filter (λ h. live (symbol_of h)) hs))) (final s) ≡ true
+      by true a true b e rest =
+          ap (λ (x : Bool). x || is_declared (emission live final hs) (final s))
+          (ap (λ (u : Symbol). symbol_eq u (final s)) (symbol_under (named_by final) g) ∙ same_test (symbol_of g) s b lives ∙ a)
+      by true a false b e rest = absurd (clash (live (symbol_of g)) b (ap live (symbol_true (symbol_of g) s a) ∙ lives))
+      by false a true b e rest =
+          either_true (symbol_eq (symbol_of (global_under (named_by final) g)) (final s)) (is_declared (emission live final hs) (final s)) (rest e)
+      by false a false b e rest = rest e
 
   nothing_else : (hs : List GlobalValue) (k : ℕ) (u : Symbol) → ((s : Symbol) → live s ≡ true → final s ≢ u) → definition_from k (emission live final hs) u ≡ None
   nothing_else [] k u none = refl
@@ -147,6 +177,7 @@ emission_emitted live final hs once reached named = record {
   reached = reached;
   named = named;
   defines = λ s k. emitted_definition live final named hs 0 0 s k;
+  declares = λ s k. emitted_declared live final named hs s k (known_declared hs s (reached.there s k));
   only = λ u none. nothing_else live final named hs 0 u none;
   once = emission_once live final named hs once;
 }

@@ -17,23 +17,25 @@ use Rattle.ir_meaning.specs.Frame.{AFunction, AHost, AVariable, GetChar, Kind, M
 use Rattle.ir_meaning.specs.Memory.{MemoryBlock}
 use Rattle.ir_meaning.specs.Program.{variables}
 use Rattle.ir_meaning.specs.Refine.{Naming, RefinesUnder, own_names}
-use Rattle.ir_meaning.specs.Symbols.{symbol_eq}
+use Rattle.ir_tree.specs.Symbols.{symbol_eq}
 use Rattle.ir_meaning.specs.declared.value.Value.{Value}
 use Rattle.ir_better.specs.Rename.{BlocksName, BytesReach, CodeUnder, IsEmitted, IsKeptOf, IsThere, OperandNames, bytes_under, cells_under, kind_under, operand_under}
 use Rattle.ir_better.proofs.Names.Emitted.{emitted_kept, finals}
 use Rattle.ir_better.proofs.Names.Linked.{linked_all}
-use Rattle.ir_better.proofs.Names.Moved.{cell_variable, symbol_same, symbol_true, value_under}
+use Rattle.ir_better.proofs.Names.Moved.{cell_variable, value_under}
+use Rattle.ir_tree.proofs.Symbols.{symbol_same, symbol_true}
 use Rattle.ir_better.proofs.Runs.Transitive.{under_trans}
 use Rattle.ir_program.specs.Constants.{initial_bytes}
-use Rattle.ir_program.specs.Programs.{Body, Definition, Storage, block_of, code_of, definition_of, kind_of, program_of, regs_of, signature_of, undefined_kind}
+use Rattle.ir_program.specs.Programs.{Body, Definition, Storage, block_of, code_of, definition_of, is_declared, kind_of, program_of, regs_of, signature_of, undefined_kind}
 use Rattle.ir_program.proofs.Inside.{programs_inside}
+use Rattle.ir_program.proofs.Numbered.{no_variable}
 use Rattle.merge_meaning.specs.Globals.{InitialNames, initial_under, named_by}
 use Rattle.merge_meaning.specs.Laws.{EmittedRefines, FinalNamesLeadBack, LinkedRefinesMerged}
 use Rattle.merge_meaning.specs.Linked.{AreEmitted, DefinitionNames, Improves, IsUnder, back_among, back_names, back_of, number_in, number_of, symbol_at, variable_symbols}
 use Rattle.merge_meaning.specs.Merged.{merged_globals}
 use Rattle.merge_meaning.proofs.Constants.{ValueReaches, initial_moves, initial_reaches}
 use Rattle.merge_meaning.proofs.Improved.{improved}
-use Rattle.merge_meaning.proofs.Looked.{as_many, known, known_host, known_short, long_unknown, owned, placed, some_is, stands, symbol_of_number, weight}
+use Rattle.merge_meaning.proofs.Looked.{as_many, known, known_declared, known_host, known_short, long_unknown, outside, owned, placed, some_is, stands, symbol_of_number, weight}
 use Rattle.merge_meaning.proofs.Names.{blocks_same, clash}
 use Rattle.merge_meaning.proofs.Unnamed.{NamesKept, kept_code, kept_kind, other_gone, restricted, unnamed}
 
@@ -81,15 +83,6 @@ host_stays t None name = by (bytes_eq name (codes "putchar")) (bytes_eq name (co
     by true b = refl
     by false true = refl
     by false false = refl
-
-no_variable : (home : Option ℕ) (name : List ℕ) (number : ℕ) → undefined_kind home name ≡ AVariable number → ⊥
-no_variable (Some k) name number e = cc e
-no_variable None name number e = by (bytes_eq name (codes "putchar")) (bytes_eq name (codes "getchar")) e
-  where
-    by : (a b : Bool) → cond a (AHost PutChar) (cond b (AHost GetChar) Missing) ≡ AVariable number → ⊥
-    by true b e = cc e
-    by false true e = cc e
-    by false false e = cc e
 
 kind_missing : (t : Naming) (k : Kind) → kind_under t k ≡ Missing → k ≡ Missing
 kind_missing t (AFunction params result) e = absurd (cc e)
@@ -261,9 +254,12 @@ module _ (live : Symbol → Bool) (final : Symbol → Symbol) (hs ls : List Glob
   kinds s k = by (definition_of hs s) refl (definition_of ls (final s)) refl (r.defines s k) (r.reached.there s k)
     where
       by : (d : Option Definition) → definition_of hs s ≡ d → (e : Option Definition) → definition_of ls (final s) ≡ e → IsUnder (named_by final) d e
-          → (kind_of s d ≡ Missing → ⊥) → kind_of (final s) e ≡ kind_under fin (kind_of s d)
+          → (kind_of (is_declared hs s) s d ≡ Missing → ⊥) → kind_of (is_declared ls (final s)) (final s) e ≡ kind_under fin (kind_of (is_declared hs s) s d)
       by None d None e h there =
-          ap (λ (x : Symbol). undefined_kind x.home x.name) (r.named.keeps s (known_host s.home s.name [] there).0) ∙ sym (host_stays fin s.home s.name)
+          ap (λ (b : Bool). kind_of b (final s) None) (r.declares s k)
+          ∙ ap (λ (x : Symbol). undefined_kind x.home x.name) (r.named.keeps s (known_host s.home s.name [] (outside (is_declared hs s) s there)).0)
+          ∙ sym (host_stays fin s.home s.name)
+          ∙ sym (ap (λ (b : Bool). kind_under fin (kind_of b s None)) (known_declared hs s (r.reached.there s k)))
       by (Some (Body f)) d (Some (Body g)) e h there = ap₂ AFunction (ap regs_of h.0) h.1
       by (Some (Storage n v init)) d (Some (Storage l w other)) e h there =
           let found = twin_of s k n v init d in
@@ -293,8 +289,8 @@ module _ (live : Symbol → Bool) (final : Symbol → Symbol) (hs ls : List Glob
   numbers : (s : Symbol) (n : ℕ) → live s ≡ true → (program_of hs).signature.kind s ≡ AVariable n → IsThere names n
   numbers s n k e = by (definition_of hs s) refl e
     where
-      by : (d : Option Definition) → definition_of hs s ≡ d → kind_of s d ≡ AVariable n → IsThere names n
-      by None d e = absurd (no_variable s.home s.name n e)
+      by : (d : Option Definition) → definition_of hs s ≡ d → kind_of (is_declared hs s) s d ≡ AVariable n → IsThere names n
+      by None d e = absurd (no_variable n (is_declared hs s) s e)
       by (Some (Body f)) d e = absurd (cc e)
       by (Some (Storage m v init)) d e =
           let found = twin_of s k m v init d in

@@ -1,7 +1,9 @@
--- A program with better functions in the places of its functions is better.
-use Rattle.std.proofs.Common.{◌≡◌, ◌∙◌, ℕ, Bool, true, false, cond, List, [], ◌∷◌, Option, Some, None, refl, ap, ap₂, sym, subst}
+-- A program with better functions in the places of its functions is better, and has the same symbols.
+use Rattle.std.proofs.Common.{◌≡◌, ◌∙◌, ℕ, Bool, true, false, ◌||◌, cond, List, [], ◌∷◌, Option, Some, None, refl, ap, ap₂, sym, subst}
 use Rattle.std.specs.List.{AllZip}
+use Rattle.ir_tree.specs.Formed.{Distinct}
 use Rattle.ir_tree.specs.Initials.{Initial}
+use Rattle.ir_tree.specs.Wholes.{symbols}
 use Rattle.ir_tree.specs.declared.block.Block.{Block}
 use Rattle.ir_tree.specs.declared.function.Function.{Function}
 use Rattle.ir_tree.specs.declared.function.Variable.{Variable}
@@ -13,11 +15,12 @@ use Rattle.ir_meaning.specs.Frame.{AFunction, AVariable, Signature, value_of}
 use Rattle.ir_meaning.specs.Memory.{Memory}
 use Rattle.ir_meaning.specs.Near.{Replaces}
 use Rattle.ir_meaning.specs.Program.{Program}
-use Rattle.ir_meaning.specs.Symbols.{symbol_eq}
+use Rattle.ir_tree.specs.Symbols.{symbol_eq}
 use Rattle.ir_meaning.specs.declared.value.Value.{Value}
-use Rattle.ir_program.specs.Programs.{Body, Definition, Storage, behind, body_of, code_of, defined, definition_from, definition_of, kind_of, opening_from, or_else, program_of, signature_of, storage_in, storage_of, symbol_of}
-use Rattle.merge_meaning.specs.Laws.{ImprovedIsBetter}
+use Rattle.ir_program.specs.Programs.{Body, Definition, Storage, behind, body_of, code_of, defined, defined_blocks, defined_init, definition_from, definition_of, is_declared, kind_of, opening_from, or_else, program_of, signature_of, storage_in, storage_of, symbol_of}
+use Rattle.merge_meaning.specs.Laws.{ImprovedIsBetter, ImprovedIsOnce}
 use Rattle.merge_meaning.specs.Linked.{Improves, StandsFor, has_body}
+use Rattle.merge_meaning.proofs.Looked as looked
 
 module _ (p : Program) (bound : ℕ) where
   -- what defines a symbol afterwards: a function that may stand for the one before, or the same variable
@@ -38,9 +41,9 @@ module _ (p : Program) (bound : ℕ) where
   storages n v (Some init) = (refl, refl, refl)
 
   one_follows : (n : ℕ) (g h : GlobalValue) → Improves p bound g h → Follows (defined n g) (defined n h)
-  one_follows n (global.Function f) (global.Function g) same = bodies f g same f.blocks g.blocks same.body
+  one_follows n (global.Function f) (global.Function g) same = bodies f g same (defined_blocks f) (defined_blocks g) same.body
   one_follows n (global.Variable v) (global.Variable w) same =
-      subst (λ (u : Variable). Follows (storage_of v.init n v) (storage_of u.init n u)) (sym same) (storages n v v.init)
+      subst (λ (u : Variable). Follows (storage_of (defined_init v) n v) (storage_of (defined_init u) n u)) (sym same) (storages n v (defined_init v))
   one_follows n (global.Function f) (global.Variable w) same = absurd same
   one_follows n (global.Variable v) (global.Function g) same = absurd same
 
@@ -49,6 +52,13 @@ module _ (p : Program) (bound : ℕ) where
   same_symbol (global.Variable v) (global.Variable w) same = ap (λ (u : Variable). u.symbol) same
   same_symbol (global.Function f) (global.Variable w) same = absurd same
   same_symbol (global.Variable v) (global.Function g) same = absurd same
+
+  symbols_stay : (gs hs : List GlobalValue) → AllZip (Improves p bound) gs hs → symbols hs ≡ symbols gs
+  symbols_stay [] [] z = refl
+  symbols_stay [] (h ∷ hs) z = absurd z
+  symbols_stay (g ∷ gs) [] z = absurd z
+  symbols_stay (g ∷ gs) (h ∷ hs) z =
+      ap₂ (λ (s : Symbol). λ (ss : List Symbol). s ∷ ss) (sym (looked.same_symbol h) ∙ same_symbol g h z.0 ∙ looked.same_symbol g) (symbols_stay gs hs z.1)
 
   same_behind : (n : ℕ) (d e : Option Definition) → Follows d e → behind n e ≡ behind n d
   same_behind n None None h = refl
@@ -84,15 +94,21 @@ module _ (p : Program) (bound : ℕ) where
       (definition_from (behind n (defined n g)) gs s) (definition_from (behind n (defined n g)) hs s)
       (one_follows n g h z.0) (follows gs hs (behind n (defined n g)) z.1 s)))
 
-  kind_follows : (s : Symbol) (d e : Option Definition) → Follows d e → kind_of s e ≡ kind_of s d
-  kind_follows s None None h = refl
-  kind_follows s (Some (Body f)) (Some (Body g)) h = ap₂ AFunction h.params h.result
-  kind_follows s (Some (Storage k v init)) (Some (Storage l w other)) h = ap AVariable h.0
-  kind_follows s None (Some e) h = absurd h
-  kind_follows s (Some (Body f)) None h = absurd h
-  kind_follows s (Some (Body f)) (Some (Storage l w other)) h = absurd h
-  kind_follows s (Some (Storage k v init)) None h = absurd h
-  kind_follows s (Some (Storage k v init)) (Some (Body g)) h = absurd h
+  declared_stays : (gs hs : List GlobalValue) → AllZip (Improves p bound) gs hs → (s : Symbol) → is_declared hs s ≡ is_declared gs s
+  declared_stays [] [] z s = refl
+  declared_stays [] (h ∷ hs) z s = absurd z
+  declared_stays (g ∷ gs) [] z s = absurd z
+  declared_stays (g ∷ gs) (h ∷ hs) z s = ap₂ (λ (u : Symbol). λ (b : Bool). symbol_eq u s || b) (same_symbol g h z.0) (declared_stays gs hs z.1 s)
+
+  kind_follows : (s : Symbol) (b c : Bool) (d e : Option Definition) → c ≡ b → Follows d e → kind_of c s e ≡ kind_of b s d
+  kind_follows s b c None None same h = ap (λ (x : Bool). kind_of x s None) same
+  kind_follows s b c (Some (Body f)) (Some (Body g)) same h = ap₂ AFunction h.params h.result
+  kind_follows s b c (Some (Storage k v init)) (Some (Storage l w other)) same h = ap AVariable h.0
+  kind_follows s b c None (Some e) same h = absurd h
+  kind_follows s b c (Some (Body f)) None same h = absurd h
+  kind_follows s b c (Some (Body f)) (Some (Storage l w other)) same h = absurd h
+  kind_follows s b c (Some (Storage k v init)) None same h = absurd h
+  kind_follows s b c (Some (Storage k v init)) (Some (Body g)) same h = absurd h
 
   code_follows : (d e : Option Definition) → Follows d e → Replaces p bound (code_of e) (code_of d)
   code_follows None None h = tt
@@ -124,6 +140,9 @@ module _ (p : Program) (bound : ℕ) where
   opening_follows value (g ∷ gs) (h ∷ hs) z =
       storage_follows value (defined 0 g) (defined 0 h) (opening_from value gs) (opening_from value hs) (one_follows 0 g h z.0) (opening_follows value gs hs z.1)
 
+pub improved_once : ImprovedIsOnce
+improved_once p bound gs hs z once = subst (λ (ss : List Symbol). Distinct ss) (sym (symbols_stay p bound gs hs z)) once
+
 pub improved : ImprovedIsBetter
 improved gs hs bound z = record {
   signature = same;
@@ -133,5 +152,6 @@ improved gs hs bound z = record {
   where
     same : signature_of hs ≡ signature_of gs
     same = λ i. record {
-      kind = λ s. kind_follows (program_of gs) bound s (definition_of gs s) (definition_of hs s) (follows (program_of gs) bound gs hs 0 z s) i;
+      kind = λ s. kind_follows (program_of gs) bound s (is_declared gs s) (is_declared hs s) (definition_of gs s) (definition_of hs s)
+          (declared_stays (program_of gs) bound gs hs z s) (follows (program_of gs) bound gs hs 0 z s) i;
     }

@@ -26,7 +26,7 @@ use Rattle.ir_program.specs.Programs.{symbol_of}
 use Rattle.symbol_resolve.specs.Resolved.{Symbols, symbols}
 use Rattle.merge_meaning.specs.Globals.{function_under, global_under, initial_under, initials_under, named_by}
 use Rattle.merge_meaning.specs.Kept.{given_each, given_in, head_under, is_kept, merged_in, names_from, part_under, prevails_in}
-use Rattle.merge_meaning.specs.Merged.{given_by, is_own, merged_from, merged_globals, prevails_as, standing_of, symbol_by, symbol_in}
+use Rattle.merge_meaning.specs.Merged.{given_by, is_own, merged_from, prevails_as, standing_of, symbol_by, symbol_in}
 use Rattle.merge_meaning.proofs.Own.{left, same_symbols}
 use Rattle.merge_meaning.proofs.Table.{table_names}
 
@@ -163,7 +163,7 @@ merged_kept_from ms k [] = refl
 merged_kept_from ms k (m ∷ rest) =
     ap₂ (λ (x : List GlobalValue). λ (y : List GlobalValue). x ++ y) (given_kept ms k m.globals) (merged_kept_from ms (suc k) rest)
 
-pub merged_kept : (ms : List Module) → merged_in (symbols ms) 0 ms ≡ merged_globals ms
+pub merged_kept : (ms : List Module) → merged_in (symbols ms) 0 ms ≡ merged_from ms 0 ms
 merged_kept ms = merged_kept_from ms 0 ms
 
 -- ---- one after another

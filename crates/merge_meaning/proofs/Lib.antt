@@ -1,5 +1,6 @@
 pub mod Names
 pub mod Looked
+pub mod Hosting
 pub mod Constants
 pub mod Unnamed
 pub mod Improved
@@ -8,6 +9,8 @@ pub mod Table
 pub mod OneModule
 pub mod Emission
 pub mod Prevailing
+pub mod Once
 pub mod Reordered
 pub mod Own
 pub mod Kept
+pub mod Runs

@@ -1,5 +1,6 @@
 -- Looking up: where a symbol's definition stands, and which number its variable has.
 use Rattle.std.proofs.Common.{◌≡◌, ℕ, zero, suc, ◌+◌, ◌<◌, ◌≤◌, Bool, true, false, cond, List, [], ◌∷◌, length, option_map, Option, Some, None, slice_get, codes, bytes_eq, ◌⊎◌, inl, inr, refl, sym, ap, ◌∙◌, subst, arith}
+use Rattle.std.proofs.lemmas.Map.Keys.{any_passes_from_place}
 use Rattle.std.proofs.lemmas.Option.{get_or_from_slice_get, slice_get-map}
 use Rattle.std.proofs.lemmas.Slice.Eq.{bytes_eq-Decides}
 use Rattle.ir_tree.specs.Formed.{Distinct}
@@ -14,10 +15,10 @@ use Rattle.ir_tree.specs.declared.operand.Operand.{Operand}
 use Rattle.ir_tree.specs.declared.operand.Symbol.{Symbol}
 use Rattle.ir_meaning.specs.Frame.{AFunction, AHost, AVariable, GetChar, Kind, Missing, PutChar}
 use Rattle.ir_meaning.specs.Memory.{Memory}
-use Rattle.ir_meaning.specs.Symbols.{symbol_eq}
+use Rattle.ir_tree.specs.Symbols.{symbol_eq}
 use Rattle.ir_meaning.specs.declared.value.Value.{Value}
-use Rattle.ir_better.proofs.Names.Moved.{symbol_same, symbol_true}
-use Rattle.ir_program.specs.Programs.{Body, Definition, Storage, behind, block_of, body_of, code_of, defined, definition_from, definition_of, kind_of, opening_from, or_else, program_of, signature_of, storage_in, storage_of, symbol_of, undefined_kind}
+use Rattle.ir_tree.proofs.Symbols.{symbol_same, symbol_true}
+use Rattle.ir_program.specs.Programs.{Body, Definition, Storage, behind, block_of, body_of, code_of, defined, defined_blocks, defined_init, definition_from, definition_of, is_declared, kind_of, opening_from, or_else, program_of, signature_of, storage_in, storage_of, symbol_of, undefined_kind}
 use Rattle.merge_meaning.specs.Linked.{stored_symbol, symbol_at, variable_symbols}
 
 pub some_is : {X : Type 0} (a b : X) → ◌≡◌ {A = Option X} (Some a) (Some b) → a ≡ b
@@ -99,8 +100,8 @@ module _ (value : Operand → Value) (s : Symbol) (k : ℕ) (v : Variable) (init
   placed_from : (gs : List GlobalValue) (n : ℕ) → definition_from n gs s ≡ Some (Storage k v init)
       → Placed value s k v init n (variable_symbols gs) (opening_from value gs)
   placed_from [] n e = absurd (cc e)
-  placed_from (global.Function f ∷ gs) n e = placed_body n f gs f.blocks (symbol_eq f.symbol s) (λ m. placed_from gs m) e
-  placed_from (global.Variable w ∷ gs) n e = placed_storage n w gs w.init (symbol_eq w.symbol s) refl (λ m. placed_from gs m) e
+  placed_from (global.Function f ∷ gs) n e = placed_body n f gs (defined_blocks f) (symbol_eq f.symbol s) (λ m. placed_from gs m) e
+  placed_from (global.Variable w ∷ gs) n e = placed_storage n w gs (defined_init w) (symbol_eq w.symbol s) refl (λ m. placed_from gs m) e
 
   pub placed : (gs : List GlobalValue) → definition_of gs s ≡ Some (Storage k v init)
       → (slice_get (variable_symbols gs) k ≡ Some s) × (slice_get (opening_from value gs) k ≡ Some (block_of value v init))
@@ -175,8 +176,8 @@ owned_body : (f : Function) (gs : List GlobalValue) (s : Symbol) (n i : ℕ) →
 owned_body f gs s n i other (v, init, e) = (
   v,
   init,
-  skipped (symbol_eq f.symbol s) (body_of f.blocks f) (definition_from (behind n (body_of f.blocks f)) gs s) other
-      ∙ ap (λ (m : ℕ). definition_from m gs s) (body_behind n f f.blocks)
+  skipped (symbol_eq f.symbol s) (body_of (defined_blocks f) f) (definition_from (behind n (body_of (defined_blocks f) f)) gs s) other
+      ∙ ap (λ (m : ℕ). definition_from m gs s) (body_behind n f (defined_blocks f))
       ∙ e,
 )
 
@@ -212,11 +213,11 @@ unstored f gs s i (b ∷ bs) e = e
 owned_from : (gs : List GlobalValue) (s : Symbol) → Distinct (symbols gs) → (n i : ℕ) → slice_get (variable_symbols gs) i ≡ Some s → Owns gs s n i
 owned_from [] s once n i e = absurd (cc e)
 owned_from (global.Function f ∷ gs) s once n i e =
-    let there : slice_get (variable_symbols gs) i ≡ Some s = unstored f gs s i f.blocks e in
+    let there : slice_get (variable_symbols gs) i ≡ Some s = unstored f gs s i (defined_blocks f) e in
     owned_body f gs s n i (not_first f.symbol s (symbols gs) once (stored_stands gs i s there))
     (owned_from gs s (others_once f.symbol (symbols gs) once) n i there)
 owned_from (global.Variable w ∷ gs) s once n i e =
-    owned_storage w gs s n i w.init (λ j at. not_first w.symbol s (symbols gs) once (stored_stands gs j s at))
+    owned_storage w gs s n i (defined_init w) (λ j at. not_first w.symbol s (symbols gs) once (stored_stands gs j s at))
     (λ m j. owned_from gs s (others_once w.symbol (symbols gs) once) m j) e
 
 pub owned : (gs : List GlobalValue) → Distinct (symbols gs) → (l : ℕ) (s : Symbol) → slice_get (variable_symbols gs) l ≡ Some s
@@ -258,21 +259,30 @@ known_host None name ss h = (refl, by (bytes_eq name (codes "putchar")) refl (by
         omega (arith, same, least)
     by false e false f h = absurd (h refl)
 
+-- what isn't defined and is known is a function of the outside
+pub outside : (declared : Bool) (s : Symbol) → (kind_of declared s None ≡ Missing → ⊥) → undefined_kind s.home s.name ≡ Missing → ⊥
+outside true s h = h
+outside false s h = absurd (h refl)
+
+unknown : (declared : Bool) (s : Symbol) → undefined_kind s.home s.name ≡ Missing → kind_of declared s None ≡ Missing
+unknown true s e = e
+unknown false s e = refl
+
 -- what is known is defined, or a function of the outside
 pub known : (gs : List GlobalValue) (s : Symbol) → ((signature_of gs).kind s ≡ Missing → ⊥)
     → ((d : Definition) × (definition_of gs s ≡ Some d)) ⊎ ((definition_of gs s ≡ None) × (s.home ≡ None))
 known gs s h = by (definition_of gs s) refl h
   where
-    by : (o : Option Definition) → definition_of gs s ≡ o → (kind_of s o ≡ Missing → ⊥)
+    by : (o : Option Definition) → definition_of gs s ≡ o → (kind_of (is_declared gs s) s o ≡ Missing → ⊥)
         → ((d : Definition) × (definition_of gs s ≡ Some d)) ⊎ ((definition_of gs s ≡ None) × (s.home ≡ None))
-    by None e h = inr (e, (known_host s.home s.name [] h).0)
+    by None e h = inr (e, (known_host s.home s.name [] (outside (is_declared gs s) s h)).0)
     by (Some d) e h = inl (d, e)
 
 pub known_short : (gs : List GlobalValue) (s : Symbol) → ((signature_of gs).kind s ≡ Missing → ⊥) → length s.name ≤ weight (symbols gs)
 known_short gs s h = by (definition_of gs s) refl h
   where
-    by : (o : Option Definition) → definition_of gs s ≡ o → (kind_of s o ≡ Missing → ⊥) → length s.name ≤ weight (symbols gs)
-    by None e h = (known_host s.home s.name (symbols gs) h).1
+    by : (o : Option Definition) → definition_of gs s ≡ o → (kind_of (is_declared gs s) s o ≡ Missing → ⊥) → length s.name ≤ weight (symbols gs)
+    by None e h = (known_host s.home s.name (symbols gs) (outside (is_declared gs s) s h)).1
     by (Some d) e h = let at = stands gs s d e in weighed (symbols gs) at.0 s at.1
 
 pub long_unknown : (gs : List GlobalValue) (s : Symbol) → weight (symbols gs) < length s.name
@@ -285,8 +295,8 @@ long_unknown gs s long = by (definition_of gs s) refl
     host (AVariable number) e = let short = (known_host s.home s.name (symbols gs) (λ m. cc (e, m))).1 in absurd (omega (arith, long, short))
     host (AHost h) e = let short = (known_host s.home s.name (symbols gs) (λ m. cc (e, m))).1 in absurd (omega (arith, long, short))
 
-    by : (o : Option Definition) → definition_of gs s ≡ o → (kind_of s o ≡ Missing) × (code_of o ≡ None)
-    by None e = (host (undefined_kind s.home s.name) refl, refl)
+    by : (o : Option Definition) → definition_of gs s ≡ o → (kind_of (is_declared gs s) s o ≡ Missing) × (code_of o ≡ None)
+    by None e = (unknown (is_declared gs s) s (host (undefined_kind s.home s.name) refl), refl)
     by (Some d) e = let at = stands gs s d e in let short = weighed (symbols gs) at.0 s at.1 in absurd (omega (arith, long, short))
 
 -- ---- a definition that is found
@@ -319,6 +329,17 @@ found (g ∷ gs) n s d e = by (symbol_eq (symbol_of g) s) refl e (λ m. found gs
         either : (defined n g ≡ Some d) ⊎ (definition_from (behind n (defined n g)) gs s ≡ Some d) → Found (g ∷ gs) s d
         either (inl here) = record { g = g; j = 0; n = n; at = refl; symbol = symbol_true (symbol_of g) s same; is = here }
         either (inr there) = found_later g gs s d (later (behind n (defined n g)) there)
+
+-- what is known is declared
+pub known_declared : (gs : List GlobalValue) (s : Symbol) → ((signature_of gs).kind s ≡ Missing → ⊥) → is_declared gs s ≡ true
+known_declared gs s h = by (is_declared gs s) refl (definition_of gs s) refl h
+  where
+    by : (b : Bool) → is_declared gs s ≡ b → (o : Option Definition) → definition_of gs s ≡ o → (kind_of b s o ≡ Missing → ⊥) → is_declared gs s ≡ true
+    by true e o f h = e
+    by false e None f h = absurd (h refl)
+    by false e (Some d) f h =
+        let x = found gs 0 s d f in
+        any_passes_from_place (λ (g : GlobalValue). symbol_eq (symbol_of g) s) gs x.j x.g x.at (symbol_same (symbol_of x.g) s x.symbol)
 
 pub took : (b : Bool) (o later : Option Definition) (d : Definition) → b ≡ true → o ≡ Some d → or_else (cond b o None) later ≡ o
 took true (Some c) later d e f = refl

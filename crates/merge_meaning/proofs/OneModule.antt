@@ -1,8 +1,9 @@
 -- The merged program of one module is the program of its global values.
-use Rattle.std.proofs.Common.{◌≡◌, ◌≢◌, ℕ, zero, suc, Bool, true, false, ◌&&◌, ◌||◌, cond, is_none, nat_eq, if◌then◌else◌, List, [], ◌∷◌, ◌++◌, map, filter, flat_map, option_map, Option, Some, None, slice_get, bytes_eq, refl, sym, ap, ap₂, ◌∙◌, subst, append-nil}
+use Rattle.std.proofs.Common.{◌≡◌, ℕ, zero, suc, Bool, true, false, ◌&&◌, ◌||◌, cond, is_none, nat_eq, if◌then◌else◌, List, [], ◌∷◌, ◌++◌, map, filter, flat_map, option_map, Option, Some, None, slice_get, bytes_eq, refl, sym, ap, ap₂, ◌∙◌, subst, append-nil}
 use Rattle.std.proofs.lemmas.Bool.{and_from}
 use Rattle.std.specs.Option.{option_eq}
 use Rattle.std.proofs.lemmas.Slice.Eq.{bytes_eq-Decides}
+use Rattle.ir_tree.specs.Linkages.{defines}
 use Rattle.ir_tree.specs.Initials.{Initial, plain, zeros, bytes, elements, members, Initials, no_initials, initial}
 use Rattle.ir_tree.specs.declared.block.Block.{Block}
 use Rattle.ir_tree.specs.declared.function.Linkage.{Linkage}
@@ -12,12 +13,11 @@ use Rattle.ir_tree.specs.declared.module.GlobalValue.TheVariants as global
 use Rattle.ir_tree.specs.declared.module.Module.{Module}
 use Rattle.ir_tree.specs.declared.operand.Operand.{Operand}
 use Rattle.ir_tree.specs.declared.operand.Symbol.{Symbol}
-use Rattle.ir_meaning.specs.Frame.{Signature, value_of}
 use Rattle.ir_meaning.specs.Refine.{Naming}
-use Rattle.ir_meaning.specs.Symbols.{symbol_eq}
+use Rattle.ir_tree.specs.Symbols.{symbol_eq}
 use Rattle.ir_meaning.specs.declared.value.Value.{Value}
 use Rattle.ir_better.specs.Rename.{block_under}
-use Rattle.ir_program.specs.Programs.{Definition, behind, body_of, code_of, defined, definition_from, definition_of, kind_of, opening_from, or_else, program_of, signature_of, storage_in, storage_of, symbol_of}
+use Rattle.ir_program.specs.Programs.{Definition, behind, body_of, defined, definition_from, opening_from, or_else, program_of, storage_in, storage_of, symbol_of}
 use Rattle.symbol_resolve.specs.Mentions.{Mention, function_standing, is_strong, is_weak, mention, mentioned, mentions, modules_with, standing_of as standing_with, variable_standing}
 use Rattle.symbol_resolve.specs.Prevailing.{first, or_else as either, prevailing}
 use Rattle.symbol_resolve.specs.declared.mention.Kind.{Kind}
@@ -25,21 +25,12 @@ use Rattle.symbol_resolve.specs.declared.mention.Kind.TheVariants as kind
 use Rattle.symbol_resolve.specs.declared.mention.Standing.{Standing}
 use Rattle.symbol_resolve.specs.declared.mention.Standing.TheVariants as standing
 use Rattle.merge_meaning.specs.Globals.{function_under, global_under, initial_under, initials_under, named_by, variable_under}
-use Rattle.merge_meaning.specs.Laws.{NoCopies, NoLocals, OneModule, OneModuleOfAll, linkage_of}
-use Rattle.merge_meaning.specs.Merged.{given_by, is_own, local_to, prevails, prevails_as, standing_of, symbol_in}
+use Rattle.merge_meaning.specs.Laws.{NoLocals, OneModule, OneModuleOfAll}
+use Rattle.merge_meaning.specs.Merged.{given_by, is_own, local_to, prevails, prevails_as, standing_of, symbol_in, with_hosts}
+use Rattle.merge_meaning.proofs.Hosting.{same_hosted}
 use Rattle.merge_meaning.proofs.Names.{Stays, blocks_stay, clash, operand_stays}
 
--- ---- lists that mean one program
-
-same_program : (gs hs : List GlobalValue) → ((s : Symbol) → definition_of gs s ≡ definition_of hs s)
-    → ((value : Operand → Value) → opening_from value gs ≡ opening_from value hs) → program_of gs ≡ program_of hs
-same_program gs hs defs opens = λ i. record { signature = signatures i; code = λ s. code_of (defs s i); opening = memory i }
-  where
-    signatures : signature_of gs ≡ signature_of hs
-    signatures = λ i. record { kind = λ s. kind_of s (defs s i) }
-
-    memory : opening_from (value_of (signature_of gs) []) gs ≡ opening_from (value_of (signature_of hs) []) hs
-    memory = opens (value_of (signature_of gs) []) ∙ ap (λ (sig : Signature). opening_from (value_of sig []) hs) signatures
+-- ---- what is dropped is declared alone
 
 module _ (change : GlobalValue → GlobalValue) (keeps : GlobalValue → Bool) where
   -- what is dropped is a declaration
@@ -74,9 +65,9 @@ module _ (change : GlobalValue → GlobalValue) (keeps : GlobalValue → Bool) w
       by true e rest = ap (storage_in value (defined 0 (change g))) rest
       by false e rest = rest ∙ sym (ap (λ (d : Option Definition). storage_in value d (opening_from value (map change gs))) (h.0 e 0))
 
-  kept_program : (gs : List GlobalValue) → Drops gs → program_of (map change (filter keeps gs)) ≡ program_of (map change gs)
+  kept_program : (gs : List GlobalValue) → Drops gs → program_of (with_hosts (map change (filter keeps gs))) ≡ program_of (with_hosts (map change gs))
   kept_program gs h =
-      same_program (map change (filter keeps gs)) (map change gs) (kept_definition gs h 0) (λ value. kept_opening value gs h)
+      same_hosted (map change (filter keeps gs)) (map change gs) (kept_definition gs h 0) (λ value. kept_opening value gs h)
 
 -- ---- mentions in module 0
 
@@ -195,32 +186,40 @@ declared_copy linkage.Weak e = absurd (cc e)
 declared_copy linkage.WeakOdr e = absurd (cc e)
 declared_copy linkage.AvailableExternally e = refl
 
--- what isn't a copy of another module's and counts as a declaration is one
-declares : (t : Naming) (g : GlobalValue) → linkage_of g ≢ linkage.AvailableExternally → standing_of g ≡ Some standing.Declared
-    → (n : ℕ) → defined n (global_under t g) ≡ None
-declares t (global.Function f) own e n = by f.blocks e
+-- what counts as a declaration is one
+declares : (t : Naming) (g : GlobalValue) → standing_of g ≡ Some standing.Declared → (n : ℕ) → defined n (global_under t g) ≡ None
+declares t (global.Function f) e n = by f.blocks e
   where
-    by : (blocks : List Block) → function_standing blocks f.linkage ≡ Some standing.Declared → body_of (map (block_under t) blocks) (function_under t f) ≡ None
-    by [] e = refl
-    by (b ∷ bs) e = absurd (own (declared_copy f.linkage e))
-declares t (global.Variable v) own e n = by v.init e
-  where
-    by : (init : Option Initial) → variable_standing init v.linkage ≡ Some standing.Declared → storage_of (option_map (initial_under t) init) n (variable_under t v) ≡ None
-    by None e = refl
-    by (Some init) e = absurd (own (declared_copy v.linkage e))
+    none : (counts : Bool) → body_of (cond counts [] []) (function_under t f) ≡ None
+    none true = refl
+    none false = refl
 
-drops : (m : Module) (gs : List GlobalValue) → ((j : ℕ) (g : GlobalValue) → slice_get gs j ≡ Some g → (i : ℕ) × (slice_get m.globals i ≡ Some g)) → NoCopies gs
+    by : (blocks : List Block) → function_standing blocks f.linkage ≡ Some standing.Declared → body_of (cond (defines f.linkage) (map (block_under t) blocks) []) (function_under t f) ≡ None
+    by [] e = none (defines f.linkage)
+    by (b ∷ bs) e = ap (λ (l : Linkage). body_of (cond (defines l) (map (block_under t) (b ∷ bs)) []) (function_under t f)) (declared_copy f.linkage e)
+declares t (global.Variable v) e n = by v.init e
+  where
+    none : (counts : Bool) → storage_of (cond counts None None) n (variable_under t v) ≡ None
+    none true = refl
+    none false = refl
+
+    by : (init : Option Initial) → variable_standing init v.linkage ≡ Some standing.Declared
+        → storage_of (cond (defines v.linkage) (option_map (initial_under t) init) None) n (variable_under t v) ≡ None
+    by None e = none (defines v.linkage)
+    by (Some init) e = ap (λ (l : Linkage). storage_of (cond (defines l) (Some (initial_under t init)) None) n (variable_under t v)) (declared_copy v.linkage e)
+
+drops : (m : Module) (gs : List GlobalValue) → ((j : ℕ) (g : GlobalValue) → slice_get gs j ≡ Some g → (i : ℕ) × (slice_get m.globals i ≡ Some g))
     → Drops (global_under (named_by (symbol_in 0 m.globals))) (prevails (m ∷ []) 0) gs
-drops m [] inside own = tt
-drops m (g ∷ gs) inside own = (
-  λ no' n. declares (named_by (symbol_in 0 m.globals)) g own.0 (not_prevailing m (inside 0 g refl).0 g (inside 0 g refl).1 no') n,
-  drops m gs (λ j h e. inside (suc j) h e) own.1,
+drops m [] inside = tt
+drops m (g ∷ gs) inside = (
+  λ no' n. declares (named_by (symbol_in 0 m.globals)) g (not_prevailing m (inside 0 g refl).0 g (inside 0 g refl).1 no') n,
+  drops m gs (λ j h e. inside (suc j) h e),
 )
 
 pub one_module : OneModule
-one_module m own =
-    ap program_of (append-nil (given_by (m ∷ []) 0 m.globals))
-    ∙ kept_program (global_under (named_by (symbol_in 0 m.globals))) (prevails (m ∷ []) 0) m.globals (drops m m.globals (λ j g e. (j, e)) own)
+one_module m =
+    ap (λ (gs : List GlobalValue). program_of (with_hosts gs)) (append-nil (given_by (m ∷ []) 0 m.globals))
+    ∙ kept_program (global_under (named_by (symbol_in 0 m.globals))) (prevails (m ∷ []) 0) m.globals (drops m m.globals (λ j g e. (j, e)))
 
 -- ---- a module without locals
 
@@ -259,7 +258,7 @@ globals_stay t h [] = refl
 globals_stay t h (g ∷ gs) = ap₂ (λ (x : GlobalValue). λ (xs : List GlobalValue). x ∷ xs) (global_stays t h g) (globals_stay t h gs)
 
 pub one_module_of_all : OneModuleOfAll
-one_module_of_all m own shared = one_module m own ∙ ap program_of (globals_stay (named_by (symbol_in 0 m.globals)) stays m.globals)
+one_module_of_all m shared = one_module m ∙ ap (λ (gs : List GlobalValue). program_of (with_hosts gs)) (globals_stay (named_by (symbol_in 0 m.globals)) stays m.globals)
   where
     stays : Stays (named_by (symbol_in 0 m.globals))
     stays s = ap (λ (b : Bool). if b then local_to 0 s.name else s) (no_own m.globals shared s.name)

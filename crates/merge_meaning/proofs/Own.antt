@@ -4,11 +4,26 @@ use Rattle.std.proofs.lemmas.Cmp.{nat_list_eq_equiv}
 use Rattle.std.specs.List.{list_any}
 use Rattle.std.specs.Str.{bytes_eq}
 use Rattle.indexmap.specs.IndexSet.{insert_key}
+use Rattle.ir_tree.specs.Linkages.{is_local}
+use Rattle.ir_tree.specs.declared.function.Linkage.{Linkage}
+use Rattle.ir_tree.specs.declared.function.Linkage.TheVariants as linkage
 use Rattle.ir_tree.specs.declared.module.GlobalValue.{GlobalValue}
 use Rattle.ir_tree.specs.declared.operand.Symbol.{Symbol}
 use Rattle.ir_program.specs.Programs.{symbol_of}
+use Rattle.symbol_resolve.specs.Mentions.{standing_of as standing_with}
 use Rattle.merge_meaning.specs.Kept.{is_kept}
 use Rattle.merge_meaning.specs.Merged.{is_own, standing_of, symbol_by, symbol_in}
+
+-- what only its module sees is no mention
+pub local_standing : (l : Linkage) → is_local l ≡ is_none (standing_with l)
+local_standing linkage.Private = refl
+local_standing linkage.Internal = refl
+local_standing linkage.External = refl
+local_standing linkage.Linkonce = refl
+local_standing linkage.LinkonceOdr = refl
+local_standing linkage.Weak = refl
+local_standing linkage.WeakOdr = refl
+local_standing linkage.AvailableExternally = refl
 
 abbrev alike : Bor (List ℕ) → Bor (List ℕ) → Bool
 alike x y = bytes_eq x.now y.now

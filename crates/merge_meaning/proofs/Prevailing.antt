@@ -5,33 +5,37 @@ use Rattle.std.proofs.lemmas.Map.Keys.{any_passes_from_place}
 use Rattle.std.proofs.lemmas.Option.{get_or_from_slice_get, slice_get_within}
 use Rattle.std.proofs.lemmas.Slice.Eq.{bytes_eq-Decides}
 use Rattle.std.specs.Option.{option_eq}
+use Rattle.ir_tree.specs.Linkages.{defines}
 use Rattle.ir_tree.specs.Initials.{Initial}
 use Rattle.ir_tree.specs.Wholes.{Whole, symbols}
 use Rattle.ir_tree.specs.declared.block.Block.{Block}
+use Rattle.ir_tree.specs.declared.function.Linkage.{Linkage}
+use Rattle.ir_tree.specs.declared.function.Linkage.TheVariants as linkage
 use Rattle.ir_tree.specs.declared.module.GlobalValue.{GlobalValue}
 use Rattle.ir_tree.specs.declared.module.GlobalValue.TheVariants as global
 use Rattle.ir_tree.specs.declared.module.Module.{Module}
 use Rattle.ir_tree.specs.declared.operand.Symbol.{Symbol}
 use Rattle.ir_meaning.specs.Refine.{Naming}
-use Rattle.ir_meaning.specs.Symbols.{symbol_eq}
+use Rattle.ir_tree.specs.Symbols.{symbol_eq}
 use Rattle.ir_better.specs.Rename.{block_under}
-use Rattle.ir_better.proofs.Names.Moved.{symbol_same, symbol_true}
+use Rattle.ir_tree.proofs.Symbols.{symbol_same, symbol_true}
 use Rattle.ir_program.specs.Programs.{Body, Definition, Storage, behind, body_of, defined, definition_from, storage_of, symbol_of}
-use Rattle.symbol_resolve.specs.Mentions.{function_standing, mentions, variable_standing}
+use Rattle.symbol_resolve.specs.Mentions.{function_standing, mentions, standing_of as standing_with, variable_standing}
 use Rattle.symbol_resolve.specs.Prevailing.{prevailing}
 use Rattle.symbol_resolve.specs.declared.mention.Standing.{Standing}
 use Rattle.symbol_resolve.specs.declared.mention.Standing.TheVariants as standing
 use Rattle.merge_meaning.specs.Globals.{function_under, global_under, initial_under, named_by, variable_under}
 use Rattle.merge_meaning.specs.Laws.{AllWhole, DefinedPrevails, IsGivenBy, PrevailingIsDefined, taken_in}
-use Rattle.merge_meaning.specs.Merged.{given_by, is_own, local_to, merged_from, merged_globals, prevails, prevails_as, standing_of, symbol_in}
+use Rattle.merge_meaning.specs.Merged.{given_by, is_own, local_to, merged_from, prevails, prevails_as, standing_of, symbol_in}
 use Rattle.merge_meaning.proofs.Emission.{symbol_under}
+use Rattle.merge_meaning.proofs.Hosting.{hosts_defined}
 use Rattle.merge_meaning.proofs.Looked.{found, skipped, some_is, symbol_stands, took}
 use Rattle.merge_meaning.proofs.Names.{clash, not_true}
 
 -- ---- what is defined was given by some module
 
 -- what stands in two lists in a row stands in one of them
-in_either : {X : Type 0} (xs ys : List X) (j : ℕ) (x : X) → slice_get (xs ++ ys) j ≡ Some x → ((i : ℕ) × (slice_get xs i ≡ Some x)) ⊎ ((i : ℕ) × (slice_get ys i ≡ Some x))
+pub in_either : {X : Type 0} (xs ys : List X) (j : ℕ) (x : X) → slice_get (xs ++ ys) j ≡ Some x → ((i : ℕ) × (slice_get xs i ≡ Some x)) ⊎ ((i : ℕ) × (slice_get ys i ≡ Some x))
 in_either [] ys j x e = inr (j, e)
 in_either (y ∷ xs) ys zero x e = inl (0, e)
 in_either (y ∷ xs) ys (suc j) x e = by (in_either xs ys j x e)
@@ -41,7 +45,7 @@ in_either (y ∷ xs) ys (suc j) x e = by (in_either xs ys j x e)
     by (inr (i, at)) = inr (i, at)
 
 -- what stands in a filtered and changed list comes from one that passes
-from_kept : {X Y : Type 0} (change : X → Y) (keeps : X → Bool) (xs : List X) (j : ℕ) (y : Y) → slice_get (map change (filter keeps xs)) j ≡ Some y
+pub from_kept : {X Y : Type 0} (change : X → Y) (keeps : X → Bool) (xs : List X) (j : ℕ) (y : Y) → slice_get (map change (filter keeps xs)) j ≡ Some y
     → (x : X) × (i : ℕ) × (slice_get xs i ≡ Some x) × (keeps x ≡ true) × (change x ≡ y)
 from_kept {X = X} {Y = Y} change keeps [] j y e = absurd (cc e)
 from_kept {X = X} {Y = Y} change keeps (z ∷ xs) j y e = by (keeps z) refl j e (λ i. from_kept change keeps xs i y)
@@ -58,17 +62,17 @@ from_kept {X = X} {Y = Y} change keeps (z ∷ xs) j y e = by (keeps z) refl j e 
     by false k j e rest = later (rest j e)
 
 -- a global value of the merged ones, and the module that gives it
-record Given (ms : List Module) (from : ℕ) (rest : List Module) (g : GlobalValue) : Type 0 where
-  i : ℕ
-  m : Module
-  h : GlobalValue
-  number : slice_get rest i ≡ Some m
-  place : ℕ
-  stands : slice_get m.globals place ≡ Some h
-  kept : prevails ms (from + i) h ≡ true
-  is : taken_in (from + i) m h ≡ g
+pub record Given (ms : List Module) (from : ℕ) (rest : List Module) (g : GlobalValue) : Type 0 where
+  pub i : ℕ
+  pub m : Module
+  pub h : GlobalValue
+  pub number : slice_get rest i ≡ Some m
+  pub place : ℕ
+  pub stands : slice_get m.globals place ≡ Some h
+  pub kept : prevails ms (from + i) h ≡ true
+  pub is : taken_in (from + i) m h ≡ g
 
-given : (ms : List Module) (from : ℕ) (rest : List Module) (j : ℕ) (g : GlobalValue) → slice_get (merged_from ms from rest) j ≡ Some g → Given ms from rest g
+pub given : (ms : List Module) (from : ℕ) (rest : List Module) (j : ℕ) (g : GlobalValue) → slice_get (merged_from ms from rest) j ≡ Some g → Given ms from rest g
 given ms from [] j g e = absurd (cc e)
 given ms from (m ∷ rest) j g e =
     by (in_either (given_by ms from m.globals) (merged_from ms (suc from) rest) j g e) (λ i. given ms (suc from) rest i g)
@@ -109,7 +113,7 @@ given ms from (m ∷ rest) j g e =
 
 pub defined_prevails : DefinedPrevails
 defined_prevails ms s d e =
-    let f = found (merged_globals ms) 0 s d e in
+    let f = found (merged_from ms 0 ms) 0 s d (sym (hosts_defined (merged_from ms 0 ms) s) ∙ e) in
     let o = given ms 0 ms f.j f.g f.at in
     let number : 0 + o.i ≡ o.i = omega arith in
     let taken : taken_in o.i o.m o.h ≡ f.g = subst (λ (x : ℕ). taken_in x o.m o.h ≡ f.g) number o.is in (
@@ -124,7 +128,7 @@ defined_prevails ms s d e =
 
 -- ---- one symbol, one definition
 
-at_place : {X : Type 0} (P : X → Type 0) (xs : List X) (i : ℕ) (x : X) → All P xs → slice_get xs i ≡ Some x → P x
+pub at_place : {X : Type 0} (P : X → Type 0) (xs : List X) (i : ℕ) (x : X) → All P xs → slice_get xs i ≡ Some x → P x
 at_place P xs i x all e = subst P (get_or_from_slice_get xs i x x e) (all i x (slice_get_within xs i x e))
 
 homeless : (gs : List GlobalValue) → Whole gs → (i : ℕ) (g : GlobalValue) → slice_get gs i ≡ Some g → (symbol_of g).home ≡ None
@@ -171,7 +175,7 @@ same_names : (k l : ℕ) (gs hs : List GlobalValue) (s u : Symbol) → symbol_in
 same_names k l gs hs s u e = sym (name_in k gs s) ∙ ap (λ (x : Symbol). x.name) e ∙ name_in l hs u
 
 -- of one symbol one module gives the definition
-same_module : (ms : List Module) → AllWhole ms → (k l : ℕ) (m n : Module) (i j : ℕ) (g h : GlobalValue) → slice_get ms k ≡ Some m → slice_get ms l ≡ Some n
+pub same_module : (ms : List Module) → AllWhole ms → (k l : ℕ) (m n : Module) (i j : ℕ) (g h : GlobalValue) → slice_get ms k ≡ Some m → slice_get ms l ≡ Some n
     → slice_get m.globals i ≡ Some g → slice_get n.globals j ≡ Some h → prevails ms k g ≡ true → prevails ms l h ≡ true
     → symbol_in k m.globals (symbol_of g) ≡ symbol_in l n.globals (symbol_of h) → k ≡ l
 same_module ms whole k l m n i j g h at_k at_l at_i at_j kept kept' e =
@@ -195,7 +199,7 @@ same_module ms whole k l m n i j g h at_k at_l at_i at_j kept kept' e =
         (subst (λ (x : List ℕ). option_eq nat_eq (prevailing (mentions ms) x) (Some l) ≡ true)
         (sym (same_names k l m.globals n.globals (symbol_of g) (symbol_of h) e)) (chosen_for ms l n.globals j h at_j kept' b))
 
-same_place : (gs : List GlobalValue) → Whole gs → (k i j : ℕ) (g h : GlobalValue) → slice_get gs i ≡ Some g → slice_get gs j ≡ Some h
+pub same_place : (gs : List GlobalValue) → Whole gs → (k i j : ℕ) (g h : GlobalValue) → slice_get gs i ≡ Some g → slice_get gs j ≡ Some h
     → symbol_in k gs (symbol_of g) ≡ symbol_in k gs (symbol_of h) → i ≡ j
 same_place gs whole k i j g h at_i at_j e =
     let same : symbol_of h ≡ symbol_of g =
@@ -242,20 +246,37 @@ module _ (change : GlobalValue → GlobalValue) (keeps : GlobalValue → Bool) (
           )
       by false k rest = rest n
 
+-- what prevails counts
+counted : (chosen : Option ℕ) (k : ℕ) (l : Linkage) → prevails_as chosen k (standing_with l) ≡ true → defines l ≡ true
+counted chosen k linkage.Private p = refl
+counted chosen k linkage.Internal p = refl
+counted chosen k linkage.External p = refl
+counted chosen k linkage.Linkonce p = refl
+counted chosen k linkage.LinkonceOdr p = refl
+counted chosen k linkage.Weak p = refl
+counted chosen k linkage.WeakOdr p = refl
+counted chosen k linkage.AvailableExternally p = absurd (cc p)
+
 -- what prevails is a definition
 defined_some : (t : Naming) (ms : List Module) (k : ℕ) (g : GlobalValue) → prevails ms k g ≡ true → (n : ℕ) → (d : Definition) × (defined n (global_under t g) ≡ Some d)
 defined_some t ms k (global.Function f) kept n = by f.blocks kept
   where
     by : (blocks : List Block) → prevails_as (prevailing (mentions ms) f.symbol.name) k (function_standing blocks f.linkage) ≡ true
-        → (d : Definition) × (body_of (map (block_under t) blocks) (function_under t f) ≡ Some d)
+        → (d : Definition) × (body_of (cond (defines f.linkage) (map (block_under t) blocks) []) (function_under t f) ≡ Some d)
     by [] p = absurd (cc p)
-    by (b ∷ bs) p = (Body (function_under t f), refl)
+    by (b ∷ bs) p = (
+      Body (function_under t f),
+      ap (λ (c : Bool). body_of (cond c (map (block_under t) (b ∷ bs)) []) (function_under t f)) (counted (prevailing (mentions ms) f.symbol.name) k f.linkage p),
+    )
 defined_some t ms k (global.Variable v) kept n = by v.init kept
   where
     by : (init : Option Initial) → prevails_as (prevailing (mentions ms) v.symbol.name) k (variable_standing init v.linkage) ≡ true
-        → (d : Definition) × (storage_of (option_map (initial_under t) init) n (variable_under t v) ≡ Some d)
+        → (d : Definition) × (storage_of (cond (defines v.linkage) (option_map (initial_under t) init) None) n (variable_under t v) ≡ Some d)
     by None p = absurd (cc p)
-    by (Some init) p = (Storage n (variable_under t v) (initial_under t init), refl)
+    by (Some init) p = (
+      Storage n (variable_under t v) (initial_under t init),
+      ap (λ (c : Bool). storage_of (cond c (Some (initial_under t init)) None) n (variable_under t v)) (counted (prevailing (mentions ms) v.symbol.name) k v.linkage p),
+    )
 
 module _ (ms : List Module) (whole : AllWhole ms) (k : ℕ) (m : Module) (g : GlobalValue) (p : IsGivenBy ms k m g) where
   -- the symbol of another prevailing global value isn't this one's
@@ -303,4 +324,5 @@ module _ (ms : List Module) (whole : AllWhole ms) (k : ℕ) (m : Module) (g : Gl
 pub prevailing_defined : PrevailingIsDefined
 prevailing_defined ms whole k m g p =
     let start : k ≡ 0 + k = omega arith in
-    looked ms whole k m g p 0 ms k start p.number (λ j n e. let number : j ≡ 0 + j = omega arith in subst (λ (l : ℕ). slice_get ms l ≡ Some n) number e) 0
+    let there = looked ms whole k m g p 0 ms k start p.number (λ j n e. let number : j ≡ 0 + j = omega arith in subst (λ (l : ℕ). slice_get ms l ≡ Some n) number e) 0 in
+    (there.0, hosts_defined (merged_from ms 0 ms) (symbol_in k m.globals (symbol_of g)) ∙ there.1)

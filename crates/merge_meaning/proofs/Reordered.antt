@@ -1,6 +1,7 @@
 -- What is emitted may stand in any order, with declarations between, and under any linkage.
-use Rattle.std.proofs.Common.{◌≡◌, ◌<◌, ℕ, List, [], ◌∷◌, length, Contains, Option, Some, None, slice_get, slice_index_or, refl, sym, ap, ◌∙◌, subst}
+use Rattle.std.proofs.Common.{◌≡◌, ◌<◌, ℕ, Bool, true, false, cond, List, [], ◌∷◌, length, Contains, Option, Some, None, slice_get, slice_index_or, refl, sym, ap, ◌∙◌, subst}
 use Rattle.std.proofs.lemmas.Option.{get_or_from_slice_get, slice_get_read, slice_get_within}
+use Rattle.ir_tree.specs.Linkages.{defines}
 use Rattle.ir_tree.specs.Initials.{Initial}
 use Rattle.ir_tree.specs.declared.block.Block.{Block}
 use Rattle.ir_tree.specs.declared.function.Function.{Function}
@@ -9,7 +10,7 @@ use Rattle.ir_tree.specs.declared.module.GlobalValue.{GlobalValue}
 use Rattle.ir_tree.specs.declared.module.GlobalValue.TheVariants as global
 use Rattle.ir_tree.specs.declared.operand.Symbol.{Symbol}
 use Rattle.ir_meaning.specs.Refine.{Naming}
-use Rattle.ir_program.specs.Programs.{Body, Definition, Storage, body_of, defined, definition_of, storage_of, symbol_of}
+use Rattle.ir_program.specs.Programs.{Body, Definition, Storage, body_of, defined, defined_blocks, defined_init, definition_of, storage_of, symbol_of}
 use Rattle.merge_meaning.specs.Globals.{named_by}
 use Rattle.merge_meaning.specs.Laws.{EmittedInAnyOrder}
 use Rattle.merge_meaning.specs.Linked.{IsDefinition, IsLike, IsReordering, IsUnder}
@@ -38,8 +39,18 @@ storages_alike n k v w h i j e = subst (λ (z : Option Initial). Like (storage_o
     by (Some init) = (h.1, h.2, h.3, refl)
 
 alike : (n k : ℕ) (g h : GlobalValue) → IsLike g h → Like (defined n g) (defined k h)
-alike n k (global.Function f) (global.Function g) h = bodies_alike f g h f.blocks g.blocks h.3
-alike n k (global.Variable v) (global.Variable w) h = storages_alike n k v w h v.init w.init h.4
+alike n k (global.Function f) (global.Function g) h =
+    subst (λ (c : Bool). Like (body_of (defined_blocks f) f) (body_of (cond c g.blocks []) g)) (sym h.4) (by (defines f.linkage))
+  where
+    by : (counts : Bool) → Like (body_of (cond counts f.blocks []) f) (body_of (cond counts g.blocks []) g)
+    by true = bodies_alike f g h f.blocks g.blocks h.3
+    by false = tt
+alike n k (global.Variable v) (global.Variable w) h =
+    subst (λ (c : Bool). Like (storage_of (defined_init v) n v) (storage_of (cond c w.init None) k w)) (sym h.5) (by (defines v.linkage))
+  where
+    by : (counts : Bool) → Like (storage_of (cond counts v.init None) n v) (storage_of (cond counts w.init None) k w)
+    by true = storages_alike n k v w h v.init w.init h.4
+    by false = tt
 alike n k (global.Function f) (global.Variable w) h = absurd h
 alike n k (global.Variable v) (global.Function g) h = absurd h
 
@@ -71,12 +82,12 @@ under_alike t (Some (Storage n v i)) (Some (Storage m w j)) (Some (Body k)) h l 
 -- ---- whether a global value is a definition doesn't depend on its number
 
 any_number : (g : GlobalValue) → IsDefinition g → (n : ℕ) → (d : Definition) × (defined n g ≡ Some d)
-any_number (global.Function f) is n = by f.blocks is
+any_number (global.Function f) is n = by (defined_blocks f) is
   where
     by : (blocks : List Block) → (body_of blocks f ≡ None → ⊥) → (d : Definition) × (body_of blocks f ≡ Some d)
     by [] is = absurd (is refl)
     by (b ∷ bs) is = (Body f, refl)
-any_number (global.Variable v) is n = by v.init is
+any_number (global.Variable v) is n = by (defined_init v) is
   where
     by : (init : Option Initial) → (storage_of init 0 v ≡ None → ⊥) → (d : Definition) × (storage_of init n v ≡ Some d)
     by None is = absurd (is refl)
@@ -84,7 +95,7 @@ any_number (global.Variable v) is n = by v.init is
 
 is_definition : (g : GlobalValue) (n : ℕ) (d : Definition) → defined n g ≡ Some d → IsDefinition g
 is_definition (global.Function f) n d e none = cc (e, none)
-is_definition (global.Variable v) n d e none = by v.init e none
+is_definition (global.Variable v) n d e none = by (defined_init v) e none
   where
     by : (init : Option Initial) → storage_of init n v ≡ Some d → storage_of init 0 v ≡ None → ⊥
     by None e none = cc e
@@ -146,6 +157,7 @@ any_order live final hs ls ks e r = record {
   reached = e.reached;
   named = e.named;
   defines = λ s k. under_alike (named_by final) (definition_of hs s) (definition_of ls (final s)) (definition_of ks (final s)) (e.defines s k) (same_definition ls ks r (final s));
+  declares = λ s k. r.declares (final s) (e.declares s k);
   only = λ u none. none_alike (definition_of ks u)
       (subst (λ (d : Option Definition). Like d (definition_of ks u)) (e.only u none) (same_definition ls ks r u));
   once = r.once;

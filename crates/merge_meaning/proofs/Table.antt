@@ -4,7 +4,8 @@ use Rattle.std.specs.List.{list_any}
 use Rattle.std.proofs.lemmas.Slice.Eq.{bytes_eq-Decides}
 use Rattle.symbol_resolve.specs.Mentions.{Mention, is_strong, is_weak, mentions, modules_with, names_of}
 use Rattle.symbol_resolve.specs.Prevailing.{first, or_else, prevailing}
-use Rattle.symbol_resolve.specs.Resolved.{module_of, once, without}
+use Rattle.symbol_resolve.specs.Resolved.{module_of}
+use Rattle.ir_tree.specs.Once.{once, without}
 use Rattle.merge_meaning.specs.Laws.{TableNamesPrevailing}
 use Rattle.merge_meaning.proofs.Names.{clash}
 

@@ -1,6 +1,6 @@
 -- Two modules, merged and linked: a local of one name in each, a weak definition of one name in each, references from one to
 -- the other, and a variable that holds a pointer to a local.
-use Rattle.std.specs.Prelude.{◌≡◌, ℕ, Bool, true, false, if◌then◌else◌, List, [], ◌∷◌, codes, Some, None}
+use Rattle.std.specs.Prelude.{◌≡◌, ℕ, Bool, true, false, if◌then◌else◌, List, [], ◌∷◌, codes, Some}
 use Rattle.ir_tree.specs.Forms.{pointer}
 use Rattle.ir_tree.specs.Initials.{plain}
 use Rattle.ir_tree.specs.declared.function.Function.{Function}
@@ -19,14 +19,11 @@ use Rattle.ir_tree.specs.declared.operand.Symbol.{Symbol}
 use Rattle.ir_meaning.specs.ExampleRuns.{calls, const, defines, i32, no_flags, ran_from, returns, sets, straight}
 use Rattle.ir_meaning.specs.Program.{Program}
 use Rattle.ir_meaning.specs.Run.{Ending, Returned, start}
-use Rattle.ir_meaning.specs.Symbols.{symbol_eq}
+use Rattle.ir_tree.specs.Symbols.{symbol_eq}
 use Rattle.ir_meaning.specs.declared.value.Value.TheVariants.{Number}
-use Rattle.ir_program.specs.Programs.{program_of}
+use Rattle.ir_program.specs.Programs.{program_of, shared}
 use Rattle.merge_meaning.specs.Linked.{emission}
 use Rattle.merge_meaning.specs.Merged.{local_to, merged, merged_globals}
-
-abbrev pub shared : List ℕ → Symbol
-shared name = record { home = None; name = name }
 
 abbrev pub plus : Operand → Operand → Instr
 plus l r = Binary Add no_flags 32 l r

@@ -1,34 +1,24 @@
 -- What is true of merged programs and of what is linked from them.
-use Rattle.std.specs.Prelude.{◌≡◌, ◌≢◌, ℕ, Bool, true, IsTrue, List, [], ◌∷◌, map, slice_get, None, Some}
+use Rattle.std.specs.Prelude.{◌≡◌, ◌≢◌, ℕ, All, Bool, true, IsTrue, List, [], ◌∷◌, map, slice_get, None, Some}
 use Rattle.std.specs.List.{AllZip}
 use Rattle.ir_tree.specs.Formed.{Distinct}
-use Rattle.ir_tree.specs.Wholes.{Whole, symbols as all_symbols}
-use Rattle.ir_tree.specs.declared.function.Linkage.{Linkage}
-use Rattle.ir_tree.specs.declared.function.Linkage.TheVariants.{AvailableExternally}
+use Rattle.ir_tree.specs.Wholes.{IsVerified, Whole, symbols as all_symbols}
 use Rattle.ir_tree.specs.declared.module.GlobalValue.{GlobalValue}
-use Rattle.ir_tree.specs.declared.module.GlobalValue.TheVariants as global
 use Rattle.ir_tree.specs.declared.module.Module.{Module}
 use Rattle.ir_tree.specs.declared.operand.Symbol.{Symbol}
 use Rattle.ir_meaning.specs.Near.{IsBetter}
+use Rattle.ir_meaning.specs.Program.{Program}
 use Rattle.ir_meaning.specs.Refine.{RefinesUnder}
 use Rattle.ir_program.specs.Programs.{Definition, defined, definition_of, program_of, symbol_of}
+use Rattle.ir_program.specs.Runnable.{AreRunnable}
 use Rattle.symbol_resolve.specs.Mentions.{mentions}
 use Rattle.symbol_resolve.specs.Prevailing.{prevailing}
 use Rattle.symbol_resolve.specs.Resolved.{module_of, symbols}
 use Rattle.merge_meaning.specs.Globals.{global_under, named_by}
 use Rattle.merge_meaning.specs.Linked.{AreEmitted, AreFinal, Improves, IsClosed, IsReordering, back_names, back_of, emission}
-use Rattle.merge_meaning.specs.Merged.{merged, merged_globals, prevails, standing_of, symbol_in}
+use Rattle.merge_meaning.specs.Merged.{merged, merged_globals, prevails, standing_of, symbol_in, with_hosts}
 
 -- ---- what is merged
-
-abbrev pub linkage_of : GlobalValue → Linkage
-linkage_of (global.Variable v) = v.linkage
-linkage_of (global.Function f) = f.linkage
-
--- none is a copy of another module's definition
-abbrev pub NoCopies : List GlobalValue → Type 0
-NoCopies [] = Unit {0}
-NoCopies (g ∷ gs) = (linkage_of g ≢ AvailableExternally) × NoCopies gs
 
 -- none is local to the module
 abbrev pub NoLocals : List GlobalValue → Type 0
@@ -59,13 +49,22 @@ abbrev pub DefinedPrevails : Type 0
 DefinedPrevails = (ms : List Module) (s : Symbol) (d : Definition) → definition_of (merged_globals ms) s ≡ Some d →
     (k : ℕ) × (m : Module) × (g : GlobalValue) × (n : ℕ) × IsGivenBy ms k m g × (symbol_of (taken_in k m g) ≡ s) × (defined n (taken_in k m g) ≡ Some d)
 
--- the merged program of one module is the program of its global values, in which each of its locals has it as its home
+-- the merged program of one module is the program of its global values, in which each of its locals has it as its home, with the
+-- functions of the outside
 abbrev pub OneModule : Type 0
-OneModule = (m : Module) → NoCopies m.globals → merged (m ∷ []) ≡ program_of (map (taken_in 0 m) m.globals)
+OneModule = (m : Module) → merged (m ∷ []) ≡ program_of (with_hosts (map (taken_in 0 m) m.globals))
 
 -- so of one module without locals it is the program that the module means by itself
 abbrev pub OneModuleOfAll : Type 0
-OneModuleOfAll = (m : Module) → NoCopies m.globals → NoLocals m.globals → merged (m ∷ []) ≡ program_of m.globals
+OneModuleOfAll = (m : Module) → NoLocals m.globals → merged (m ∷ []) ≡ program_of (with_hosts m.globals)
+
+-- of each symbol one module gives one definition, so none stands twice among what is merged
+abbrev pub MergedIsOnce : Type 0
+MergedIsOnce = (ms : List Module) → AllWhole ms → Distinct (all_symbols (merged_globals ms))
+
+-- and what is merged of modules that were verified can be run
+abbrev pub MergedIsRunnable : Type 0
+MergedIsRunnable = (ms : List Module) → All IsVerified ms → AreRunnable (merged_globals ms)
 
 -- the table of a resolution names for each name the module whose definition prevails
 abbrev pub TableNamesPrevailing : Type 0
@@ -76,6 +75,10 @@ TableNamesPrevailing = (ms : List Module) (name : List ℕ) → module_of (symbo
 -- with better functions in the places of its functions a program is better
 abbrev pub ImprovedIsBetter : Type 0
 ImprovedIsBetter = (gs hs : List GlobalValue) (bound : ℕ) → AllZip (Improves (program_of gs) bound) gs hs → IsBetter (program_of hs) (program_of gs) bound
+
+-- and it has the same symbols, so none stands twice where none did
+abbrev pub ImprovedIsOnce : Type 0
+ImprovedIsOnce = (p : Program) (bound : ℕ) (gs hs : List GlobalValue) → AllZip (Improves p bound) gs hs → Distinct (all_symbols gs) → Distinct (all_symbols hs)
 
 -- the live definitions in their order are one such list
 abbrev pub EmissionIsEmitted : Type 0

@@ -1,6 +1,7 @@
 -- The linked module of a merged program: better functions in place of its functions, and of these definitions the live
 -- ones, each under its final name.
 use Rattle.std.specs.Prelude.{◌≡◌, ◌≢◌, ℕ, zero, Bool, true, false, ◌&&◌, if◌then◌else◌, List, [], ◌∷◌, map, filter, Contains, slice_index_or, Option, Some, None}
+use Rattle.ir_tree.specs.Linkages.{defines}
 use Rattle.ir_tree.specs.Formed.{Distinct}
 use Rattle.ir_tree.specs.Wholes.{symbols}
 use Rattle.ir_tree.specs.declared.block.Block.{Block}
@@ -12,9 +13,9 @@ use Rattle.ir_meaning.specs.Frame.{Missing}
 use Rattle.ir_meaning.specs.Near.{BetterThan}
 use Rattle.ir_meaning.specs.Program.{Program, variables}
 use Rattle.ir_meaning.specs.Refine.{Naming}
-use Rattle.ir_meaning.specs.Symbols.{symbol_eq}
+use Rattle.ir_tree.specs.Symbols.{symbol_eq}
 use Rattle.ir_better.specs.Rename.{BlocksName, block_under}
-use Rattle.ir_program.specs.Programs.{Body, Definition, Storage, defined, definition_of, program_of, regs_of, signature_of, symbol_of}
+use Rattle.ir_program.specs.Programs.{Body, Definition, Storage, defined, defined_blocks, definition_of, is_declared, program_of, regs_of, signature_of, symbol_of}
 use Rattle.merge_meaning.specs.Globals.{InitialNames, global_under, initial_under, named_by}
 
 -- ---- better functions
@@ -28,7 +29,7 @@ pub record StandsFor (p : Program) (bound : ℕ) (f g : Function) : Type 0 where
   pub symbol : g.symbol ≡ f.symbol
   pub result : g.result ≡ f.result
   pub params : regs_of g.params ≡ regs_of f.params
-  pub body : has_body g.blocks ≡ has_body f.blocks
+  pub body : has_body (defined_blocks g) ≡ has_body (defined_blocks f)
   pub better : BetterThan p bound g f
 
 -- a variable stays as it is
@@ -63,11 +64,13 @@ pub record AreFinal (live : Symbol → Bool) (final : Symbol → Symbol) : Type 
   pub keeps : (s : Symbol) → s.home ≡ None → final s ≡ s
   pub apart : (s u : Symbol) → live s ≡ true → live u ≡ true → final s ≡ final u → s ≡ u
 
--- ls defines the live symbols of hs, each under its final name, and nothing else; no symbol stands there twice
+-- ls has the live symbols of hs, each under its final name, and defines what hs defines of them and nothing else; no symbol stands
+-- there twice
 pub record AreEmitted (live : Symbol → Bool) (final : Symbol → Symbol) (hs ls : List GlobalValue) : Type 0 where
   pub reached : IsClosed live hs
   pub named : AreFinal live final
   pub defines : (s : Symbol) → live s ≡ true → IsUnder (named_by final) (definition_of hs s) (definition_of ls (final s))
+  pub declares : (s : Symbol) → live s ≡ true → is_declared ls (final s) ≡ true
   pub only : (u : Symbol) → ((s : Symbol) → live s ≡ true → final s ≢ u) → definition_of ls u ≡ None
   pub once : Distinct (symbols ls)
 
@@ -75,20 +78,23 @@ pub record AreEmitted (live : Symbol → Bool) (final : Symbol → Symbol) (hs l
 abbrev pub emission : (Symbol → Bool) → (Symbol → Symbol) → List GlobalValue → List GlobalValue
 emission live final hs = map (global_under (named_by final)) (filter (λ g. live (symbol_of g)) hs)
 
--- the same but for what nobody can observe, such as linkage
+-- the same but for what nobody can observe, such as linkage, where both count or neither does
 abbrev pub IsLike : GlobalValue → GlobalValue → Type 0
 IsLike (global.Variable v) (global.Variable w) =
-    (w.symbol ≡ v.symbol) × (w.shape ≡ v.shape) × (w.align ≡ v.align) × (w.constant ≡ v.constant) × (w.init ≡ v.init)
-IsLike (global.Function f) (global.Function g) = (g.symbol ≡ f.symbol) × (g.params ≡ f.params) × (g.result ≡ f.result) × (g.blocks ≡ f.blocks)
+    (w.symbol ≡ v.symbol) × (w.shape ≡ v.shape) × (w.align ≡ v.align) × (w.constant ≡ v.constant) × (w.init ≡ v.init) × (defines w.linkage ≡ defines v.linkage)
+IsLike (global.Function f) (global.Function g) =
+    (g.symbol ≡ f.symbol) × (g.params ≡ f.params) × (g.result ≡ f.result) × (g.blocks ≡ f.blocks) × (defines g.linkage ≡ defines f.linkage)
 IsLike _ _ = ⊥
 
 abbrev pub IsDefinition : GlobalValue → Type 0
 IsDefinition g = defined 0 g ≢ None
 
--- ks has definitions like those of ls, in any order, and no others; declarations may stand between; no symbol stands twice
+-- ks has definitions like those of ls, in any order, and no others, and the symbols of ls; declarations may stand between; no
+-- symbol stands twice
 pub record IsReordering (ls ks : List GlobalValue) : Type 0 where
   pub all : (g : GlobalValue) → Contains ls g → IsDefinition g → (h : GlobalValue) × Contains ks h × IsLike g h
   pub only : (h : GlobalValue) → Contains ks h → IsDefinition h → (g : GlobalValue) × Contains ls g × IsLike g h
+  pub declares : (u : Symbol) → is_declared ls u ≡ true → is_declared ks u ≡ true
   pub once : Distinct (symbols ks)
 
 -- ---- the way back from final names

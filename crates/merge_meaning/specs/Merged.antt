@@ -1,15 +1,17 @@
 -- The merged program of modules: the definitions that prevail, in which each name is the symbol that it stands for in its
 -- module (LangRef, "Linkage Types", "Module Structure").
-use Rattle.std.specs.Prelude.{ℕ, suc, Bool, true, false, ◌&&◌, is_none, nat_eq, if◌then◌else◌, List, [], ◌∷◌, ◌++◌, map, filter, Option, Some, None}
+use Rattle.std.specs.Prelude.{ℕ, suc, Bool, true, false, ◌&&◌, is_none, nat_eq, if◌then◌else◌, List, [], ◌∷◌, ◌++◌, map, filter, Option, Some, None, codes}
 use Rattle.std.specs.List.{list_any}
 use Rattle.std.specs.Option.{option_eq}
 use Rattle.std.specs.Str.{bytes_eq}
+use Rattle.ir_tree.specs.declared.function.Linkage.TheVariants.{External}
 use Rattle.ir_tree.specs.declared.module.GlobalValue.{GlobalValue}
 use Rattle.ir_tree.specs.declared.module.GlobalValue.TheVariants as global
 use Rattle.ir_tree.specs.declared.module.Module.{Module}
+use Rattle.ir_tree.specs.declared.operand.Reg.TheVariants.{Int}
 use Rattle.ir_tree.specs.declared.operand.Symbol.{Symbol}
 use Rattle.ir_meaning.specs.Program.{Program}
-use Rattle.ir_program.specs.Programs.{program_of, symbol_of}
+use Rattle.ir_program.specs.Programs.{is_declared, program_of, shared, symbol_of}
 use Rattle.symbol_resolve.specs.Mentions.{function_standing, mentions, variable_standing}
 use Rattle.symbol_resolve.specs.Prevailing.{prevailing}
 use Rattle.symbol_resolve.specs.declared.mention.Standing.{Standing}
@@ -50,7 +52,7 @@ prevails_as chosen k (Some standing.Declared) = false
 abbrev pub prevails : List Module → ℕ → GlobalValue → Bool
 prevails ms k g = prevails_as (prevailing (mentions ms) (symbol_of g).name) k (standing_of g)
 
--- ---- the merged program
+-- ---- what is given
 
 -- what module k gives: its definitions that prevail, with names as symbols
 abbrev pub given_by : List Module → ℕ → List GlobalValue → List GlobalValue
@@ -61,8 +63,32 @@ abbrev pub merged_from : List Module → ℕ → List Module → List GlobalValu
 merged_from ms k [] = []
 merged_from ms k (m ∷ rest) = given_by ms k m.globals ++ merged_from ms (suc k) rest
 
+-- ---- functions of the outside
+
+-- a declaration of the symbol of a name that modules share; what it takes and gives is nobody's concern
+abbrev pub declaration : List ℕ → GlobalValue
+declaration name = global.Function (record {
+  symbol = shared name;
+  linkage = External;
+  result = Some (Int 32);
+  params = [];
+  noinline = false;
+  optnone = false;
+  blocks = [];
+})
+
+-- with that declaration behind them, where none of them defines or declares the symbol
+abbrev pub with_host : List ℕ → List GlobalValue → List GlobalValue
+with_host name gs = if is_declared gs (shared name) then gs else gs ++ declaration name ∷ []
+
+-- with the functions of the outside
+abbrev pub with_hosts : List GlobalValue → List GlobalValue
+with_hosts gs = with_host (codes "getchar") (with_host (codes "putchar") gs)
+
+-- ---- the merged program
+
 abbrev pub merged_globals : List Module → List GlobalValue
-merged_globals ms = merged_from ms 0 ms
+merged_globals ms = with_hosts (merged_from ms 0 ms)
 
 -- the modules are numbered from 0 in command order
 abbrev pub merged : List Module → Program

@@ -1,10 +1,18 @@
 //! The laws, as functions whose contracts state them.
-ghost use Rattle.merge_meaning.specs.Laws.{DefinedPrevails, EmissionIsEmitted, EmittedInAnyOrder, EmittedRefines, FinalNamesLeadBack, ImprovedIsBetter, LinkedRefinesMerged, OneModule, OneModuleOfAll, PrevailingIsDefined, TableNamesPrevailing};
+ghost use Rattle.merge_meaning.specs.Laws.{DefinedPrevails, EmissionIsEmitted, EmittedInAnyOrder, EmittedRefines, FinalNamesLeadBack, ImprovedIsBetter, ImprovedIsOnce, LinkedRefinesMerged, MergedIsOnce, MergedIsRunnable, OneModule, OneModuleOfAll, PrevailingIsDefined, TableNamesPrevailing};
 
 /// In the merged program each symbol has the definition that prevails, and none has another (LangRef, "Linkage Types").
 pub fn merged_prevails()
     ensures defined { PrevailingIsDefined }
     ensures only { DefinedPrevails }
+{}
+
+/// No symbol stands twice among what is merged, nor where functions were improved, and what is merged of modules that were
+/// verified can be run (LangRef, "Linkage Types", "Well-Formedness").
+pub fn merged_is_runnable()
+    ensures once { MergedIsOnce }
+    ensures improved { ImprovedIsOnce }
+    ensures runnable { MergedIsRunnable }
 {}
 
 /// The merged program of one module is the program of its global values.

@@ -6,7 +6,8 @@
 //! which program one module means. A link puts better functions in the places of its
 //! functions, keeps of these definitions the live ones, and gives each its final name (`specs/Linked.antt`). Laws, as
 //! functions with empty bodies: the definition that prevails is the one that a resolution names
-//! (`table_names_prevailing`), and what is linked refines the merged program (`linked_refines_merged`).
+//! (`table_names_prevailing`), what is merged can be run (`merged_is_runnable`), and what is linked refines the merged
+//! program (`linked_refines_merged`).
 //!
 //! Below stand the trees (`ir_tree`), their meaning (`ir_meaning`), the laws of refinement (`ir_better`), the programs of
 //! global values (`ir_program`), and `symbol_resolve`, whose definition of what prevails is used. [`program`] makes the
@@ -22,6 +23,6 @@ mod taken;
 pub use examples::merged_example;
 pub use laws::{
     emission_is_emitted, emitted_refines, final_names_lead_back, improved_is_better,
-    linked_refines_merged, merged_prevails, one_module, table_names_prevailing,
+    linked_refines_merged, merged_is_runnable, merged_prevails, one_module, table_names_prevailing,
 };
 pub use merging::program;

@@ -11,33 +11,19 @@ use ir_edit::Edit;
 use ir_tree::{Duplicate, GlobalValue, Linkage, Operand, Symbol};
 use std::alloc::{AllocError, Global};
 
-/// Whether a definition of this linkage is seen in its module alone.
-fn is_private(linkage: Linkage) -> bool
-    ensures { result ≡ is_none (mentions.standing_of linkage) }
-{
-    match linkage {
-        Linkage::Private | Linkage::Internal => true,
-        Linkage::External
-        | Linkage::Linkonce
-        | Linkage::LinkonceOdr
-        | Linkage::Weak
-        | Linkage::WeakOdr
-        | Linkage::AvailableExternally => false,
-    }
-}
-
 /// Whether a global value is a definition that its module keeps for itself.
+#[tactic(auto, using(crate::proofs::Own::local_standing))]
 fn is_local(global: &GlobalValue) -> bool
     ensures { result ≡ is_none (standing_of global.now) }
 {
     match global {
         GlobalValue::Variable(variable) => match &variable.init {
             None => false,
-            Some(_) => is_private(variable.linkage),
+            Some(_) => variable.linkage.is_local(),
         },
         GlobalValue::Function(function) => match function.blocks.as_slice() {
             [] => false,
-            [_, ..] => is_private(function.linkage),
+            [_, ..] => function.linkage.is_local(),
         },
     }
 }

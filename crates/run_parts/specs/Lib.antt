@@ -1,4 +1,4 @@
-pub mod Copies
+pub mod Files
 pub mod Starting
 pub mod Arguments
 pub mod Said

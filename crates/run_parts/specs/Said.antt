@@ -1,8 +1,8 @@
 -- How the ending of a run is told, and what is said of what it returned.
-use Rattle.std.specs.Prelude.{◌≡◌, ◌⊎◌, ◌-◌, ◌^◌, ℕ, true, false, not, if◌then◌else◌, nat_eq, nat_lt, List, [], Option, Some, None}
-use Rattle.ir_tree.specs.declared.module.GlobalValue.{GlobalValue}
+use Rattle.std.specs.Prelude.{◌≡◌, ◌⊎◌, ◌-◌, ◌^◌, ℕ, true, false, not, if◌then◌else◌, nat_eq, nat_lt, List, Option, Some, None}
 use Rattle.ir_tree.specs.declared.operand.Reg.{Reg}
 use Rattle.ir_tree.specs.declared.operand.Reg.TheVariants.{Int, Ptr}
+use Rattle.ir_tree.specs.declared.operand.Symbol.{Symbol}
 use Rattle.ir_meaning.specs.Fault as fault
 use Rattle.ir_meaning.specs.Operate.{bits_of}
 use Rattle.ir_meaning.specs.Run.{Ending, Failed, Returned, Running}
@@ -10,7 +10,6 @@ use Rattle.ir_meaning.specs.declared.fault.Cause as meaning
 use Rattle.ir_meaning.specs.declared.fault.Cause.TheVariants as meant
 use Rattle.ir_meaning.specs.declared.value.Value.{Value}
 use Rattle.ir_meaning.specs.declared.value.Value.TheVariants as value
-use Rattle.ir_program.specs.Programs.{symbol_of}
 use Rattle.lto_fault.specs.declared.cause.Cause as told
 use Rattle.lto_fault.specs.declared.cause.Cause.TheVariants as cause
 use Rattle.lto_fault.specs.declared.refusal.Refusal.{Refusal}
@@ -38,11 +37,11 @@ abbrev pub failure_refusal : List ℕ → List ℕ → ℕ → fault.Fault → R
 failure_refusal file function instruction (fault.Undefined why) = Undefined function file instruction (told_cause why)
 failure_refusal file function instruction fault.Uninit = Uninit function file instruction
 
--- the refusal of a run of this file for so many steps, where it didn't return
-abbrev pub ending_refusal : List ℕ → ℕ → Ending → Option Refusal
+-- the refusal of a run for so many steps, where it didn't return; symbols are of these files
+abbrev pub ending_refusal : (Symbol → List ℕ) → ℕ → Ending → Option Refusal
 ending_refusal file steps Running = Some (OutOfSteps steps)
 ending_refusal file steps (Returned answer) = None
-ending_refusal file steps (Failed failure) = Some (failure_refusal file failure.at.symbol.name failure.at.instruction failure.why)
+ending_refusal file steps (Failed failure) = Some (failure_refusal (file failure.at.symbol) failure.at.symbol.name failure.at.instruction failure.why)
 
 -- a number of w bits: a truth value where it is one bit, else a signed one in two's complement
 abbrev pub number_said : ℕ → ℕ → line.Returned
@@ -74,10 +73,3 @@ answer_said gives (Some v) = value_said gives v
 -- this refusal, or that memory ran out where it was made
 abbrev pub IsTold : Refusal → Refusal → Type 0
 IsTold why told = (told ≡ why) ⊎ (told ≡ NoMemory)
-
--- ---- names
-
--- the name of a global value, if there is one
-abbrev pub name_in : Option GlobalValue → List ℕ
-name_in None = []
-name_in (Some g) = (symbol_of g).name

@@ -4,11 +4,11 @@ use Rattle.ir_tree.specs.declared.function.Function.{Function}
 use Rattle.ir_tree.specs.declared.function.Param.{Param}
 use Rattle.ir_tree.specs.declared.operand.Reg.{Reg}
 use Rattle.ir_tree.specs.declared.operand.Reg.TheVariants.{Int, Ptr}
-use Rattle.ir_tree.specs.declared.operand.Symbol.{Symbol}
 use Rattle.ir_read.specs.Literals.{negated, unsigned}
 use Rattle.ir_meaning.specs.Program.{Program, State}
 use Rattle.ir_meaning.specs.Run.{start}
 use Rattle.ir_meaning.specs.declared.value.Value.TheVariants.{Number}
+use Rattle.ir_program.specs.Programs.{shared}
 use Rattle.lto_words.specs.declared.list.Decimal.{Decimal}
 
 -- ---- arguments
@@ -36,10 +36,6 @@ arguments (p ∷ ps) [] = None
 arguments (p ∷ ps) (d ∷ ds) = with_more (argument p.reg d) (arguments ps ds)
 
 -- ---- the root
-
--- the symbol of a name that modules share
-abbrev pub shared : List ℕ → Symbol
-shared name = record { home = None; name = name }
 
 -- the function of a name, where it is defined
 abbrev pub root_of : Program → List ℕ → Option Function

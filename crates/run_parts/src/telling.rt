@@ -1,5 +1,5 @@
 //! How the end of a run is told, and what is said of what it returned.
-ghost use Rattle.std.specs.Prelude.{◌≡◌, IfOk, List, slice_get};
+ghost use Rattle.std.specs.Prelude.{◌≡◌, List};
 ghost use Rattle.ir_tree.specs.Wholes.{symbols};
 ghost use Rattle.ir_tree.specs.declared.operand.Symbol.{Symbol};
 ghost use Rattle.ir_read.specs.Literals.{IsWidth};
@@ -7,19 +7,24 @@ ghost use Rattle.ir_meaning.specs.Fault as fault;
 ghost use Rattle.ir_meaning.specs.Operate.{bits_of as bits_in};
 ghost use Rattle.ir_meaning.specs.declared.value.Value.TheVariants.{Number};
 ghost use Rattle.ir_machine.specs.Meant.{symbol_at};
+ghost use Rattle.machine_memory.specs.Addresses.{key_symbol};
 ghost use Rattle.machine_steps.specs.Scenes.{answer_meant};
 ghost use Rattle.run_parts.specs.Arguments.{IsGiven};
-ghost use Rattle.run_parts.specs.Said.{IsTold, answer_said, bits_said, failure_refusal, name_in, told_cause, typed_said};
+ghost use Rattle.run_parts.specs.Files.{file_at, file_in, home_in};
+ghost use Rattle.run_parts.specs.Said.{IsTold, answer_said, bits_said, failure_refusal, told_cause, typed_said};
 
 use crate::literals::number_said;
 use ir_machine::Scalar;
 use ir_meaning::{Cause, Value, bits_of};
-use ir_tree::{GlobalValue, Reg, Text, Verified};
+use ir_program::symbol_of;
+use ir_tree::{GlobalValue, Reg, Text};
 use lto_fault::Refusal;
 use lto_notes::Returned;
 use lto_words::FileName;
+use machine_memory::Key;
 use machine_steps::Place;
-use std::alloc::{AllocError, Global};
+use std::alloc::Global;
+use symbol_resolve::Resolution;
 
 /// How undefined behaviour is told.
 fn told_cause(cause: Cause) -> lto_fault::Cause
@@ -83,43 +88,58 @@ pub fn returned(gives: Option<Reg>, answer: Option<Scalar>) -> Returned
 
 // ---- where a run failed
 
-/// The name of the global value of a place; none where there is no such place.
-fn name_at(globals: &[GlobalValue], place: usize) -> &[u8]
-    ensures { result.now ≡ name_in (slice_get globals.now place) }
+/// The symbol of the global value of a place; an empty one where there is no such place.
+fn key_at(globals: &[GlobalValue], place: usize) -> Key<'_>
+    ensures { key_symbol result ≡ symbol_at (symbols globals.entry.now) place }
 {
     match globals.get(place) {
-        Some(global) => match global {
-            GlobalValue::Function(function) => function.symbol.name.as_slice(),
-            GlobalValue::Variable(variable) => variable.symbol.name.as_slice(),
+        Some(global) => Key::of(symbol_of(global)),
+        None => Key {
+            home: None,
+            name: &[],
         },
+    }
+}
+
+/// The module that defines a symbol.
+fn home_of(resolution: &Resolution<'_>, key: Key<'_>) -> Option<u32>
+    ensures { result ≡ home_in resolution.now (key_symbol key.entry) }
+{
+    match key.home {
+        Some(home) => Some(home),
+        None => resolution.module_of(key.name),
+    }
+}
+
+/// The file of a number.
+fn file_at(names: &[FileName], number: Option<u32>) -> &[u8]
+    ensures { result.now ≡ file_at names.now number }
+{
+    let Some(number) = number else {
+        return &[];
+    };
+    match names.get(number as usize) {
+        Some(name) => name.as_str().as_bytes(),
         None => &[],
     }
 }
 
-/// The name of the symbol of an index.
-fn symbol_name(alloc: Global, own: &Verified, index: u32) -> Result<Text, AllocError>
-    ensures { IfOk result (λ name. name ≡ (symbol_at (symbols own.now.globals) index).name) }
-{
-    let tree = own.module();
-    let globals = tree.globals.as_slice();
-    let name = name_at(globals, index as usize);
-    Text::copied(alloc, name)
-}
-
-/// That the run of this file failed at a place by undefined behaviour.
+/// That a run failed at a place by undefined behaviour. The files are those of the modules that this resolves.
 pub fn undefined(
     alloc: Global,
-    own: &Verified,
-    name: &FileName,
+    globals: &[GlobalValue],
+    names: &[FileName],
+    resolution: &Resolution<'_>,
     cause: Cause,
     place: Place,
 ) -> Refusal
-    ensures { IsTold (failure_refusal name.now (symbol_at (symbols own.now.globals) place.function).name place.instruction (fault.Undefined cause)) result }
+    ensures { IsTold (failure_refusal (file_in names.now resolution.now (symbol_at (symbols globals.now) place.function)) (symbol_at (symbols globals.now) place.function).name place.instruction (fault.Undefined cause)) result }
 {
-    let Ok(function) = symbol_name(alloc, own, place.function) else {
+    let key = key_at(globals, place.function as usize);
+    let Ok(function) = Text::copied(alloc, key.name) else {
         return Refusal::NoMemory;
     };
-    match Text::copied(alloc, name.as_str().as_bytes()) {
+    match Text::copied(alloc, file_at(names, home_of(resolution, key))) {
         Ok(file) => Refusal::Undefined {
             function,
             file,
@@ -130,14 +150,21 @@ pub fn undefined(
     }
 }
 
-/// That the run of this file failed at a place by an uninitialised byte.
-pub fn uninit(alloc: Global, own: &Verified, name: &FileName, place: Place) -> Refusal
-    ensures { IsTold (failure_refusal name.now (symbol_at (symbols own.now.globals) place.function).name place.instruction fault.Uninit) result }
+/// That a run failed at a place by an uninitialised byte. The files are those of the modules that this resolves.
+pub fn uninit(
+    alloc: Global,
+    globals: &[GlobalValue],
+    names: &[FileName],
+    resolution: &Resolution<'_>,
+    place: Place,
+) -> Refusal
+    ensures { IsTold (failure_refusal (file_in names.now resolution.now (symbol_at (symbols globals.now) place.function)) (symbol_at (symbols globals.now) place.function).name place.instruction fault.Uninit) result }
 {
-    let Ok(function) = symbol_name(alloc, own, place.function) else {
+    let key = key_at(globals, place.function as usize);
+    let Ok(function) = Text::copied(alloc, key.name) else {
         return Refusal::NoMemory;
     };
-    match Text::copied(alloc, name.as_str().as_bytes()) {
+    match Text::copied(alloc, file_at(names, home_of(resolution, key))) {
         Ok(file) => Refusal::Uninit {
             function,
             file,

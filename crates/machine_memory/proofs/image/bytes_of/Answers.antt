@@ -1,11 +1,8 @@
-use Rattle.std.proofs.Common.{◌≡◌, ◌≤◌, ◌+◌, ℕ, List, [], drop, length, refl, ap, subst, ◌∙◌, arith}
+use Rattle.std.proofs.Common.{◌+◌, ℕ, List, [], drop, refl, ap, subst, ◌∙◌, arith}
 use Rattle.std.proofs.lemmas.List.{drop_all}
-use Rattle.ir_tree.specs.Layout.{size}
 use Rattle.ir_tree.specs.declared.init_node.InitPart.{InitPart}
-use Rattle.ir_machine.specs.Bytes.{bytes_len}
 use Rattle.ir_program.specs.Constants.{zero_bytes}
 use Rattle.machine_memory.specs.Addresses.{value_in}
-use Rattle.machine_memory.specs.Images.{head_bytes}
 use Rattle.machine_memory.proofs.Writing.{IsUnder, all_under, begun_under, head_room, part_room, part_under, under_next}
 use Rattle.machine_memory.proofs.image.bytes_of.Goals as goal
 

@@ -1,4 +1,4 @@
-use Rattle.std.proofs.Common.{◌≡◌, ℕ, length, subst, arith}
+use Rattle.std.proofs.Common.{◌≡◌, ℕ, length, option_copied, sym, ap, ◌∙◌, subst, arith}
 use Rattle.machine_memory.specs.Openings.{IsVariableBlock}
 use Rattle.machine_memory.proofs.Storing.{function_added, variable_added}
 use Rattle.machine_memory.proofs.start.add.Goals as goal
@@ -10,5 +10,6 @@ pub returns-in_ok-push-in-Some : goal.returns-in_ok-push-in-Some
 returns-in_ok-push-in-Some c =
     let old = c.args.blocks.now.items in
     let count : c.len.result ≡ length old = omega (arith, c.len.ensures, c.args.blocks.now.ok) in
-    variable_added c.args.bases.now old c.push.new.self.items c.args.global.now c.in-Variable.variable c.in-Some.init c.in_ok-made-in-Some.made c.in-Variable.is c.in-Some.is
-    (subst (λ (n : ℕ). IsVariableBlock c.args.bases.now n c.in-Variable.variable c.in-Some.init c.in_ok-made-in-Some.made) count c.in_ok-made-in-Some.ensures) c.in_ok-push-in-Some.ensures.items
+    variable_added c.args.bases.now old c.push.new.self.items c.args.global.now c.in-Variable.variable c.in-Some.init.now c.in_ok-made-in-Some.made c.in-Variable.is
+    (sym c.defined_init.ensures ∙ ap option_copied c.in-Some.is)
+    (subst (λ (n : ℕ). IsVariableBlock c.args.bases.now n c.in-Variable.variable c.in-Some.init.now c.in_ok-made-in-Some.made) count c.in_ok-made-in-Some.ensures) c.in_ok-push-in-Some.ensures.items

@@ -1,6 +1,3 @@
-use Rattle.std.proofs.Common.{ℕ, List, ap, refl, ◌∙◌}
-use Rattle.ir_tree.specs.Layout.{size}
-use Rattle.ir_meaning.specs.declared.value.Byte.{Byte}
 use Rattle.machine_memory.proofs.Storing.{block_is}
 use Rattle.machine_memory.proofs.start.block_of.Goals as goal
 

@@ -1,6 +1,5 @@
-use Rattle.std.proofs.Common.{◌≡◌, ◌+◌, ◌≤◌, ℕ, suc, List, length, get_or, sym, ap, subst, ◌∙◌, arith}
+use Rattle.std.proofs.Common.{◌≡◌, ◌+◌, ℕ, suc, List, length, sym, subst, arith}
 use Rattle.ir_tree.specs.declared.module.GlobalValue.{GlobalValue}
-use Rattle.ir_tree.specs.declared.module.Module.{Module}
 use Rattle.ir_machine.specs.declared.block.Block.{Block}
 use Rattle.ir_machine.specs.declared.memory.Memory.{Memory}
 use Rattle.machine_memory.specs.Openings.{IsGlobalSound}
@@ -10,18 +9,16 @@ use Rattle.machine_memory.proofs.Storing.{AreAdded, added_more, none_added}
 use Rattle.machine_memory.proofs.start.opening.Goals as goal
 
 pub loop-global-init : goal.loop-global-init
-loop-global-init c = subst (λ (bs : List Block). AreAdded c.args.bases.now c.as_slice-globals.result.now 0 bs) (sym c.new-blocks.ensures.items) (none_added c.args.bases.now c.as_slice-globals.result.now)
+loop-global-init c = subst (λ (bs : List Block). AreAdded c.args.bases.now c.args.globals.now 0 bs) (sym c.new-blocks.ensures.items) (none_added c.args.bases.now c.args.globals.now)
 
 pub add-requires : goal.add-requires
 add-requires c =
-    let same = c.as_slice-globals.ensures ∙ ap (λ (m : Module). m.globals) c.module-tree.ensures.module in
-    let at = c.global-item.is ∙ ap (λ (gs : List GlobalValue). get_or gs c.loop-global.global-index c.global-item.result) same in
-    subst (λ (g : GlobalValue). IsGlobalSound g) (sym at)
-    (sound_globals c.args.verified.now c.module-tree.ensures.sound c.loop-global.global-index c.global-item.result (omega (arith, c.loop-global-test.true, ap length same)))
+    subst (λ (g : GlobalValue). IsGlobalSound g) (sym c.global-item.is)
+    (sound_globals c.args.globals.now c.requires.runnable c.loop-global.global-index c.global-item.result c.loop-global-test.true)
 
 pub loop-global-preserved : goal.loop-global-preserved
 loop-global-preserved c =
-    let gs = c.as_slice-globals.result.now in
+    let gs = c.args.globals.now in
     let k = c.loop-global.global-index in
     let g = c.global-item.result in
     let one : suc k ≡ k + 1 = omega arith in
@@ -30,8 +27,6 @@ loop-global-preserved c =
 
 pub returns : goal.returns
 returns c =
-    let same = c.as_slice-globals.ensures ∙ ap (λ (m : Module). m.globals) c.module-tree.ensures.module in
-    let all = subst (λ (gs : List GlobalValue). AreAdded c.args.bases.now gs c.loop-global.global-index c.loop-global.blocks.items) same c.loop-global.invariant in
     let m : Memory = record { blocks = c.loop-global.blocks; made = c.len-made.result } in
     let made : c.len-made.result ≡ length c.loop-global.blocks.items = omega (arith, c.len-made.ensures, c.loop-global.blocks.ok) in
-    is_opening c.args.verified.now.globals c.module-tree.ensures.sound.whole c.args.bases.now c.requires c.loop-global.global-index (omega (arith, c.loop-global-test.false, ap length same)) m all made
+    is_opening c.args.globals.now c.requires.runnable.once c.args.bases.now c.requires.table c.loop-global.global-index (omega (arith, c.loop-global-test.false)) m c.loop-global.invariant made

@@ -1,4 +1,4 @@
-use Rattle.std.proofs.Common.{List, Option, Some, None, sym, subst}
+use Rattle.std.proofs.Common.{Option, Some, None, sym, subst}
 use Rattle.ir_tree.specs.declared.block.Terminator.TheVariants as end
 use Rattle.ir_tree.specs.declared.operand.Argument.{Argument}
 use Rattle.ir_calls.specs.declared.exit.Exit.TheVariants as exit

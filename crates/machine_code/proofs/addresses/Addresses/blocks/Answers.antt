@@ -1,6 +1,4 @@
-use Rattle.std.proofs.Common.{◌≡◌, ℕ, ◌+◌, List, length, ap, sym, ◌∙◌, arith}
-use Rattle.ir_meaning.specs.Program.{counted}
-use Rattle.machine_steps.specs.Code.{counted_before}
+use Rattle.std.proofs.Common.{List, length, ap, sym, arith}
 use Rattle.machine_steps.specs.declared.code.Block.{Block}
 use Rattle.machine_code.specs.Blocks.{IsSoundBlock}
 use Rattle.machine_code.proofs.Blocking.{counted_next, long_pushed, no_blocks, none_counted, one_block}

@@ -1,4 +1,4 @@
-use Rattle.std.proofs.Common.{◌≡◌, ◌∷◌, ℕ, List, reverse, refl, subst, ◌∙◌}
+use Rattle.std.proofs.Common.{ℕ, List, reverse, refl, subst, ◌∙◌}
 use Rattle.ir_tree.specs.declared.operand.Symbol.{Symbol}
 use Rattle.ir_program.specs.Constants.{zero_bytes}
 use Rattle.machine_memory.specs.Addresses.{value_in}

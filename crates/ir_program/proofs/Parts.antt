@@ -1,5 +1,5 @@
 -- What holds of all items of a function holds of its blocks' parts.
-use Rattle.std.proofs.Common.{◌≡◌, ℕ, zero, suc, List, [], ◌∷◌, ◌++◌, refl}
+use Rattle.std.proofs.Common.{ℕ, suc, List, [], ◌∷◌, ◌++◌}
 use Rattle.std.specs.Prelude.{All, map}
 use Rattle.std.proofs.lemmas.List.Elements.{All-cons, All-head, All-nil, All-tail}
 use Rattle.ir_tree.specs.Items.{Item, block_items, end_item, items_from, line_item, lines_from, phi_item}
@@ -7,11 +7,14 @@ use Rattle.ir_tree.specs.declared.block.Block.{Block}
 use Rattle.ir_tree.specs.declared.block.Terminator.{Terminator}
 use Rattle.ir_tree.specs.declared.instr.Line.{Line}
 use Rattle.ir_tree.specs.declared.instr.Phi.{Phi}
-use Rattle.machine_memory.proofs.Lists.{all_left, all_right}
 
-pub all_mapped : {A B : Type 0} (P : B → Type 0) (f : A → B) (xs : List A) → All P (map f xs) → All (λ (x : A). P (f x)) xs
-all_mapped {A} P f [] h = All-nil (λ (x : A). P (f x))
-all_mapped {A} P f (x ∷ xs) h = All-cons (λ (y : A). P (f y)) x xs (All-head P (f x) (map f xs) h) (all_mapped P f xs (All-tail P (f x) (map f xs) h))
+pub all_left : {A : Type 0} (P : A → Type 0) (xs ys : List A) → All P (xs ++ ys) → All P xs
+all_left P [] ys h = All-nil P
+all_left P (x ∷ xs) ys h = All-cons P x xs (All-head P x (xs ++ ys) h) (all_left P xs ys (All-tail P x (xs ++ ys) h))
+
+all_right : {A : Type 0} (P : A → Type 0) (xs ys : List A) → All P (xs ++ ys) → All P ys
+all_right P [] ys h = h
+all_right P (x ∷ xs) ys h = all_right P xs ys (All-tail P x (xs ++ ys) h)
 
 module _ (P : Item → Type 0) (phis : Phi → Type 0) (lines : Line → Type 0) (end : Terminator → Type 0)
     (of_phi : (b : ℕ) (p : Phi) → P (phi_item b p) → phis p) (of_line : (b k : ℕ) (l : Line) → P (line_item b k l) → lines l) (of_end : (b : ℕ) (t : Terminator) → P (end_item b t) → end t) where
