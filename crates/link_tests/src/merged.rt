@@ -1,4 +1,5 @@
-//! The merged programs of links of two modules: their definitions, in order, with the module of each local.
+//! The merged programs of links of two modules: their definitions, in order, with the module of each local, and behind them the
+//! functions of the outside.
 use crate::files::all_read;
 use ir_tree::{GlobalValue, Rows};
 use merge_meaning::program;
@@ -70,10 +71,12 @@ define weak i32 @f() {
             (None, b"main"),
             (Some(1), b"h"),
             (None, b"table"),
+            (None, b"putchar"),
+            (None, b"getchar"),
         ],
     ),
     (
-        "an external definition prevails, and a copy is none",
+        "an external definition prevails, a copy is none, and what is defined isn't declared",
         &[
             (
                 "a.ll",
@@ -94,10 +97,18 @@ define i32 @main() {
 define i32 @f() {
   ret i32 3
 }
+define i32 @putchar(i32 %x) {
+  ret i32 %x
+}
 ",
             ),
         ],
-        &[(None, b"main"), (None, b"f")],
+        &[
+            (None, b"main"),
+            (None, b"f"),
+            (None, b"putchar"),
+            (None, b"getchar"),
+        ],
     ),
 ];
 

@@ -14,7 +14,7 @@ use Rattle.lto_words.specs.declared.request.Command.{Command}
 use Rattle.lto_words.specs.declared.request.Command.TheVariants.{Link, Batch, Index, Run, Gen}
 use Rattle.lto_words.specs.declared.request.LinkOptions.{LinkOptions}
 use Rattle.thinlto_main.specs.Answers.{Says, causes, causes_of, obeyed, reporting}
-use Rattle.thinlto_main.specs.Asking.{Asked, is_offered, is_offered_link, is_offered_run}
+use Rattle.thinlto_main.specs.Asking.{Asked, is_offered, is_offered_link}
 use Rattle.thinlto_main.specs.Causes.{Causes, Comes, always}
 use Rattle.thinlto_main.specs.Linking.{linking}
 use Rattle.thinlto_main.specs.Running.{running}
@@ -51,23 +51,17 @@ on_each (Ok x) P h = (h, tt)
 on_each (Err why) P h = (tt, h)
 
 -- a link that the program does is of one file
-last_true : (a b c d : Bool) → a && (b && (c && d)) ≡ true → d ≡ true
-last_true true true true d e = e
-last_true true true false d e = absurd cc
-last_true true false c d e = absurd cc
-last_true false b c d e = absurd cc
+last_true : (a b c : Bool) → a && (b && c) ≡ true → c ≡ true
+last_true true true c e = e
+last_true true false c e = absurd cc
+last_true false b c e = absurd cc
 
 pub offered_one : (options : LinkOptions) (names : List (List ℕ)) → is_offered_link options names ≡ true → length names ≡ 1
-offered_one options names e =
-    eqb-true (length names) 1 (last_true (nat_eq options.jobs 1) (not (is_some options.cache)) (nat_eq options.inline_limit 40) (nat_eq (length names) 1) e)
-
--- and so is a run
-pub offered_run : (names : List (List ℕ)) → is_offered_run names ≡ true → length names ≡ 1
-offered_run names e = eqb-true (length names) 1 e
+offered_one options names e = eqb-true (length names) 1 (last_true (nat_eq options.jobs 1) (not (is_some options.cache)) (nat_eq (length names) 1) e)
 
 -- what a link answers is what the command does, and so of an index and of a run
 pub link_obeyed : (options : LinkOptions) (out : List ℕ) (names : List (List ℕ)) (s : Seen) (i : InputSeen) → is_offered_link options names ≡ true → s.unprinted → i.untaken
-    → Implies (linking options.exports options.import_limit out names s.files) (obeyed (Link options out names) s i)
+    → Implies (linking options out names s.files) (obeyed (Link options out names) s i)
 link_obeyed options out names s i offered same untaken = record {
   done = λ x. (((x, same), untaken), offered);
   usage = λ x. absurd x;
@@ -95,18 +89,18 @@ index_obeyed exports limit names s i untaken = record {
   other = λ x. x.0;
 }
 
-pub run_obeyed : (root : List ℕ) (args : List Decimal) (steps : ℕ) (names : List (List ℕ)) (s : Seen) (i : InputSeen) → is_offered_run names ≡ true
+pub run_obeyed : (root : List ℕ) (args : List Decimal) (steps : ℕ) (names : List (List ℕ)) (s : Seen) (i : InputSeen)
     → Implies (running root args steps names s.files (streams_of s i)) (obeyed (Run root args steps names) s i)
-run_obeyed root args steps names s i offered = record {
-  done = λ x. (x, offered);
+run_obeyed root args steps names s i = record {
+  done = λ x. (x, refl);
   usage = λ x. absurd x;
-  unread = λ name x. (x, offered);
-  refused = λ file line kind x. (x, offered);
-  unlinked = λ why x. (x, offered);
-  unfit = λ name x. (x, offered);
-  unwritten = λ name x. (x, offered);
-  unreturned = λ why x. (x, offered);
-  memory = λ x. (x, offered);
+  unread = λ name x. (x, refl);
+  refused = λ file line kind x. (x, refl);
+  unlinked = λ why x. (x, refl);
+  unfit = λ name x. (x, refl);
+  unwritten = λ name x. (x, refl);
+  unreturned = λ why x. (x, refl);
+  memory = λ x. (x, refl);
   other = λ x. x;
 }
 

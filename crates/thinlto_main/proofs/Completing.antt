@@ -1,5 +1,5 @@
 -- When a command has to be done, and when refused.
-use Rattle.std.proofs.Common.{ℕ, ◌≡◌, ◌⊎◌, ◌∙◌, Bool, true, false, List, [], ◌∷◌, get_or, replicate, Option, Some, None, ap, inl, inr, sym, subst}
+use Rattle.std.proofs.Common.{ℕ, ◌≡◌, ◌⊎◌, ◌∙◌, Bool, true, false, List, [], ◌∷◌, replicate, Option, Some, None, ap, inl, inr, sym, subst}
 use Rattle.std.specs.List.{AllZip}
 use Rattle.std.specs.Prelude.{IfSome}
 use Rattle.ir_tree.specs.declared.module.Module.{Module}
@@ -17,16 +17,18 @@ use Rattle.lto_words.specs.declared.request.Command.TheVariants.{Link, Batch, In
 use Rattle.thin_link.specs.Laws.{RefusalIsOne, ReportedIsNotRefused}
 use Rattle.thin_link.specs.Refusing.{IsRefused}
 use Rattle.thinlto_main.specs.Causes.{Causes, never}
-use Rattle.run_parts.specs.Copies.{program_read}
+use Rattle.merge_meaning.specs.Merged.{merged}
 use Rattle.thinlto_main.specs.Linking.{HasThinLink}
-use Rattle.thinlto_main.specs.Running.{CannotSend, CannotTake, DidReturn, EndedOtherwise, EndsSo, IsUnfit, OfModule, RunEnds, only}
+use Rattle.thinlto_main.specs.Running.{OfModules, file_of}
+use Rattle.thinlto_main.specs.Runs.{CannotSend, CannotTake, DidReturn, EndedOtherwise, EndsSo, IsUnfit, RunEnds}
 use Rattle.run_parts.specs.Said.{ending_refusal}
 use Rattle.thinlto_main.specs.Seen.{InputSeen, Seen, Streams, streams_of}
 use Rattle.run_parts.specs.Starting.{beginning}
-use Rattle.thinlto_main.specs.Telling.{CanDo, CanLink, EndsOver, Held, HoldFirstBad, HoldReport, HoldUnlinked, HoldsModule, IsTold, LinkHeld, MustNotBegin, MustNotLink, MustNotReturn, MustRefuse, RunComesTo, told}
+use Rattle.thinlto_main.specs.Telling.{CanDo, CanLink, EndsOver, Held, HoldFirstBad, HoldReport, HoldUnlinked, HoldsModule, IsTold, LinkHeld, MustNotBegin, MustNotLink, MustNotReturn, MustRefuse, RunComesTo, RunIsTold, told}
 use Rattle.thinlto_main.proofs.Causes.{Implies}
 use Rattle.thinlto_main.proofs.Held.{none_bad, one_first_bad, one_list}
 use Rattle.thinlto_main.proofs.Unlinked.{thin_is_not_refused}
+use Rattle.lto_words.specs.declared.request.LinkOptions.{LinkOptions}
 
 -- what is told, of a command that is asked for
 abbrev pub telling : Command → Seen → InputSeen → Causes
@@ -53,11 +55,11 @@ record HoldLinked (exports : List (List ℕ)) (limit : ℕ) (names : List (List 
   modules : AllZip (HoldsModule held) names (m ∷ [])
   thin : HasThinLink (m ∷ []) exports limit
 
-link_told : (put : Store → Store → List ℕ → List ℕ → Type 0) (exports : List (List ℕ)) (limit : ℕ) (out : List ℕ) (names : List (List ℕ)) (old new : Option Store)
-    → LinkHeld put exports limit out names old new → IfSome old (HoldLinked exports limit names)
-link_told put exports limit out names None new h = tt
-link_told put exports limit out names (Some old) None h = absurd h
-link_told put exports limit out names (Some old) (Some new) h = record {
+link_told : (put : Store → Store → List ℕ → List ℕ → Type 0) (options : LinkOptions) (out : List ℕ) (names : List (List ℕ)) (old new : Option Store)
+    → LinkHeld put options out names old new → IfSome old (HoldLinked options.exports options.import_limit names)
+link_told put options out names None new h = tt
+link_told put options out names (Some old) None h = absurd h
+link_told put options out names (Some old) (Some new) h = record {
   m = h.is_link.m;
   modules = subst (λ (l : List (List ℕ)). AllZip (HoldsModule old) l (h.is_link.m ∷ [])) (sym h.one) (record { bytes = h.bytes; here = h.held; short = h.short; accepted = h.is_link.accepted }, tt);
   thin = h.thin;
@@ -65,11 +67,11 @@ link_told put exports limit out names (Some old) (Some new) h = record {
 
 -- ---- a run
 
--- what holds of one module
-record Both (P Q : Module → Type 0) : Type 0 where
-  m : Module
-  first : P m
-  second : Q m
+-- what holds of one list of modules
+record Both (P Q : List Module → Type 0) : Type 0 where
+  ms : List Module
+  first : P ms
+  second : Q ms
 
 -- a run over the same bytes has one ending
 one_ending : (p : Program) (root : List ℕ) (args : List Decimal) (steps : ℕ) (t : Streams) (a b : Ending) → IsTold t.input.told (λ bytes. EndsOver p root args steps bytes a) → RunEnds p root args steps t b → b ≡ a
@@ -118,95 +120,104 @@ module _ (apart : AcceptedIsNotRefused) (accepted : AcceptedIsOne) (s : Seen) (i
   fine : (exports names : List (List ℕ)) → IsTold s.files.held (CanLink exports names s.files) → ¬ (Rose s.files.faults s.files.faults_now)
   fine exports names can = told_fact (CanLink exports names s.files) (λ held c. c.fine) s.files.held can
 
-  -- ---- the module of a run
+  -- ---- the modules of a run
 
-  module _ (root : List ℕ) (names : List (List ℕ)) (P : Module → Type 0) where
-    module_bad : (file : List ℕ) (line : ℕ) (kind : Kind) → IsTold s.files.held (λ held. HoldFirstBad held names file line kind) → OfModule (Held names s.files) root names P → ⊥
-    module_bad file line kind bad o =
-        of_told (λ (held : Store). HoldFirstBad held names file line kind) (λ (held : Store). AllZip (HoldsModule held) names (o.m ∷ []))
-        (λ held b good. none_bad held apart names (o.m ∷ []) file line kind good b) s.files.held bad o.is
+  module _ (root : List ℕ) (names : List (List ℕ)) (P : List Module → Type 0) where
+    modules_bad : (file : List ℕ) (line : ℕ) (kind : Kind) → IsTold s.files.held (λ held. HoldFirstBad held names file line kind) → OfModules (Held names s.files) root names P → ⊥
+    modules_bad file line kind bad o =
+        of_told (λ (held : Store). HoldFirstBad held names file line kind) (λ (held : Store). AllZip (HoldsModule held) names o.ms)
+        (λ held b good. none_bad held apart names o.ms file line kind good b) s.files.held bad o.is
 
-    bad_module : (file : List ℕ) (line : ℕ) (kind : Kind) → IsTold s.files.held (λ held. OfModule (AllZip (HoldsModule held) names) root names P) → IfSome s.files.held (λ held. HoldFirstBad held names file line kind) → ⊥
-    bad_module file line kind can bad =
-        of_told (λ (held : Store). OfModule (AllZip (HoldsModule held) names) root names P) (λ (held : Store). HoldFirstBad held names file line kind)
-        (λ held o b. none_bad held apart names (o.m ∷ []) file line kind o.is b) s.files.held can bad
+    bad_modules : (file : List ℕ) (line : ℕ) (kind : Kind) → IsTold s.files.held (λ held. OfModules (AllZip (HoldsModule held) names) root names P) → IfSome s.files.held (λ held. HoldFirstBad held names file line kind) → ⊥
+    bad_modules file line kind can bad =
+        of_told (λ (held : Store). OfModules (AllZip (HoldsModule held) names) root names P) (λ (held : Store). HoldFirstBad held names file line kind)
+        (λ held o b. none_bad held apart names o.ms file line kind o.is b) s.files.held can bad
 
-    module_unlinked : (why : Refusal) → IsTold s.files.held (λ held. HoldUnlinked (root ∷ []) names held why) → OfModule (Held names s.files) root names P → ⊥
-    module_unlinked why clash o =
-        of_told (λ (held : Store). HoldUnlinked (root ∷ []) names held why) (λ (held : Store). AllZip (HoldsModule held) names (o.m ∷ []))
-        (λ held u good. o.linked why (subst (λ (l : List Module). IsRefused names l (root ∷ []) why) (one_list held accepted names u.ms (o.m ∷ []) u.modules good) u.refused)) s.files.held clash o.is
+    modules_unlinked : (why : Refusal) → IsTold s.files.held (λ held. HoldUnlinked (root ∷ []) names held why) → OfModules (Held names s.files) root names P → ⊥
+    modules_unlinked why clash o =
+        of_told (λ (held : Store). HoldUnlinked (root ∷ []) names held why) (λ (held : Store). AllZip (HoldsModule held) names o.ms)
+        (λ held u good. o.linked why (subst (λ (l : List Module). IsRefused names l (root ∷ []) why) (one_list held accepted names u.ms o.ms u.modules good) u.refused)) s.files.held clash o.is
 
-    unlinked_module : (why : Refusal) → IsTold s.files.held (λ held. OfModule (AllZip (HoldsModule held) names) root names P) → IfSome s.files.held (λ held. HoldUnlinked (root ∷ []) names held why) → ⊥
-    unlinked_module why can clash =
-        of_told (λ (held : Store). OfModule (AllZip (HoldsModule held) names) root names P) (λ (held : Store). HoldUnlinked (root ∷ []) names held why)
-        (λ held o u. o.linked why (subst (λ (l : List Module). IsRefused names l (root ∷ []) why) (one_list held accepted names u.ms (o.m ∷ []) u.modules o.is) u.refused)) s.files.held can clash
+    unlinked_modules : (why : Refusal) → IsTold s.files.held (λ held. OfModules (AllZip (HoldsModule held) names) root names P) → IfSome s.files.held (λ held. HoldUnlinked (root ∷ []) names held why) → ⊥
+    unlinked_modules why can clash =
+        of_told (λ (held : Store). OfModules (AllZip (HoldsModule held) names) root names P) (λ (held : Store). HoldUnlinked (root ∷ []) names held why)
+        (λ held o u. o.linked why (subst (λ (l : List Module). IsRefused names l (root ∷ []) why) (one_list held accepted names u.ms o.ms u.modules o.is) u.refused)) s.files.held can clash
 
-    same_module : (Q : Module → Type 0) → IsTold s.files.held (λ held. OfModule (AllZip (HoldsModule held) names) root names P) → OfModule (Held names s.files) root names Q → Both P Q
-    same_module Q can o = of_told (λ (held : Store). OfModule (AllZip (HoldsModule held) names) root names P) (λ (held : Store). AllZip (HoldsModule held) names (o.m ∷ [])) by s.files.held can o.is
+    same_modules : (Q : List Module → Type 0) → IsTold s.files.held (λ held. OfModules (AllZip (HoldsModule held) names) root names P) → OfModules (Held names s.files) root names Q → Both P Q
+    same_modules Q can o = of_told (λ (held : Store). OfModules (AllZip (HoldsModule held) names) root names P) (λ (held : Store). AllZip (HoldsModule held) names o.ms) by s.files.held can o.is
       where
-        by : (held : Store) → OfModule (AllZip (HoldsModule held) names) root names P → AllZip (HoldsModule held) names (o.m ∷ []) → Both P Q
-        by held c good =
-            let lists : o.m ∷ [] ≡ c.m ∷ [] = one_list held accepted names (o.m ∷ []) (c.m ∷ []) good c.is in
-            let same : o.m ≡ c.m = ap (λ (l : List Module). get_or l 0 c.m) lists in
-            record { m = c.m; first = c.so; second = subst Q same o.so }
+        by : (held : Store) → OfModules (AllZip (HoldsModule held) names) root names P → AllZip (HoldsModule held) names o.ms → Both P Q
+        by held c good = record { ms = c.ms; first = c.so; second = subst Q (one_list held accepted names o.ms c.ms good c.is) o.so }
 
-  -- ---- the run of the module
+  -- ---- the run of the modules
 
   module _ (root : List ℕ) (args : List Decimal) (steps : ℕ) (names : List (List ℕ)) where
-    abbrev comes_to : Ending → Module → Type 0
-    comes_to ending m = IsTold i.stream.told (λ bytes. EndsOver (program_read m) root args steps bytes ending)
+    abbrev comes_to : Ending → List Module → Type 0
+    comes_to ending ms = IsTold i.stream.told (λ bytes. EndsOver (merged ms) root args steps bytes ending)
 
-    abbrev begins_nowhere : Module → Type 0
-    begins_nowhere m = beginning (program_read m) root args ≡ None
+    abbrev is_told : Ending → Refusal → List Module → Type 0
+    is_told ending why ms = comes_to ending ms × (ending_refusal (file_of names ms) steps ending ≡ Some why)
 
-    abbrev returns : Module → Type 0
-    returns m = DidReturn (program_read m) root args steps (streams_of s i)
+    abbrev begins_nowhere : List Module → Type 0
+    begins_nowhere ms = beginning (merged ms) root args ≡ None
 
-    abbrev ends_otherwise : Refusal → Module → Type 0
-    ends_otherwise why m = EndedOtherwise (program_read m) root args (only names) steps (streams_of s i) why
+    abbrev returns : List Module → Type 0
+    returns ms = DidReturn (merged ms) root args steps (streams_of s i)
+
+    abbrev ends_otherwise : Refusal → List Module → Type 0
+    ends_otherwise why ms = EndedOtherwise (merged ms) root args (file_of names ms) steps (streams_of s i) why
 
     -- a run that returns doesn't end otherwise
-    returned_not : (answer : Option Value) (why : Refusal) → RunComesTo root args steps names s i (Returned answer) → OfModule (Held names s.files) root names (ends_otherwise why) → ⊥
+    returned_not : (answer : Option Value) (why : Refusal) → RunComesTo root args steps names s i (Returned answer) → OfModules (Held names s.files) root names (ends_otherwise why) → ⊥
     returned_not answer why can o =
-        let b : Both (comes_to (Returned answer)) (ends_otherwise why) = same_module root names (comes_to (Returned answer)) (ends_otherwise why) can o in
-        let same : b.second.ending ≡ Returned answer = one_ending (program_read b.m) root args steps (streams_of s i) (Returned answer) b.second.ending b.first b.second.ended in
-        let never : None ≡ Some why = sym (ap (λ (e : Ending). ending_refusal (only names) steps e) same) ∙ b.second.told in
+        let b : Both (comes_to (Returned answer)) (ends_otherwise why) = same_modules root names (comes_to (Returned answer)) (ends_otherwise why) can o in
+        let same : b.second.ending ≡ Returned answer = one_ending (merged b.ms) root args steps (streams_of s i) (Returned answer) b.second.ending b.first b.second.ended in
+        let never : None ≡ Some why = sym (ap (λ (e : Ending). ending_refusal (file_of names b.ms) steps e) same) ∙ b.second.told in
         cc never
 
     -- and one that ends otherwise doesn't return, and is told one way
-    otherwise_not : (ending : Ending) (why : Refusal) → ending_refusal (only names) steps ending ≡ Some why → RunComesTo root args steps names s i ending → OfModule (Held names s.files) root names returns → ⊥
-    otherwise_not ending why is can o =
-        let b : Both (comes_to ending) returns = same_module root names (comes_to ending) returns can o in
-        let same : Returned b.second.answer ≡ ending = one_ending (program_read b.m) root args steps (streams_of s i) ending (Returned b.second.answer) b.first b.second.ended in
-        let never : None ≡ Some why = ap (λ (e : Ending). ending_refusal (only names) steps e) same ∙ is in
+    otherwise_not : (ending : Ending) (why : Refusal) → RunIsTold root args steps names s i ending why → OfModules (Held names s.files) root names returns → ⊥
+    otherwise_not ending why can o =
+        let b : Both (is_told ending why) returns = same_modules root names (is_told ending why) returns can o in
+        let same : Returned b.second.answer ≡ ending = one_ending (merged b.ms) root args steps (streams_of s i) ending (Returned b.second.answer) b.first.0 b.second.ended in
+        let never : None ≡ Some why = ap (λ (e : Ending). ending_refusal (file_of names b.ms) steps e) same ∙ b.first.1 in
         cc never
 
-    otherwise_so : (ending : Ending) (why other : Refusal) → ending_refusal (only names) steps ending ≡ Some why → RunComesTo root args steps names s i ending → OfModule (Held names s.files) root names (ends_otherwise other) → other ≡ why
-    otherwise_so ending why other is can o =
-        let b : Both (comes_to ending) (ends_otherwise other) = same_module root names (comes_to ending) (ends_otherwise other) can o in
-        let same : b.second.ending ≡ ending = one_ending (program_read b.m) root args steps (streams_of s i) ending b.second.ending b.first b.second.ended in
-        let both : Some other ≡ Some why = sym b.second.told ∙ ap (λ (e : Ending). ending_refusal (only names) steps e) same ∙ is in
+    otherwise_so : (ending : Ending) (why other : Refusal) → RunIsTold root args steps names s i ending why → OfModules (Held names s.files) root names (ends_otherwise other) → other ≡ why
+    otherwise_so ending why other can o =
+        let b : Both (is_told ending why) (ends_otherwise other) = same_modules root names (is_told ending why) (ends_otherwise other) can o in
+        let same : b.second.ending ≡ ending = one_ending (merged b.ms) root args steps (streams_of s i) ending b.second.ending b.first.0 b.second.ended in
+        let both : Some other ≡ Some why = sym b.second.told ∙ ap (λ (e : Ending). ending_refusal (file_of names b.ms) steps e) same ∙ b.first.1 in
         cc both
 
     -- where it has an ending it begins
-    fits : (ending : Ending) (name : List ℕ) → RunComesTo root args steps names s i ending → OfModule (Held names s.files) root names (λ m. IsUnfit (program_read m) root args (streams_of s i) name) → ⊥
+    begins_so : (ending : Ending) (name : List ℕ) (ms : List Module) → comes_to ending ms → IsUnfit (merged ms) root args (streams_of s i) name → ⊥
+    begins_so ending name ms can unfit =
+        told_fact (λ (bytes : List ℕ). EndsOver (merged ms) root args steps bytes ending) (λ bytes e. begins_not (merged ms) root args e.first unfit.none e.begins) i.stream.told can
+
+    fits : (ending : Ending) (name : List ℕ) → RunComesTo root args steps names s i ending → OfModules (Held names s.files) root names (λ ms. IsUnfit (merged ms) root args (streams_of s i) name) → ⊥
     fits ending name can o =
-        let b : Both (comes_to ending) (λ (m : Module). IsUnfit (program_read m) root args (streams_of s i) name) = same_module root names (comes_to ending) (λ (m : Module). IsUnfit (program_read m) root args (streams_of s i) name) can o in
-        told_fact (λ (bytes : List ℕ). EndsOver (program_read b.m) root args steps bytes ending) (λ bytes e. begins_not (program_read b.m) root args e.first b.second.none e.begins) i.stream.told b.first
+        let b : Both (comes_to ending) (λ (ms : List Module). IsUnfit (merged ms) root args (streams_of s i) name) = same_modules root names (comes_to ending) (λ (ms : List Module). IsUnfit (merged ms) root args (streams_of s i) name) can o in
+        begins_so ending name b.ms b.first b.second
+
+    told_fits : (ending : Ending) (why : Refusal) (name : List ℕ) → RunIsTold root args steps names s i ending why → OfModules (Held names s.files) root names (λ ms. IsUnfit (merged ms) root args (streams_of s i) name) → ⊥
+    told_fits ending why name can o =
+        let b : Both (is_told ending why) (λ (ms : List Module). IsUnfit (merged ms) root args (streams_of s i) name) = same_modules root names (is_told ending why) (λ (ms : List Module). IsUnfit (merged ms) root args (streams_of s i) name) can o in
+        begins_so ending name b.ms b.first.0 b.second
 
     -- and where it doesn't begin it has none
-    ends_not : (Q : Module → Type 0) → IsTold s.files.held (λ held. OfModule (AllZip (HoldsModule held) names) root names begins_nowhere)
-        → ((m : Module) → Q m → (first : State) × (beginning (program_read m) root args ≡ Some first)) → OfModule (Held names s.files) root names Q → ⊥
+    ends_not : (Q : List Module → Type 0) → IsTold s.files.held (λ held. OfModules (AllZip (HoldsModule held) names) root names begins_nowhere)
+        → ((ms : List Module) → Q ms → (first : State) × (beginning (merged ms) root args ≡ Some first)) → OfModules (Held names s.files) root names Q → ⊥
     ends_not Q none begins o =
-        let b : Both begins_nowhere Q = same_module root names begins_nowhere Q none o in
-        let f = begins b.m b.second in
-        begins_not (program_read b.m) root args f.0 b.first f.1
+        let b : Both begins_nowhere Q = same_modules root names begins_nowhere Q none o in
+        let f = begins b.ms b.second in
+        begins_not (merged b.ms) root args f.0 b.first f.1
 
-    abbrev takes : List ℕ → Module → Type 0
-    takes name m = CannotTake (program_read m) root args steps (streams_of s i) name
+    abbrev takes : List ℕ → List Module → Type 0
+    takes name ms = CannotTake (merged ms) root args steps (streams_of s i) name
 
-    abbrev sends : List ℕ → Module → Type 0
-    sends name m = CannotSend (program_read m) root args steps (streams_of s i) name
+    abbrev sends : List ℕ → List Module → Type 0
+    sends name ms = CannotSend (merged ms) root args steps (streams_of s i) name
 
   -- ---- nothing is in the way
 
@@ -240,8 +251,8 @@ module _ (apart : AcceptedIsNotRefused) (accepted : AcceptedIsOne) (s : Seen) (i
     done = λ x. tt;
     usage = λ x. x;
     unread = λ name x. either x (λ a. can.work.files a.0) (λ o. can.work.input o.so.rose);
-    refused = λ file line kind x. bad_module root names (comes_to root args steps names (Returned can.answer)) file line kind can.comes x.0;
-    unlinked = λ why x. unlinked_module root names (comes_to root args steps names (Returned can.answer)) why can.comes x.0;
+    refused = λ file line kind x. bad_modules root names (comes_to root args steps names (Returned can.answer)) file line kind can.comes x.0;
+    unlinked = λ why x. unlinked_modules root names (comes_to root args steps names (Returned can.answer)) why can.comes x.0;
     unfit = λ name x. fits root args steps names (Returned can.answer) name can.comes x;
     unwritten = λ name x. can.work.out x.1.so.rose;
     unreturned = λ why x. returned_not root args steps names can.answer why can.comes x;
@@ -255,7 +266,7 @@ module _ (apart : AcceptedIsNotRefused) (accepted : AcceptedIsOne) (s : Seen) (i
   pub refuses : RefusedIsOne → (c : Command) (file : List ℕ) (line : ℕ) (kind : Kind) → MustRefuse c s file line kind
       → Implies (telling c s i) (record never { refused = λ f l k. (f ≡ file) × (l ≡ line) × (k ≡ kind); memory = Unit {0} })
   refuses one (Link options out names) file line kind must = record {
-    done = λ x. of_told _ _ (linked_bad options.exports names options.import_limit file line kind) s.files.held must.0 (link_told _ options.exports options.import_limit out names s.files.held s.files.holds x);
+    done = λ x. of_told _ _ (linked_bad options.exports names options.import_limit file line kind) s.files.held must.0 (link_told _ options out names s.files.held s.files.holds x);
     usage = λ x. x;
     unread = λ name x. absurd (must.1 x);
     refused = λ f l k x. of_told _ _ (λ held a b. one_first_bad held apart one names f file l line k kind b a) s.files.held must.0 x;
@@ -280,14 +291,14 @@ module _ (apart : AcceptedIsNotRefused) (accepted : AcceptedIsOne) (s : Seen) (i
   }
   refuses one (Batch options list) file line kind must = absurd must
   refuses one (Run root args steps names) file line kind must = record {
-    done = λ x. module_bad root names _ file line kind must.0 x.1;
+    done = λ x. modules_bad root names _ file line kind must.0 x.1;
     usage = λ x. x;
-    unread = λ name x. either x (λ a. must.1 a.0) (λ o. module_bad root names _ file line kind must.0 o);
+    unread = λ name x. either x (λ a. must.1 a.0) (λ o. modules_bad root names _ file line kind must.0 o);
     refused = λ f l k x. of_told _ _ (λ held a b. one_first_bad held apart one names f file l line k kind b a) s.files.held must.0 x.0;
     unlinked = λ why x. of_told _ _ (λ held bad u. unlinked_bad (root ∷ []) names why file line kind held u bad) s.files.held must.0 x.0;
-    unfit = λ name x. module_bad root names _ file line kind must.0 x;
-    unwritten = λ name x. module_bad root names _ file line kind must.0 x.1;
-    unreturned = λ why x. module_bad root names _ file line kind must.0 x;
+    unfit = λ name x. modules_bad root names _ file line kind must.0 x;
+    unwritten = λ name x. modules_bad root names _ file line kind must.0 x.1;
+    unreturned = λ why x. modules_bad root names _ file line kind must.0 x;
     memory = λ x. tt;
     other = λ x. x;
   }
@@ -298,7 +309,7 @@ module _ (apart : AcceptedIsNotRefused) (accepted : AcceptedIsOne) (s : Seen) (i
   pub clashes : ReportedIsNotRefused → RefusalIsOne → (c : Command) (why : Refusal) → MustNotLink c s why
       → Implies (telling c s i) (record never { unlinked = λ other. other ≡ why; memory = Unit {0} })
   clashes reported one (Link options out names) why must = record {
-    done = λ x. of_told _ _ (linked_unlinked options.exports names options.import_limit why) s.files.held must.0 (link_told _ options.exports options.import_limit out names s.files.held s.files.holds x);
+    done = λ x. of_told _ _ (linked_unlinked options.exports names options.import_limit why) s.files.held must.0 (link_told _ options out names s.files.held s.files.holds x);
     usage = λ x. x;
     unread = λ name x. absurd (must.1 x);
     refused = λ file line kind x. of_told _ _ (unlinked_bad options.exports names why file line kind) s.files.held must.0 x;
@@ -323,14 +334,14 @@ module _ (apart : AcceptedIsNotRefused) (accepted : AcceptedIsOne) (s : Seen) (i
   }
   clashes reported one (Batch options list) why must = absurd must
   clashes reported one (Run root args steps names) why must = record {
-    done = λ x. module_unlinked root names _ why must.0 x.1;
+    done = λ x. modules_unlinked root names _ why must.0 x.1;
     usage = λ x. x;
-    unread = λ name x. either x (λ a. must.1 a.0) (λ o. module_unlinked root names _ why must.0 o);
+    unread = λ name x. either x (λ a. must.1 a.0) (λ o. modules_unlinked root names _ why must.0 o);
     refused = λ file line kind x. of_told _ _ (unlinked_bad (root ∷ []) names why file line kind) s.files.held must.0 x.0;
     unlinked = λ other x. of_told _ _ (one_unlinked one (root ∷ []) names why other) s.files.held must.0 x.0;
-    unfit = λ name x. module_unlinked root names _ why must.0 x;
-    unwritten = λ name x. module_unlinked root names _ why must.0 x.1;
-    unreturned = λ w x. module_unlinked root names _ why must.0 x;
+    unfit = λ name x. modules_unlinked root names _ why must.0 x;
+    unwritten = λ name x. modules_unlinked root names _ why must.0 x.1;
+    unreturned = λ w x. modules_unlinked root names _ why must.0 x;
     memory = λ x. tt;
     other = λ x. x;
   }
@@ -346,8 +357,8 @@ module _ (apart : AcceptedIsNotRefused) (accepted : AcceptedIsOne) (s : Seen) (i
     done = λ x. ends_not root args steps names (returns root args steps names) must.none (λ m r. (r.ended.first, r.ended.begins)) x.1;
     usage = λ x. x;
     unread = λ n x. either x (λ a. must.fine a.0) (λ o. ends_not root args steps names (takes root args steps names n) must.none (λ m r. (r.gave_up.first, r.gave_up.begins)) o);
-    refused = λ file line kind x. bad_module root names (begins_nowhere root args steps names) file line kind must.none x.0;
-    unlinked = λ why x. unlinked_module root names (begins_nowhere root args steps names) why must.none x.0;
+    refused = λ file line kind x. bad_modules root names (begins_nowhere root args steps names) file line kind must.none x.0;
+    unlinked = λ why x. unlinked_modules root names (begins_nowhere root args steps names) why must.none x.0;
     unfit = λ n x. x.so.named ∙ sym must.named;
     unwritten = λ n x. ends_not root args steps names (sends root args steps names n) must.none (λ m r. (r.gave_up.first, r.gave_up.begins)) x.1;
     unreturned = λ why x. ends_not root args steps names (ends_otherwise root args steps names why) must.none (λ m r. (r.ended.first, r.ended.begins)) x;
@@ -363,14 +374,14 @@ module _ (apart : AcceptedIsNotRefused) (accepted : AcceptedIsOne) (s : Seen) (i
   returns_none (Index exports limit names) why must = absurd must
   returns_none (Batch options list) why must = absurd must
   returns_none (Run root args steps names) why must = record {
-    done = λ x. otherwise_not root args steps names must.ending why must.told must.comes x.1;
+    done = λ x. otherwise_not root args steps names must.ending why must.comes x.1;
     usage = λ x. x;
     unread = λ name x. either x (λ a. must.work.files a.0) (λ o. must.work.input o.so.rose);
-    refused = λ file line kind x. bad_module root names (comes_to root args steps names must.ending) file line kind must.comes x.0;
-    unlinked = λ w x. unlinked_module root names (comes_to root args steps names must.ending) w must.comes x.0;
-    unfit = λ name x. fits root args steps names must.ending name must.comes x;
+    refused = λ file line kind x. bad_modules root names (is_told root args steps names must.ending why) file line kind must.comes x.0;
+    unlinked = λ w x. unlinked_modules root names (is_told root args steps names must.ending why) w must.comes x.0;
+    unfit = λ name x. told_fits root args steps names must.ending why name must.comes x;
     unwritten = λ name x. must.work.out x.1.so.rose;
-    unreturned = λ other x. otherwise_so root args steps names must.ending why other must.told must.comes x;
+    unreturned = λ other x. otherwise_so root args steps names must.ending why other must.comes x;
     memory = λ x. tt;
     other = λ x. x;
   }

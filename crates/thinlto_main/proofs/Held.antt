@@ -1,8 +1,8 @@
 -- What told files hold follows from what their fetches gave.
-use Rattle.std.proofs.Common.{ℕ, ◌≡◌, ◌≤◌, ◌<◌, ◌^◌, List, [], ◌∷◌, Option, Some, None, Ok, Err, refl, sym, ◌∙◌, ap, arith, length, subst, inl, inr, ◌⊎◌}
+use Rattle.std.proofs.Common.{ℕ, ◌≡◌, ◌<◌, ◌^◌, List, [], ◌∷◌, Option, Some, None, Ok, Err, refl, sym, ◌∙◌, ap, arith, length, subst, inl, inr}
 use Rattle.std.specs.List.{AllZip}
 use Rattle.ir_tree.specs.declared.module.Module.{Module}
-use Rattle.link_one.specs.Accepted.{Accepts, Refuses}
+use Rattle.link_one.specs.Accepted.{Accepts}
 use Rattle.link_one.specs.Laws.{AcceptedIsNotRefused, AcceptedIsOne, RefusedIsOne}
 use Rattle.lto_fault.specs.declared.kind.Kind.{Kind}
 use Rattle.lto_fetch.specs.Fetching.{fetch_calls}

@@ -1,5 +1,5 @@
 -- A run of a program, from where it begins to how it is told.
-use Rattle.std.proofs.Common.{◌≡◌, ◌∙◌, ◌+◌, ◌⊎◌, ℕ, List, [], ◌∷◌, drop, replicate, Option, Some, None, IfErr, IfOk, IfSome, OnErr, Result, Ok, Err, ap, sym, subst, inl, inr, arith}
+use Rattle.std.proofs.Common.{◌≡◌, ◌∙◌, ◌+◌, ◌⊎◌, ℕ, List, [], drop, replicate, Option, Some, None, IfErr, IfOk, IfSome, OnErr, Result, Ok, Err, ap, sym, subst, inl, inr, arith}
 use Rattle.ir_tree.specs.Wholes.{symbols}
 use Rattle.ir_tree.specs.declared.function.Function.{Function}
 use Rattle.ir_tree.specs.declared.module.GlobalValue.{GlobalValue}
@@ -26,10 +26,9 @@ use Rattle.machine_steps.specs.declared.machine.Machine.{Machine}
 use Rattle.run_parts.specs.Said.{IsTold}
 use Rattle.thinlto_main.specs.Causes.{Because, Causes, Comes, never}
 use Rattle.thinlto_main.specs.Endings.{IsSaid, Unbegun, given_up}
-use Rattle.thinlto_main.specs.Reporting.{OUTPUT}
-use Rattle.thinlto_main.specs.Running.{EndsSo, GaveUp, INPUT, ReturnsSo, RunEnds, StopsSo, run_causes}
+use Rattle.thinlto_main.specs.Runs.{EndsSo, GaveUp, INPUT, ReturnsSo, RunEnds, StopsSo, run_causes}
 use Rattle.run_parts.specs.Said.{answer_said, ending_refusal}
-use Rattle.thinlto_main.specs.Seen.{Streams}
+use Rattle.thinlto_main.specs.Seen.{OUTPUT, Streams}
 use Rattle.run_parts.specs.Starting.{beginning, result_of, root_of}
 use Rattle.thinlto_main.specs.declared.streams.StreamNames.{StreamNames}
 use Rattle.thinlto_main.proofs.Causes.{because_map}
@@ -114,7 +113,7 @@ module _ (gs : List GlobalValue) (root : ℕ) (numbers : List ℕ) (m : Machine)
 
 -- ---- to its end
 
-pub given_because : (p : Program) (root : List ℕ) (args : List Decimal) (file : List ℕ) (steps : ℕ) (t : Streams) (streams : StreamNames) (f : RunFault) → streams.input ≡ INPUT → streams.output ≡ OUTPUT
+pub given_because : (p : Program) (root : List ℕ) (args : List Decimal) (file : Symbol → List ℕ) (steps : ℕ) (t : Streams) (streams : StreamNames) (f : RunFault) → streams.input ≡ INPUT → streams.output ≡ OUTPUT
     → IsBlamed t.input.faults t.input.faults_now t.out.faults t.out.faults_now f → Unbegun f t ⊎ GaveUp p root args steps t f → Because (run_causes p root args file steps t) (given_up streams f)
 given_because p root args file steps t streams fault.In input output blamed (inl none) = absurd (cc none.0)
 given_because p root args file steps t streams fault.In input output blamed (inr gave) = record { named = input; rose = blamed; gave_up = gave }
@@ -150,7 +149,7 @@ module _ (p : Program) (root : List ℕ) (args : List Decimal) (steps : ℕ) (t 
         left = h.left ∙ ap (λ (n : ℕ). Some (drop n bytes)) (from_zero first.place (bytes_read (run p bytes (replicate steps 0) first).trace) at);
       }
 
-  pub ended_comes : (file : List ℕ) (gives : Option Reg) (r : Result line.Returned Refusal) → IfOk r (IsSaid gives (ending_meant names end))
+  pub ended_comes : (file : Symbol → List ℕ) (gives : Option Reg) (r : Result line.Returned Refusal) → IfOk r (IsSaid gives (ending_meant names end))
       → IfErr r (Because (record never { unreturned = λ why. ending_refusal file steps (ending_meant names end) ≡ Some why; memory = Unit {0} }))
       → Comes (run_causes p root args file steps t) r
   ended_comes file gives (Ok r) said because = record { answer = said.answer; ended = subst (λ (e : Ending). RunEnds p root args steps t e) said.returned run_ends }
@@ -178,7 +177,7 @@ module _ (p : Program) (root : List ℕ) (args : List Decimal) (steps : ℕ) (t 
 
 -- ---- where it can't begin
 
-pub unfit_because : (p : Program) (root : List ℕ) (args : List Decimal) (file : List ℕ) (steps : ℕ) (t : Streams) → beginning p root args ≡ None → t.unused → (why : Refusal)
+pub unfit_because : (p : Program) (root : List ℕ) (args : List Decimal) (file : Symbol → List ℕ) (steps : ℕ) (t : Streams) → beginning p root args ≡ None → t.unused → (why : Refusal)
     → Because (record never { unfit = λ name. name ≡ root; memory = Unit {0} }) why → Because (run_causes p root args file steps t) why
 unfit_because p root args file steps t none unused why h =
     because_map {k = record never { unfit = λ name. name ≡ root; memory = Unit {0} }} {l = run_causes p root args file steps t} (record {

@@ -2,13 +2,15 @@ mod Mapping
 mod Causes
 mod Reading
 mod Unlinked
+mod Rereading
 mod Linking
 mod Reporting
 mod Rooting
 mod Interpreting
-mod Single
+mod Merging
 mod Held
 mod Telling
 mod Completing
 mod Asking
+mod Judging
 mod Saying

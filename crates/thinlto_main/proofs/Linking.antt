@@ -1,5 +1,5 @@
 -- A link of one file.
-use Rattle.std.proofs.Common.{◌≡◌, ◌<◌, ◌∙◌, ℕ, zero, suc, Bool, List, [], ◌∷◌, ◌++◌, length, get_or, Option, Some, None, Ok, refl, ap, sym, subst, arith}
+use Rattle.std.proofs.Common.{◌≡◌, ◌∙◌, ℕ, Bool, List, [], ◌∷◌, ◌++◌, length, get_or, Option, Some, None, Ok, refl, ap, sym, subst, arith}
 use Rattle.std.specs.List.{AllZip}
 use Rattle.ir_tree.specs.declared.module.Module.{Module}
 use Rattle.link_one.specs.Accepted.{Accepts}
@@ -13,13 +13,15 @@ use Rattle.thin_link.specs.Linking.{IsThinLink}
 use Rattle.thin_link.specs.Refusing.{IsRefused}
 use Rattle.thinlto_main.specs.Causes.{never}
 use Rattle.thinlto_main.specs.Linking.{DidLink, HasThinLink, linking}
-use Rattle.thinlto_main.specs.Modules.{AreFetched, AreRead, IsRead, deciding, reading}
+use Rattle.thinlto_main.specs.Modules.{AreRead, IsRead, reading}
 use Rattle.thinlto_main.proofs.Causes.{Implies}
 use Rattle.thinlto_main.proofs.Reading.{fetched_no_put}
+use Rattle.lto_words.specs.declared.request.LinkOptions.{LinkOptions}
+use Rattle.thinlto_main.proofs.Rereading.{ReadingLaws, linked_reads}
 
 -- why modules aren't read is why there is no link
-pub reading_links : (exports : List (List ℕ)) (limit : ℕ) (out : List ℕ) (names : List (List ℕ)) (files : FilesSeen) → Implies (reading names files) (linking exports limit out names files)
-reading_links exports limit out names files = record {
+pub reading_links : (options : LinkOptions) (out : List ℕ) (names : List (List ℕ)) (files : FilesSeen) → Implies (reading names files) (linking options out names files)
+reading_links options out names files = record {
   done = λ x. absurd x;
   usage = λ x. x;
   unread = λ name x. x;
@@ -33,9 +35,9 @@ reading_links exports limit out names files = record {
 }
 
 -- and why they aren't linked
-pub unlinked_links : (exports : List (List ℕ)) (limit : ℕ) (out : List ℕ) (names : List (List ℕ)) (files : FilesSeen) (ms : List Module) → AreRead names files.did ms
-    → Implies (record never { unlinked = IsRefused names ms exports; memory = Unit {0} }) (linking exports limit out names files)
-unlinked_links exports limit out names files ms r = record {
+pub unlinked_links : (options : LinkOptions) (out : List ℕ) (names : List (List ℕ)) (files : FilesSeen) (ms : List Module) → AreRead names files.did ms
+    → Implies (record never { unlinked = IsRefused names ms options.exports; memory = Unit {0} }) (linking options out names files)
+unlinked_links options out names files ms r = record {
   done = λ x. absurd x;
   usage = λ x. x;
   unread = λ name x. absurd x;
@@ -76,15 +78,15 @@ one_of (file ∷ []) (Some bytes ∷ []) (m ∷ []) single each read = record { 
 -- what is put behind the fetch of one file
 module _ {F : Type 0} (did : F → List Call → F → Type 0)
     (more : (a b c : F) (first rest : List Call) → did a first b → did b rest c → did a (first ++ rest) c) (a b c : F) where
-  pub did_link : (exports : List (List ℕ)) (limit : ℕ) (out : List ℕ) (names : List (List ℕ)) (ms : List Module) (m : Module) (to put text : List ℕ) (done : Bool)
-      → AcceptedIsOne → length names ≡ 1 → AreRead names (λ calls. did a calls b) ms → m ≡ get_or ms 0 m → HasThinLink ms exports limit
-      → ((exports : List (List ℕ)) (bytes : List ℕ) → Accepts bytes m → IsLinkOf exports bytes text)
-      → ((exports : List (List ℕ)) (bytes : List ℕ) → Accepts bytes m → IsOnlyLinkOf exports bytes text)
+  pub did_link : (options : LinkOptions) (out : List ℕ) (names : List (List ℕ)) (ms : List Module) (m : Module) (to put text : List ℕ) (done : Bool)
+      → ReadingLaws → AcceptedIsOne → length names ≡ 1 → AreRead names (λ calls. did a calls b) ms → m ≡ get_or ms 0 m → HasThinLink ms options.exports options.import_limit
+      → ((exports : List (List ℕ)) (bytes : List ℕ) → Accepts bytes m → IsLinkOf exports options.inline_limit bytes text)
+      → ((exports : List (List ℕ)) (bytes : List ℕ) → Accepts bytes m → IsOnlyLinkOf exports options.inline_limit bytes text)
       → did b (Put to put done ∷ []) c → to ≡ out → put ≡ text
-      → (files : FilesSeen) → ((calls : List Call) → did a calls c → files.did calls) → DidLink exports limit out names files done
-  did_link exports limit out names ms m to put text done accepted single r m_is thin links only stored to_is put_is files shows = by (one_of names r.given ms single r.fetched.each r.read)
+      → (files : FilesSeen) → ((calls : List Call) → did a calls c → files.did calls) → DidLink options out names files done
+  did_link options out names ms m to put text done reading accepted single r m_is thin links only stored to_is put_is files shows = by (one_of names r.given ms single r.fetched.each r.read)
     where
-      by : One names r.given ms → DidLink exports limit out names files done
+      by : One names r.given ms → DidLink options out names files done
       by o = record {
         file = o.file;
         one = o.one;
@@ -92,8 +94,9 @@ module _ {F : Type 0} (did : F → List Call → F → Type 0)
         text = text;
         short = o.read.0;
         is_link = link;
-        only = only exports o.bytes accepts;
-        thin = subst (λ (l : List Module). HasThinLink l exports limit) (o.m_is ∙ ap (λ (n : Module). n ∷ []) (accepted o.bytes o.m link.m o.read.1 link.accepted)) thin;
+        only = only options.exports o.bytes accepts;
+        reads = linked_reads reading options.exports options.inline_limit o.bytes text link;
+        thin = subst (λ (l : List Module). HasThinLink l options.exports options.import_limit) (o.m_is ∙ ap (λ (n : Module). n ∷ []) (accepted o.bytes o.m link.m o.read.1 link.accepted)) thin;
         calls = shows (Fetched o.file (Ok o.bytes) ∷ Put out text done ∷ []) (more a b c (Fetched o.file (Ok o.bytes) ∷ []) (Put out text done ∷ []) fetched there);
       }
         where
@@ -103,8 +106,8 @@ module _ {F : Type 0} (did : F → List Call → F → Type 0)
           accepts : Accepts o.bytes m
           accepts = subst (λ (n : Module). Accepts o.bytes n) (sym same) o.read.1
 
-          link : IsLinkOf exports o.bytes text
-          link = links exports o.bytes accepts
+          link : IsLinkOf options.exports options.inline_limit o.bytes text
+          link = links options.exports o.bytes accepts
 
           fetched : did a (Fetched o.file (Ok o.bytes) ∷ []) b
           fetched =

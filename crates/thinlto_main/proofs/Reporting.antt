@@ -1,20 +1,17 @@
 -- The report of an index.
-use Rattle.std.proofs.Common.{◌≡◌, ◌∙◌, ℕ, Bool, List, Option, Result, Ok, Err, ap, sym, subst, true, false}
-use Rattle.std.specs.List.{AllZip}
+use Rattle.std.proofs.Common.{ℕ, Bool, List, subst}
 use Rattle.ir_tree.specs.declared.module.Module.{Module}
 use Rattle.link_one.specs.Laws.{AcceptedIsOne}
-use Rattle.lto_fault.specs.declared.refusal.Refusal.{Refusal}
 use Rattle.lto_notes.specs.Pushing.{Pushes}
-use Rattle.lto_outside.specs.Seen.{FilesSeen, StreamSeen}
 use Rattle.thin_link.specs.Laws.{ReportIsOne}
 use Rattle.thin_link.specs.Linking.{IsIndexReport}
 use Rattle.thin_link.specs.Refusing.{IsRefused}
 use Rattle.thinlto_main.specs.Answers.{reporting}
-use Rattle.thinlto_main.specs.Causes.{Causes, Comes, never}
-use Rattle.thinlto_main.specs.Modules.{AreRead, IsRead, reading}
-use Rattle.thinlto_main.specs.Reporting.{DidReport, IsOnlyReportOf, IsReportOf, OUTPUT}
+use Rattle.thinlto_main.specs.Causes.{never}
+use Rattle.thinlto_main.specs.Modules.{AreRead, reading}
+use Rattle.thinlto_main.specs.Reporting.{DidReport}
 use Rattle.thinlto_main.specs.Seen.{Seen}
-use Rattle.thinlto_main.proofs.Causes.{Implies, because_map, comes_map}
+use Rattle.thinlto_main.proofs.Causes.{Implies}
 use Rattle.thinlto_main.proofs.Reading.{fetched_no_put, one_reading}
 
 -- why modules aren't read is why there is no report

@@ -2,9 +2,8 @@
 -- the arguments.
 use Rattle.std.proofs.Common.{◌≡◌, ◌∙◌, ℕ, suc, ◌<◌, Bool, true, false, if◌then◌else◌, List, [], ◌∷◌, length, map, slice_get, Option, Some, None, IfSome, refl, ap, sym, subst, arith}
 use Rattle.std.specs.Prelude.{All}
-use Rattle.ir_tree.specs.Formed.{Formed, IsResult}
+use Rattle.ir_tree.specs.Formed.{IsResult}
 use Rattle.ir_tree.specs.Initials.{Initial}
-use Rattle.ir_tree.specs.Wholes.{GlobalFormed, Whole, symbols}
 use Rattle.ir_tree.specs.declared.block.Block.{Block}
 use Rattle.ir_tree.specs.declared.function.Function.{Function}
 use Rattle.ir_tree.specs.declared.function.Param.{Param}
@@ -13,53 +12,45 @@ use Rattle.ir_tree.specs.declared.module.GlobalValue.{GlobalValue}
 use Rattle.ir_tree.specs.declared.module.GlobalValue.TheVariants as global
 use Rattle.ir_tree.specs.declared.operand.Reg.{Reg}
 use Rattle.ir_tree.specs.declared.operand.Symbol.{Symbol}
-use Rattle.ir_better.proofs.Names.Moved.{symbol_true}
+use Rattle.ir_tree.proofs.Symbols.{symbol_true}
 use Rattle.ir_meaning.specs.Act.{enter}
 use Rattle.ir_meaning.specs.Run.{start, start_of}
-use Rattle.ir_meaning.specs.Symbols.{symbol_eq}
+use Rattle.ir_tree.specs.Symbols.{symbol_eq}
 use Rattle.ir_meaning.specs.declared.value.Value.{Value}
 use Rattle.ir_meaning.specs.declared.value.Value.TheVariants.{Number}
-use Rattle.ir_program.specs.Programs.{Body, Definition, Storage, behind, body_of, code_of, defined, definition_from, or_else, program_of, regs_of, storage_of, symbol_of}
+use Rattle.ir_program.specs.Programs.{Body, Definition, Storage, behind, body_of, code_of, defined, defined_blocks, defined_init, definition_from, or_else, program_of, regs_of, shared, storage_of, symbol_of}
+use Rattle.ir_program.specs.Runnable.{AreRunnable, IsRunnableFunction, IsRunnableGlobal}
 use Rattle.lto_words.specs.declared.list.Decimal.{Decimal}
 use Rattle.machine_code.proofs.Rooting.{long_types}
 use Rattle.machine_code.specs.Roots as lowered
 use Rattle.machine_memory.proofs.Lists.{all_got}
-use Rattle.machine_memory.proofs.Naming.{code_is, got_symbol, symbol_is}
+use Rattle.machine_memory.proofs.Naming.{code_is, symbol_is}
 use Rattle.machine_memory.specs.Tables.{number_at}
 use Rattle.machine_steps.specs.Steps.{CanBegin, numbers_meant}
 use Rattle.machine_steps.specs.declared.code.Code.{Code}
 use Rattle.run_parts.specs.Arguments.{IsGiven, IsTyped}
 use Rattle.thinlto_main.specs.Roots.{IsBegun, IsRoot, NoRoot, begun_with, function_in}
-use Rattle.run_parts.specs.Starting.{arguments, result_of, root_of, shared, started, taken_by}
+use Rattle.run_parts.specs.Starting.{arguments, result_of, root_of, started, taken_by}
 use Rattle.thinlto_main.specs.declared.root.Begun.{Begun}
 use Rattle.run_parts.proofs.Taking.{as_many_taken, integers_taken, params_typed, reg_typed}
 
 -- ---- the program's function at a place
 
-is_shared : (s : Symbol) (name : List ℕ) → s.home ≡ None → s.name ≡ name → s ≡ shared name
-is_shared s name e f = ap (λ (h : Option ℕ). record { home = h; name = s.name }) e ∙ ap (λ (n : List ℕ). record { home = None; name = n }) f
-
-has_code : (n : ℕ) (f : Function) → 0 < length f.blocks → code_of (defined n (global.Function f)) ≡ Some f
-has_code n f l = by f.blocks l where
+has_code : (n : ℕ) (f : Function) → 0 < length (defined_blocks f) → code_of (defined n (global.Function f)) ≡ Some f
+has_code n f l = by (defined_blocks f) l where
   by : (bs : List Block) → 0 < length bs → code_of (body_of bs f) ≡ Some f
   by [] h = absurd (omega (arith, h))
   by (b ∷ bs) h = refl
 
-module _ (gs : List GlobalValue) (w : Whole gs) (name : List ℕ) (i : ℕ) (types : List Reg) (r : lowered.IsRoot gs name i types) where
-  root_shared : r.function.symbol ≡ shared name
-  root_shared =
-      is_shared r.function.symbol name
-      (all_got (λ (s : Symbol). s.home ≡ None) (symbols gs) i r.function.symbol (got_symbol gs i (global.Function r.function) r.there) w.homeless)
-      r.named
-
+module _ (gs : List GlobalValue) (a : AreRunnable gs) (name : List ℕ) (i : ℕ) (types : List Reg) (r : lowered.IsRoot gs name i types) where
   root_is : root_of (program_of gs) name ≡ Some r.function
-  root_is = ap (λ (s : Symbol). (program_of gs).code s) (sym root_shared) ∙ code_is gs w i (global.Function r.function) r.there ∙ has_code (number_at 0 gs i) r.function r.defined
+  root_is = ap (λ (s : Symbol). (program_of gs).code s) (sym r.named) ∙ code_is gs a.once i (global.Function r.function) r.there ∙ has_code (number_at 0 gs i) r.function r.defined
 
   found_root : (o : Option Function) → o ≡ function_in (slice_get gs i) → o ≡ Some r.function
   found_root o e = e ∙ ap (λ (g : Option GlobalValue). function_in g) r.there
 
-  root_formed : Formed r.function
-  root_formed = all_got GlobalFormed gs i (global.Function r.function) r.there w.formed
+  root_runs : IsRunnableFunction r.function
+  root_runs = all_got IsRunnableGlobal gs i (global.Function r.function) r.there a.each
 
   -- something is found there
   pub root_there : None ≡ function_in (slice_get gs i) → ⊥
@@ -71,7 +62,7 @@ module _ (gs : List GlobalValue) (w : Whole gs) (name : List ℕ) (i : ℕ) (typ
 
     pub is_root : IsRoot gs name i f
     is_root = record {
-      symbol = symbol_is gs i (global.Function r.function) r.there ∙ root_shared;
+      symbol = symbol_is gs i (global.Function r.function) r.there ∙ r.named;
       is = root_is ∙ sym (found_root (Some f) found);
     }
 
@@ -79,10 +70,10 @@ module _ (gs : List GlobalValue) (w : Whole gs) (name : List ℕ) (i : ℕ) (typ
     root_count = ap (λ (ts : List Reg). length ts) (sym r.typed) ∙ long_types r.function.params ∙ ap (λ (x : Function). length x.params) (sym same_root)
 
     pub root_typed : All (λ (p : Param). IsTyped p.reg) f.params
-    root_typed = params_typed f.params (subst (λ (x : Function). Formed x) (sym same_root) root_formed).params
+    root_typed = params_typed f.params (subst (λ (x : Function). IsRunnableFunction x) (sym same_root) root_runs).params
 
     pub root_gives : IsGiven f.result
-    root_gives = by f.result (subst (λ (x : Function). Formed x) (sym same_root) root_formed).result
+    root_gives = by f.result (subst (λ (x : Function). IsRunnableFunction x) (sym same_root) root_runs).result
       where
         by : (o : Option Reg) → IsResult o → IsGiven o
         by None h = tt
@@ -94,25 +85,25 @@ record Placed (gs : List GlobalValue) (s : Symbol) (f : Function) : Type 0 where
   index : ℕ
   there : slice_get gs index ≡ Some (global.Function f)
   symbol : f.symbol ≡ s
-  defined : 0 < length f.blocks
+  defined : 0 < length (defined_blocks f)
 
 no_body : (n : ℕ) (v : Variable) (o : Option Initial) (f : Function) → storage_of o n v ≡ Some (Body f) → ⊥
 no_body n v None f e = cc e
 no_body n v (Some init) f e = cc e
 
-function_body : (g f : Function) (bs : List Block) → g.blocks ≡ bs → body_of bs g ≡ Some (Body f) → (g ≡ f) × (0 < length g.blocks)
+function_body : (g f : Function) (bs : List Block) → defined_blocks g ≡ bs → body_of bs g ≡ Some (Body f) → (g ≡ f) × (0 < length (defined_blocks g))
 function_body g f [] z e = absurd (cc e)
 function_body g f (b ∷ bs) z e = let same : g ≡ f = cc e in (same, omega (arith, ap (λ (xs : List Block). length xs) z))
 
 first_placed : (n : ℕ) (g : GlobalValue) (gs : List GlobalValue) (s : Symbol) (f : Function) → symbol_of g ≡ s → defined n g ≡ Some (Body f) → Placed (g ∷ gs) s f
-first_placed n (global.Variable v) gs s f is e = absurd (no_body n v v.init f e)
+first_placed n (global.Variable v) gs s f is e = absurd (no_body n v (defined_init v) f e)
 first_placed n (global.Function h) gs s f is e =
-    let body = function_body h f h.blocks refl e in
+    let body = function_body h f (defined_blocks h) refl e in
     record {
       index = 0;
       there = ap (λ (x : Function). Some (global.Function x)) body.0;
       symbol = ap (λ (x : Function). x.symbol) (sym body.0) ∙ is;
-      defined = subst (λ (x : Function). 0 < length x.blocks) body.0 body.1;
+      defined = subst (λ (x : Function). 0 < length (defined_blocks x)) body.0 body.1;
     }
 
 code_placed : (n : ℕ) (gs : List GlobalValue) (s : Symbol) (f : Function) → code_of (definition_from n gs s) ≡ Some f → Placed gs s f
@@ -134,7 +125,7 @@ code_placed n (g ∷ gs) s f e = by (symbol_eq (symbol_of g) s) refl (defined n 
 pub no_root : (gs : List GlobalValue) (name : List ℕ) → ((i : ℕ) (types : List Reg) → lowered.IsRoot gs name i types → ⊥) → NoRoot gs name
 no_root gs name never f is integers =
     let p = code_placed 0 gs (shared name) f is in
-    never p.index (regs_of f.params) (record { function = f; there = p.there; named = ap (λ (s : Symbol). s.name) p.symbol; defined = p.defined; integers = integers; typed = refl })
+    never p.index (regs_of f.params) (record { function = f; there = p.there; named = p.symbol; defined = p.defined; integers = integers; typed = refl })
 
 -- ---- the beginning
 

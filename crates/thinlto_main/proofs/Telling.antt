@@ -1,5 +1,5 @@
 -- The causes of answers, where the files tell what they hold.
-use Rattle.std.proofs.Common.{ℕ, ◌≡◌, ◌∙◌, Bool, true, false, List, [], ◌∷◌, Option, Some, None, Ok, length, refl, sym, subst, inl, inr}
+use Rattle.std.proofs.Common.{ℕ, ◌≡◌, ◌∙◌, Bool, true, false, List, [], ◌∷◌, Option, Some, None, Ok, length, subst, inl, inr}
 use Rattle.std.specs.List.{AllZip}
 use Rattle.std.specs.Prelude.{IfSome}
 use Rattle.ir_tree.specs.declared.module.Module.{Module}
@@ -19,15 +19,16 @@ use Rattle.thin_link.specs.Linking.{IsIndexReport}
 use Rattle.thinlto_main.specs.Answers.{causes}
 use Rattle.thinlto_main.specs.Causes.{Causes}
 use Rattle.thinlto_main.specs.Linking.{DidLink}
-use Rattle.thinlto_main.specs.Modules.{AreFetched, AreRead, CannotLink, CannotRead, IsRead}
+use Rattle.thinlto_main.specs.Modules.{AreFetched, AreRead, CannotLink, CannotRead}
 use Rattle.thinlto_main.specs.Reporting.{DidReport}
-use Rattle.thinlto_main.specs.Running.{OfModule, module_causes, running, running_by}
+use Rattle.thinlto_main.specs.Running.{OfModules, merged_causes, running, running_by}
 use Rattle.thinlto_main.specs.Seen.{InputSeen, Seen, Streams, streams_of}
-use Rattle.thinlto_main.specs.Telling.{Held, HoldFirstBad, HoldReport, HoldUnlinked, HoldsModule, LinkHeld, told, told_files}
+use Rattle.thinlto_main.specs.Telling.{Held, HoldFirstBad, HoldReport, HoldUnlinked, LinkHeld, told, told_files}
 use Rattle.thinlto_main.proofs.Causes.{Implies}
 use Rattle.thinlto_main.proofs.Held.{Gives, fetches_give, follows_same, held_first_bad, held_modules, one_list}
 use Rattle.thinlto_main.proofs.Mapping.{if_some_map}
 use Rattle.thinlto_main.proofs.Reading.{no_put_fetches}
+use Rattle.lto_words.specs.declared.request.LinkOptions.{LinkOptions}
 
 -- ---- fetches
 
@@ -50,11 +51,11 @@ module _ (files : FilesSeen) (tells : (calls : List Call) → files.did calls �
   held_told : (names : List (List ℕ)) (ms : List Module) → AreRead names files.did ms → Held names files ms
   held_told names ms r = if_some_map _ _ (λ held gives. held_modules held names r.given ms gives r.read) files.held (fetched_told names r.given r.fetched)
 
-  pub module_told : (root : List ℕ) (names : List (List ℕ)) (P : Module → Type 0) → OfModule (AreRead names files.did) root names P → OfModule (Held names files) root names P
-  module_told root names P o = record { m = o.m; is = held_told names (o.m ∷ []) o.is; linked = o.linked; so = o.so }
+  pub modules_told : (root : List ℕ) (names : List (List ℕ)) (P : List Module → Type 0) → OfModules (AreRead names files.did) root names P → OfModules (Held names files) root names P
+  modules_told root names P o = record { ms = o.ms; is = held_told names o.ms o.is; linked = o.linked; so = o.so }
 
-  pub module_stays : (root : List ℕ) (names : List (List ℕ)) (P : Module → Type 0) → OfModule (AreRead names files.did) root names P → Stays files.held files.holds
-  module_stays root names P o = fetched_stay names o.is.given o.is.fetched
+  pub modules_stay : (root : List ℕ) (names : List (List ℕ)) (P : List Module → Type 0) → OfModules (AreRead names files.did) root names P → Stays files.held files.holds
+  modules_stay root names P o = fetched_stay names o.is.given o.is.fetched
 
   pub unlinked_told : (exports names : List (List ℕ)) (why : Refusal) → CannotLink exports names files why → IfSome files.held (λ held. HoldUnlinked exports names held why)
   unlinked_told exports names why r =
@@ -62,8 +63,8 @@ module _ (files : FilesSeen) (tells : (calls : List Call) → files.did calls �
 
 -- ---- what a link put
 
-module _ (exports : List (List ℕ)) (limit : ℕ) (out : List ℕ) (names : List (List ℕ)) (files : FilesSeen) where
-  held_done : (d : DidLink exports limit out names files true) (old new : Option Store) → Follows old (Fetched d.file (Ok d.bytes) ∷ Put out d.text true ∷ []) new → LinkHeld HasPut exports limit out names old new
+module _ (options : LinkOptions) (out : List ℕ) (names : List (List ℕ)) (files : FilesSeen) where
+  held_done : (d : DidLink options out names files true) (old new : Option Store) → Follows old (Fetched d.file (Ok d.bytes) ∷ Put out d.text true ∷ []) new → LinkHeld HasPut options out names old new
   held_done d None new f = tt
   held_done d (Some old) None f = f
   held_done d (Some old) (Some new) f = record {
@@ -83,7 +84,7 @@ module _ (exports : List (List ℕ)) (limit : ℕ) (out : List ℕ) (names : Lis
   part_behind old next new text (inl is) same = inl (same out ∙ is)
   part_behind old next new text (inr (count, is)) same = inr (count, same out ∙ is)
 
-  held_part : (d : DidLink exports limit out names files false) (old new : Option Store) → Follows old (Fetched d.file (Ok d.bytes) ∷ Put out d.text false ∷ []) new → LinkHeld HasPart exports limit out names old new
+  held_part : (d : DidLink options out names files false) (old new : Option Store) → Follows old (Fetched d.file (Ok d.bytes) ∷ Put out d.text false ∷ []) new → LinkHeld HasPart options out names old new
   held_part d None new f = tt
   held_part d (Some old) None f = f
   held_part d (Some old) (Some new) f = record {
@@ -122,11 +123,11 @@ module _ (accepted : AcceptedIsOne) (one : ReportIsOne) (s : Seen) (tells : (cal
   -- ---- a run
 
   module _ (root : List ℕ) (args : List Decimal) (steps : ℕ) (names : List (List ℕ)) (t : Streams) where
-    abbrev comes_to : (Causes → Type 0) → Module → Type 0
-    comes_to fact m = fact (module_causes root args steps names t m)
+    abbrev comes_to : (Causes → Type 0) → List Module → Type 0
+    comes_to fact ms = fact (merged_causes root args steps names t ms)
 
-    moved : (fact : Causes → Type 0) → OfModule (AreRead names s.files.did) root names (comes_to fact) → OfModule (Held names s.files) root names (comes_to fact)
-    moved fact o = module_told s.files tells root names (comes_to fact) o
+    moved : (fact : Causes → Type 0) → OfModules (AreRead names s.files.did) root names (comes_to fact) → OfModules (Held names s.files) root names (comes_to fact)
+    moved fact o = modules_told s.files tells root names (comes_to fact) o
 
     unread_told : (name : List ℕ) → (running root args steps names s.files t).unread name → (running_by (Held names s.files) (told_files (root ∷ []) names s.files) root args steps names t).unread name
     unread_told name (inl x) = inl (x.0.rose, x.1)
@@ -138,13 +139,13 @@ module _ (accepted : AcceptedIsOne) (one : ReportIsOne) (s : Seen) (tells : (cal
 
   pub tell : (i : InputSeen) (c : Command) → Implies (causes c s i) (told c s i)
   tell i (Link options out names) = record {
-    done = λ x. held_done options.exports options.import_limit out names s.files x.0.0 s.files.held s.files.holds (tells _ x.0.0.calls);
+    done = λ x. held_done options out names s.files x.0.0 s.files.held s.files.holds (tells _ x.0.0.calls);
     usage = λ x. absurd x.0.0;
     unread = λ name x. x.0.0.rose;
     refused = λ file line kind x. bad_told s.files tells names file line kind x.0.0;
     unlinked = λ why x. unlinked_told s.files tells options.exports names why x.0.0;
     unfit = λ name x. absurd x.0.0;
-    unwritten = λ name x. (held_part options.exports options.import_limit out names s.files x.0.0.did_link s.files.held s.files.holds (tells _ x.0.0.did_link.calls), x.0.0.rose);
+    unwritten = λ name x. (held_part options out names s.files x.0.0.did_link s.files.held s.files.holds (tells _ x.0.0.did_link.calls), x.0.0.rose);
     unreturned = λ why x. absurd x.0.0;
     memory = λ x. tt;
     other = λ x. absurd x.0.0;
@@ -163,13 +164,13 @@ module _ (accepted : AcceptedIsOne) (one : ReportIsOne) (s : Seen) (tells : (cal
   }
   tell i (Batch options list) = record { done = λ x. x; usage = λ x. x; unread = λ n x. x; refused = λ f l k x. x; unlinked = λ w x. x; unfit = λ n x. x; unwritten = λ n x. x; unreturned = λ w x. x; memory = λ x. x; other = λ x. x }
   tell i (Run root args steps names) = record {
-    done = λ x. (module_stays s.files tells root names _ x, moved root args steps names (streams_of s i) (λ (k : Causes). k.done) x);
+    done = λ x. (modules_stay s.files tells root names _ x, moved root args steps names (streams_of s i) (λ (k : Causes). k.done) x);
     usage = λ x. x;
     unread = λ name x. unread_told root args steps names (streams_of s i) name x;
     refused = λ file line kind x. (bad_told s.files tells names file line kind x.0, x.1);
     unlinked = λ why x. (unlinked_told s.files tells (root ∷ []) names why x.0, x.1);
     unfit = λ name x. moved root args steps names (streams_of s i) (λ (k : Causes). k.unfit name) x;
-    unwritten = λ name x. (module_stays s.files tells root names _ x, moved root args steps names (streams_of s i) (λ (k : Causes). k.unwritten name) x);
+    unwritten = λ name x. (modules_stay s.files tells root names _ x, moved root args steps names (streams_of s i) (λ (k : Causes). k.unwritten name) x);
     unreturned = λ why x. moved root args steps names (streams_of s i) (λ (k : Causes). k.unreturned why) x;
     memory = λ x. memory_told root args steps names (streams_of s i) x;
     other = λ x. x;

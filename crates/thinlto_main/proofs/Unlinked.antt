@@ -1,5 +1,5 @@
 -- The refusals of the thin link.
-use Rattle.std.proofs.Common.{◌≡◌, ◌≢◌, ◌∙◌, ℕ, Bool, List, Result, Ok, Err, ap, inl, inr, sym, subst}
+use Rattle.std.proofs.Common.{◌≡◌, ◌≢◌, ℕ, List, Result, Ok, Err, inl, inr, sym, subst}
 use Rattle.std.specs.Prelude.{map, IfErr}
 use Rattle.combined_index.specs.Combined.{Combined}
 use Rattle.ir_summary.specs.Summaries.{summaries}
@@ -17,7 +17,7 @@ use Rattle.thin_link.specs.Refusing.{IsRefused, clash_refusal, lack_refusal}
 use Rattle.thin_link.proofs.Clashing.{no_clash}
 use Rattle.thin_link.proofs.Indices.{one_index}
 use Rattle.thin_link.proofs.Lacking.{no_lack}
-use Rattle.thinlto_main.specs.Causes.{Because, Causes, never}
+use Rattle.thinlto_main.specs.Causes.{Because, Causes}
 use Rattle.thinlto_main.specs.Linking.{HasThinLink}
 
 -- it is one of those that tell why modules aren't linked

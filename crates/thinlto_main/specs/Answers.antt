@@ -35,7 +35,7 @@ reporting exports limit names s = record (with_fact s.unprinted (deciding export
 
 -- the cause of each answer: a case for each command, of which a run alone takes input
 abbrev pub causes : Command → Seen → InputSeen → Causes
-causes (Link options out names) s i = with_fact i.untaken (with_fact s.unprinted (linking options.exports options.import_limit out names s.files))
+causes (Link options out names) s i = with_fact i.untaken (with_fact s.unprinted (linking options out names s.files))
 causes (Index exports limit names) s i = with_fact i.untaken (reporting exports limit names s)
 causes (Batch options list) s i = never
 causes (Run root args steps names) s i = running root args steps names s.files (streams_of s i)

@@ -1,23 +1,19 @@
 -- What the words ask for, and what the program does so far.
-use Rattle.std.specs.Prelude.{◌≡◌, ◌&&◌, ℕ, Bool, true, false, List, Option, Some, None, length, nat_eq, is_some, not}
+use Rattle.std.specs.Prelude.{◌≡◌, ◌&&◌, ℕ, Bool, true, false, List, length, nat_eq, is_some, not}
 use Rattle.lto_words.specs.Commands.{IsCommand}
 use Rattle.lto_words.specs.declared.request.Command.{Command}
 use Rattle.lto_words.specs.declared.request.Command.TheVariants.{Link, Batch, Index, Run, Gen}
 use Rattle.lto_words.specs.declared.request.LinkOptions.{LinkOptions}
 
--- a link of one file, by one worker, without a cache and inlining
+-- a link of one file, by one worker, without a cache
 abbrev pub is_offered_link : LinkOptions → List (List ℕ) → Bool
-is_offered_link options names = nat_eq options.jobs 1 && (not (is_some options.cache) && (nat_eq options.inline_limit 40 && nat_eq (length names) 1))
-
--- a run of one file
-abbrev pub is_offered_run : List (List ℕ) → Bool
-is_offered_run names = nat_eq (length names) 1
+is_offered_link options names = nat_eq options.jobs 1 && (not (is_some options.cache) && nat_eq (length names) 1)
 
 abbrev pub is_offered : Command → Bool
 is_offered (Link options out names) = is_offered_link options names
 is_offered (Batch options list) = false
 is_offered (Index exports limit names) = true
-is_offered (Run root args steps names) = is_offered_run names
+is_offered (Run root args steps names) = true
 is_offered (Gen seed modules jobs) = false
 
 -- the words are a command that the program does, and this holds of it

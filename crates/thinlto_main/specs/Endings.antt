@@ -1,5 +1,5 @@
 -- How the machine's ending of a run is told.
-use Rattle.std.specs.Prelude.{◌≡◌, ℕ, [], Option}
+use Rattle.std.specs.Prelude.{◌≡◌, Option}
 use Rattle.ir_tree.specs.declared.operand.Reg.{Reg}
 use Rattle.ir_meaning.specs.Run.{Ending, Returned}
 use Rattle.ir_meaning.specs.declared.value.Value.{Value}

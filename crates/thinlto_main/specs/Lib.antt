@@ -6,6 +6,7 @@ pub mod Modules
 pub mod Linking
 pub mod Reporting
 pub mod Roots
+pub mod Runs
 pub mod Running
 pub mod Endings
 pub mod Asking

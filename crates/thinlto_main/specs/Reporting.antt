@@ -1,12 +1,11 @@
 -- The report of an index.
-use Rattle.std.specs.Prelude.{◌≡◌, ℕ, Bool, true, false, List, Option, codes}
+use Rattle.std.specs.Prelude.{◌≡◌, ℕ, Bool, false, List, Option}
 use Rattle.std.specs.List.{AllZip}
 use Rattle.ir_tree.specs.declared.module.Module.{Module}
 use Rattle.lto_notes.specs.Pushing.{Pushes}
 use Rattle.thin_link.specs.Linking.{IsIndexReport}
-use Rattle.thinlto_main.specs.Causes.{Causes}
-use Rattle.thinlto_main.specs.Modules.{AreFetched, IsRead, deciding}
-use Rattle.thinlto_main.specs.Seen.{Seen}
+use Rattle.thinlto_main.specs.Modules.{AreFetched, IsRead}
+use Rattle.thinlto_main.specs.Seen.{OUTPUT, Seen}
 
 -- the report of the thin link of what these bytes are read as
 pub record IsReportOf (exports names : List (List ℕ)) (limit : ℕ) (given : List (Option (List ℕ))) (text : List ℕ) : Type 0 where
@@ -27,10 +26,6 @@ pub record DidReport (exports names : List (List ℕ)) (limit : ℕ) (s : Seen) 
   pub is_report : IsReportOf exports names limit given text
   pub only : IsOnlyReportOf exports names limit given text
   pub sent : Pushes s.out text done
-
--- the output as it is named in a refusal
-abbrev pub OUTPUT : List ℕ
-OUTPUT = codes "output"
 
 pub record ReportCannotWrite (exports names : List (List ℕ)) (limit : ℕ) (s : Seen) (name : List ℕ) : Type 0 where
   pub named : name ≡ OUTPUT

@@ -9,10 +9,10 @@ use Rattle.ir_tree.specs.declared.operand.Reg.{Reg}
 use Rattle.ir_meaning.specs.Program.{State}
 use Rattle.ir_meaning.specs.Run.{start}
 use Rattle.ir_machine.specs.Meant.{symbol_at}
-use Rattle.ir_program.specs.Programs.{program_of}
+use Rattle.ir_program.specs.Programs.{program_of, shared}
 use Rattle.lto_words.specs.declared.list.Decimal.{Decimal}
 use Rattle.machine_steps.specs.Steps.{numbers_meant}
-use Rattle.run_parts.specs.Starting.{beginning, result_of, root_of, shared}
+use Rattle.run_parts.specs.Starting.{beginning, result_of, root_of}
 use Rattle.thinlto_main.specs.declared.root.Begun.{Begun}
 
 abbrev pub function_in : Option GlobalValue → Option Function

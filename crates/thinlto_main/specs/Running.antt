@@ -1,160 +1,55 @@
--- A run of one module: how it ends, and what its outside saw.
-use Rattle.std.specs.Prelude.{◌≡◌, ◌⊎◌, ◌-◌, ◌^◌, ℕ, if◌then◌else◌, List, [], ◌∷◌, drop, replicate, slice_index_or, Option, Some, None, IfSome, codes}
-use Rattle.std.specs.Io.KnownBytes.{Appends}
+-- A run of modules.
+use Rattle.std.specs.Prelude.{◌⊎◌, ℕ, List, [], ◌∷◌}
 use Rattle.ir_tree.specs.declared.module.Module.{Module}
-use Rattle.ir_meaning.specs.Program.{Program, State}
-use Rattle.ir_meaning.specs.Run.{Ending, Ran, Returned, run}
-use Rattle.ir_meaning.specs.declared.value.Value.{Value}
-use Rattle.ir_interp.specs.Runs.{HasFedPart, HasSentPart, IsFed, bytes_read, written}
-use Rattle.ir_interp.specs.declared.end.RunFault.{RunFault}
-use Rattle.ir_interp.specs.declared.end.RunFault.TheVariants as lack
+use Rattle.ir_tree.specs.declared.operand.Symbol.{Symbol}
 use Rattle.lto_fault.specs.declared.refusal.Refusal.{Refusal}
-use Rattle.lto_notes.specs.Pushing.{Hears}
-use Rattle.lto_notes.specs.Returned.{returned_text}
-use Rattle.lto_notes.specs.declared.returned.Returned as line
-use Rattle.lto_outside.specs.Cause.{Rose}
 use Rattle.lto_outside.specs.Seen.{FilesSeen}
 use Rattle.lto_words.specs.declared.list.Decimal.{Decimal}
+use Rattle.merge_meaning.specs.Merged.{merged}
+use Rattle.run_parts.specs.Files.{file_in}
+use Rattle.symbol_resolve.specs.Resolved.{symbols}
 use Rattle.thin_link.specs.Refusing.{IsRefused}
-use Rattle.thinlto_main.specs.Causes.{Causes, never}
-use Rattle.run_parts.specs.Copies.{program_read}
+use Rattle.thinlto_main.specs.Causes.{Causes}
 use Rattle.thinlto_main.specs.Modules.{AreRead, deciding}
-use Rattle.thinlto_main.specs.Reporting.{OUTPUT}
+use Rattle.thinlto_main.specs.Runs.{Said, run_causes}
 use Rattle.thinlto_main.specs.Seen.{Notes, Streams}
-use Rattle.run_parts.specs.Said.{answer_said, ending_refusal}
-use Rattle.run_parts.specs.Starting.{beginning, result_of, root_of}
 
--- the one file
-abbrev pub only : List (List ℕ) → List ℕ
-only names = slice_index_or names 0 []
+-- ---- a run of what modules mean together
 
--- ---- a run of a program
+-- the file of the module that defines a symbol
+abbrev pub file_of : List (List ℕ) → List Module → Symbol → List ℕ
+file_of names ms = file_in names (symbols ms)
 
--- the run ended so; what it wrote was sent, and what it didn't read is left
-pub record EndsSo (ran : Ran) (t : Streams) (bytes : List ℕ) (ending : Ending) : Type 0 where
-  pub ended : ran.ending ≡ ending
-  pub sent : Appends t.out.told t.out.told_now (written ran.trace)
-  pub left : t.input.told_now ≡ Some (drop (bytes_read ran.trace) bytes)
+-- what a run of the merged modules answers
+abbrev pub merged_causes : List ℕ → List Decimal → ℕ → List (List ℕ) → Streams → List Module → Causes
+merged_causes root args steps names t ms = run_causes (merged ms) root args (file_of names ms) steps t
 
--- the same over what the input gave, whether it tells that or not: the run is the definition's over all bytes that answer its
--- reads so
-pub record EndsFed (p : Program) (first : State) (steps : ℕ) (t : Streams) (ending : Ending) : Type 0 where
-  pub ran : Ran
-  pub fed : IsFed p first steps ran
-  pub ended : ran.ending ≡ ending
-  pub sent : Appends t.out.told t.out.told_now (written ran.trace)
+-- ---- a run of the modules of files
 
--- It began, and ended so, over what the input gave. Where the input tells what it has left, the run is the definition's over
--- these bytes, with 0 as every free choice, for at most so many steps.
-pub record RunEnds (p : Program) (root : List ℕ) (args : List Decimal) (steps : ℕ) (t : Streams) (ending : Ending) : Type 0 where
-  pub first : State
-  pub begins : beginning p root args ≡ Some first
-  pub fed : EndsFed p first steps t ending
-  pub over : IfSome t.input.told (λ bytes. EndsSo (run p bytes (replicate steps 0) first) t bytes ending)
-
-pub record DidEnd (p : Program) (root : List ℕ) (args : List Decimal) (steps : ℕ) (t : Streams) : Type 0 where
-  pub ending : Ending
-  pub ended : RunEnds p root args steps t ending
-
--- A run from this state on was given up for this: what was sent is what it writes in some number of steps that is less than so
--- many, over what the input gave. Where the input tells what it has left, that is what these steps leave, or, where memory was
--- refused, what the next one leaves.
-pub record StopsSo (p : Program) (first : State) (steps : ℕ) (t : Streams) (why : RunFault) : Type 0 where
-  pub fed : HasFedPart p first steps t.out.told t.out.told_now
-  pub over : IfSome t.input.told (λ bytes. HasSentPart p first bytes steps why t.input.told_now t.out.told t.out.told_now)
-
--- it began, and was given up for this
-pub record GaveUp (p : Program) (root : List ℕ) (args : List Decimal) (steps : ℕ) (t : Streams) (why : RunFault) : Type 0 where
-  pub first : State
-  pub begins : beginning p root args ≡ Some first
-  pub stops : StopsSo p first steps t why
-
-pub record DidReturn (p : Program) (root : List ℕ) (args : List Decimal) (steps : ℕ) (t : Streams) : Type 0 where
-  pub answer : Option Value
-  pub ended : RunEnds p root args steps t (Returned answer)
-
--- it returned, and this is said of its answer
-pub record ReturnsSo (p : Program) (root : List ℕ) (args : List Decimal) (steps : ℕ) (t : Streams) (r : line.Returned) : Type 0 where
-  pub answer : Option Value
-  pub ended : RunEnds p root args steps t (Returned answer)
-  pub is : r ≡ answer_said (result_of (root_of p root)) answer
-
--- it ended otherwise than by returning, and is told so
-pub record EndedOtherwise (p : Program) (root : List ℕ) (args : List Decimal) (file : List ℕ) (steps : ℕ) (t : Streams) (why : Refusal) : Type 0 where
-  pub ending : Ending
-  pub ended : RunEnds p root args steps t ending
-  pub told : ending_refusal file steps ending ≡ Some why
-
--- the root is no function that takes the arguments: there is none of its name, a parameter is a pointer, there are more or
--- fewer arguments than parameters, or one is no literal of its width
-pub record IsUnfit (p : Program) (root : List ℕ) (args : List Decimal) (t : Streams) (name : List ℕ) : Type 0 where
-  pub named : name ≡ root
-  pub none : beginning p root args ≡ None
-  pub unused : t.unused
-
--- the input as it is named in a refusal
-abbrev pub INPUT : List ℕ
-INPUT = codes "input"
-
--- a read failed
-pub record CannotTake (p : Program) (root : List ℕ) (args : List Decimal) (steps : ℕ) (t : Streams) (name : List ℕ) : Type 0 where
-  pub named : name ≡ INPUT
-  pub rose : Rose t.input.faults t.input.faults_now
-  pub gave_up : GaveUp p root args steps t lack.In
-
--- a push failed
-pub record CannotSend (p : Program) (root : List ℕ) (args : List Decimal) (steps : ℕ) (t : Streams) (name : List ℕ) : Type 0 where
-  pub named : name ≡ OUTPUT
-  pub rose : Rose t.out.faults t.out.faults_now
-  pub gave_up : GaveUp p root args steps t lack.Out
-
--- the answers of a run of the program; memory may run out before it, in it, or where its ending is told
-abbrev pub run_causes : Program → List ℕ → List Decimal → List ℕ → ℕ → Streams → Causes
-run_causes p root args file steps t = record never {
-  done = DidReturn p root args steps t;
-  unread = CannotTake p root args steps t;
-  unfit = IsUnfit p root args t;
-  unwritten = CannotSend p root args steps t;
-  unreturned = EndedOtherwise p root args file steps t;
-  memory = t.unused ⊎ (GaveUp p root args steps t lack.NoMemory ⊎ DidEnd p root args steps t);
-}
-
--- ---- a run of the one module of files
-
--- the files are one that is read as a module, which is linked with the root as its export; and this holds of it
-pub record OfModule (read : List Module → Type 0) (root : List ℕ) (names : List (List ℕ)) (P : Module → Type 0) : Type 0 where
-  pub m : Module
-  pub is : read (m ∷ [])
-  pub linked : (why : Refusal) → IsRefused names (m ∷ []) (root ∷ []) why → ⊥
-  pub so : P m
-
--- what a run of the module answers
-abbrev pub module_causes : List ℕ → List Decimal → ℕ → List (List ℕ) → Streams → Module → Causes
-module_causes root args steps names t m = run_causes (program_read m) root args (only names) steps t
+-- the files are read as modules, which are linked with the root as their export; and this holds of them
+pub record OfModules (read : List Module → Type 0) (root : List ℕ) (names : List (List ℕ)) (P : List Module → Type 0) : Type 0 where
+  pub ms : List Module
+  pub is : read ms
+  pub linked : (why : Refusal) → IsRefused names ms (root ∷ []) why → ⊥
+  pub so : P ms
 
 -- The answers of a run of modules that are read so. Those that come before it are as they are of modules that are linked, and
 -- then nothing was read or printed.
 abbrev pub running_by : (List Module → Type 0) → Causes → List ℕ → List Decimal → ℕ → List (List ℕ) → Streams → Causes
 running_by read before root args steps names t = record before {
-  done = OfModule read root names (λ m. (module_causes root args steps names t m).done);
-  unread = λ name. (before.unread name × t.unused) ⊎ OfModule read root names (λ m. (module_causes root args steps names t m).unread name);
+  done = OfModules read root names (λ ms. (merged_causes root args steps names t ms).done);
+  unread = λ name. (before.unread name × t.unused) ⊎ OfModules read root names (λ ms. (merged_causes root args steps names t ms).unread name);
   refused = λ file at kind. before.refused file at kind × t.unused;
   unlinked = λ why. before.unlinked why × t.unused;
-  unfit = λ name. OfModule read root names (λ m. (module_causes root args steps names t m).unfit name);
-  unwritten = λ name. OfModule read root names (λ m. (module_causes root args steps names t m).unwritten name);
-  unreturned = λ why. OfModule read root names (λ m. (module_causes root args steps names t m).unreturned why);
-  memory = (before.memory × t.unused) ⊎ OfModule read root names (λ m. (module_causes root args steps names t m).memory);
+  unfit = λ name. OfModules read root names (λ ms. (merged_causes root args steps names t ms).unfit name);
+  unwritten = λ name. OfModules read root names (λ ms. (merged_causes root args steps names t ms).unwritten name);
+  unreturned = λ why. OfModules read root names (λ ms. (merged_causes root args steps names t ms).unreturned why);
+  memory = (before.memory × t.unused) ⊎ OfModules read root names (λ ms. (merged_causes root args steps names t ms).memory);
 }
 
 abbrev pub running : List ℕ → List Decimal → ℕ → List (List ℕ) → FilesSeen → Streams → Causes
 running root args steps names files t = running_by (AreRead names files.did) (deciding (root ∷ []) names files) root args steps names t
 
--- ---- what is said where it returned
-
-pub record Said (p : Program) (root : List ℕ) (args : List Decimal) (steps : ℕ) (t : Streams) (notes : Notes) : Type 0 where
-  pub value : line.Returned
-  pub returns : ReturnsSo p root args steps t value
-  pub hears : Hears notes.stream (returned_text value)
-
+-- what is said where it returned
 abbrev pub SaysReturned : (List Module → Type 0) → List ℕ → List Decimal → ℕ → List (List ℕ) → Streams → Notes → Type 0
-SaysReturned read root args steps names t notes = OfModule read root names (λ m. Said (program_read m) root args steps t notes)
+SaysReturned read root args steps names t notes = OfModules read root names (λ ms. Said (merged ms) root args steps t notes)

@@ -1,5 +1,5 @@
 -- What is seen of the outside over a command.
-use Rattle.std.specs.Prelude.{◌≡◌, ℕ, List, [], Option}
+use Rattle.std.specs.Prelude.{◌≡◌, ℕ, List, [], Option, codes}
 use Rattle.lto_outside.specs.Calls.{Call}
 use Rattle.lto_outside.specs.Seen.{FilesSeen, StreamSeen, files_seen, stream_seen}
 use Rattle.lto_outside.specs.Store.{Store}
@@ -16,6 +16,10 @@ seen did held faults sent failures files files_now out out_now = record {
   out = stream_seen sent failures out out_now;
   unprinted = out_now ≡ out;
 }
+
+-- the output as it is named in a refusal
+abbrev pub OUTPUT : List ℕ
+OUTPUT = codes "output"
 
 -- no call was made
 abbrev pub Untouched : Seen → Type 0

@@ -21,12 +21,13 @@ use Rattle.thin_link.specs.Linking.{IsIndexReport}
 use Rattle.thin_link.specs.Refusing.{IsRefused}
 use Rattle.thinlto_main.specs.Asking.{Asked}
 use Rattle.thinlto_main.specs.Causes.{Causes, free, never}
-use Rattle.run_parts.specs.Copies.{program_read}
+use Rattle.merge_meaning.specs.Merged.{merged}
 use Rattle.thinlto_main.specs.Linking.{HasThinLink}
-use Rattle.thinlto_main.specs.Running.{OfModule, module_causes, only, running_by}
+use Rattle.thinlto_main.specs.Running.{OfModules, file_of, merged_causes, running_by}
 use Rattle.run_parts.specs.Said.{ending_refusal}
 use Rattle.thinlto_main.specs.Seen.{InputSeen, Seen, streams_of}
 use Rattle.run_parts.specs.Starting.{beginning}
+use Rattle.lto_words.specs.declared.request.LinkOptions.{LinkOptions}
 
 -- ---- what a file holds
 
@@ -65,22 +66,22 @@ Held names files ms = IfSome files.held (λ held. AllZip (HoldsModule held) name
 -- ---- what a command did to them
 
 -- they hold what a link makes of the file, or a front of it, and else what they held
-pub record HoldLink (put : Store → Store → List ℕ → List ℕ → Type 0) (exports : List (List ℕ)) (limit : ℕ) (out : List ℕ) (names : List (List ℕ)) (old new : Store) : Type 0 where
+pub record HoldLink (put : Store → Store → List ℕ → List ℕ → Type 0) (options : LinkOptions) (out : List ℕ) (names : List (List ℕ)) (old new : Store) : Type 0 where
   pub file : List ℕ
   pub one : names ≡ file ∷ []
   pub bytes : List ℕ
   pub text : List ℕ
   pub held : old file ≡ Some bytes
   pub short : length bytes ≤ 2 ^ 24
-  pub is_link : IsLinkOf exports bytes text
-  pub only : IsOnlyLinkOf exports bytes text
-  pub thin : HasThinLink (is_link.m ∷ []) exports limit
+  pub is_link : IsLinkOf options.exports options.inline_limit bytes text
+  pub only : IsOnlyLinkOf options.exports options.inline_limit bytes text
+  pub thin : HasThinLink (is_link.m ∷ []) options.exports options.import_limit
   pub put_there : put old new out text
 
-abbrev pub LinkHeld : (Store → Store → List ℕ → List ℕ → Type 0) → List (List ℕ) → ℕ → List ℕ → List (List ℕ) → Option Store → Option Store → Type 0
-LinkHeld put exports limit out names None new = ⊤
-LinkHeld put exports limit out names (Some old) None = ⊥
-LinkHeld put exports limit out names (Some old) (Some new) = HoldLink put exports limit out names old new
+abbrev pub LinkHeld : (Store → Store → List ℕ → List ℕ → Type 0) → LinkOptions → List ℕ → List (List ℕ) → Option Store → Option Store → Type 0
+LinkHeld put options out names None new = ⊤
+LinkHeld put options out names (Some old) None = ⊥
+LinkHeld put options out names (Some old) (Some new) = HoldLink put options out names old new
 
 -- what was pushed is the report of the modules that they hold, or a front of it; every report of these modules is this text
 pub record HoldReport (exports names : List (List ℕ)) (limit : ℕ) (s : Seen) (done : Bool) (held : Store) : Type 0 where
@@ -107,8 +108,8 @@ told_files exports names files = record free {
 
 abbrev pub told : Command → Seen → InputSeen → Causes
 told (Link options out names) s i = record (told_files options.exports names s.files) {
-  done = LinkHeld HasPut options.exports options.import_limit out names s.files.held s.files.holds;
-  unwritten = λ name. LinkHeld HasPart options.exports options.import_limit out names s.files.held s.files.holds × Rose s.files.faults s.files.faults_now;
+  done = LinkHeld HasPut options out names s.files.held s.files.holds;
+  unwritten = λ name. LinkHeld HasPart options out names s.files.held s.files.holds × Rose s.files.faults s.files.faults_now;
 }
 told (Index exports limit names) s i = record (told_files exports names s.files) {
   done = Stays s.files.held s.files.holds × IfSome s.files.held (HoldReport exports names limit s true);
@@ -116,8 +117,8 @@ told (Index exports limit names) s i = record (told_files exports names s.files)
 }
 told (Batch options list) s i = never
 told (Run root args steps names) s i = record (running_by (Held names s.files) (told_files (root ∷ []) names s.files) root args steps names (streams_of s i)) {
-  done = Stays s.files.held s.files.holds × OfModule (Held names s.files) root names (λ m. (module_causes root args steps names (streams_of s i) m).done);
-  unwritten = λ name. Stays s.files.held s.files.holds × OfModule (Held names s.files) root names (λ m. (module_causes root args steps names (streams_of s i) m).unwritten name);
+  done = Stays s.files.held s.files.holds × OfModules (Held names s.files) root names (λ ms. (merged_causes root args steps names (streams_of s i) ms).done);
+  unwritten = λ name. Stays s.files.held s.files.holds × OfModules (Held names s.files) root names (λ ms. (merged_causes root args steps names (streams_of s i) ms).unwritten name);
 }
 told (Gen seed modules jobs) s i = never
 
@@ -150,10 +151,15 @@ pub record EndsOver (p : Program) (root : List ℕ) (args : List Decimal) (steps
   pub begins : beginning p root args ≡ Some first
   pub ended : (run p bytes (replicate steps 0) first).ending ≡ ending
 
--- they hold a module whose run over what the input has ends so
+-- they hold modules whose run over what the input has ends so
 abbrev pub RunComesTo : List ℕ → List Decimal → ℕ → List (List ℕ) → Seen → InputSeen → Ending → Type 0
 RunComesTo root args steps names s i ending =
-    IsTold s.files.held (λ held. OfModule (AllZip (HoldsModule held) names) root names (λ m. IsTold i.stream.told (λ bytes. EndsOver (program_read m) root args steps bytes ending)))
+    IsTold s.files.held (λ held. OfModules (AllZip (HoldsModule held) names) root names (λ ms. IsTold i.stream.told (λ bytes. EndsOver (merged ms) root args steps bytes ending)))
+
+-- the same, and it ends otherwise than by returning and is told so
+abbrev pub RunIsTold : List ℕ → List Decimal → ℕ → List (List ℕ) → Seen → InputSeen → Ending → Refusal → Type 0
+RunIsTold root args steps names s i ending why =
+    IsTold s.files.held (λ held. OfModules (AllZip (HoldsModule held) names) root names (λ ms. IsTold i.stream.told (λ bytes. EndsOver (merged ms) root args steps bytes ending) × (ending_refusal (file_of names ms) steps ending ≡ Some why)))
 
 -- no call of the files, the input or the output failed
 pub record AllWork (s : Seen) (i : InputSeen) : Type 0 where
@@ -161,7 +167,7 @@ pub record AllWork (s : Seen) (i : InputSeen) : Type 0 where
   pub input : ¬ (Rose i.stream.faults i.stream.faults_now)
   pub out : ¬ (Rose s.out.faults s.out.faults_now)
 
--- they hold a module whose run returns
+-- they hold modules whose run returns
 pub record CanReturn (root : List ℕ) (args : List Decimal) (steps : ℕ) (names : List (List ℕ)) (s : Seen) (i : InputSeen) : Type 0 where
   pub answer : Option Value
   pub comes : RunComesTo root args steps names s i (Returned answer)
@@ -200,7 +206,7 @@ MustNotLink (Gen seed modules jobs) s = λ why. ⊥
 -- nothing but that the root of a run isn't a function that takes the arguments
 pub record CannotBegin (root : List ℕ) (args : List Decimal) (names : List (List ℕ)) (files : FilesSeen) (name : List ℕ) : Type 0 where
   pub named : name ≡ root
-  pub none : IsTold files.held (λ held. OfModule (AllZip (HoldsModule held) names) root names (λ m. beginning (program_read m) root args ≡ None))
+  pub none : IsTold files.held (λ held. OfModules (AllZip (HoldsModule held) names) root names (λ ms. beginning (merged ms) root args ≡ None))
   pub fine : ¬ (Rose files.faults files.faults_now)
 
 abbrev pub MustNotBegin : Command → Seen → List ℕ → Type 0
@@ -213,9 +219,8 @@ MustNotBegin (Gen seed modules jobs) s = λ name. ⊥
 -- nothing but that a run ends otherwise than by returning
 pub record CannotReturn (root : List ℕ) (args : List Decimal) (steps : ℕ) (names : List (List ℕ)) (s : Seen) (i : InputSeen) (why : Refusal) : Type 0 where
   pub ending : Ending
-  pub comes : RunComesTo root args steps names s i ending
+  pub comes : RunIsTold root args steps names s i ending why
   pub work : AllWork s i
-  pub told : ending_refusal (only names) steps ending ≡ Some why
 
 abbrev pub MustNotReturn : Command → Seen → InputSeen → Refusal → Type 0
 MustNotReturn (Link options out names) s i = λ why. ⊥

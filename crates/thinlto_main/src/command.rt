@@ -1,7 +1,7 @@
 //! The words of the command line are read, and their command is done.
 ghost use Rattle.std.specs.Prelude.{◌≡◌, ◌≤◌, OnErr, OnOk, map, string_bytes};
 ghost use Rattle.thinlto_main.specs.Answers.{Says, causes_of, obeyed};
-ghost use Rattle.thinlto_main.specs.Asking.{Asked, is_offered_link, is_offered_run};
+ghost use Rattle.thinlto_main.specs.Asking.{Asked, is_offered_link};
 ghost use Rattle.thinlto_main.specs.Causes.{Comes};
 ghost use Rattle.thinlto_main.specs.Seen.{input_seen, notes_seen, seen};
 
@@ -15,24 +15,11 @@ use lto_outside::{ByteIn, ByteOut, Files};
 use lto_words::{Command, FileName, LinkOptions, WordsError, command, one_command};
 use std::alloc::Global;
 
-/// How large a function is inlined: so far none is, and other limits than the default are no command.
-const INLINE_LIMIT: u32 = 40;
-
 /// Whether the program does such a link: of one file, by one worker, without a cache.
 fn is_offered_link(options: &LinkOptions, names: &[FileName]) -> bool
     ensures { result ≡ is_offered_link options.now names.now }
 {
-    options.jobs == 1
-        && options.cache.is_none()
-        && options.inline_limit == INLINE_LIMIT
-        && names.len() == 1
-}
-
-/// Whether the program does such a run: of one file.
-fn is_offered_run(names: &[FileName]) -> bool
-    ensures { result ≡ is_offered_run names.now }
-{
-    names.len() == 1
+    options.jobs == 1 && options.cache.is_none() && names.len() == 1
 }
 
 /// Does a command. Where it is done, the notes get what it says.
@@ -79,9 +66,6 @@ fn obey<F: Files, I: ByteIn, O: ByteOut, N: ByteOut>(
             steps,
             files: names,
         } => {
-            if !is_offered_run(names.as_slice()) {
-                return Err(Refusal::Usage);
-            }
             let options = RunOptions { root, args, steps };
             run(alloc, files, input, out, notes, &options, names.as_slice())
         }

@@ -3,35 +3,40 @@ ghost use Rattle.std.specs.Prelude.{◌≡◌, IfErr, IfOk, Some};
 ghost use Rattle.ir_tree.specs.Wholes.{symbols};
 ghost use Rattle.ir_interp.specs.Runs.{ending_meant};
 ghost use Rattle.run_parts.specs.Arguments.{IsGiven};
+ghost use Rattle.run_parts.specs.Files.{file_in};
 ghost use Rattle.run_parts.specs.Said.{ending_refusal};
 ghost use Rattle.thinlto_main.specs.Causes.{Because, never};
 ghost use Rattle.thinlto_main.specs.Endings.{IsSaid};
 
 use ir_interp::RunEnd;
-use ir_tree::{Reg, Verified};
+use ir_tree::{GlobalValue, Reg};
 use lto_fault::Refusal;
 use lto_notes::Returned;
 use lto_words::FileName;
 use run_parts::{returned, undefined, uninit};
 use std::alloc::Global;
+use symbol_resolve::Resolution;
 
-/// What a run of the one file that ended so returned, or how its ending is told.
+/// What a run that ended so returned, or how its ending is told.
 pub(crate) fn ended(
     alloc: Global,
-    own: &Verified,
+    globals: &[GlobalValue],
+    names: &[FileName],
+    resolution: &Resolution<'_>,
     gives: Option<Reg>,
-    name: &FileName,
     steps: u32,
     end: RunEnd,
 ) -> Result<Returned, Refusal>
     requires { IsGiven gives }
-    ensures returned { IfOk result (IsSaid gives (ending_meant (symbols own.now.globals) end)) }
-    ensures because { IfErr result (Because (record never { unreturned = λ why. ending_refusal name.now steps (ending_meant (symbols own.now.globals) end) ≡ Some why; memory = Unit {0} })) }
+    ensures returned { IfOk result (IsSaid gives (ending_meant (symbols globals.now) end)) }
+    ensures because { IfErr result (Because (record never { unreturned = λ why. ending_refusal (file_in names.now resolution.now) steps (ending_meant (symbols globals.now) end) ≡ Some why; memory = Unit {0} })) }
 {
     match end {
         RunEnd::Returned(answer) => Ok(returned(gives, answer)),
-        RunEnd::Undefined(cause, place) => Err(undefined(alloc, own, name, cause, place)),
-        RunEnd::Uninit(place) => Err(uninit(alloc, own, name, place)),
+        RunEnd::Undefined(cause, place) => {
+            Err(undefined(alloc, globals, names, resolution, cause, place))
+        },
+        RunEnd::Uninit(place) => Err(uninit(alloc, globals, names, resolution, place)),
         RunEnd::OutOfSteps => Err(Refusal::OutOfSteps {
             steps: u64::from(steps),
         }),

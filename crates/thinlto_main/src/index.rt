@@ -4,7 +4,7 @@ ghost use Rattle.thin_link.specs.Linking.{IsIndexReport};
 ghost use Rattle.thin_link.specs.Refusing.{IsRefused};
 ghost use Rattle.thinlto_main.specs.Answers.{reporting};
 ghost use Rattle.thinlto_main.specs.Causes.{Because, Comes, never};
-ghost use Rattle.thinlto_main.specs.Reporting.{OUTPUT};
+ghost use Rattle.thinlto_main.specs.Seen.{OUTPUT};
 ghost use Rattle.thinlto_main.specs.Seen.{seen};
 
 use crate::modules::{modules, texts};

@@ -6,11 +6,13 @@ ghost use Rattle.thinlto_main.specs.Causes.{Because, Comes, never};
 ghost use Rattle.thinlto_main.specs.Linking.{HasThinLink, linking};
 
 use crate::modules::{modules, texts};
+use back_end::made_is_better;
 use ir_tree::{Text, Verified};
-use link_one::{accepted_is_not_refused, link_text};
+use link_one::{accepted_is_not_refused, link_text, linked_is_verified};
 use lto_fault::Refusal;
 use lto_outside::Files;
 use lto_words::{FileName, LinkOptions};
+use read_again::{read_modules_are_numbered, text_order_is_numbered, verified_modules_are_read};
 use std::alloc::Global;
 use thin_link::thin_link;
 
@@ -53,10 +55,15 @@ pub(crate) fn link<F: Files>(
     names: &[FileName],
 ) -> Result<(), Refusal>
     requires { length names.now ≡ 1 }
-    ensures answer { Comes (linking options.now.exports options.now.import_limit out names.now (files_seen F.did F.held F.faults files.old files.new)) result }
+    ensures answer { Comes (linking options.now out names.now (files_seen F.did F.held F.faults files.old files.new)) result }
     ensures later { F.faults files.old ≤ F.faults files.new }
 {
     accepted_is_not_refused();
+    made_is_better();
+    linked_is_verified();
+    read_modules_are_numbered();
+    text_order_is_numbered();
+    verified_modules_are_read();
     let modules = match modules(alloc, files, names) {
         Ok(modules) => modules,
         Err(why) => return Err(why),
@@ -67,7 +74,7 @@ pub(crate) fn link<F: Files>(
         Ok(()) => {}
         Err(why) => return Err(why),
     }
-    let Ok(text) = link_text(alloc, first(all)) else {
+    let Ok(text) = link_text(alloc, first(all), options.inline_limit) else {
         return Err(Refusal::NoMemory);
     };
     match files.put(out.as_str(), text.as_slice()) {

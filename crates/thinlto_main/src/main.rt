@@ -1,4 +1,4 @@
-//! The program `thinlto`: the link and the run of one module, and the index of many.
+//! The program `thinlto`: the link of one module, and the run and the index of many.
 //!
 //! `top` is the program's one call: it takes the words of the command line and the outside as five
 //! objects, and its contract says when each answer comes and what was done to each object. `main`
@@ -6,15 +6,16 @@
 //!
 //! What words ask for is said by `lto_words`; a command fetches its files (`lto_fetch`) and reads each (`link_one`), and by
 //! the modules' summaries it is decided what is kept and imported (`thin_link`). `link` puts the linked module, `index` prints
-//! what was decided, and `run` lowers the module (`machine_code`), opens its memory (`machine_memory`) and runs it with the
-//! input and the output (`ir_interp`). A refusal (`lto_fault`) and what a run returned are told on the notes (`lto_notes`).
+//! what was decided, and `run` merges the modules (`merge_meaning`), lowers what they mean together (`machine_code`), opens its
+//! memory (`machine_memory`) and runs it with the input and the output (`ir_interp`). A refusal (`lto_fault`) and what a run
+//! returned are told on the notes (`lto_notes`).
 //! Which answer comes when is one definition by cases on the command (`specs/Answers.antt`), and what files that tell hold is
 //! another (`specs/Telling.antt`).
 //!
 //! The linker's two promises are kept here for one module of the whole language: the bytes put are the text of the linked
 //! module, and each run of the linked program is a run of the module as it was read. A run that is asked for is the
-//! definition's with 0 as every free choice: its ending, what it writes and how much it reads. Beside the link itself, each
-//! byte is moved once; a module with copies of other modules' definitions is copied once before it runs.
+//! definition's of the merged modules with 0 as every free choice: its ending, what it writes and how much it reads. Beside the
+//! link itself, each byte is moved once; modules are copied once where they are merged.
 #![tactic(auto)]
 
 mod cache;
@@ -24,6 +25,7 @@ mod entry;
 mod index;
 mod link;
 mod modules;
+mod program;
 mod root;
 mod run;
 mod status;

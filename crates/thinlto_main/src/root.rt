@@ -1,11 +1,12 @@
 //! Where a run begins: the root, its arguments, and the type of what it gives.
 ghost use Rattle.std.specs.Prelude.{◌≡◌, All, IfOk, IfSome, None, length, option_copied, slice_get};
+ghost use Rattle.ir_program.specs.Runnable.{AreRunnable};
 ghost use Rattle.machine_code.specs.Lowered.{IsMadeOf};
 ghost use Rattle.machine_steps.specs.Steps.{CanBegin};
 ghost use Rattle.run_parts.specs.Arguments.{IsGiven, IsTyped};
 ghost use Rattle.thinlto_main.specs.Roots.{IsBegun, IsRoot, NoRoot, begun_with, function_in};
 
-use ir_tree::{Function, GlobalValue, Reg, Rows, Text, Verified};
+use ir_tree::{Function, GlobalValue, Reg, Rows, Text};
 use lto_words::Decimal;
 use machine_code::Lowered;
 use run_parts::arguments;
@@ -47,17 +48,20 @@ fn function_at(globals: &[GlobalValue], place: usize) -> Option<&Function>
 }
 
 /// The function of this name in which a run can begin.
-fn root_function<'a>(own: &'a Verified, lowered: &Lowered, name: &[u8]) -> Option<RootFunction<'a>>
-    requires { IsMadeOf own.now.globals lowered.now }
+fn root_function<'a>(
+    globals: &'a [GlobalValue],
+    lowered: &Lowered,
+    name: &[u8],
+) -> Option<RootFunction<'a>>
+    requires runnable { AreRunnable globals.now }
+    requires made { IsMadeOf globals.now lowered.now }
     ensures begins { IfSome result (λ r. CanBegin lowered.now.code r.index (length r.function.now.params)) }
-    ensures some { IfSome result (λ r. IsRoot own.entry.now.globals name.now r.index r.function.now) }
+    ensures some { IfSome result (λ r. IsRoot globals.entry.now name.now r.index r.function.now) }
     ensures params { IfSome result (λ r. All (λ p. IsTyped p.reg) r.function.now.params) }
     ensures gives { IfSome result (λ r. IsGiven r.function.now.result) }
-    ensures none { result ≡ None → NoRoot own.entry.now.globals name.now }
+    ensures none { result ≡ None → NoRoot globals.entry.now name.now }
 {
     let root = lowered.root(name)?;
-    let tree = own.module();
-    let globals = tree.globals.as_slice();
     let function = function_at(globals, root.index as usize)?;
     Some(RootFunction {
         index: root.index,
@@ -79,20 +83,21 @@ fn begun_with(index: u32, gives: Option<Reg>, taken: Option<Rows<u64>>) -> Optio
     }
 }
 
-/// Where a run of the module begins; none where the root isn't a function that takes the arguments.
+/// Where a run of the global values begins; none where the root isn't a function that takes the arguments.
 pub(crate) fn begin(
     alloc: Global,
-    own: &Verified,
+    globals: &[GlobalValue],
     lowered: &Lowered,
     options: &RunOptions,
 ) -> Result<Option<Begun>, AllocError>
-    requires { IsMadeOf own.now.globals lowered.now }
+    requires runnable { AreRunnable globals.now }
+    requires made { IsMadeOf globals.now lowered.now }
     ensures begins { IfOk result (λ begun. IfSome begun (λ b. CanBegin lowered.now.code b.index (length b.numbers))) }
     ensures gives { IfOk result (λ begun. IfSome begun (λ b. IsGiven b.gives)) }
-    ensures found { IfOk result (λ begun. IsBegun own.now.globals options.now.root options.now.args begun) }
+    ensures found { IfOk result (λ begun. IsBegun globals.now options.now.root options.now.args begun) }
 {
     let name = options.root.as_slice();
-    let Some(root) = root_function(own, lowered, name) else {
+    let Some(root) = root_function(globals, lowered, name) else {
         return Ok(None);
     };
     let params = root.function.params.as_slice();

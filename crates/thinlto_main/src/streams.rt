@@ -1,8 +1,8 @@
 //! The streams of a run, as refusals name them.
 ghost use Rattle.std.specs.Prelude.{◌≡◌, IfOk};
 ghost use Rattle.thinlto_main.specs.Endings.{given_up};
-ghost use Rattle.thinlto_main.specs.Reporting.{OUTPUT};
-ghost use Rattle.thinlto_main.specs.Running.{INPUT};
+ghost use Rattle.thinlto_main.specs.Runs.{INPUT};
+ghost use Rattle.thinlto_main.specs.Seen.{OUTPUT};
 
 use crate::index::output;
 use ir_interp::RunFault;

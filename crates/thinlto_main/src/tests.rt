@@ -1,5 +1,5 @@
 //! The one call over the outside in memory, by tables: texts and what they link to or are refused for, words, files of which
-//! there is an index or none, and modules that run.
+//! there is an index or none, and modules that run, one or several together.
 
 use crate::{LinkMakes, status_of, top};
 use outside_memory::{Failure, Leaves, MemoryDisk, MemoryFiles, MemoryGate, MemoryIn, MemoryOut};
@@ -44,7 +44,72 @@ fn files_of(
     Ok(files)
 }
 
-/// Whether a run of these words over the files `a.ll`, `b.ll` and `o` ends so.
+/// An input of these bytes, of which the read of this number fails.
+fn input_of<'a>(alloc: Global, input: Input<'a>) -> Result<MemoryIn, AllocError> {
+    let (bytes, lacking) = input;
+    let failing = vec![in alloc; lacking]?;
+    let bytes = Vec::from_slice(alloc, bytes)?;
+    Ok(MemoryIn::new(bytes, failing))
+}
+
+/// An output of which the push of this number fails.
+fn output_of(alloc: Global, stuck: u64) -> Result<MemoryOut, AllocError> {
+    let failing = vec![in alloc; stuck]?;
+    Ok(MemoryOut::new(alloc, failing))
+}
+
+fn holds(files: &MemoryFiles, held: &[u8]) -> bool {
+    match files.content("o") {
+        Some(text) => text.equals(held),
+        None => false,
+    }
+}
+
+/// Whether the call for these words over this outside ends so.
+fn call_ends_so<'a, R: Threads + Wait + Sync>(
+    rt: &R,
+    alloc: Global,
+    words: &[String],
+    files: &mut MemoryFiles,
+    input: &mut MemoryIn,
+    out: &mut MemoryOut,
+    end: End<'a>,
+) -> bool {
+    let mut notes = MemoryOut::new(alloc, Vec::new(alloc));
+    let disk: MemoryDisk<LinkMakes> = MemoryDisk::new(alloc, Vec::new(alloc));
+    let gate = MemoryGate::new();
+    let ended = top(rt, alloc, words, files, disk, &gate, input, out, &mut notes);
+    let (status, held, printed, noted) = end;
+    let told = out.sent() == printed && notes.sent() == noted;
+    status_of(&ended.status) == status && holds(files, held) && told
+}
+
+/// Whether the call for these words over these files ends so, where the push of this number fails.
+fn ends_over<'a, R: Threads + Wait + Sync>(
+    rt: &R,
+    alloc: Global,
+    given: &[&str],
+    files: &mut MemoryFiles,
+    stuck: u64,
+    input: Input<'a>,
+    end: End<'a>,
+) -> Result<bool, AllocError> {
+    let mut out = output_of(alloc, stuck)?;
+    let mut input = input_of(alloc, input)?;
+    let words = words_of(alloc, given)?;
+    let ends = call_ends_so(
+        rt,
+        alloc,
+        words.as_slice(),
+        files,
+        &mut input,
+        &mut out,
+        end,
+    );
+    Ok(ends)
+}
+
+/// Whether the call for these words over the files `a.ll`, `b.ll` and `o` ends so.
 fn ends_so<'a, R: Threads + Wait + Sync>(
     rt: &R,
     alloc: Global,
@@ -54,24 +119,8 @@ fn ends_so<'a, R: Threads + Wait + Sync>(
     end: End<'a>,
 ) -> Result<bool, AllocError> {
     let (first, second, failing, stuck) = outside;
-    let (bytes, lacking) = input;
-    let words = words_of(alloc, given)?;
     let mut files = files_of(alloc, first, second, failing)?;
-    let mut out = MemoryOut::new(alloc, vec![in alloc; stuck]?);
-    let mut input = MemoryIn::new(Vec::from_slice(alloc, bytes)?, vec![in alloc; lacking]?);
-    let mut notes = MemoryOut::new(alloc, Vec::new(alloc));
-    let disk: MemoryDisk<LinkMakes> = MemoryDisk::new(alloc, Vec::new(alloc));
-    let gate = MemoryGate::new();
-    let ended = top(
-        rt, alloc, &words, &mut files, disk, &gate, &mut input, &mut out, &mut notes,
-    );
-    let (status, held, printed, noted) = end;
-    let holds = match files.content("o") {
-        Some(text) => text.equals(held),
-        None => false,
-    };
-    let told = out.sent() == printed && notes.sent() == noted;
-    Ok(status_of(&ended.status) == status && holds && told)
+    ends_over(rt, alloc, given, &mut files, stuck, input, end)
 }
 
 /// The number of no call.
@@ -202,13 +251,19 @@ const REFUSED: [(&[u8], u64, u8, &str); 13] = [
 ];
 
 #[test]
-fn a_link_puts_its_text_or_tells_why(rt: HostRuntime) -> Result<(), AllocError> {
+fn a_link_puts_its_text(rt: HostRuntime) -> Result<(), AllocError> {
     let alloc = rt.alloc();
     for (name, text, linked) in LINKED {
         let outside = (text, NOTHING, NONE, NONE);
         let end = (0_u8, linked, NOTHING, NOTHING);
         assert!(rt; ends_so(&rt, alloc, LINK, outside, EMPTY, end)?, "{name}");
     }
+    Ok(())
+}
+
+#[test]
+fn a_link_tells_why_not(rt: HostRuntime) -> Result<(), AllocError> {
+    let alloc = rt.alloc();
     for (text, failing, status, line) in REFUSED {
         let outside = (text, NOTHING, failing, NONE);
         let end = (status, BEFORE, NOTHING, line.as_bytes());
@@ -238,7 +293,7 @@ const WORDS: [(&[&str], u8, &[u8], &[u8]); 12] = [
         USAGE,
     ),
     (
-        &["link", "--inline-limit=9", "-o", "o", "a.ll"],
+        &["link", "--inline-limit=20001", "-o", "o", "a.ll"],
         1,
         BEFORE,
         USAGE,
@@ -249,7 +304,7 @@ const WORDS: [(&[&str], u8, &[u8], &[u8]); 12] = [
         BEFORE,
         USAGE,
     ),
-    (&["run", "a.ll", "b.ll"], 1, BEFORE, USAGE),
+    (&["batch", "a.ll"], 1, BEFORE, USAGE),
     (&[""], 1, BEFORE, USAGE),
     (
         &["link", "--export", "main,g", "-o", "o", "a.ll"],
@@ -274,6 +329,36 @@ fn words_are_a_link_or_usage(rt: HostRuntime) -> Result<(), AllocError> {
         assert!(rt;
             ends_so(&rt, alloc, words, outside, EMPTY, end)?,
             "{words:?}"
+        );
+    }
+    Ok(())
+}
+
+const CALLED: &[u8] =
+    b"define i32 @main() {\n  %r = call i32 @h()\n  ret i32 %r\n}\ndefine internal i32 @h() {\n  ret i32 7\n}\n";
+
+/// What is made of a call of a body of one item, by the greatest count that is inlined.
+const INLINED: [(&str, &[u8]); 2] = [
+    (
+        "--inline-limit=0",
+        b"define i32 @main() {\n  %1 = call i32 @h()\n  ret i32 %1\n}\ndefine internal i32 @h() {\n  ret i32 7\n}\n",
+    ),
+    (
+        "--inline-limit=1",
+        b"define i32 @main() {\n  ret i32 7\n}\ndefine internal i32 @h() {\n  ret i32 7\n}\n",
+    ),
+];
+
+#[test]
+fn bodies_up_to_the_limit_are_inlined(rt: HostRuntime) -> Result<(), AllocError> {
+    let alloc = rt.alloc();
+    for (limit, linked) in INLINED {
+        let outside = (CALLED, NOTHING, NONE, NONE);
+        let end = (0_u8, linked, NOTHING, NOTHING);
+        let words = ["link", limit, "-o", "o", "a.ll"];
+        assert!(rt;
+            ends_so(&rt, alloc, &words, outside, EMPTY, end)?,
+            "{limit}"
         );
     }
     Ok(())
@@ -605,6 +690,203 @@ fn a_run_takes_words_and_streams(rt: HostRuntime) -> Result<(), AllocError> {
         assert!(rt;
             ends_so(&rt, alloc, words, outside, input, end)?,
             "{words:?}"
+        );
+    }
+    Ok(())
+}
+
+/// Calls `f`, and returns what it gives.
+const CALLS_F: &[u8] =
+    b"declare i32 @f()\ndefine i32 @main() {\n  %r = call i32 @f()\n  ret i32 %r\n}\n";
+
+/// Writes `A`, and returns what `putchar` and `f` give together.
+const WRITES: &[u8] =
+    b"declare i32 @putchar(i32)\ndeclare i32 @f()\ndefine i32 @main() {\n  %p = call i32 @putchar(i32 65)\n  %f = call i32 @f()\n  %r = add i32 %p, %f\n  ret i32 %r\n}\n";
+
+/// Two definitions of `f` of which the first prevails, unless there is another.
+const ONE: &[u8] = b"define linkonce_odr i32 @f() {\n  ret i32 1\n}\n";
+
+const TWO: &[u8] = b"define weak_odr i32 @f() {\n  ret i32 2\n}\n";
+
+const FIRST_THREE: &[&str] = &["run", "a.ll", "b.ll", "c.ll"];
+
+const FIRST_TWO: &[&str] = &["run", "a.ll", "b.ll"];
+
+/// The name of a row, the words, what `a.ll`, `b.ll` and `c.ll` hold, and the status, what is printed and what is told.
+type Together = (
+    &'static str,
+    &'static [&'static str],
+    [&'static [u8]; 3],
+    (u8, &'static [u8], &'static [u8]),
+);
+
+const TOGETHER: [Together; 18] = [
+    (
+        "a function of another module, and its local",
+        FIRST_TWO,
+        [CALLER, CALLEE, NOTHING],
+        (0, b"", b"returned 13\n"),
+    ),
+    (
+        "the root is of the second module",
+        &["run", "--root=f", "--args=2", "a.ll", "b.ll"],
+        [CALLER, CALLEE, NOTHING],
+        (0, b"", b"returned 7\n"),
+    ),
+    (
+        "locals of one name are apart",
+        FIRST_TWO,
+        [
+            b"define internal i32 @h() {\n  ret i32 1\n}\ndeclare i32 @f()\ndefine i32 @main() {\n  %x = call i32 @h()\n  %y = call i32 @f()\n  %z = add i32 %x, %y\n  ret i32 %z\n}\n",
+            b"define i32 @f() {\n  %x = call i32 @h()\n  ret i32 %x\n}\ndefine internal i32 @h() {\n  ret i32 20\n}\n",
+            NOTHING,
+        ],
+        (0, b"", b"returned 21\n"),
+    ),
+    (
+        "of several the first prevails",
+        FIRST_THREE,
+        [ONE, TWO, CALLS_F],
+        (0, b"", b"returned 1\n"),
+    ),
+    (
+        "in the order of the command",
+        &["run", "b.ll", "c.ll", "a.ll"],
+        [ONE, TWO, CALLS_F],
+        (0, b"", b"returned 2\n"),
+    ),
+    (
+        "an external definition prevails",
+        FIRST_THREE,
+        [ONE, b"define i32 @f() {\n  ret i32 3\n}\n", CALLS_F],
+        (0, b"", b"returned 3\n"),
+    ),
+    (
+        "a copy is a declaration",
+        FIRST_TWO,
+        [
+            b"define available_externally i32 @f() {\n  ret i32 9\n}\ndefine i32 @main() {\n  %r = call i32 @f()\n  ret i32 %r\n}\n",
+            ONE,
+            NOTHING,
+        ],
+        (0, b"", b"returned 1\n"),
+    ),
+    (
+        "a copy alone defines nothing",
+        &["run", "a.ll"],
+        [
+            b"define available_externally i32 @f() {\n  ret i32 9\n}\ndefine i32 @main() {\n  %r = call i32 @f()\n  ret i32 %r\n}\n",
+            NOTHING,
+            NOTHING,
+        ],
+        (4, b"", b"thinlto: undefined symbol @f in a.ll\n"),
+    ),
+    (
+        "a module defines a function of the system",
+        FIRST_THREE,
+        [
+            WRITES,
+            b"define i32 @putchar(i32 %c) {\n  ret i32 7\n}\n",
+            TWO,
+        ],
+        (0, b"", b"returned 9\n"),
+    ),
+    (
+        "a local of that name is another",
+        FIRST_TWO,
+        [
+            WRITES,
+            b"define i32 @f() {\n  %r = call i32 @putchar(i32 66)\n  ret i32 %r\n}\ndefine internal i32 @putchar(i32 %c) {\n  ret i32 1\n}\n",
+            NOTHING,
+        ],
+        (0, b"A", b"returned 66\n"),
+    ),
+    (
+        "a variable of another module that leads to its local",
+        FIRST_TWO,
+        [
+            b"@p = external global ptr\ndefine i32 @main() {\n  %p = load ptr, ptr @p, align 8\n  %f = load ptr, ptr %p, align 8\n  %r = call i32 %f()\n  ret i32 %r\n}\ndefine internal i32 @h() {\n  ret i32 1\n}\n",
+            b"@p = global ptr @q\n@q = internal constant ptr @h\ndefine internal i32 @h() {\n  ret i32 8\n}\n",
+            NOTHING,
+        ],
+        (0, b"", b"returned 8\n"),
+    ),
+    (
+        "nobody defines what is called",
+        FIRST_THREE,
+        [NOTHING, CALLS_F, NOTHING],
+        (4, b"", b"thinlto: undefined symbol @f in b.ll\n"),
+    ),
+    (
+        "two define one name",
+        FIRST_TWO,
+        [SUM, SUM, NOTHING],
+        (
+            4,
+            b"",
+            b"thinlto: duplicate symbol @main in a.ll and b.ll\n",
+        ),
+    ),
+    (
+        "nobody defines the root",
+        FIRST_TWO,
+        [ONE, TWO, NOTHING],
+        (4, b"", b"thinlto: no definition of exported @main\n"),
+    ),
+    (
+        "the root is local",
+        &["run", "--root=h", "--args=2", "a.ll", "b.ll"],
+        [CALLER, CALLEE, NOTHING],
+        (4, b"", b"thinlto: no definition of exported @h\n"),
+    ),
+    (
+        "the third is no module",
+        FIRST_THREE,
+        [CALLS_F, SUM, b"\x01"],
+        (3, b"", b"thinlto: c.ll:1: bad token\n"),
+    ),
+    (
+        "undefined behaviour in a local of the second",
+        FIRST_TWO,
+        [
+            CALLS_F,
+            b"define i32 @f() {\n  call void @h()\n  ret i32 0\n}\ndefine internal void @h() {\n  unreachable\n}\n",
+            NOTHING,
+        ],
+        (
+            7,
+            b"",
+            b"thinlto: undefined behaviour in @h of b.ll at instruction 1: unreachable reached\n",
+        ),
+    ),
+    (
+        "an uninitialised byte in what prevails of the third",
+        FIRST_THREE,
+        [
+            CALLS_F,
+            ONE,
+            b"define i32 @f() {\n  %s = alloca i32, align 4\n  %v = load i32, ptr %s, align 4\n  ret i32 %v\n}\n",
+        ],
+        (
+            8,
+            b"",
+            b"thinlto: uninitialised byte read in @f of c.ll at instruction 2\n",
+        ),
+    ),
+];
+
+#[test]
+fn modules_run_together(rt: HostRuntime) -> Result<(), AllocError> {
+    let alloc = rt.alloc();
+    for (name, words, texts, end) in TOGETHER {
+        let [first, second, third] = texts;
+        let mut files = files_of(alloc, first, second, NONE)?;
+        files.with("c.ll", third)?;
+        let (status, printed, noted) = end;
+        let end = (status, BEFORE, printed, noted);
+        assert!(rt;
+            ends_over(&rt, alloc, words, &mut files, NONE, EMPTY, end)?,
+            "{name}"
         );
     }
     Ok(())

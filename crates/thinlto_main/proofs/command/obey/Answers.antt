@@ -3,13 +3,13 @@ use Rattle.lto_outside.specs.Calls.{Call}
 use Rattle.lto_outside.specs.Seen.{files_seen}
 use Rattle.lto_words.specs.declared.request.Command.{Command}
 use Rattle.thinlto_main.specs.Answers.{Says, obeyed, reporting}
-use Rattle.thinlto_main.specs.Asking.{is_offered, is_offered_link, is_offered_run}
+use Rattle.thinlto_main.specs.Asking.{is_offered, is_offered_link}
 use Rattle.thinlto_main.specs.Causes.{Comes}
 use Rattle.thinlto_main.specs.Linking.{linking}
 use Rattle.thinlto_main.specs.Modules.{AreRead}
 use Rattle.thinlto_main.specs.Running.{SaysReturned, running}
 use Rattle.thinlto_main.specs.Seen.{input_seen, notes_seen, seen, streams_seen}
-use Rattle.thinlto_main.proofs.Asking.{index_obeyed, link_obeyed, offered_one, offered_run, on_each, run_obeyed}
+use Rattle.thinlto_main.proofs.Asking.{index_obeyed, link_obeyed, offered_one, on_each, run_obeyed}
 use Rattle.thinlto_main.proofs.Causes.{comes_map}
 use Rattle.thinlto_main.proofs.command.obey.Goals as goal
 
@@ -27,7 +27,7 @@ returns-in-Link-clause-answer g c =
     ap (λ (ns : List (List ℕ)). is_offered_link c.in-Link.options ns) (sym c.as_slice.ensures) ∙ sym c.is_offered_link.ensures ∙ c.if-not-is_offered_link.false in
     subst (λ (k : Command). Comes (obeyed k (seen g.F.Files.did g.F.Files.held g.F.Files.faults g.O.ByteOut.sent g.O.ByteOut.faults c.args.files.now c.link.new.files c.args.out.now c.args.out.now) (input_seen g.I.ByteIn.left g.I.ByteIn.faults c.args.input.now c.args.input.now)) c.link.result) (sym c.in-Link.is)
     (comes_map (link_obeyed c.in-Link.options c.in-Link.name c.in-Link.names (seen g.F.Files.did g.F.Files.held g.F.Files.faults g.O.ByteOut.sent g.O.ByteOut.faults c.args.files.now c.link.new.files c.args.out.now c.args.out.now) (input_seen g.I.ByteIn.left g.I.ByteIn.faults c.args.input.now c.args.input.now) offered refl refl) c.link.result
-    (subst (λ (ns : List (List ℕ)). Comes (linking c.in-Link.options.exports c.in-Link.options.import_limit c.in-Link.name ns (files_seen g.F.Files.did g.F.Files.held g.F.Files.faults c.args.files.now c.link.new.files)) c.link.result) c.as_slice-in-Link.ensures c.link.ensures.answer))
+    (subst (λ (ns : List (List ℕ)). Comes (linking c.in-Link.options c.in-Link.name ns (files_seen g.F.Files.did g.F.Files.held g.F.Files.faults c.args.files.now c.link.new.files)) c.link.result) c.as_slice-in-Link.ensures c.link.ensures.answer))
 
 pub returns-in-Link-clause-says : goal.returns-in-Link-clause-says
 returns-in-Link-clause-says g c =
@@ -53,28 +53,18 @@ returns-in-Index-clause-silent g c = (on_each c.index.result (c.args.notes.now �
 pub returns-in-Batch-clause-answer : goal.returns-in-Batch-clause-answer
 returns-in-Batch-clause-answer g c = (ap is_offered c.in-Batch.is, (g.met.F.Files.did_none _, refl), refl)
 
-pub returns-then-not-is_offered_run-clause-answer : goal.returns-then-not-is_offered_run-clause-answer
-returns-then-not-is_offered_run-clause-answer g c =
-    (ap is_offered c.in-Run.is ∙ ap (λ (ns : List (List ℕ)). is_offered_run ns) (sym c.as_slice-in-Run.ensures) ∙ sym c.is_offered_run.ensures ∙ c.if-not-is_offered_run.true, (g.met.F.Files.did_none _, refl), refl)
-
-pub run-requires : goal.run-requires
-run-requires g c = offered_run c.as_slice-in-Run-2.result.now
-    (ap (λ (ns : List (List ℕ)). is_offered_run ns) (c.as_slice-in-Run-2.ensures ∙ sym c.as_slice-in-Run.ensures) ∙ sym c.is_offered_run.ensures ∙ c.if-not-is_offered_run.false)
-
 pub returns-in-Run-clause-answer : goal.returns-in-Run-clause-answer
 returns-in-Run-clause-answer g c =
-    let offered : is_offered_run c.in-Run.names ≡ true =
-    ap (λ (ns : List (List ℕ)). is_offered_run ns) (sym c.as_slice-in-Run.ensures) ∙ sym c.is_offered_run.ensures ∙ c.if-not-is_offered_run.false in
     subst (λ (k : Command). Comes (obeyed k (seen g.F.Files.did g.F.Files.held g.F.Files.faults g.O.ByteOut.sent g.O.ByteOut.faults c.args.files.now c.run.new.files c.args.out.now c.run.new.out) (input_seen g.I.ByteIn.left g.I.ByteIn.faults c.args.input.now c.run.new.input)) c.run.result) (sym c.in-Run.is)
-    (comes_map (run_obeyed c.in-Run.root c.in-Run.args c.in-Run.steps c.in-Run.names (seen g.F.Files.did g.F.Files.held g.F.Files.faults g.O.ByteOut.sent g.O.ByteOut.faults c.args.files.now c.run.new.files c.args.out.now c.run.new.out) (input_seen g.I.ByteIn.left g.I.ByteIn.faults c.args.input.now c.run.new.input) offered) c.run.result
+    (comes_map (run_obeyed c.in-Run.root c.in-Run.args c.in-Run.steps c.in-Run.names (seen g.F.Files.did g.F.Files.held g.F.Files.faults g.O.ByteOut.sent g.O.ByteOut.faults c.args.files.now c.run.new.files c.args.out.now c.run.new.out) (input_seen g.I.ByteIn.left g.I.ByteIn.faults c.args.input.now c.run.new.input)) c.run.result
     (subst (λ (ns : List (List ℕ)). Comes (running c.in-Run.root c.in-Run.args c.in-Run.steps ns (files_seen g.F.Files.did g.F.Files.held g.F.Files.faults c.args.files.now c.run.new.files) (streams_seen g.I.ByteIn.left g.I.ByteIn.faults g.O.ByteOut.sent g.O.ByteOut.faults c.args.input.now c.run.new.input c.args.out.now c.run.new.out)) c.run.result)
-    c.as_slice-in-Run-2.ensures c.run.ensures.answer))
+    c.as_slice-in-Run.ensures c.run.ensures.answer))
 
 pub returns-in-Run-clause-says : goal.returns-in-Run-clause-says
 returns-in-Run-clause-says g c =
     subst (λ (k : Command). OnOk c.run.result (Says k (seen g.F.Files.did g.F.Files.held g.F.Files.faults g.O.ByteOut.sent g.O.ByteOut.faults c.args.files.now c.run.new.files c.args.out.now c.run.new.out) (input_seen g.I.ByteIn.left g.I.ByteIn.faults c.args.input.now c.run.new.input) (notes_seen g.N.ByteOut.sent g.N.ByteOut.faults c.args.notes.now c.run.new.notes))) (sym c.in-Run.is)
     (subst (λ (ns : List (List ℕ)). OnOk c.run.result (SaysReturned (AreRead ns (λ (calls : List Call). g.F.Files.did c.args.files.now calls c.run.new.files)) c.in-Run.root c.in-Run.args c.in-Run.steps ns (streams_seen g.I.ByteIn.left g.I.ByteIn.faults g.O.ByteOut.sent g.O.ByteOut.faults c.args.input.now c.run.new.input c.args.out.now c.run.new.out) (notes_seen g.N.ByteOut.sent g.N.ByteOut.faults c.args.notes.now c.run.new.notes)))
-    c.as_slice-in-Run-2.ensures c.run.ensures.says)
+    c.as_slice-in-Run.ensures c.run.ensures.says)
 
 pub returns-clause-answer : goal.returns-clause-answer
 returns-clause-answer g c = (ap is_offered c.in-Gen.is, (g.met.F.Files.did_none _, refl), refl)

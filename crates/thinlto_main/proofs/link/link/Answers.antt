@@ -1,4 +1,4 @@
-use Rattle.std.proofs.Common.{◌≡◌, ◌∙◌, ℕ, List, arith, length, subst, sym, true, false}
+use Rattle.std.proofs.Common.{◌≡◌, ℕ, List, arith, length, subst, sym, true, false}
 use Rattle.ir_tree.specs.declared.module.Module.{Module}
 use Rattle.lto_outside.specs.Calls.{Call}
 use Rattle.lto_outside.specs.Cause.{Rose}
@@ -13,14 +13,14 @@ use Rattle.thinlto_main.proofs.Reading.{as_many, fetched_no_put}
 use Rattle.thinlto_main.proofs.link.link.Goals as goal
 
 pub returns-in-Err-clause-answer : goal.returns-in-Err-clause-answer
-returns-in-Err-clause-answer g c = because_map (reading_links c.args.options.now.exports c.args.options.now.import_limit c.args.out c.args.names.now (files_seen g.F.Files.did g.F.Files.held g.F.Files.faults c.args.files.now c.modules.new.files)) c.in-Err.why c.in-Err.ensures.because
+returns-in-Err-clause-answer g c = because_map (reading_links c.args.options.now c.args.out c.args.names.now (files_seen g.F.Files.did g.F.Files.held g.F.Files.faults c.args.files.now c.modules.new.files)) c.in-Err.why c.in-Err.ensures.because
 
 pub decided-requires : goal.decided-requires
 decided-requires g c = as_many c.args.names.now (λ (calls : List Call). g.F.Files.did c.args.files.now calls c.modules.new.files) c.as_slice-all.result.now (subst (λ (l : List Module). AreRead c.args.names.now (λ (calls : List Call). g.F.Files.did c.args.files.now calls c.modules.new.files) l) (sym c.as_slice-all.ensures) c.in-Ok.ensures.read)
 
 pub returns-in-Err-decided-clause-answer : goal.returns-in-Err-decided-clause-answer
 returns-in-Err-decided-clause-answer g c =
-    because_map (unlinked_links c.args.options.now.exports c.args.options.now.import_limit c.args.out c.args.names.now (files_seen g.F.Files.did g.F.Files.held g.F.Files.faults c.args.files.now c.modules.new.files) c.as_slice-all.result.now
+    because_map (unlinked_links c.args.options.now c.args.out c.args.names.now (files_seen g.F.Files.did g.F.Files.held g.F.Files.faults c.args.files.now c.modules.new.files) c.as_slice-all.result.now
     (subst (λ (l : List Module). AreRead c.args.names.now (λ (calls : List Call). g.F.Files.did c.args.files.now calls c.modules.new.files) l) (sym c.as_slice-all.ensures) c.in-Ok.ensures.read))
     c.in-Err-decided.why
     (subst (λ (es : List (List ℕ)). Because (record never { unlinked = IsRefused c.args.names.now c.as_slice-all.result.now es; memory = Unit {0} }) c.in-Err-decided.why) c.as_slice-exports.ensures c.in-Err-decided.ensures.because)
@@ -35,7 +35,8 @@ returns-in_default-clause-answer g c = fetched_no_put c.args.names.now c.in-Ok.e
 
 pub returns-in-Ok-put-clause-answer : goal.returns-in-Ok-put-clause-answer
 returns-in-Ok-put-clause-answer g c =
-    did_link g.F.Files.did g.met.F.Files.did_more c.args.files.now c.modules.new.files c.put.new.self c.args.options.now.exports c.args.options.now.import_limit c.args.out c.args.names.now c.as_slice-all.result.now c.first.result.now c.as_str.result.now c.as_slice.result.now c.in-Ok-link_text.text true
+    did_link g.F.Files.did g.met.F.Files.did_more c.args.files.now c.modules.new.files c.put.new.self c.args.options.now c.args.out c.args.names.now c.as_slice-all.result.now c.first.result.now c.as_str.result.now c.as_slice.result.now c.in-Ok-link_text.text true
+    (record { verified = c.linked_is_verified.ensures; in_order = c.made_is_better.ensures.in_order; numbered = c.read_modules_are_numbered.ensures; ordered = c.text_order_is_numbered.ensures; read = c.verified_modules_are_read.ensures })
     c.accepted_is_not_refused.ensures.one c.requires (subst (λ (l : List Module). AreRead c.args.names.now (λ (calls : List Call). g.F.Files.did c.args.files.now calls c.modules.new.files) l) (sym c.as_slice-all.ensures) c.in-Ok.ensures.read) c.first.ensures
     (subst (λ (es : List (List ℕ)). HasThinLink c.as_slice-all.result.now es c.args.options.now.import_limit) c.as_slice-exports.ensures c.in-Ok-decided.ensures.done)
     c.in-Ok-link_text.ensures.linked c.in-Ok-link_text.ensures.only c.in-Ok-put.ensures.call c.as_str.ensures c.as_slice.ensures (files_seen g.F.Files.did g.F.Files.held g.F.Files.faults c.args.files.now c.put.new.self) (λ calls did. did)
@@ -46,7 +47,8 @@ returns-in-Err-put-clause-answer g c =
     record {
       named = c.into_text.ensures;
       did_link =
-          did_link g.F.Files.did g.met.F.Files.did_more c.args.files.now c.modules.new.files c.put.new.self c.args.options.now.exports c.args.options.now.import_limit c.args.out c.args.names.now c.as_slice-all.result.now c.first.result.now c.as_str.result.now c.as_slice.result.now c.in-Ok-link_text.text false
+          did_link g.F.Files.did g.met.F.Files.did_more c.args.files.now c.modules.new.files c.put.new.self c.args.options.now c.args.out c.args.names.now c.as_slice-all.result.now c.first.result.now c.as_str.result.now c.as_slice.result.now c.in-Ok-link_text.text false
+          (record { verified = c.linked_is_verified.ensures; in_order = c.made_is_better.ensures.in_order; numbered = c.read_modules_are_numbered.ensures; ordered = c.text_order_is_numbered.ensures; read = c.verified_modules_are_read.ensures })
           c.accepted_is_not_refused.ensures.one c.requires (subst (λ (l : List Module). AreRead c.args.names.now (λ (calls : List Call). g.F.Files.did c.args.files.now calls c.modules.new.files) l) (sym c.as_slice-all.ensures) c.in-Ok.ensures.read) c.first.ensures
           (subst (λ (es : List (List ℕ)). HasThinLink c.as_slice-all.result.now es c.args.options.now.import_limit) c.as_slice-exports.ensures c.in-Ok-decided.ensures.done)
           c.in-Ok-link_text.ensures.linked c.in-Ok-link_text.ensures.only c.in-Err-put.ensures.call c.as_str.ensures c.as_slice.ensures (files_seen g.F.Files.did g.F.Files.held g.F.Files.faults c.args.files.now c.put.new.self) (λ calls did. did);

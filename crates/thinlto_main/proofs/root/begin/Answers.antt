@@ -12,15 +12,18 @@ use Rattle.thinlto_main.proofs.root.begin.Goals as goal
 
 pub returns-in_default-clause-found : goal.returns-in_default-clause-found
 returns-in_default-clause-found c =
-    none_begins c.args.own.now.globals c.args.options.now.root c.args.options.now.args
-    (subst (λ (name : List ℕ). NoRoot c.args.own.now.globals name) c.as_slice-name.ensures (c.in_default.ensures.none refl))
+    none_begins c.args.globals.now c.args.options.now.root c.args.options.now.args
+    (subst (λ (name : List ℕ). NoRoot c.args.globals.now name) c.as_slice-name.ensures (c.in_default.ensures.none refl))
+
+pub root_function-requires : goal.root_function-requires
+root_function-requires c = c.requires
 
 pub arguments-requires : goal.arguments-requires
 arguments-requires c = subst (λ (ps : List Param). All (λ (p : Param). IsTyped p.reg) ps) (sym c.as_slice-params.ensures) c.in-Some.ensures.params
 
 pub returns : goal.returns
 returns c =
-    let gs = c.args.own.now.globals in
+    let gs = c.args.globals.now in
     let options = c.args.options.now in
     let i = c.in-Some.root.index in
     let f = c.in-Some.root.function.now in

@@ -1,6 +1,4 @@
-use Rattle.std.proofs.Common.{◌≡◌, ◌∙◌, ℕ, List, Some, slice_get, refl, ap, subst}
-use Rattle.ir_tree.specs.declared.module.GlobalValue.{GlobalValue}
-use Rattle.ir_tree.specs.declared.module.Module.{Module}
+use Rattle.std.proofs.Common.{◌≡◌, ℕ, Some, slice_get, refl, subst}
 use Rattle.machine_code.specs.Roots as lowered
 use Rattle.machine_steps.specs.Steps.{CanBegin}
 use Rattle.thinlto_main.specs.Roots.{function_in}
@@ -8,32 +6,30 @@ use Rattle.thinlto_main.proofs.Rooting.{is_root, no_root, root_count, root_gives
 use Rattle.thinlto_main.proofs.root.root_function.Goals as goal
 
 pub returns-in_err-root-clause-none : goal.returns-in_err-root-clause-none
-returns-in_err-root-clause-none c = λ e. no_root c.args.own.now.globals c.args.name.now (λ i types r. c.in_err-root.ensures.none refl c.args.own.now.globals i types c.requires r)
+returns-in_err-root-clause-none c = λ e. no_root c.args.globals.now c.args.name.now (λ i types r. c.in_err-root.ensures.none refl c.args.globals.now i types c.requires.made r)
 
 pub returns-in_err-function-clause-none : goal.returns-in_err-function-clause-none
 returns-in_err-function-clause-none c = λ e.
-    let gs = c.args.own.now.globals in
+    let gs = c.args.globals.now in
     let i = c.in_ok-root.root.index in
     let types = c.in_ok-root.root.params.now in
-    let r : lowered.IsRoot gs c.args.name.now i types = c.in_ok-root.ensures.some gs c.requires in
-    let here : c.as_slice-globals.result.now ≡ gs = c.as_slice-globals.ensures ∙ ap (λ (m : Module). m.globals) c.module-tree.ensures.module in
-    absurd (root_there gs c.module-tree.ensures.sound.whole c.args.name.now i types r (c.in_err-function.ensures ∙ ap (λ (hs : List GlobalValue). function_in (slice_get hs i)) here))
+    let r : lowered.IsRoot gs c.args.name.now i types = c.in_ok-root.ensures.some gs c.requires.made in
+    absurd (root_there gs c.requires.runnable c.args.name.now i types r c.in_err-function.ensures)
 
 pub returns : goal.returns
 returns c =
-    let gs = c.args.own.now.globals in
-    let whole = c.module-tree.ensures.sound.whole in
+    let gs = c.args.globals.now in
+    let runs = c.requires.runnable in
     let name = c.args.name.now in
     let i = c.in_ok-root.root.index in
     let types = c.in_ok-root.root.params.now in
     let f = c.in_ok-function.function.now in
-    let r : lowered.IsRoot gs name i types = c.in_ok-root.ensures.some gs c.requires in
-    let here : c.as_slice-globals.result.now ≡ gs = c.as_slice-globals.ensures ∙ ap (λ (m : Module). m.globals) c.module-tree.ensures.module in
-    let found : Some f ≡ function_in (slice_get gs i) = c.in_ok-function.ensures ∙ ap (λ (hs : List GlobalValue). function_in (slice_get hs i)) here in
+    let r : lowered.IsRoot gs name i types = c.in_ok-root.ensures.some gs c.requires.made in
+    let found : Some f ≡ function_in (slice_get gs i) = c.in_ok-function.ensures in
     record {
-      begins = subst (λ (k : ℕ). CanBegin c.args.lowered.now.code i k) (root_count gs whole name i types r f found) c.in_ok-root.ensures.begins;
-      some = is_root gs whole name i types r f found;
-      params = root_typed gs whole name i types r f found;
-      gives = root_gives gs whole name i types r f found;
+      begins = subst (λ (k : ℕ). CanBegin c.args.lowered.now.code i k) (root_count gs runs name i types r f found) c.in_ok-root.ensures.begins;
+      some = is_root gs runs name i types r f found;
+      params = root_typed gs runs name i types r f found;
+      gives = root_gives gs runs name i types r f found;
       none = λ e. absurd (cc e);
     }

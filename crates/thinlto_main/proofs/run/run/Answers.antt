@@ -1,15 +1,14 @@
-use Rattle.std.proofs.Common.{◌≡◌, ◌∙◌, ℕ, List, [], ◌∷◌, arith, length, refl, subst, sym}
+use Rattle.std.proofs.Common.{List, refl, subst, sym}
 use Rattle.ir_tree.specs.declared.module.Module.{Module}
 use Rattle.lto_outside.specs.Calls.{Call}
 use Rattle.lto_outside.specs.Seen.{files_seen}
-use Rattle.thinlto_main.specs.Causes.{Because}
-use Rattle.run_parts.specs.Copies.{program_read}
+use Rattle.merge_meaning.specs.Merged.{merged}
 use Rattle.thinlto_main.specs.Modules.{AreRead}
-use Rattle.thinlto_main.specs.Running.{DidReturn, run_causes}
+use Rattle.thinlto_main.specs.Runs.{DidReturn}
 use Rattle.thinlto_main.specs.Seen.{notes_seen, streams_seen}
 use Rattle.thinlto_main.proofs.Causes.{because_map}
 use Rattle.thinlto_main.proofs.Reading.{as_many}
-use Rattle.thinlto_main.proofs.Single.{alone, module_runs, module_says, of_module, reading_runs, unlinked_runs}
+use Rattle.thinlto_main.proofs.Merging.{merged_runs, merged_says, of_modules, reading_runs, unlinked_runs}
 use Rattle.thinlto_main.proofs.run.run.Goals as goal
 
 pub returns-in-Err-clause-answer : goal.returns-in-Err-clause-answer
@@ -24,38 +23,16 @@ returns-in-Err-linkable-clause-answer g c =
     because_map (unlinked_runs c.args.options.now.root c.args.options.now.args c.args.options.now.steps c.args.names.now (files_seen g.F.Files.did g.F.Files.held g.F.Files.faults c.args.files.now c.modules.new.files) (streams_seen g.I.ByteIn.left g.I.ByteIn.faults g.O.ByteOut.sent g.O.ByteOut.faults c.args.input.now c.args.input.now c.args.out.now c.args.out.now) c.as_slice-all.result.now (subst (λ (l : List Module). AreRead c.args.names.now (λ (calls : List Call). g.F.Files.did c.args.files.now calls c.modules.new.files) l) (sym c.as_slice-all.ensures) c.in-Ok.ensures.read) (refl, refl))
     c.in-Err-linkable.why c.in-Err-linkable.ensures.because
 
-pub first-requires : goal.first-requires
-first-requires g c =
-    let same : length c.args.names.now ≡ length c.as_slice-all.result.now = as_many c.args.names.now (λ (calls : List Call). g.F.Files.did c.args.files.now calls c.modules.new.files) c.as_slice-all.result.now (subst (λ (l : List Module). AreRead c.args.names.now (λ (calls : List Call). g.F.Files.did c.args.files.now calls c.modules.new.files) l) (sym c.as_slice-all.ensures) c.in-Ok.ensures.read) in
-    omega (arith, same, c.requires)
-
-pub file-requires : goal.file-requires
-file-requires g c = c.requires
-
-pub returns-in-Err-run_module-clause-answer : goal.returns-in-Err-run_module-clause-answer
-returns-in-Err-run_module-clause-answer g c =
-    let all = c.as_slice-all.result.now in
-    let m = c.first.result.now in
-    let read : AreRead c.args.names.now (λ (calls : List Call). g.F.Files.did c.args.files.now calls c.modules.new.files) all = (subst (λ (l : List Module). AreRead c.args.names.now (λ (calls : List Call). g.F.Files.did c.args.files.now calls c.modules.new.files) l) (sym c.as_slice-all.ensures) c.in-Ok.ensures.read) in
-    let one : all ≡ m ∷ [] = alone all m (sym (as_many c.args.names.now (λ (calls : List Call). g.F.Files.did c.args.files.now calls c.modules.new.files) all read) ∙ c.requires) c.first.ensures in
-    because_map (module_runs c.args.options.now.root c.args.options.now.args c.args.options.now.steps c.args.names.now (files_seen g.F.Files.did g.F.Files.held g.F.Files.faults c.args.files.now c.modules.new.files) (streams_seen g.I.ByteIn.left g.I.ByteIn.faults g.O.ByteOut.sent g.O.ByteOut.faults c.args.input.now c.run_module.new.input c.args.out.now c.run_module.new.out) all m one read c.in-Ok-linkable.ensures.linked) c.in-Err-run_module.why
-    (subst (λ (file : List ℕ). Because (run_causes (program_read m) c.args.options.now.root c.args.options.now.args file c.args.options.now.steps (streams_seen g.I.ByteIn.left g.I.ByteIn.faults g.O.ByteOut.sent g.O.ByteOut.faults c.args.input.now c.run_module.new.input c.args.out.now c.run_module.new.out)) c.in-Err-run_module.why) c.file.ensures
-    c.in-Err-run_module.ensures.answer)
+pub returns-in-Err-run_merged-clause-answer : goal.returns-in-Err-run_merged-clause-answer
+returns-in-Err-run_merged-clause-answer g c =
+    because_map (merged_runs c.args.options.now.root c.args.options.now.args c.args.options.now.steps c.args.names.now (files_seen g.F.Files.did g.F.Files.held g.F.Files.faults c.args.files.now c.modules.new.files) (streams_seen g.I.ByteIn.left g.I.ByteIn.faults g.O.ByteOut.sent g.O.ByteOut.faults c.args.input.now c.run_merged.new.input c.args.out.now c.run_merged.new.out) c.as_slice-all.result.now (subst (λ (l : List Module). AreRead c.args.names.now (λ (calls : List Call). g.F.Files.did c.args.files.now calls c.modules.new.files) l) (sym c.as_slice-all.ensures) c.in-Ok.ensures.read) c.in-Ok-linkable.ensures.linked) c.in-Err-run_merged.why c.in-Err-run_merged.ensures.answer
 
 pub returns-clause-answer : goal.returns-clause-answer
 returns-clause-answer g c =
-    let all = c.as_slice-all.result.now in
-    let m = c.first.result.now in
-    let read : AreRead c.args.names.now (λ (calls : List Call). g.F.Files.did c.args.files.now calls c.modules.new.files) all = (subst (λ (l : List Module). AreRead c.args.names.now (λ (calls : List Call). g.F.Files.did c.args.files.now calls c.modules.new.files) l) (sym c.as_slice-all.ensures) c.in-Ok.ensures.read) in
-    let one : all ≡ m ∷ [] = alone all m (sym (as_many c.args.names.now (λ (calls : List Call). g.F.Files.did c.args.files.now calls c.modules.new.files) all read) ∙ c.requires) c.first.ensures in
-    of_module c.args.options.now.root c.args.options.now.args c.args.options.now.steps c.args.names.now (files_seen g.F.Files.did g.F.Files.held g.F.Files.faults c.args.files.now c.modules.new.files) (streams_seen g.I.ByteIn.left g.I.ByteIn.faults g.O.ByteOut.sent g.O.ByteOut.faults c.args.input.now c.run_module.new.input c.args.out.now c.run_module.new.out) all m one read c.in-Ok-linkable.ensures.linked
-    (λ (n : Module). DidReturn (program_read n) c.args.options.now.root c.args.options.now.args c.args.options.now.steps (streams_seen g.I.ByteIn.left g.I.ByteIn.faults g.O.ByteOut.sent g.O.ByteOut.faults c.args.input.now c.run_module.new.input c.args.out.now c.run_module.new.out)) c.in-Ok-run_module.ensures.answer
+    of_modules c.args.options.now.root c.args.options.now.args c.args.options.now.steps c.args.names.now (files_seen g.F.Files.did g.F.Files.held g.F.Files.faults c.args.files.now c.modules.new.files) (streams_seen g.I.ByteIn.left g.I.ByteIn.faults g.O.ByteOut.sent g.O.ByteOut.faults c.args.input.now c.run_merged.new.input c.args.out.now c.run_merged.new.out) c.as_slice-all.result.now (subst (λ (l : List Module). AreRead c.args.names.now (λ (calls : List Call). g.F.Files.did c.args.files.now calls c.modules.new.files) l) (sym c.as_slice-all.ensures) c.in-Ok.ensures.read) c.in-Ok-linkable.ensures.linked
+    (λ (ms : List Module). DidReturn (merged ms) c.args.options.now.root c.args.options.now.args c.args.options.now.steps (streams_seen g.I.ByteIn.left g.I.ByteIn.faults g.O.ByteOut.sent g.O.ByteOut.faults c.args.input.now c.run_merged.new.input c.args.out.now c.run_merged.new.out)) c.in-Ok-run_merged.ensures.answer
 
 pub returns-clause-says : goal.returns-clause-says
 returns-clause-says g c =
-    let all = c.as_slice-all.result.now in
-    let m = c.first.result.now in
-    let read : AreRead c.args.names.now (λ (calls : List Call). g.F.Files.did c.args.files.now calls c.modules.new.files) all = (subst (λ (l : List Module). AreRead c.args.names.now (λ (calls : List Call). g.F.Files.did c.args.files.now calls c.modules.new.files) l) (sym c.as_slice-all.ensures) c.in-Ok.ensures.read) in
-    let one : all ≡ m ∷ [] = alone all m (sym (as_many c.args.names.now (λ (calls : List Call). g.F.Files.did c.args.files.now calls c.modules.new.files) all read) ∙ c.requires) c.first.ensures in
-    module_says c.args.options.now.root c.args.options.now.args c.args.options.now.steps c.args.names.now (files_seen g.F.Files.did g.F.Files.held g.F.Files.faults c.args.files.now c.modules.new.files) (streams_seen g.I.ByteIn.left g.I.ByteIn.faults g.O.ByteOut.sent g.O.ByteOut.faults c.args.input.now c.run_module.new.input c.args.out.now c.run_module.new.out) all m one read c.in-Ok-linkable.ensures.linked
-    (notes_seen g.N.ByteOut.sent g.N.ByteOut.faults c.args.notes.now c.say_returned.new.notes) c.in-Ok-run_module.returned c.in-Ok-run_module.ensures.returned c.say_returned.ensures.said
+    merged_says c.args.options.now.root c.args.options.now.args c.args.options.now.steps c.args.names.now (files_seen g.F.Files.did g.F.Files.held g.F.Files.faults c.args.files.now c.modules.new.files) (streams_seen g.I.ByteIn.left g.I.ByteIn.faults g.O.ByteOut.sent g.O.ByteOut.faults c.args.input.now c.run_merged.new.input c.args.out.now c.run_merged.new.out) c.as_slice-all.result.now (subst (λ (l : List Module). AreRead c.args.names.now (λ (calls : List Call). g.F.Files.did c.args.files.now calls c.modules.new.files) l) (sym c.as_slice-all.ensures) c.in-Ok.ensures.read) c.in-Ok-linkable.ensures.linked
+    (notes_seen g.N.ByteOut.sent g.N.ByteOut.faults c.args.notes.now c.say_returned.new.notes) c.in-Ok-run_merged.returned c.in-Ok-run_merged.ensures.returned c.say_returned.ensures.said

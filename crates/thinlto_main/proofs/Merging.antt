@@ -1,5 +1,5 @@
--- The run of the one module of a file.
-use Rattle.std.proofs.Common.{◌≡◌, ℕ, List, [], ◌∷◌, length, get_or, OnOk, Result, Ok, Err, ap, sym, subst, inl, inr, arith}
+-- The run of the modules of files.
+use Rattle.std.proofs.Common.{ℕ, List, [], ◌∷◌, OnOk, Result, Ok, Err, inl, inr}
 use Rattle.ir_tree.specs.declared.module.Module.{Module}
 use Rattle.lto_fault.specs.declared.refusal.Refusal.{Refusal}
 use Rattle.lto_notes.specs.Pushing.{Hears}
@@ -9,25 +9,15 @@ use Rattle.lto_outside.specs.Seen.{FilesSeen}
 use Rattle.lto_words.specs.declared.list.Decimal.{Decimal}
 use Rattle.thin_link.specs.Refusing.{IsRefused}
 use Rattle.thinlto_main.specs.Causes.{never}
-use Rattle.run_parts.specs.Copies.{program_read}
+use Rattle.merge_meaning.specs.Merged.{merged}
 use Rattle.thinlto_main.specs.Linking.{HasThinLink}
 use Rattle.thinlto_main.specs.Modules.{AreRead, reading}
-use Rattle.thinlto_main.specs.Running.{OfModule, ReturnsSo, SaysReturned, module_causes, only, running}
+use Rattle.thinlto_main.specs.Running.{OfModules, SaysReturned, merged_causes, running}
+use Rattle.thinlto_main.specs.Runs.{ReturnsSo, Said}
 use Rattle.thinlto_main.specs.Seen.{Notes, Streams}
 use Rattle.thinlto_main.proofs.Causes.{Implies}
 use Rattle.thinlto_main.proofs.Reading.{fetched_no_put}
 use Rattle.thinlto_main.proofs.Unlinked.{thin_is_not_refused}
-
--- ---- one
-
-pub only_there : (names : List (List ℕ)) (name : List ℕ) → length names ≡ 1 → name ≡ get_or names 0 name → name ≡ only names
-only_there [] name one is = absurd (omega (arith, one))
-only_there (n ∷ names) name one is = is
-
-pub alone : (ms : List Module) (m : Module) → length ms ≡ 1 → m ≡ get_or ms 0 m → ms ≡ m ∷ []
-alone [] m one is = absurd (omega (arith, one))
-alone (n ∷ []) m one is = ap (λ (x : Module). x ∷ []) (sym is)
-alone (n ∷ k ∷ ms) m one is = absurd (omega (arith, one))
 
 -- modules that have a thin link are refused none
 pub thin_links : {A : Type 0} (names exports : List (List ℕ)) (ms : List Module) (limit : ℕ) (r : Result A Refusal) → OnOk r (HasThinLink ms exports limit) → OnOk r ((why : Refusal) → IsRefused names ms exports why → ⊥)
@@ -67,35 +57,25 @@ module _ (root : List ℕ) (args : List Decimal) (steps : ℕ) (names : List (Li
     other = λ x. x;
   }
 
-  module _ (ms : List Module) (m : Module) (one : ms ≡ m ∷ []) (read : AreRead names files.did ms) (linked : (why : Refusal) → IsRefused names ms (root ∷ []) why → ⊥) where
-    pub of_module : (P : Module → Type 0) → P m → OfModule (AreRead names files.did) root names P
-    of_module P so = record {
-      m = m;
-      is = subst (λ (l : List Module). AreRead names files.did l) one read;
-      linked = subst (λ (l : List Module). (why : Refusal) → IsRefused names l (root ∷ []) why → ⊥) one linked;
-      so = so;
-    }
+  module _ (ms : List Module) (read : AreRead names files.did ms) (linked : (why : Refusal) → IsRefused names ms (root ∷ []) why → ⊥) where
+    pub of_modules : (P : List Module → Type 0) → P ms → OfModules (AreRead names files.did) root names P
+    of_modules P so = record { ms = ms; is = read; linked = linked; so = so }
 
-    -- what the run of the module answers is answered
-    pub module_runs : Implies (module_causes root args steps names t m) (running root args steps names files t)
-    module_runs = record {
-      done = λ x. of_module (λ n. (module_causes root args steps names t n).done) x;
+    -- what the run of the modules answers is answered
+    pub merged_runs : Implies (merged_causes root args steps names t ms) (running root args steps names files t)
+    merged_runs = record {
+      done = λ x. of_modules (λ ns. (merged_causes root args steps names t ns).done) x;
       usage = λ x. x;
-      unread = λ name x. inr (of_module (λ n. (module_causes root args steps names t n).unread name) x);
+      unread = λ name x. inr (of_modules (λ ns. (merged_causes root args steps names t ns).unread name) x);
       refused = λ file at kind x. absurd x;
       unlinked = λ why x. absurd x;
-      unfit = λ name x. of_module (λ n. (module_causes root args steps names t n).unfit name) x;
-      unwritten = λ name x. of_module (λ n. (module_causes root args steps names t n).unwritten name) x;
-      unreturned = λ why x. of_module (λ n. (module_causes root args steps names t n).unreturned why) x;
-      memory = λ x. inr (of_module (λ n. (module_causes root args steps names t n).memory) x);
+      unfit = λ name x. of_modules (λ ns. (merged_causes root args steps names t ns).unfit name) x;
+      unwritten = λ name x. of_modules (λ ns. (merged_causes root args steps names t ns).unwritten name) x;
+      unreturned = λ why x. of_modules (λ ns. (merged_causes root args steps names t ns).unreturned why) x;
+      memory = λ x. inr (of_modules (λ ns. (merged_causes root args steps names t ns).memory) x);
       other = λ x. x;
     }
 
     -- and what it returned is said
-    pub module_says : (notes : Notes) (r : line.Returned) → ReturnsSo (program_read m) root args steps t r → Hears notes.stream (returned_text r) → SaysReturned (AreRead names files.did) root args steps names t notes
-    module_says notes r returns hears = record {
-      m = m;
-      is = subst (λ (l : List Module). AreRead names files.did l) one read;
-      linked = subst (λ (l : List Module). (why : Refusal) → IsRefused names l (root ∷ []) why → ⊥) one linked;
-      so = record { value = r; returns = returns; hears = hears };
-    }
+    pub merged_says : (notes : Notes) (r : line.Returned) → ReturnsSo (merged ms) root args steps t r → Hears notes.stream (returned_text r) → SaysReturned (AreRead names files.did) root args steps names t notes
+    merged_says notes r returns hears = of_modules (λ ns. Said (merged ns) root args steps t notes) (record { value = r; returns = returns; hears = hears })

@@ -6,10 +6,10 @@ use Rattle.machine_steps.specs.Steps.{CanBegin, HasBegun}
 use Rattle.machine_steps.specs.declared.code.Code.{Code}
 use Rattle.thinlto_main.specs.Seen.{streams_seen}
 use Rattle.thinlto_main.proofs.Interpreting.{begun_fed, begun_ran, begun_stops}
-use Rattle.thinlto_main.proofs.run.ran.Goals as goal
+use Rattle.thinlto_main.proofs.program.ran.Goals as goal
 
 pub opening-requires : goal.opening-requires
-opening-requires g c = c.requires.made.table
+opening-requires g c = record { runnable = c.requires.runnable; table = c.requires.made.table }
 
 pub returns-in_default-clause-part : goal.returns-in_default-clause-part
 returns-in_default-clause-part g c = inl (refl, (refl, refl))
@@ -25,7 +25,7 @@ run-requires g c = subst (λ (x : Code). IsRunnable x) (sym c.in-Ok-new.ensures.
 
 pub returns-clause-ok : goal.returns-clause-ok
 returns-clause-ok g c =
-    let gs = c.args.own.now.globals in
+    let gs = c.args.globals.now in
     let p = program_of gs in
     let root = c.args.begun.now.index in
     let numbers = c.args.begun.now.numbers in
@@ -37,7 +37,7 @@ returns-clause-ok g c =
 
 pub returns-clause-fed : goal.returns-clause-fed
 returns-clause-fed g c =
-    let gs = c.args.own.now.globals in
+    let gs = c.args.globals.now in
     let p = program_of gs in
     let root = c.args.begun.now.index in
     let numbers = c.args.begun.now.numbers in
@@ -49,7 +49,7 @@ returns-clause-fed g c =
 
 pub returns-clause-part : goal.returns-clause-part
 returns-clause-part g c =
-    let gs = c.args.own.now.globals in
+    let gs = c.args.globals.now in
     let p = program_of gs in
     let root = c.args.begun.now.index in
     let numbers = c.args.begun.now.numbers in
