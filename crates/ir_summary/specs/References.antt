@@ -7,6 +7,8 @@ use Rattle.ir_tree.specs.declared.function.Function.{Function}
 use Rattle.ir_tree.specs.declared.function.Variable.{Variable}
 use Rattle.ir_tree.specs.declared.instr.Instr.{Instr}
 use Rattle.ir_tree.specs.declared.instr.Instr.TheVariants as kind
+use Rattle.ir_tree.specs.declared.module.GlobalValue.{GlobalValue}
+use Rattle.ir_tree.specs.declared.module.GlobalValue.TheVariants as global
 use Rattle.ir_tree.specs.declared.operand.Argument.{Argument}
 use Rattle.ir_tree.specs.declared.operand.Operand.{Operand}
 use Rattle.ir_tree.specs.declared.operand.Operand.TheVariants as operand
@@ -29,6 +31,11 @@ body_names f = flat_map (λ item. all_named (operands item)) (items f)
 
 abbrev pub initial_names : Variable → List (List ℕ)
 initial_names v = operands_named (init_operands v.init)
+
+-- all that a global value names; a declaration names nothing
+abbrev pub global_names : GlobalValue → List (List ℕ)
+global_names (global.Variable v) = initial_names v
+global_names (global.Function f) = body_names f
 
 -- a call is direct where its callee is a symbol itself, whatever the type that is written
 abbrev pub directly : Operand → List (List ℕ)

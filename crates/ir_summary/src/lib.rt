@@ -3,7 +3,8 @@
 //! A link decides liveness, imports and names by summaries alone and never opens a body for it
 //! (Johnson, Amini and Li, "ThinLTO: Scalable and Incremental LTO", 2017). The summary of a function
 //! says how long it is, whom it calls directly and what it refers to; that of a variable what its
-//! initialiser refers to. Contracts say that summaries are those of `specs/Summaries.antt`.
+//! initialiser refers to. Contracts say that summaries are those of `specs/Summaries.antt`. What a
+//! definition refers to can be asked for by itself ([`references`]).
 //!
 //! Below stand `ir_tree`, for modules, and `indexmap`, which keeps names in the order in which they
 //! first come. A body is walked three times, and no name is copied but those of the summary.
@@ -12,10 +13,12 @@
 mod bodies;
 mod callees;
 mod count;
+mod globals;
 mod initials;
 mod names;
 mod summaries;
 mod summary;
 
+pub use globals::references;
 pub use summaries::summarise;
 pub use summary::Summary;

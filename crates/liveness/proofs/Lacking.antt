@@ -11,7 +11,7 @@ use Rattle.combined_index.specs.declared.definition.Definition.{Definition}
 use Rattle.liveness.specs.Best.{Found, IsBest, lesser_if}
 use Rattle.liveness.specs.Liveness.{AllExported, AreLive, IsDefined, IsLacking, IsLive, IsUndefined, IsUnexported, NoneUndefined, refs, is_host}
 use Rattle.liveness.specs.Marks.{IsLackingAt, IsUnexportedAt, exported, is_lacking}
-use Rattle.liveness.specs.Reach.{leads, starts}
+use Rattle.graph_walk.specs.Reach.{leads, starts}
 use Rattle.liveness.proofs.Leasts.{best-more, best-same}
 use Rattle.liveness.proofs.Starting.{exported_is, exported_there}
 
@@ -60,7 +60,7 @@ got (y ∷ ys) (suc k) d l = let m : k < length ys = omega arith in got ys k d m
 
 module _ (c : Combined) (roots : List (List ℕ)) (marks : List Bool) (live : AreLive c roots marks) where
   -- what is live and has no definition is referred to
-  referred : (n : ℕ) → IsLive c roots n → prevailing_of c n ≡ None → (m : ℕ) × IsLive c roots m × Contains (refs c m) n
+  pub referred : (n : ℕ) → IsLive c roots n → prevailing_of c n ≡ None → (m : ℕ) × IsLive c roots m × Contains (refs c m) n
   referred n (starts _ e) none = let d : IsDefined c n = e.3 in absurd (none_some (sym none ∙ d.1))
   referred n (leads m _ r h) none = (m, r, h)
 

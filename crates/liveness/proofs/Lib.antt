@@ -1,7 +1,5 @@
-mod Growing
-mod Lacking
+pub mod Lacking
 mod Leasts
-mod Sources
+pub mod Sources
 mod Starting
 mod Told
-mod Walks

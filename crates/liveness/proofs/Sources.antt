@@ -24,7 +24,7 @@ contains_first x xs = Contains-append_left (x ∷ []) xs x (Contains-push [] x)
 contains_later : {X : Type 0} (x y : X) (xs : List X) → Contains xs y → Contains (x ∷ xs) y
 contains_later x y xs h = Contains-append_right (x ∷ []) xs y h
 
-any_one : {X : Type 0} (t : X → Bool) (xs : List X) → list_any t xs ≡ true → (x : X) × Contains xs x × (t x ≡ true)
+pub any_one : {X : Type 0} (t : X → Bool) (xs : List X) → list_any t xs ≡ true → (x : X) × Contains xs x × (t x ≡ true)
 any_one t [] h = absurd (false≢true h)
 any_one {X} t (x ∷ xs) h = by (t x) refl h (λ rest. any_one t xs rest)
   where
@@ -52,10 +52,10 @@ one_any {X} t (y ∷ xs) x h is = by (t y) refl (Contains-append_cases (y ∷ []
     by false e (inr k) ih = ih k
 
 -- the place that is found is the first at which the test holds
-abbrev IsFirst : {X : Type 0} → (X → Bool) → List X → ℕ → Type 0
+abbrev pub IsFirst : {X : Type 0} → (X → Bool) → List X → ℕ → Type 0
 IsFirst {X} t xs j = (x : X) × (slice_get xs j ≡ Some x) × (t x ≡ true) × ((k : ℕ) (y : X) → slice_get xs k ≡ Some y → t y ≡ true → j ≤ k)
 
-first_at : {X : Type 0} (t : X → Bool) (i : ℕ) (xs : List X) (n : ℕ) → position_from t i xs ≡ Some n → (j : ℕ) × (n ≡ i + j) × IsFirst t xs j
+pub first_at : {X : Type 0} (t : X → Bool) (i : ℕ) (xs : List X) (n : ℕ) → position_from t i xs ≡ Some n → (j : ℕ) × (n ≡ i + j) × IsFirst t xs j
 first_at t i [] n h = absurd (none_some h)
 first_at {X} t i (x ∷ xs) n h = by (t x) refl h (λ rest. first_at t (i + 1) xs n rest)
   where
@@ -74,7 +74,7 @@ first_at {X} t i (x ∷ xs) n h = by (t x) refl h (λ rest. first_at t (i + 1) x
 
 -- ---- where a definition stands
 
-find_one : {X : Type 0} (t : X → Bool) (xs : List X) (x : X) → find t xs ≡ Some x → Contains xs x × (t x ≡ true)
+pub find_one : {X : Type 0} (t : X → Bool) (xs : List X) (x : X) → find t xs ≡ Some x → Contains xs x × (t x ≡ true)
 find_one t [] x h = absurd (none_some h)
 find_one {X} t (y ∷ ys) x h = by (t y) refl h (λ rest. find_one t ys x rest)
   where
@@ -82,7 +82,7 @@ find_one {X} t (y ∷ ys) x h = by (t y) refl h (λ rest. find_one t ys x rest)
     by true is e ih = let same : y ≡ x = some_same e in (subst (Contains (y ∷ ys)) same (contains_first y ys), ap t (sym same) ∙ is)
     by false is e ih = let more = ih e in (contains_later y x ys more.0, more.1)
 
-joined : {X : Type 0} (xss : List (List X)) (x : X) → Contains (flat_map (λ m. m) xss) x → (k : ℕ) × (xs : List X) × (slice_get xss k ≡ Some xs) × Contains xs x
+pub joined : {X : Type 0} (xss : List (List X)) (x : X) → Contains (flat_map (λ m. m) xss) x → (k : ℕ) × (xs : List X) × (slice_get xss k ≡ Some xs) × Contains xs x
 joined [] x h = let k : h.0 < 0 = h.1 in absurd (omega (arith, k))
 joined {X} (xs ∷ xss) x h = by (Contains-append_cases xs (flat_map (λ m. m) xss) x h) (λ rest. joined xss x rest)
   where

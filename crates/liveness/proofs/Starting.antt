@@ -1,18 +1,17 @@
 -- The exported names are reached one by one.
-use Rattle.std.proofs.Common.{◌≡◌, ◌∙◌, ◌⊎◌, inl, inr, ℕ, zero, suc, ◌+◌, ◌<◌, Bool, true, false, cond, List, [], ◌∷◌, ◌++◌, length, replicate, Option, Some, None, refl, sym, ap, subst, arith}
-use Rattle.std.proofs.lemmas.Bool.{false≢true}
+use Rattle.std.proofs.Common.{◌≡◌, ◌∙◌, ◌⊎◌, inl, inr, ℕ, ◌+◌, ◌<◌, Bool, true, false, cond, List, [], ◌∷◌, ◌++◌, length, replicate, Option, Some, None, refl, sym, ap, subst, arith}
 use Rattle.std.proofs.lemmas.List.{length-replicate}
 use Rattle.std.proofs.lemmas.List.Elements.{Contains-append_left, Contains-push, Contains-push_cases}
 use Rattle.std.specs.List.{Contains, position_from}
 use Rattle.std.specs.Option.{is_some}
-use Rattle.lto_sets.specs.Sets.{contains}
 use Rattle.combined_index.specs.Combined.{Combined, is_plain, number_of, prevailing_of}
 use Rattle.combined_index.specs.declared.definition.Definition.{Definition}
 use Rattle.liveness.specs.Liveness.{IsDefined, IsExported, refs}
 use Rattle.liveness.specs.Marks.{IsStarted, exported, if_defined}
-use Rattle.liveness.specs.Reach.{starts}
-use Rattle.liveness.specs.Walking.{Grown, IsWalk}
-use Rattle.liveness.proofs.Growing.{alone}
+use Rattle.graph_walk.specs.Reach.{starts}
+use Rattle.graph_walk.specs.Walking.{Grown, IsWalk}
+use Rattle.graph_walk.proofs.Growing.{alone}
+use Rattle.graph_walk.proofs.Starts.{no_member}
 
 none_some : {X : Type 0} {x : X} → None ≡ Some x → ⊥
 none_some h = cc
@@ -88,14 +87,6 @@ module _ (c : Combined) (roots : List (List ℕ)) (name : List ℕ) where
     marked = old.marked;
     waits = old.waits;
   }
-
-no_member : (n b : ℕ) → contains (replicate n false) b ≡ true → ⊥
-no_member n b h = false≢true (sym (nowhere n b) ∙ h)
-  where
-    nowhere : (n b : ℕ) → contains (replicate n false) b ≡ false
-    nowhere zero b = refl
-    nowhere (suc n) zero = refl
-    nowhere (suc n) (suc b) = nowhere n b
 
 nothing : {X : Type 0} (b : X) → Contains {X = X} [] b → ⊥
 nothing b h = let k : h.0 < 0 = h.1 in absurd (omega (arith, k))

@@ -1,5 +1,3 @@
 pub mod Best
 pub mod Liveness
 pub mod Marks
-pub mod Reach
-pub mod Walking

@@ -7,10 +7,10 @@
 //! a name that nobody defines and the system doesn't give, or else a name that is to be exported has no
 //! definition.
 //!
-//! Below stand `combined_index`, for symbols and definitions by number, and `lto_sets`, for marks. Each
-//! live definition is looked at once, by a work list; then one pass over the symbols, one over the
-//! exported names and, where a name is undefined, one over all definitions: time is linear in the index,
-//! but for names that are compared for the least, and memory is a bit for each symbol and the work list.
+//! Below stand `combined_index`, for symbols and definitions by number, `graph_walk`, for the work list, and
+//! `lto_sets`, for marks. Each live definition is looked at once; then one pass over the symbols, one over the
+//! exported names and, where a name is undefined, one over all definitions: time is linear in the index, but
+//! for names that are compared for the least, and memory is a bit for each symbol and the work list.
 #![tactic(auto)]
 
 mod decision;
@@ -19,7 +19,6 @@ mod least;
 mod reach;
 mod referring;
 mod refused;
-mod walk;
 
 pub use decision::live;
 pub use refused::{LiveError, Refused};

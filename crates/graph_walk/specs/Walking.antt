@@ -1,7 +1,7 @@
 -- A walk on its way: what it has reached, and what waits to be followed.
 use Rattle.std.specs.Prelude.{◌≡◌, ◌↔◌, ℕ, suc, ◌+◌, Bool, true, false, ◌⊎◌, IsTrue, List, [], ◌∷◌, length, Contains}
 use Rattle.lto_sets.specs.Sets.{contains}
-use Rattle.liveness.specs.Reach.{IsReached}
+use Rattle.graph_walk.specs.Reach.{IsReached}
 
 -- how many numbers aren't reached
 abbrev pub outside : List Bool → ℕ

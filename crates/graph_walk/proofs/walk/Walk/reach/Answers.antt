@@ -1,7 +1,7 @@
 use Rattle.std.proofs.Common.{◌∷◌, [], List, Bool, ℕ, set, true, sym, subst, ◌∙◌}
-use Rattle.liveness.specs.Walking.{Grown}
-use Rattle.liveness.proofs.Growing.{grown-new, grown-old}
-use Rattle.liveness.proofs.walk.Walk.reach.Goals as goal
+use Rattle.graph_walk.specs.Walking.{Grown}
+use Rattle.graph_walk.proofs.Growing.{grown-new, grown-old}
+use Rattle.graph_walk.proofs.walk.Walk.reach.Goals as goal
 
 pub returns-in_ok-push : goal.returns-in_ok-push
 returns-in_ok-push c =

@@ -3,8 +3,8 @@ use Rattle.std.proofs.Common.{◌≡◌, ◌∙◌, ◌⊎◌, inl, inr, ℕ, �
 use Rattle.std.proofs.lemmas.List.Elements.{Contains-append_left, Contains-push, Contains-push_cases}
 use Rattle.std.specs.List.{Contains}
 use Rattle.lto_sets.specs.Sets.{contains}
-use Rattle.liveness.specs.Reach.{IsReached, starts, leads}
-use Rattle.liveness.specs.Walking.{Grown, IsReach, IsWalk, outside}
+use Rattle.graph_walk.specs.Reach.{IsReached, starts, leads}
+use Rattle.graph_walk.specs.Walking.{Grown, IsReach, IsWalk, outside}
 
 module _ (IsStart : ℕ → Type 0) (row : ℕ → List ℕ) where
   -- the row of a number that waited is reached

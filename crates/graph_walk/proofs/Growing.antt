@@ -5,7 +5,7 @@ use Rattle.std.proofs.lemmas.List.{get_or-set_same, get_or-set_other, length-set
 use Rattle.std.proofs.lemmas.List.Elements.{Contains-append_left, Contains-push, Contains-push_cases}
 use Rattle.std.specs.List.{Contains}
 use Rattle.lto_sets.specs.Sets.{contains}
-use Rattle.liveness.specs.Walking.{Grown, outside}
+use Rattle.graph_walk.specs.Walking.{Grown, outside}
 
 outside-set : (s : List Bool) (b : ℕ) → b < length s → contains s b ≡ false → outside (set s b true) + 1 ≡ outside s
 outside-set [] b h f = absurd (omega arith)

@@ -1,13 +1,13 @@
-//! A walk over a graph whose nodes are numbers.
-ghost use Rattle.std.specs.Prelude.{◌≡◌, ◌<◌, ◌++◌, ◌∷◌, [], false, length, replicate, All, IfOk, OnOk, MatchOption};
-ghost use Rattle.liveness.specs.Walking.{Grown};
+//! A walk on its way: the work list.
+ghost use Rattle.std.specs.Prelude.{◌≡◌, ◌<◌, ◌∷◌, [], false, length, replicate, All, IfOk, OnOk};
+ghost use Rattle.graph_walk.specs.Walking.{Grown};
 
 use lto_sets::Bits;
 use std::alloc::{AllocError, Global};
 
 /// The numbers that a walk has reached, and those of them whose rows it has still to follow.
 #[derive(Drop)]
-pub(crate) struct Walk {
+pub struct Walk {
     pub reached: Bits,
     pub waiting: Vec<u32>,
 }

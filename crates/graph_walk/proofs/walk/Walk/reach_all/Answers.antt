@@ -1,8 +1,8 @@
 use Rattle.std.proofs.Common.{List, ℕ, get_or, sym, subst, take}
 use Rattle.std.proofs.lemmas.List.{take_more}
-use Rattle.liveness.specs.Walking.{Grown}
-use Rattle.liveness.proofs.Growing.{grown-more}
-use Rattle.liveness.proofs.walk.Walk.reach_all.Goals as goal
+use Rattle.graph_walk.specs.Walking.{Grown}
+use Rattle.graph_walk.proofs.Growing.{grown-more}
+use Rattle.graph_walk.proofs.walk.Walk.reach_all.Goals as goal
 
 pub loop-number-preserved : goal.loop-number-preserved
 loop-number-preserved c =
