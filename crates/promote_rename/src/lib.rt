@@ -22,5 +22,5 @@ mod taken;
 
 pub use error::NamesError;
 pub use module_suffix::suffix;
-pub use naming::final_names;
+pub use naming::{final_name, final_names, suffix_at};
 pub use promotion::promoted;

@@ -8,8 +8,9 @@ use combined_index::{Index, Live, Names};
 use ir_tree::{Rows, Symbol, Text};
 use std::alloc::{AllocError, Global};
 
-/// What stands behind the name of a symbol that has this home.
-fn suffix_at(suffixes: &[Text], home: Option<u32>) -> &[u8]
+/// What stands behind the name of a symbol that has this home, where the suffixes are those of the modules: nothing where it
+/// has none.
+pub fn suffix_at(suffixes: &[Text], home: Option<u32>) -> &[u8]
     ensures { result.now ≡ suffix_at suffixes.now home }
 {
     let Some(home) = home else {
@@ -21,8 +22,8 @@ fn suffix_at(suffixes: &[Text], home: Option<u32>) -> &[u8]
     }
 }
 
-/// A symbol's name, and what stands behind it.
-fn final_name(alloc: Global, suffixes: &[Text], symbol: &Symbol) -> Result<Text, AllocError>
+/// A symbol's final name, where the suffixes are those of the modules: its name, and what stands behind it.
+pub fn final_name(alloc: Global, suffixes: &[Text], symbol: &Symbol) -> Result<Text, AllocError>
     ensures { IfOk result (λ name. name ≡ final_name suffixes.now symbol.now) }
 {
     let mut name = Text::copied(alloc, symbol.name.as_slice())?;

@@ -4,3 +4,4 @@ pub mod Indices
 pub mod Clashing
 pub mod Lacking
 pub mod Reports
+pub mod Apart

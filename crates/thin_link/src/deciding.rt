@@ -20,7 +20,9 @@ use symbol_resolve::{Resolution, ResolveError, resolve};
 
 /// What the thin link of modules decides.
 #[derive(Drop)]
-pub struct ThinLink {
+pub struct ThinLink<'a> {
+    /// Which definition of each name prevails.
+    pub resolution: Resolution<'a>,
     /// The combined index, in which symbols have numbers.
     pub index: Index,
     /// The symbols that are kept.
@@ -46,19 +48,6 @@ fn resolved<'a>(
             Err(_) => Err(Refusal::NoMemory),
         },
     }
-}
-
-/// The index of modules that can be linked with one another.
-fn index_of(alloc: Global, files: &[Text], modules: &[Verified]) -> Result<Index, Refusal>
-    ensures resolved { IfOk result (λ _. NoClash modules.now) }
-    ensures indexed { IfOk result (IsIndex modules.now) }
-    ensures refused { IfErr result (λ why. why ≢ NoMemory → IsClash files.now modules.now why) }
-{
-    let resolution = resolved(alloc, files, modules)?;
-    let Ok(index) = indexed(alloc, modules, &resolution) else {
-        return Err(Refusal::NoMemory);
-    };
-    Ok(index)
 }
 
 /// The live symbols of modules of this index, whose link lacks no definition.
@@ -94,23 +83,28 @@ fn kept(
 /// gives `putchar` and `getchar`; an exported name that no file defines. Of several names the one with
 /// the least bytes is told. Beside want of memory, more than 32 bits can count is refused as too much
 /// for it.
-pub fn thin_link(
+pub fn thin_link<'a>(
     alloc: Global,
     files: &[Text],
-    modules: &[Verified],
+    modules: &'a [Verified],
     exports: &[Text],
     import_limit: u32,
-) -> Result<ThinLink, Refusal>
+) -> Result<ThinLink<'a>, Refusal>
     requires { length files.now ≡ length modules.now }
-    ensures done { IfOk result (λ link. IsThinLink modules.now exports.now import_limit link.index link.live (rows link.imports.items)) }
-    ensures refused { IfErr result (λ why. why ≢ NoMemory → IsRefused files.now modules.now exports.now why) }
+    ensures done { IfOk result (λ link. IsThinLink modules.entry.now exports.now import_limit link.index link.live (rows link.imports.items)) }
+    ensures resolved { IfOk result (λ link. link.resolution ≡ symbols modules.entry.now) }
+    ensures refused { IfErr result (λ why. why ≢ NoMemory → IsRefused files.now modules.entry.now exports.now why) }
 {
-    let index = index_of(alloc, files, modules)?;
+    let resolution = resolved(alloc, files, modules)?;
+    let Ok(index) = indexed(alloc, modules, &resolution) else {
+        return Err(Refusal::NoMemory);
+    };
     let live = kept(alloc, files, modules, &index, exports)?;
     let Ok(imports) = plan(alloc, &index, &live, import_limit) else {
         return Err(Refusal::NoMemory);
     };
     Ok(ThinLink {
+        resolution,
         index,
         live,
         imports,

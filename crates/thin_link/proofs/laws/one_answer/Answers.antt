@@ -1,42 +1,35 @@
 use Rattle.std.proofs.Common.{◌≡◌, ◌∙◌, inl, inr, ℕ, Bool, List, map, sym, ap, subst}
 use Rattle.ir_tree.specs.declared.module.Module.{Module}
-use Rattle.ir_summary.specs.Summaries.{summaries}
-use Rattle.symbol_resolve.specs.Resolved.{symbols}
 use Rattle.combined_index.specs.Combined.{Combined}
 use Rattle.import_plan.specs.Plans.{IsPlan}
 use Rattle.index_report.specs.Reports.{IsReport}
 use Rattle.liveness.specs.Liveness.{AreLive, Refuses}
-use Rattle.thin_link.specs.Laws.{RefusalIsOne, ReportIsOne, ReportedIsNotRefused}
+use Rattle.thin_link.specs.Laws.{DecisionsAreOne, RefusalIsOne, ReportIsOne, ReportedIsNotRefused}
 use Rattle.thin_link.specs.Linking.{IsIndex}
 use Rattle.thin_link.specs.Refusing.{clash_refusal, lack_refusal}
+use Rattle.thin_link.proofs.Apart.{decided_not_refused, same_index}
 use Rattle.thin_link.proofs.Clashing.{no_clash, one_clash}
-use Rattle.thin_link.proofs.Indices.{one_index}
-use Rattle.thin_link.proofs.Lacking.{no_lack, one_lack}
+use Rattle.thin_link.proofs.Lacking.{one_lack}
 use Rattle.thin_link.proofs.Reports.{one_live, one_plan, one_report}
 use Rattle.thin_link.proofs.laws.one_answer.Goals as goal
 
-same_index : (ms : List Module) (c d : Combined) → IsIndex ms c → IsIndex ms d → c ≡ d
-same_index ms c d = one_index (symbols ms) (map (λ m. summaries m.globals) ms) c d
-
 apart : ReportedIsNotRefused
-apart files exports ms limit text why r refused = elim refused [
-  | inl h ↦ no_clash ms h.clash r.linked.resolved h.clashes
-  | inr h ↦ (
-      let same : h.index ≡ r.index = same_index ms h.index r.index h.combined r.linked.combined in
-      no_lack r.index exports h.lack r.linked.defined r.linked.exported (subst (λ (c : Combined). Refuses c exports h.lack) same h.lacks)
-      )
-]
+apart files exports ms limit text why r refused = decided_not_refused files exports ms limit r.index r.live r.imports why r.linked refused
+
+decisions : DecisionsAreOne
+decisions ms exports limit index other live marks imports lists r q =
+    let same : other ≡ index = same_index ms other index q.combined r.combined in
+    let kept : marks ≡ live = one_live index exports marks live (subst (λ (c : Combined). AreLive c exports marks) same q.alive) r.alive in
+    let brought : lists ≡ imports =
+    one_plan index live limit lists imports (subst (λ (ls : List Bool). IsPlan index ls limit lists) kept (subst (λ (c : Combined). IsPlan c marks limit lists) same q.planned)) r.planned in
+    (same, kept, brought)
 
 report : ReportIsOne
 report files exports ms limit text other r q =
-    let index : q.index ≡ r.index = same_index ms q.index r.index q.linked.combined r.linked.combined in
-    let live : q.live ≡ r.live = one_live r.index exports q.live r.live (subst (λ (c : Combined). AreLive c exports q.live) index q.linked.alive) r.linked.alive in
-    let imports : q.imports ≡ r.imports =
-    one_plan r.index r.live limit q.imports r.imports
-    (subst (λ (marks : List Bool). IsPlan r.index marks limit q.imports) live (subst (λ (c : Combined). IsPlan c q.live limit q.imports) index q.linked.planned)) r.linked.planned in
+    let one = decisions ms exports limit r.index q.index r.live q.live r.imports q.imports r.linked q.linked in
     one_report r.index r.live r.imports files text other r.report
-    (subst (λ (lists : List (List ℕ)). IsReport r.index r.live lists files other) imports
-    (subst (λ (marks : List Bool). IsReport r.index marks q.imports files other) live (subst (λ (c : Combined). IsReport c q.live q.imports files other) index q.report)))
+    (subst (λ (lists : List (List ℕ)). IsReport r.index r.live lists files other) one.2
+    (subst (λ (marks : List Bool). IsReport r.index marks q.imports files other) one.1 (subst (λ (c : Combined). IsReport c q.live q.imports files other) one.0 q.report)))
 
 refusal : RefusalIsOne
 refusal files exports ms why other x y = elim x [
@@ -54,4 +47,4 @@ refusal files exports ms why other x y = elim x [
 ]
 
 pub returns : goal.returns
-returns c = record { apart = apart; report = report; refusal = refusal }
+returns c = record { apart = apart; report = report; refusal = refusal; thin = decided_not_refused; decisions = decisions }
