@@ -33,7 +33,7 @@ storages : (t : Naming) (n k : ℕ) (v : Variable) (init : Option Initial)
 storages t n k v None = tt
 storages t n k v (Some init) = (refl, refl, refl, refl)
 
-one_under : (t : Naming) (n k : ℕ) (g : GlobalValue) → IsUnder t (defined n g) (defined k (global_under t g))
+pub one_under : (t : Naming) (n k : ℕ) (g : GlobalValue) → IsUnder t (defined n g) (defined k (global_under t g))
 one_under t n k (global.Function f) = by (defines f.linkage)
   where
     by : (counts : Bool) → IsUnder t (body_of (cond counts f.blocks []) f) (body_of (cond counts (map (block_under t) f.blocks) []) (function_under t f))

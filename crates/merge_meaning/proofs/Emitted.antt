@@ -375,7 +375,7 @@ module _ (live : Symbol → Bool) (final : Symbol → Symbol) (hs ls : List Glob
           let parts = and_parts (live (back_of live final hs u)) (symbol_eq (final (back_of live final hs u)) u) e in
           absurd (none (back_of live final hs u) parts.0 (symbol_true (final (back_of live final hs u)) u parts.1))
 
-  is_emitted : IsEmitted names fin live (weight (symbols hs)) (restricted (finals names fin live) (program_of ls)) (program_of hs)
+  pub is_emitted : IsEmitted names fin live (weight (symbols hs)) (restricted (finals names fin live) (program_of ls)) (program_of hs)
   is_emitted = record {
     count = refl;
     count' = refl;

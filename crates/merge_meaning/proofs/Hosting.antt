@@ -128,10 +128,10 @@ host_once name gs once = host_either name gs (λ (xs : List GlobalValue). Distin
         by (inr p) (inl q) = absurd (apart j h.0 g.0 q p.1 (h.1.1 ∙ sym g.1.1))
         by (inr p) (inr q) = p.0 ∙ sym q.0
 
-abbrev Every : (GlobalValue → Type 0) → List GlobalValue → Type 0
+abbrev pub Every : (GlobalValue → Type 0) → List GlobalValue → Type 0
 Every P gs = (i : ℕ) (g : GlobalValue) → slice_get gs i ≡ Some g → P g
 
-host_every : (P : GlobalValue → Type 0) (name : List ℕ) → P (declaration name) → (gs : List GlobalValue) → Every P gs → Every P (with_host name gs)
+pub host_every : (P : GlobalValue → Type 0) (name : List ℕ) → P (declaration name) → (gs : List GlobalValue) → Every P gs → Every P (with_host name gs)
 host_every P name declared gs all = host_either name gs (λ (xs : List GlobalValue). Every P xs) all more
   where
     more : is_declared gs (shared name) ≡ false → Every P (gs ++ declaration name ∷ [])
@@ -179,7 +179,7 @@ not_outside gs s gone = by s.home refl
     by None e = at e (bytes_eq s.name PUT) (bytes_eq s.name GET) refl refl
 
 -- so a symbol is what it is where it is declared
-hosts_kind : (gs : List GlobalValue) (s : Symbol) → (signature_of (with_hosts gs)).kind s ≡ kind_of true s (definition_of gs s)
+pub hosts_kind : (gs : List GlobalValue) (s : Symbol) → (signature_of (with_hosts gs)).kind s ≡ kind_of true s (definition_of gs s)
 hosts_kind gs s =
     ap (λ (d : Option Definition). kind_of (is_declared (with_hosts gs) s) s d) (hosts_defined gs s)
     ∙ by (is_declared (with_hosts gs) s) refl (definition_of gs s)

@@ -1,5 +1,5 @@
--- What the merging call keeps stands for what the definitions say.
-use Rattle.std.proofs.Common.{◌≡◌, ◌∙◌, ◌<◌, ◌+◌, ℕ, suc, Bool, true, false, cond, if◌then◌else◌, Bor, List, [], ◌∷◌, ◌++◌, map, filter, length, drop, append_assoc, slice_index_or, option_map, Option, Some, None, refl, sym, ap, ap₂, subst}
+-- Initialisers and functions as the merging calls make them are those under other names.
+use Rattle.std.proofs.Common.{◌≡◌, ◌∙◌, ℕ, List, [], ◌∷◌, map, option_map, Option, Some, None, refl, sym, ap, ap₂, subst}
 use Rattle.ir_tree.specs.Initials.{Initial, plain, zeros, bytes, elements, members, Initials, no_initials, initial, head_of, parts_of, all_parts, flat_of, tree_of, tree_of-flat_of, IsFlat}
 use Rattle.ir_tree.specs.declared.block.Block.{Block}
 use Rattle.ir_tree.specs.declared.block.Case.{Case}
@@ -13,8 +13,6 @@ use Rattle.ir_tree.specs.declared.init_node.InitPart.TheVariants.{End, Typed}
 use Rattle.ir_tree.specs.declared.instr.Instr.{Instr}
 use Rattle.ir_tree.specs.declared.instr.Instr.TheVariants.{Address, Alloca, Binary, Call, Cast, Freeze, Icmp, Load, Phi as StrayPhi, Select, Store}
 use Rattle.ir_tree.specs.declared.instr.Line.{Line}
-use Rattle.ir_tree.specs.declared.module.GlobalValue.{GlobalValue}
-use Rattle.ir_tree.specs.declared.module.Module.{Module}
 use Rattle.ir_tree.specs.declared.operand.Argument.{Argument}
 use Rattle.ir_tree.specs.declared.operand.Operand.{Operand}
 use Rattle.ir_tree.specs.declared.operand.Symbol.{Symbol}
@@ -22,13 +20,8 @@ use Rattle.ir_edit.specs.Edited.{argument_edited, block_edited, case_edited, edi
 use Rattle.ir_meaning.specs.Refine.{Naming}
 use Rattle.ir_better.specs.Inline.{argument_with, each_moved, with_operands}
 use Rattle.ir_better.specs.Rename.{block_under, end_under, line_under, operand_under}
-use Rattle.ir_program.specs.Programs.{symbol_of}
-use Rattle.symbol_resolve.specs.Resolved.{Symbols, symbols}
-use Rattle.merge_meaning.specs.Globals.{function_under, global_under, initial_under, initials_under, named_by}
-use Rattle.merge_meaning.specs.Kept.{given_each, given_in, head_under, is_kept, merged_in, names_from, part_under, prevails_in}
-use Rattle.merge_meaning.specs.Merged.{given_by, is_own, merged_from, prevails_as, standing_of, symbol_by, symbol_in}
-use Rattle.merge_meaning.proofs.Own.{left, same_symbols}
-use Rattle.merge_meaning.proofs.Table.{table_names}
+use Rattle.merge_meaning.specs.Globals.{function_under, initial_under, initials_under}
+use Rattle.merge_meaning.specs.Kept.{head_under, part_under}
 
 -- ---- initialisers
 
@@ -152,52 +145,3 @@ function_kept t f changed s e symbol_is = first ∙ second
     second =
         ap₂ (λ (ps : List Param). λ (bs : List Block). record f { symbol = t.symbol f.symbol; params = ps; blocks = bs }) (params_kept f.params)
         (blocks_kept t f.blocks)
-
--- ---- by the table of the modules' resolution
-
-pub given_kept : (ms : List Module) (k : ℕ) (gs : List GlobalValue) → given_in (symbols ms) k gs ≡ given_by ms k gs
-given_kept ms k gs = λ i. map (global_under (named_by (symbol_in k gs))) (filter (λ (g : GlobalValue). prevails_as (table_names ms (symbol_of g).name i) k (standing_of g)) gs)
-
-merged_kept_from : (ms : List Module) (k : ℕ) (rest : List Module) → merged_in (symbols ms) k rest ≡ merged_from ms k rest
-merged_kept_from ms k [] = refl
-merged_kept_from ms k (m ∷ rest) =
-    ap₂ (λ (x : List GlobalValue). λ (y : List GlobalValue). x ++ y) (given_kept ms k m.globals) (merged_kept_from ms (suc k) rest)
-
-pub merged_kept : (ms : List Module) → merged_in (symbols ms) 0 ms ≡ merged_from ms 0 ms
-merged_kept ms = merged_kept_from ms 0 ms
-
--- ---- one after another
-
-given_listed : (table : Symbols) (t : Naming) (k : ℕ) (gs : List GlobalValue) → given_each table t k gs ≡ map (global_under t) (filter (prevails_in table k) gs)
-given_listed table t k [] = refl
-given_listed table t k (g ∷ gs) = by (prevails_in table k g) (given_listed table t k gs)
-  where
-    by : (b : Bool) → given_each table t k gs ≡ map (global_under t) (filter (prevails_in table k) gs)
-        → (if b then global_under t g ∷ [] else []) ++ given_each table t k gs ≡ map (global_under t) (cond b (g ∷ filter (prevails_in table k) gs) (filter (prevails_in table k) gs))
-    by true rest = ap (λ (l : List GlobalValue). global_under t g ∷ l) rest
-    by false rest = rest
-
--- a module's number and its own names, as they are kept, give what the module gives
-pub given_as : (table : Symbols) (k number : ℕ) (keys : List (Bor (List ℕ))) (gs : List GlobalValue) → number ≡ k
-    → ((name : List ℕ) → is_kept keys name ≡ is_own gs name) → given_each table (names_from number keys) number gs ≡ given_in table k gs
-given_as table k number keys gs e own = given_listed table (names_from number keys) number gs ∙ renamed
-  where
-    same : symbol_by number (is_kept keys) ≡ symbol_in k gs
-    same = same_symbols number keys gs own ∙ ap (λ (n : ℕ). symbol_in n gs) e
-
-    renamed : map (global_under (named_by (symbol_by number (is_kept keys)))) (filter (prevails_in table number) gs)
-        ≡ map (global_under (named_by (symbol_in k gs))) (filter (prevails_in table k) gs)
-    renamed = λ i. map (global_under (named_by (same i))) (filter (prevails_in table (e i)) gs)
-
--- one more module
-pub merged_more : (table : Symbols) (ms : List Module) (i : ℕ) (d : Module) → i < length ms → d ≡ slice_index_or ms i d → (k next : ℕ) → next ≡ suc k
-    → (rows more whole : List GlobalValue) (gs : List GlobalValue) → gs ≡ d.globals → more ≡ rows ++ given_in table k gs
-    → rows ++ merged_in table k (drop i ms) ≡ whole → more ++ merged_in table next (drop (i + 1) ms) ≡ whole
-merged_more table ms i d lt is k next e_next rows more whole gs e_gs e_more so_far =
-    let here : drop i ms ≡ d ∷ drop (i + 1) ms = left ms i d lt ∙ ap (λ (m : Module). m ∷ drop (i + 1) ms) (sym is) in
-    let next_is : merged_in table next (drop (i + 1) ms) ≡ merged_in table (suc k) (drop (i + 1) ms) = ap (λ (n : ℕ). merged_in table n (drop (i + 1) ms)) e_next in
-    let more_is : more ≡ rows ++ given_in table k d.globals = e_more ∙ ap (λ (l : List GlobalValue). rows ++ given_in table k l) e_gs in
-    ap₂ (λ (x : List GlobalValue). λ (y : List GlobalValue). x ++ y) more_is next_is
-    ∙ append_assoc rows (given_in table k d.globals) (merged_in table (suc k) (drop (i + 1) ms))
-    ∙ ap (λ (l : List Module). rows ++ merged_in table k l) (sym here)
-    ∙ so_far

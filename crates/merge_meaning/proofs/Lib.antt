@@ -1,3 +1,4 @@
+pub mod Standing
 pub mod Names
 pub mod Looked
 pub mod Hosting
@@ -9,8 +10,14 @@ pub mod Table
 pub mod OneModule
 pub mod Emission
 pub mod Prevailing
+pub mod Bodies
 pub mod Once
 pub mod Reordered
 pub mod Own
 pub mod Kept
+pub mod Tabled
+mod Scoped
 pub mod Runs
+pub mod Sounds
+pub mod Composed
+pub mod ByModule

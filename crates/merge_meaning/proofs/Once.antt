@@ -20,7 +20,7 @@ use Rattle.merge_meaning.proofs.Prevailing.{from_kept, given, in_either, same_mo
 -- ---- lists
 
 -- what stands in a changed list is a changed one
-mapped : {X Y : Type 0} (f : X → Y) (xs : List X) (j : ℕ) (y : Y) → slice_get (map f xs) j ≡ Some y → (x : X) × (slice_get xs j ≡ Some x) × (f x ≡ y)
+pub mapped : {X Y : Type 0} (f : X → Y) (xs : List X) (j : ℕ) (y : Y) → slice_get (map f xs) j ≡ Some y → (x : X) × (slice_get xs j ≡ Some x) × (f x ≡ y)
 mapped f [] j y e = absurd (cc e)
 mapped f (x ∷ xs) zero y e = (x, refl, some_is (f x) y e)
 mapped f (x ∷ xs) (suc j) y e = mapped f xs j y e

@@ -247,13 +247,13 @@ maybe_initial_stays : (t : Naming) → Stays t → (v : Option Initial) → opti
 maybe_initial_stays t h None = refl
 maybe_initial_stays t h (Some v) = ap (λ (x : Initial). Some x) (initial_stays t h v)
 
-global_stays : (t : Naming) → Stays t → (g : GlobalValue) → global_under t g ≡ g
+pub global_stays : (t : Naming) → Stays t → (g : GlobalValue) → global_under t g ≡ g
 global_stays t h (global.Variable v) =
     ap₂ (λ (s : Symbol). λ (init : Option Initial). global.Variable (record v { symbol = s; init = init })) (h v.symbol) (maybe_initial_stays t h v.init)
 global_stays t h (global.Function f) =
     ap₂ (λ (s : Symbol). λ (blocks : List Block). global.Function (record f { symbol = s; blocks = blocks })) (h f.symbol) (blocks_stay t h f.blocks)
 
-globals_stay : (t : Naming) → Stays t → (gs : List GlobalValue) → map (global_under t) gs ≡ gs
+pub globals_stay : (t : Naming) → Stays t → (gs : List GlobalValue) → map (global_under t) gs ≡ gs
 globals_stay t h [] = refl
 globals_stay t h (g ∷ gs) = ap₂ (λ (x : GlobalValue). λ (xs : List GlobalValue). x ∷ xs) (global_stays t h g) (globals_stay t h gs)
 

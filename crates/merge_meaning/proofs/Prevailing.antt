@@ -131,7 +131,7 @@ defined_prevails ms s d e =
 pub at_place : {X : Type 0} (P : X → Type 0) (xs : List X) (i : ℕ) (x : X) → All P xs → slice_get xs i ≡ Some x → P x
 at_place P xs i x all e = subst P (get_or_from_slice_get xs i x x e) (all i x (slice_get_within xs i x e))
 
-homeless : (gs : List GlobalValue) → Whole gs → (i : ℕ) (g : GlobalValue) → slice_get gs i ≡ Some g → (symbol_of g).home ≡ None
+pub homeless : (gs : List GlobalValue) → Whole gs → (i : ℕ) (g : GlobalValue) → slice_get gs i ≡ Some g → (symbol_of g).home ≡ None
 homeless gs whole i g e = at_place (λ (s : Symbol). s.home ≡ None) (symbols gs) i (symbol_of g) whole.homeless (symbol_stands gs i g e)
 
 -- a name that stands for a symbol of all modules, in a module that gives it, is one that the link chooses this module for
@@ -167,7 +167,7 @@ own_home k gs s e = ap (λ (b : Bool). (if b then local_to k s.name else s).home
 other_home : (k : ℕ) (gs : List GlobalValue) (s : Symbol) → is_own gs s.name ≡ false → (symbol_in k gs s).home ≡ s.home
 other_home k gs s e = ap (λ (b : Bool). (if b then local_to k s.name else s).home) e
 
-symbol_by_parts : (s u : Symbol) → s.home ≡ u.home → s.name ≡ u.name → s ≡ u
+pub symbol_by_parts : (s u : Symbol) → s.home ≡ u.home → s.name ≡ u.name → s ≡ u
 symbol_by_parts s u home name =
     ap (λ (h : Option ℕ). record { home = h; name = s.name }) home ∙ ap (λ (n : List ℕ). record { home = u.home; name = n }) name
 
@@ -258,7 +258,7 @@ counted chosen k linkage.WeakOdr p = refl
 counted chosen k linkage.AvailableExternally p = absurd (cc p)
 
 -- what prevails is a definition
-defined_some : (t : Naming) (ms : List Module) (k : ℕ) (g : GlobalValue) → prevails ms k g ≡ true → (n : ℕ) → (d : Definition) × (defined n (global_under t g) ≡ Some d)
+pub defined_some : (t : Naming) (ms : List Module) (k : ℕ) (g : GlobalValue) → prevails ms k g ≡ true → (n : ℕ) → (d : Definition) × (defined n (global_under t g) ≡ Some d)
 defined_some t ms k (global.Function f) kept n = by f.blocks kept
   where
     by : (blocks : List Block) → prevails_as (prevailing (mentions ms) f.symbol.name) k (function_standing blocks f.linkage) ≡ true

@@ -81,7 +81,7 @@ under_alike t (Some (Storage n v i)) (Some (Storage m w j)) (Some (Body k)) h l 
 
 -- ---- whether a global value is a definition doesn't depend on its number
 
-any_number : (g : GlobalValue) → IsDefinition g → (n : ℕ) → (d : Definition) × (defined n g ≡ Some d)
+pub any_number : (g : GlobalValue) → IsDefinition g → (n : ℕ) → (d : Definition) × (defined n g ≡ Some d)
 any_number (global.Function f) is n = by (defined_blocks f) is
   where
     by : (blocks : List Block) → (body_of blocks f ≡ None → ⊥) → (d : Definition) × (body_of blocks f ≡ Some d)
@@ -93,7 +93,7 @@ any_number (global.Variable v) is n = by (defined_init v) is
     by None is = absurd (is refl)
     by (Some init) is = (Storage n v init, refl)
 
-is_definition : (g : GlobalValue) (n : ℕ) (d : Definition) → defined n g ≡ Some d → IsDefinition g
+pub is_definition : (g : GlobalValue) (n : ℕ) (d : Definition) → defined n g ≡ Some d → IsDefinition g
 is_definition (global.Function f) n d e none = cc (e, none)
 is_definition (global.Variable v) n d e none = by (defined_init v) e none
   where
@@ -113,10 +113,10 @@ like_defined g h l is none = is (by (defined 0 g) (defined 0 h) (alike 0 0 g h l
 
 -- ---- looking up
 
-contained : {X : Type 0} (xs : List X) (j : ℕ) (x : X) → j < length xs → slice_index_or xs j x ≡ x → slice_get xs j ≡ Some x
+pub contained : {X : Type 0} (xs : List X) (j : ℕ) (x : X) → j < length xs → slice_index_or xs j x ≡ x → slice_get xs j ≡ Some x
 contained xs j x lt e = slice_get_read xs (length xs) j x refl lt (sym e)
 
-contains : {X : Type 0} (xs : List X) (j : ℕ) (x : X) → slice_get xs j ≡ Some x → Contains xs x
+pub contains : {X : Type 0} (xs : List X) (j : ℕ) (x : X) → slice_get xs j ≡ Some x → Contains xs x
 contains xs j x e = (j, slice_get_within xs j x e, get_or_from_slice_get xs j x x e)
 
 module _ (ls ks : List GlobalValue) (r : IsReordering ls ks) where

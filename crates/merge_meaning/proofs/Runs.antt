@@ -139,7 +139,7 @@ mutual
   all_fit t no_initials h = h
   all_fit t (initial f v vs) h = (fits t f v h.0, all_fit t vs h.1)
 
-init_fits : (t : Naming) (f : Form) (init : Option Initial) → InitFits f init → InitFits f (option_map (initial_under t) init)
+pub init_fits : (t : Naming) (f : Form) (init : Option Initial) → InitFits f init → InitFits f (option_map (initial_under t) init)
 init_fits t f None h = h
 init_fits t f (Some v) h = fits t f v h
 

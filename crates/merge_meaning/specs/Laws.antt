@@ -1,8 +1,8 @@
 -- What is true of merged programs and of what is linked from them.
-use Rattle.std.specs.Prelude.{◌≡◌, ◌≢◌, ℕ, All, Bool, true, IsTrue, List, [], ◌∷◌, map, slice_get, None, Some}
+use Rattle.std.specs.Prelude.{◌≡◌, ◌≢◌, ◌⊎◌, ℕ, All, Bool, true, IsTrue, List, [], ◌∷◌, ◌++◌, map, flat_map, slice_get, None, Some, codes}
 use Rattle.std.specs.List.{AllZip}
 use Rattle.ir_tree.specs.Formed.{Distinct}
-use Rattle.ir_tree.specs.Wholes.{IsVerified, Whole, symbols as all_symbols}
+use Rattle.ir_tree.specs.Wholes.{GlobalFormed, GlobalSound, IsVerified, Whole, symbols as all_symbols}
 use Rattle.ir_tree.specs.declared.module.GlobalValue.{GlobalValue}
 use Rattle.ir_tree.specs.declared.module.Module.{Module}
 use Rattle.ir_tree.specs.declared.operand.Symbol.{Symbol}
@@ -15,8 +15,9 @@ use Rattle.symbol_resolve.specs.Mentions.{mentions}
 use Rattle.symbol_resolve.specs.Prevailing.{prevailing}
 use Rattle.symbol_resolve.specs.Resolved.{module_of, symbols}
 use Rattle.merge_meaning.specs.Globals.{global_under, named_by}
-use Rattle.merge_meaning.specs.Linked.{AreEmitted, AreFinal, Improves, IsClosed, IsReordering, back_names, back_of, emission}
-use Rattle.merge_meaning.specs.Merged.{merged, merged_globals, prevails, standing_of, symbol_in, with_hosts}
+use Rattle.merge_meaning.specs.Linked.{AreEmitted, AreFinal, Improves, IsClosed, IsDefinition, IsReordering, back_names, back_of, emission}
+use Rattle.merge_meaning.specs.Lives.{live_globals, live_outside, parts}
+use Rattle.merge_meaning.specs.Merged.{declaration, merged, merged_globals, prevails, standing_of, symbol_in, with_hosts}
 
 -- ---- what is merged
 
@@ -69,6 +70,37 @@ MergedIsRunnable = (ms : List Module) → All IsVerified ms → AreRunnable (mer
 -- the table of a resolution names for each name the module whose definition prevails
 abbrev pub TableNamesPrevailing : Type 0
 TableNamesPrevailing = (ms : List Module) (name : List ℕ) → module_of (symbols ms) name ≡ prevailing (mentions ms) name
+
+-- ---- under other names
+
+-- a sound global value is sound under other names for symbols
+abbrev pub NamesKeepSoundness : Type 0
+NamesKeepSoundness = (name : Symbol → Symbol) (g : GlobalValue) → GlobalSound g → GlobalSound (global_under (named_by name) g)
+
+-- and a formed one is formed
+abbrev pub NamesKeepForms : Type 0
+NamesKeepForms = (name : Symbol → Symbol) (g : GlobalValue) → GlobalFormed g → GlobalFormed (global_under (named_by name) g)
+
+-- ---- by module
+
+-- the live definitions are the parts of the modules one after another, and behind them live functions of the outside
+abbrev pub LiveByModule : Type 0
+LiveByModule = (ms : List Module) (symbols : List Symbol) (live : List Bool) (suffixes : List (List ℕ)) →
+    live_globals ms symbols live suffixes ≡ flat_map (λ part. part) (parts ms symbols live suffixes) ++ live_outside ms symbols live suffixes
+
+-- a part has definitions alone
+abbrev pub PartsDefine : Type 0
+PartsDefine = (ms : List Module) (symbols : List Symbol) (live : List Bool) (suffixes : List (List ℕ)) → All (All IsDefinition) (parts ms symbols live suffixes)
+
+-- those of verified modules are sound and formed
+abbrev pub PartsAreSound : Type 0
+PartsAreSound = (ms : List Module) (symbols : List Symbol) (live : List Bool) (suffixes : List (List ℕ)) → All IsVerified ms →
+    All (All GlobalSound) (parts ms symbols live suffixes) × All (All GlobalFormed) (parts ms symbols live suffixes)
+
+-- and what stands behind the parts is declared, and no more
+abbrev pub OutsideIsDeclared : Type 0
+OutsideIsDeclared = (ms : List Module) (symbols : List Symbol) (live : List Bool) (suffixes : List (List ℕ)) →
+    All (λ g. (g ≡ declaration (codes "putchar")) ⊎ (g ≡ declaration (codes "getchar"))) (live_outside ms symbols live suffixes)
 
 -- ---- what is linked
 

@@ -3,4 +3,7 @@ pub mod Merged
 pub mod Linked
 pub mod Laws
 pub mod Kept
+pub mod Lives
+pub mod Scopes
+pub mod Given
 pub mod Examples

@@ -1,5 +1,5 @@
 //! The laws, as functions whose contracts state them.
-ghost use Rattle.merge_meaning.specs.Laws.{DefinedPrevails, EmissionIsEmitted, EmittedInAnyOrder, EmittedRefines, FinalNamesLeadBack, ImprovedIsBetter, ImprovedIsOnce, LinkedRefinesMerged, MergedIsOnce, MergedIsRunnable, OneModule, OneModuleOfAll, PrevailingIsDefined, TableNamesPrevailing};
+ghost use Rattle.merge_meaning.specs.Laws.{DefinedPrevails, EmissionIsEmitted, EmittedInAnyOrder, EmittedRefines, FinalNamesLeadBack, ImprovedIsBetter, ImprovedIsOnce, LinkedRefinesMerged, LiveByModule, MergedIsOnce, MergedIsRunnable, NamesKeepForms, NamesKeepSoundness, OneModule, OneModuleOfAll, OutsideIsDeclared, PartsAreSound, PartsDefine, PrevailingIsDefined, TableNamesPrevailing};
 
 /// In the merged program each symbol has the definition that prevails, and none has another (LangRef, "Linkage Types").
 pub fn merged_prevails()
@@ -24,6 +24,21 @@ pub fn one_module()
 /// The table of a resolution names for each name the module whose definition prevails (LangRef, "Linkage Types").
 pub fn table_names_prevailing()
     ensures { TableNamesPrevailing }
+{}
+
+/// Under other names for symbols a sound global value is sound, and a formed one formed.
+pub fn names_keep_soundness()
+    ensures sound { NamesKeepSoundness }
+    ensures formed { NamesKeepForms }
+{}
+
+/// The live definitions are the parts of the modules, and behind them live functions of the outside, which are declared; a part
+/// has definitions alone, and those of verified modules are sound and formed.
+pub fn live_by_module()
+    ensures modules { LiveByModule }
+    ensures definitions { PartsDefine }
+    ensures sound { PartsAreSound }
+    ensures outside { OutsideIsDeclared }
 {}
 
 /// A program with better functions in the places of its functions is better.

@@ -9,20 +9,30 @@
 //! (`table_names_prevailing`), what is merged can be run (`merged_is_runnable`), and what is linked refines the merged
 //! program (`linked_refines_merged`).
 //!
+//! A link compiles module by module: each module's part has those of its definitions that prevail and are live, under final names
+//! (`specs/Lives.antt`), and the live definitions are these parts one after another (`live_by_module`).
+//!
 //! Below stand the trees (`ir_tree`), their meaning (`ir_meaning`), the laws of refinement (`ir_better`), the programs of
-//! global values (`ir_program`), and `symbol_resolve`, whose definition of what prevails is used. [`program`] makes the
-//! merged program's list of global values; it copies each once (`ir_edit`), and looks each name up once (`indexmap`).
+//! global values (`ir_program`), `symbol_resolve`, whose definition of what prevails is used, and of what a link decides the
+//! marks (`combined_index`) and the suffixes of names (`promote_rename`). [`program`] makes the merged program's list of global
+//! values and [`parts`] the parts; each copies what it gives once (`ir_edit`), and looks each name up once or twice (`indexmap`).
 #![tactic(auto)]
 
 mod examples;
+mod giving;
 mod laws;
+mod lives;
 mod merging;
+mod parting;
 mod scope;
 mod taken;
 
 pub use examples::merged_example;
 pub use laws::{
     emission_is_emitted, emitted_refines, final_names_lead_back, improved_is_better,
-    linked_refines_merged, merged_is_runnable, merged_prevails, one_module, table_names_prevailing,
+    linked_refines_merged, live_by_module, merged_is_runnable, merged_prevails,
+    names_keep_soundness, one_module, table_names_prevailing,
 };
+pub use lives::LiveSymbols;
 pub use merging::program;
+pub use parting::parts;

@@ -1,65 +1,18 @@
 //! The merged program, as the list of its global values.
-ghost use Rattle.std.specs.Prelude.{◌≡◌, ◌++◌, All, IfOk, OnOk};
+ghost use Rattle.std.specs.Prelude.{◌≡◌, All, IfOk, OnOk};
 ghost use Rattle.ir_tree.specs.Wholes.{IsVerified};
 ghost use Rattle.ir_tree.specs.Symbols.{symbol_eq};
 ghost use Rattle.ir_program.specs.Programs.{is_declared, shared};
 ghost use Rattle.ir_program.specs.Runnable.{AreRunnable};
 ghost use Rattle.symbol_resolve.specs.Resolved.{symbols};
-ghost use Rattle.merge_meaning.specs.Kept.{given_each, given_in, given_one, merged_in, names_from};
+ghost use Rattle.merge_meaning.specs.Given.{merged_in};
 ghost use Rattle.merge_meaning.specs.Merged.{declaration, merged_globals, with_host};
 
-use crate::scope::{Scope, name_of};
-use crate::taken::taken;
+use crate::giving::give;
 use ir_program::symbol_of;
 use ir_tree::{Function, GlobalValue, Linkage, Reg, Rows, Symbol, Text, Verified};
 use std::alloc::{AllocError, Global};
 use symbol_resolve::Resolution;
-
-/// Adds a global value of the module, where it is the definition of its symbol.
-fn give_one(
-    alloc: Global,
-    rows: &mut Rows<GlobalValue>,
-    scope: &Scope,
-    global: &GlobalValue,
-    resolution: &Resolution,
-) -> Result<(), AllocError>
-    ensures { OnOk result (rows.new ≡ rows.old ++ given_one resolution.now (names_from scope.now.number scope.now.own.keys) scope.now.number global.now) }
-{
-    let chosen = resolution.module_of(name_of(global));
-    if scope.prevails(global, chosen) {
-        rows.push(taken(alloc, scope, global)?)?;
-    }
-    Ok(())
-}
-
-fn give_each(
-    alloc: Global,
-    rows: &mut Rows<GlobalValue>,
-    scope: &Scope,
-    globals: &[GlobalValue],
-    resolution: &Resolution,
-) -> Result<(), AllocError>
-    ensures { OnOk result (rows.new ≡ rows.old ++ given_each resolution.now (names_from scope.now.number scope.now.own.keys) scope.now.number globals.now) }
-{
-    for global in globals {
-        give_one(alloc, rows, scope, global, resolution)?;
-    }
-    Ok(())
-}
-
-/// Adds what the module of this number gives: its definitions that prevail.
-fn give(
-    alloc: Global,
-    rows: &mut Rows<GlobalValue>,
-    number: u32,
-    globals: &[GlobalValue],
-    resolution: &Resolution,
-) -> Result<(), AllocError>
-    ensures { OnOk result (rows.new ≡ rows.old ++ given_in resolution.now number globals.now) }
-{
-    let scope = Scope::of(alloc, number, globals)?;
-    give_each(alloc, rows, &scope, globals, resolution)
-}
 
 /// What the modules give by this resolution, in command order; each was verified.
 fn given(
@@ -76,6 +29,7 @@ fn given(
         give(
             alloc,
             &mut rows,
+            None,
             number,
             verified.module().globals.as_slice(),
             resolution,

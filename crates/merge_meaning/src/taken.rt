@@ -1,7 +1,8 @@
-//! Global values in which names are the symbols that they stand for.
+//! Global values in which names are the symbols that they stand for in a module's scope.
 ghost use Rattle.std.specs.Prelude.{◌≡◌, IfOk, map, option_map};
 ghost use Rattle.merge_meaning.specs.Globals.{function_under, global_under, initial_under, variable_under};
-ghost use Rattle.merge_meaning.specs.Kept.{head_under, names_from, part_under};
+ghost use Rattle.merge_meaning.specs.Kept.{head_under, part_under};
+ghost use Rattle.merge_meaning.specs.Scopes.{names_by};
 
 use crate::scope::Scope;
 use ir_edit::{Edit, edited};
@@ -9,7 +10,7 @@ use ir_tree::{Duplicate, Function, GlobalValue, Init, InitHead, InitPart, Rows, 
 use std::alloc::{AllocError, Global};
 
 fn head(alloc: Global, scope: &Scope, head: &InitHead) -> Result<InitHead, AllocError>
-    ensures { IfOk result (λ h. h ≡ head_under (names_from scope.now.number scope.now.own.keys) head.now) }
+    ensures { IfOk result (λ h. h ≡ head_under (names_by scope.now) head.now) }
 {
     match head {
         InitHead::Plain(operand) => {
@@ -21,7 +22,7 @@ fn head(alloc: Global, scope: &Scope, head: &InitHead) -> Result<InitHead, Alloc
 }
 
 fn part(alloc: Global, scope: &Scope, part: &InitPart) -> Result<InitPart, AllocError>
-    ensures { IfOk result (λ p. p ≡ part_under (names_from scope.now.number scope.now.own.keys) part.now) }
+    ensures { IfOk result (λ p. p ≡ part_under (names_by scope.now) part.now) }
 {
     match part {
         InitPart::Typed { shape, head: old } => {
@@ -34,7 +35,7 @@ fn part(alloc: Global, scope: &Scope, part: &InitPart) -> Result<InitPart, Alloc
 }
 
 fn parts(alloc: Global, scope: &Scope, parts: &[InitPart]) -> Result<Rows<InitPart>, AllocError>
-    ensures { IfOk result (λ rows. rows ≡ map (part_under (names_from scope.now.number scope.now.own.keys)) parts.now) }
+    ensures { IfOk result (λ rows. rows ≡ map (part_under (names_by scope.now)) parts.now) }
 {
     let mut rows = Rows::new(alloc);
     for old in parts {
@@ -44,7 +45,7 @@ fn parts(alloc: Global, scope: &Scope, parts: &[InitPart]) -> Result<Rows<InitPa
 }
 
 fn initial(alloc: Global, scope: &Scope, init: &Init) -> Result<Init, AllocError>
-    ensures { IfOk result (λ v. v ≡ initial_under (names_from scope.now.number scope.now.own.keys) init.now) }
+    ensures { IfOk result (λ v. v ≡ initial_under (names_by scope.now) init.now) }
 {
     let (old_root, old_parts) = init.flat();
     let root = head(alloc, scope, old_root)?;
@@ -57,7 +58,7 @@ fn maybe_initial(
     scope: &Scope,
     init: &Option<Init>,
 ) -> Result<Option<Init>, AllocError>
-    ensures { IfOk result (λ v. v ≡ option_map (initial_under (names_from scope.now.number scope.now.own.keys)) init.now) }
+    ensures { IfOk result (λ v. v ≡ option_map (initial_under (names_by scope.now)) init.now) }
 {
     match init {
         None => Ok(None),
@@ -69,7 +70,7 @@ fn maybe_initial(
 }
 
 fn variable(alloc: Global, scope: &Scope, old: &Variable) -> Result<Variable, AllocError>
-    ensures { IfOk result (λ v. v ≡ variable_under (names_from scope.now.number scope.now.own.keys) old.now) }
+    ensures { IfOk result (λ v. v ≡ variable_under (names_by scope.now) old.now) }
 {
     let symbol = scope.symbol(alloc, &old.symbol)?;
     let shape = old.shape.duplicate(alloc)?;
@@ -85,7 +86,7 @@ fn variable(alloc: Global, scope: &Scope, old: &Variable) -> Result<Variable, Al
 }
 
 fn function(alloc: Global, scope: &Scope, old: &Function) -> Result<Function, AllocError>
-    ensures { IfOk result (λ f. f ≡ function_under (names_from scope.now.number scope.now.own.keys) old.now) }
+    ensures { IfOk result (λ f. f ≡ function_under (names_by scope.now) old.now) }
 {
     let changed = edited(alloc, scope, old)?;
     let symbol = scope.symbol(alloc, &old.symbol)?;
@@ -106,7 +107,7 @@ pub(crate) fn taken(
     scope: &Scope,
     global: &GlobalValue,
 ) -> Result<GlobalValue, AllocError>
-    ensures { IfOk result (λ g. g ≡ global_under (names_from scope.now.number scope.now.own.keys) global.now) }
+    ensures { IfOk result (λ g. g ≡ global_under (names_by scope.now) global.now) }
 {
     match global {
         GlobalValue::Variable(old) => {

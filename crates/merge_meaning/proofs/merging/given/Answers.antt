@@ -3,7 +3,7 @@ use Rattle.std.specs.Prelude.{All}
 use Rattle.std.proofs.lemmas.List.Elements.{All-more}
 use Rattle.ir_tree.specs.Wholes.{IsVerified}
 use Rattle.ir_tree.specs.declared.module.Module.{Module}
-use Rattle.merge_meaning.proofs.Kept.{merged_more}
+use Rattle.merge_meaning.proofs.Tabled.{merged_more}
 use Rattle.merge_meaning.proofs.merging.given.Goals as goal
 
 pub loop-verified-preserved : goal.loop-verified-preserved

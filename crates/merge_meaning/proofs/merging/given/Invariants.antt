@@ -1,7 +1,7 @@
 use Rattle.std.proofs.Common.{◌≡◌, ◌++◌, drop, take}
 use Rattle.std.specs.Prelude.{All}
 use Rattle.ir_tree.specs.Wholes.{IsVerified}
-use Rattle.merge_meaning.specs.Kept.{merged_in}
+use Rattle.merge_meaning.specs.Given.{merged_in}
 use Rattle.merge_meaning.proofs.merging.given.Given as goal
 
 abbrev pub invariant-loop-verified : goal.invariant-loop-verified

@@ -1,7 +1,7 @@
-use Rattle.merge_meaning.specs.Kept.{names_from}
+use Rattle.merge_meaning.specs.Scopes.{names_by}
 use Rattle.merge_meaning.proofs.Kept.{function_kept}
 use Rattle.merge_meaning.proofs.taken.function.Goals as goal
 
 pub returns : goal.returns
 returns c =
-    function_kept (names_from c.args.scope.now.number c.args.scope.now.own.keys) c.args.old.now c.in_ok-changed.changed c.in_ok-symbol.symbol c.in_ok-changed.ensures c.in_ok-symbol.ensures
+    function_kept (names_by c.args.scope.now) c.args.old.now c.in_ok-changed.changed c.in_ok-symbol.symbol c.in_ok-changed.ensures c.in_ok-symbol.ensures

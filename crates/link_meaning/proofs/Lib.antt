@@ -1,0 +1,10 @@
+mod Places
+mod Summed
+mod Indexed
+mod References
+mod Lives
+mod Finals
+mod Refining
+mod Compiled
+mod Known
+mod Linkable
