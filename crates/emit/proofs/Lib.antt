@@ -1,0 +1,13 @@
+mod Listing
+mod Linking
+mod Keeping
+mod Sorting
+mod Ordered
+mod One
+mod Members
+mod Distinctions
+mod References
+mod Reordering
+mod Closing
+mod Settled
+mod Wholes

@@ -1,0 +1,4 @@
+pub mod Emissions
+pub mod Graphs
+pub mod Chosen
+pub mod Laws

@@ -1,0 +1,56 @@
+//! The names that a link keeps.
+ghost use Rattle.std.specs.Prelude.{◌≡◌, ◌↔◌, ℕ, List, true, length, flat_map, IfOk};
+ghost use Rattle.emit.specs.Emissions.{IsKept};
+ghost use Rattle.emit.specs.Graphs.{Linked, edges, is_key, is_marked};
+
+use crate::graph::Graph;
+use graph_walk::reached;
+use indexmap::IndexSet;
+use ir_tree::{GlobalValue, Rows, Text};
+use lto_sets::Bits;
+use std::alloc::{AllocError, Global};
+
+/// The references of all values.
+fn graph_of<'a>(alloc: Global, units: &'a [Rows<GlobalValue>]) -> Result<Graph<'a>, AllocError>
+    ensures long { IfOk result (λ graph. length graph.rows.items ≡ length graph.names.keys) }
+    ensures linked { IfOk result (λ graph. Linked (flat_map edges units.entry.now) graph.names.keys graph.rows.items) }
+{
+    let mut graph = Graph::new(alloc);
+    for unit in units {
+        graph.link_values(alloc, unit.as_slice())?;
+    }
+    Ok(graph)
+}
+
+/// The names whose numbers are marked.
+fn marked<'a>(
+    alloc: Global,
+    names: &[&'a [u8]],
+    marks: &Bits,
+) -> Result<IndexSet<&'a [u8]>, AllocError>
+    requires { length marks.now ≡ length names.now }
+    ensures { IfOk result (λ kept. (name : List ℕ) → is_key kept.keys name ≡ is_marked names.now marks.now name) }
+{
+    let mut kept = IndexSet::new(alloc);
+    for number in 0..marks.size() {
+        let name = names[number as usize];
+        if marks.has(number) {
+            kept.insert(name)?;
+        }
+    }
+    Ok(kept)
+}
+
+/// The names that are reached from the exported ones by what definitions refer to.
+pub(crate) fn kept<'a>(
+    alloc: Global,
+    units: &'a [Rows<GlobalValue>],
+    exports: &'a [Text],
+) -> Result<IndexSet<&'a [u8]>, AllocError>
+    ensures { IfOk result (λ kept. (name : List ℕ) → (is_key kept.keys name ≡ true) ↔ IsKept exports.entry.now (flat_map (λ u. u) units.entry.now) name) }
+{
+    let mut graph = graph_of(alloc, units)?;
+    let starts = graph.numbers_of(alloc, exports)?;
+    let marks = reached(alloc, &graph.rows, &starts)?;
+    marked(alloc, graph.names.as_slice(), &marks)
+}

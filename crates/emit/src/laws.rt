@@ -1,0 +1,21 @@
+//! The laws, as functions whose contracts state them.
+ghost use Rattle.emit.specs.Laws.{EmissionComesFrom, EmissionIsClosed, EmissionIsOne, EmissionIsReordering, EmissionIsSound, EmissionIsWhole, ExportsAreKept};
+
+/// Values have one linked module, and each of its values is one of them, settled, or declares a function of the outside.
+pub fn emission_is_one()
+    ensures one { EmissionIsOne }
+    ensures from { EmissionComesFrom }
+{}
+
+/// The linked module has the kept values in another order, among them the exported ones, and these refer to one another alone.
+pub fn emission_is_reordering()
+    ensures roots { ExportsAreKept }
+    ensures closed { EmissionIsClosed }
+    ensures order { EmissionIsReordering }
+{}
+
+/// The linked module is whole, and sound where the values are (LangRef, "Well-Formedness").
+pub fn emission_is_whole()
+    ensures whole { EmissionIsWhole }
+    ensures sound { EmissionIsSound }
+{}
