@@ -4,12 +4,11 @@ use Rattle.std.specs.Prelude.{slice_get, slice_index_or}
 use Rattle.std.specs.Str.{bytes_eq}
 use Rattle.std.proofs.lemmas.Bool.{and_parts}
 use Rattle.ir_tree.specs.Linkages.{defines, is_replaceable}
-use Rattle.ir_tree.specs.Rules.{Sound}
 use Rattle.ir_tree.specs.Wholes.{GlobalSound}
 use Rattle.ir_tree.specs.declared.function.Function.{Function}
 use Rattle.ir_tree.specs.declared.module.GlobalValue.{GlobalValue}
 use Rattle.ir_tree.specs.declared.module.GlobalValue.TheVariants as global
-use Rattle.back_end.specs.Inlinable.{AreSound, bodies_of, calls, count, has_blocks, may_inline, offered, or_else, over}
+use Rattle.back_end.specs.Inlinable.{AreSound, bodies_of, calls, count, has_blocks, may_inline, offered, or_else}
 
 some_if : (b : Bool) (f c : Function) → (if b then Some f else None) ≡ Some c → (b ≡ true) × (f ≡ c)
 some_if true f c e = (refl, cc e)
@@ -72,11 +71,3 @@ are_sound limit gs all name c e =
     let a : IsAmong limit gs c = among limit gs name c e in
     let at = at_place gs a.place (global.Function c) a.here in
     subst GlobalSound at.1 (all a.place (global.Function c) at.0)
-
--- and so have those over others
-pub over_sound : (bodies others : List ℕ → Option Function) → AreSound bodies → AreSound others → AreSound (over bodies others)
-over_sound bodies others a b name c = by (bodies name) refl
-  where
-    by : (o : Option Function) → bodies name ≡ o → or_else o (others name) ≡ Some c → Sound c
-    by (Some f) is e = let same : f ≡ c = cc e in subst Sound same (a name f is)
-    by None is e = b name c e

@@ -68,10 +68,6 @@ abbrev pub bodies_of : ℕ → List GlobalValue → List ℕ → Option Function
 bodies_of limit [] name = None
 bodies_of limit (g ∷ gs) name = or_else (offered limit g name) (bodies_of limit gs name)
 
--- these bodies, and others under names that these don't have
-abbrev pub over : (List ℕ → Option Function) → (List ℕ → Option Function) → List ℕ → Option Function
-over bodies others name = or_else (bodies name) (others name)
-
 -- ---- what is asked of bodies
 
 abbrev pub AreSound : (List ℕ → Option Function) → Type 0

@@ -1,7 +1,7 @@
 //! The bodies that may be inlined, by the names of their functions.
-ghost use Rattle.std.specs.Prelude.{◌≡◌, All, IfOk, List, ℕ, OnOk, option_copied};
+ghost use Rattle.std.specs.Prelude.{◌≡◌, All, IfOk, List, map, ℕ, OnOk, option_copied};
 ghost use Rattle.ir_tree.specs.Wholes.{GlobalSound};
-ghost use Rattle.back_end.specs.Inlinable.{AreSound, bodies_of, offered, or_else, over};
+ghost use Rattle.back_end.specs.Inlinable.{AreSound, bodies_of, offered, or_else};
 ghost use Rattle.back_end.specs.Walking.{bodies_in, named};
 
 use crate::inlinable::may_inline;
@@ -34,41 +34,32 @@ fn note<'a>(
 /// Puts the bodies of these global values into the table that may be inlined, of each name the first.
 fn note_all<'a>(
     table: &mut HashMap<&'a [u8], &'a Function>,
-    globals: &'a [GlobalValue],
+    globals: &[&'a GlobalValue],
     limit: u32,
 ) -> Result<(), AllocError>
-    ensures { OnOk result ((name : List ℕ) → named table.new name ≡ or_else (bodies_of limit globals.entry.now name) (named table.old name)) }
+    ensures { OnOk result ((name : List ℕ) → named table.new name ≡ or_else (bodies_of limit (map (λ g. g.now) globals.entry.now) name) (named table.old name)) }
 {
     let mut place = globals.len();
     while place > 0 {
         place -= 1;
-        note(table, &globals[place], limit)?;
+        note(table, globals[place], limit)?;
     }
     Ok(())
 }
 
 impl<'a> Bodies<'a> {
-    /// Those of the functions of these global values that may be inlined: defined here for good, neither `noinline` nor
-    /// `optnone`, without a direct call of themselves, and of no more phis, instructions and terminators than the limit.
+    /// Those of the functions of these global values that may be inlined, of each name the first: defined here for good, neither
+    /// `noinline` nor `optnone`, without a direct call of themselves, and of no more phis, instructions and terminators than the
+    /// limit.
     pub fn of(
         alloc: Global,
-        globals: &'a [GlobalValue],
+        globals: &[&'a GlobalValue],
         limit: u32,
     ) -> Result<Bodies<'a>, AllocError>
-        ensures bodies { IfOk result (λ b. bodies_in b ≡ bodies_of limit globals.entry.now) }
-        ensures sound { IfOk result (λ b. All GlobalSound globals.entry.now → AreSound (bodies_in b)) }
+        ensures bodies { IfOk result (λ b. bodies_in b ≡ bodies_of limit (map (λ g. g.now) globals.entry.now)) }
+        ensures sound { IfOk result (λ b. All GlobalSound (map (λ g. g.now) globals.entry.now) → AreSound (bodies_in b)) }
     {
         let mut table = HashMap::new(alloc);
-        note_all(&mut table, globals, limit)?;
-        Ok(Bodies { table })
-    }
-
-    /// With those of further global values, which go before the others of their names.
-    pub fn with(self, globals: &'a [GlobalValue], limit: u32) -> Result<Bodies<'a>, AllocError>
-        ensures bodies { IfOk result (λ b. bodies_in b ≡ over (bodies_of limit globals.entry.now) (bodies_in self.entry)) }
-        ensures sound { IfOk result (λ b. All GlobalSound globals.entry.now → AreSound (bodies_in self.entry) → AreSound (bodies_in b)) }
-    {
-        let Bodies { mut table } = self;
         note_all(&mut table, globals, limit)?;
         Ok(Bodies { table })
     }

@@ -1,4 +1,4 @@
--- The bodies of a module that may be inlined are its program's own.
+-- A function among global values that may be inlined is the program's own.
 use Rattle.std.proofs.Common.{◌≡◌, ◌≢◌, ◌∙◌, ℕ, zero, suc, Bool, true, false, if◌then◌else◌, List, [], ◌∷◌, Option, Some, None, option_map, refl, ap, sym}
 use Rattle.std.specs.Prelude.{slice_get}
 use Rattle.std.proofs.lemmas.Option.{slice_get-map}
@@ -19,8 +19,9 @@ use Rattle.std.specs.Prelude.{◌&&◌, not, nat_le}
 use Rattle.std.proofs.lemmas.Bool.{and_parts}
 use Rattle.ir_tree.specs.Linkages.{defines, is_replaceable}
 use Rattle.ir_tree.specs.Types.{param_types}
-use Rattle.back_end.specs.Inlinable.{HasBodies, bodies_of, calls, count, has_blocks, may_inline}
-use Rattle.back_end.proofs.Offered.{IsAmong, among, has_body}
+use Rattle.inline_site.specs.Laws.{IsOwn}
+use Rattle.back_end.specs.Inlinable.{calls, count, has_blocks, may_inline}
+use Rattle.back_end.proofs.Offered.{has_body}
 
 same_symbol : (g : GlobalValue) → symbol_of g ≡ global_symbol g
 same_symbol (global.Function f) = refl
@@ -81,8 +82,7 @@ regs_are : (ps : List Param) → regs_of ps ≡ param_types ps
 regs_are [] = refl
 regs_are (p ∷ ps) = ap (λ (l : List Reg). p.reg ∷ l) (regs_are ps)
 
-pub own_bodies : (limit : ℕ) (gs : List GlobalValue) → Distinct (symbols gs) → HasBodies (program_of gs) (bodies_of limit gs)
-own_bodies limit gs once name c e =
-    let a : IsAmong limit gs c = among limit gs name c e in
-    let here : definition_of gs c.symbol ≡ Some (Body c) = found gs 0 a.place c once a.here (has_body limit c a.may, counts limit c a.may) in
-    record { body = ap code_of here; kind = ap (kind_of (is_declared gs c.symbol) c.symbol) here ∙ ap (λ (regs : List Reg). AFunction regs c.result) (regs_are c.params) }
+pub own_body : (limit : ℕ) (gs : List GlobalValue) (i : ℕ) (c : Function) → Distinct (symbols gs) → slice_get gs i ≡ Some (global.Function c) → may_inline limit c ≡ true → IsOwn (program_of gs) c
+own_body limit gs i c once here may =
+    let is : definition_of gs c.symbol ≡ Some (Body c) = found gs 0 i c once here (has_body limit c may, counts limit c may) in
+    record { body = ap code_of is; kind = ap (kind_of (is_declared gs c.symbol) c.symbol) is ∙ ap (λ (regs : List Reg). AFunction regs c.result) (regs_are c.params) }

@@ -1,8 +1,8 @@
 -- What a link answers.
 use Rattle.std.specs.Prelude.{ℕ}
 use Rattle.lto_fault.specs.declared.kind.Kind.{Kind}
-use Rattle.link_one.specs.declared.link.LinkError.{LinkError}
-use Rattle.link_one.specs.declared.link.LinkError.TheVariants as error
+use Rattle.link_one.specs.declared.accepting.LinkError.{LinkError}
+use Rattle.link_one.specs.declared.accepting.LinkError.TheVariants as error
 
 abbrev pub IfRefused : LinkError → (ℕ → Kind → Type 0) → Type 0
 IfRefused error.NoMemory P = Unit {0}

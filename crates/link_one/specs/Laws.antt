@@ -1,10 +1,8 @@
--- What is true of links.
+-- What is true of files that are accepted, refused and linked.
 use Rattle.std.specs.Prelude.{◌≡◌, ℕ, List}
-use Rattle.ir_tree.specs.Wholes.{IsVerified}
 use Rattle.ir_tree.specs.declared.module.Module.{Module}
 use Rattle.lto_fault.specs.declared.kind.Kind.{Kind}
 use Rattle.link_one.specs.Accepted.{Accepts, Refuses}
-use Rattle.link_one.specs.Linked.{IsLinked}
 use Rattle.link_one.specs.Linking.{IsLinkOf}
 
 -- what is accepted isn't refused
@@ -19,10 +17,8 @@ AcceptedIsOne = (bytes : List ℕ) (m n : Module) → Accepts bytes m → Accept
 abbrev pub RefusedIsOne : Type 0
 RefusedIsOne = (bytes : List ℕ) (line other : ℕ) (kind another : Kind) → Refuses bytes line kind → Refuses bytes other another → (line ≡ other) × (kind ≡ another)
 
--- no bytes are linked to two texts
+-- no files are linked to two texts
 abbrev pub LinkedIsOne : Type 0
-LinkedIsOne = (exports : List (List ℕ)) (limit : ℕ) (bytes text other : List ℕ) → IsLinkOf exports limit bytes text → IsLinkOf exports limit bytes other → text ≡ other
-
--- the linked module of a verified one is verified
-abbrev pub LinkedIsVerified : Type 0
-LinkedIsVerified = (limit : ℕ) (m l : Module) → IsVerified m → IsLinked limit m l → IsVerified l
+LinkedIsOne =
+    (exports : List (List ℕ)) (import_limit inline_limit : ℕ) (files : List (List ℕ)) (text other : List ℕ)
+    → IsLinkOf exports import_limit inline_limit files text → IsLinkOf exports import_limit inline_limit files other → text ≡ other

@@ -1,6 +1,10 @@
 pub mod Linked
-pub mod Bettered
 pub mod Accepted
+pub mod Naming
 pub mod Linking
+pub mod Refusing
 pub mod Answers
+pub mod LinkedLaws
 pub mod Laws
+pub mod Tables
+pub mod Units

@@ -1,22 +1,35 @@
-//! The link of one module: from bytes to the text of the linked module.
+//! The link: from the bytes of files to the text of the linked module.
 //!
-//! The bytes are read (`ir_parse`) and verified (`ir_verify`), each function goes through the back end (`back_end`), where
-//! calls of the module's own functions take their bodies as they were read, and the linked module is printed (`ir_print`).
-//! [`accepted`] does the first two: bytes are refused exactly where they are read as no sound module within the limits, with
-//! the line and the kind of the first fault (`specs/Accepted.antt`). [`link_text`] does the rest, and keeps both promises of
-//! the linker for one module: the text is that of the linked module of the one module that the bytes are read as, and each
-//! run of the linked program from an exported function is a run of that module (`specs/Linking.antt`). The linked module is
-//! verified as that one was ([`linked_is_verified`]).
+//! The bytes of each file are read (`ir_parse`) and verified (`ir_verify`): [`accepted`] refuses bytes exactly where they are
+//! read as no sound module within the limits, with the line and the kind of the first fault (`specs/Accepted.antt`). [`link`]
+//! does the rest. By the index alone it is decided what is live, what it will be called and what each module imports
+//! (`thin_link`, `promote_rename`). Each module's part, its live definitions under final names (`merge_meaning`), is compiled by
+//! itself (`back_end`) on one of several threads, with the bodies of the part and those that the module imports, as they were
+//! read. What is reached from the exported names is kept (`emit`), and printed (`ir_print`). That is the definition of a link
+//! (`specs/Linked.antt`), and [`link`] keeps both promises of the linker: the text is that of the linked module of the modules
+//! that the files are read as and no other text is one, and each run of the linked program from an exported function is a run of
+//! the merged modules (`specs/Linking.antt`). No clause names threads: with however many, the text is the same. Why modules
+//! aren't linked stands in `specs/Refusing.antt`. The linked module is verified as those were ([`linked_is_verified`]).
 //!
-//! Below stand these four, `ir_program` for what modules mean as programs, `ir_better` for what is proved, and `lto_fault`,
-//! whose kinds refusals tell. The cost is that of the stages; nothing is copied between them but functions in the back end,
-//! and bodies are found by name in one table.
+//! Below stand these crates, `link_meaning` for what a thin link decides of the merged program, `ir_program` and `ir_better`
+//! for what is proved, and `lto_fault`, whose refusals are told. The cost is that of the stages: each definition is copied once
+//! under its final name, and imported bodies are found by name in one table. Each thread compiles a run of neighbouring modules,
+//! of equal number and not of equal length. That threads save time isn't shown: `bench/link` measures it.
 #![tactic(auto)]
 
+mod accepting;
 mod kind;
 mod laws;
-mod link;
 mod linked;
+mod linked_laws;
+mod linking;
+mod naming;
+mod setting;
+mod table;
+mod target;
+mod unit;
 
-pub use laws::{accepted_is_not_refused, linked_is_one, linked_is_verified, refused_is_one};
-pub use link::{LinkError, accepted, link_text};
+pub use accepting::{LinkError, accepted};
+pub use laws::{accepted_is_not_refused, linked_is_one, refused_is_one};
+pub use linked_laws::{linked_is_verified, linked_refines, unlinked_is_one};
+pub use linking::link;

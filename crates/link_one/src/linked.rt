@@ -1,66 +1,93 @@
 //! The linked module.
-ghost use Rattle.std.specs.Prelude.{◌≡◌, IfOk, List, All};
-ghost use Rattle.std.specs.List.{AllZip};
-ghost use Rattle.ir_tree.specs.Wholes.{GlobalSound};
-ghost use Rattle.back_end.specs.Inlinable.{AreSound, bodies_of};
-ghost use Rattle.back_end.specs.Walking.{bodies_in};
-ghost use Rattle.link_one.specs.Linked.{IsLinked, IsLinkedGlobal};
-ghost use Rattle.link_one.specs.Bettered.{GlobalBetter};
+ghost use Rattle.std.specs.Prelude.{◌≡◌, All, IfOk, length};
+ghost use Rattle.ir_tree.specs.Wholes.{IsVerified};
+ghost use Rattle.import_plan.specs.Views.{rows};
+ghost use Rattle.promote_rename.specs.Finals.{NoneTaken, final_names};
+ghost use Rattle.symbol_resolve.specs.Resolved.{symbols};
+ghost use Rattle.thin_link.specs.Linking.{IsThinLink};
+ghost use Rattle.link_one.specs.Linked.{AreLinkedGlobals, IsLinked};
 
-use back_end::{Bodies, compile};
-use ir_tree::{Duplicate, GlobalValue, Module, Rows, Verified};
+use crate::target::given_text;
+use crate::unit::units;
+use emit::emit;
+use ir_tree::{GlobalValue, Module, Rows, Text, Verified};
+use merge_meaning::{LiveSymbols, live_by_module, parts};
 use std::alloc::{AllocError, Global};
+use std::thread::Threads;
+use symbol_resolve::TargetLine;
+use thin_link::ThinLink;
 
-/// A variable as it is, and a function as the back end makes it with these bodies.
-fn linked_global(
-    alloc: Global,
-    bodies: &Bodies<'_>,
-    global: &GlobalValue,
-) -> Result<GlobalValue, AllocError>
-    requires sound { GlobalSound global.now }
-    requires bodies { AreSound (bodies_in bodies.now) }
-    ensures made { IfOk result (λ g. IsLinkedGlobal (bodies_in bodies.now) global.now g) }
-    ensures better { IfOk result (λ g. GlobalBetter (bodies_in bodies.now) global.now g) }
+/// That modules are sound, each as its type says.
+fn all_verified(modules: &[Verified])
+    ensures { All IsVerified modules.now }
 {
-    match global {
-        GlobalValue::Variable(variable) => {
-            let variable = variable.duplicate(alloc)?;
-            Ok(GlobalValue::Variable(variable))
-        }
-        GlobalValue::Function(function) => {
-            let function = compile(alloc, bodies, function)?;
-            Ok(GlobalValue::Function(function))
-        }
+    for verified in modules {
+        verified.module();
     }
 }
 
-fn linked_globals(
+/// The global values of the linked module.
+fn linked_globals<R: Threads + Sync>(
+    rt: &R,
     alloc: Global,
-    bodies: &Bodies<'_>,
-    globals: &[GlobalValue],
+    jobs: u32,
+    modules: &[Verified],
+    decided: &ThinLink<'_>,
+    suffixes: &[Text],
+    exports: &[Text],
+    limit: u32,
 ) -> Result<Rows<GlobalValue>, AllocError>
-    requires sound { All GlobalSound globals.now }
-    requires bodies { AreSound (bodies_in bodies.now) }
-    ensures made { IfOk result (λ rows. AllZip (IsLinkedGlobal (bodies_in bodies.now)) globals.now rows) }
-    ensures better { IfOk result (λ rows. AllZip (GlobalBetter (bodies_in bodies.now)) globals.now rows) }
+    requires resolved { decided.now.resolution ≡ symbols modules.now }
+    requires marks { length decided.now.live ≡ length decided.now.index.symbols }
+    ensures { IfOk result (λ globals. AreLinkedGlobals exports.now limit suffixes.now modules.now decided.now.index.symbols decided.now.live (rows decided.now.imports.items) globals) }
 {
-    let mut rows = Rows::new(alloc);
-    'each: for global in globals {
-        rows.push(linked_global(alloc, bodies, global)?)?;
-    }
-    Ok(rows)
+    live_by_module();
+    all_verified(modules);
+    let live = LiveSymbols::of(alloc, decided.index.symbols(), &decided.live)?;
+    let parts = parts(alloc, modules, &decided.resolution, &live, suffixes)?;
+    let units = units(
+        rt,
+        alloc,
+        jobs,
+        &parts,
+        decided.index.symbols(),
+        suffixes,
+        &decided.imports,
+        limit,
+    )?;
+    emit(alloc, &units, exports)
 }
 
-/// What a link makes of its one module, with its own bodies up to this limit inlined.
-pub(crate) fn linked(alloc: Global, verified: &Verified, limit: u32) -> Result<Module, AllocError>
-    ensures made { IfOk result (λ l. IsLinked limit verified.now l) }
-    ensures better { IfOk result (λ l. AllZip (GlobalBetter (bodies_of limit verified.now.globals)) verified.now.globals l.globals) }
+/// The linked module of these modules, of which this was decided, compiled on up to so many threads: no two live symbols have
+/// one final name.
+pub(crate) fn linked<R: Threads + Sync>(
+    rt: &R,
+    alloc: Global,
+    jobs: u32,
+    modules: &[Verified],
+    decided: &ThinLink<'_>,
+    suffixes: &[Text],
+    exports: &[Text],
+    import_limit: u32,
+    inline_limit: u32,
+) -> Result<Module, AllocError>
+    requires thin { IsThinLink modules.now exports.now import_limit decided.now.index decided.now.live (rows decided.now.imports.items) }
+    requires resolved { decided.now.resolution ≡ symbols modules.now }
+    requires named { NoneTaken (final_names suffixes.now decided.now.index.symbols decided.now.live) }
+    ensures { IfOk result (λ l. IsLinked exports.now import_limit inline_limit suffixes.now modules.now l) }
 {
-    let m = verified.module();
-    let datalayout = m.datalayout.duplicate(alloc)?;
-    let triple = m.triple.duplicate(alloc)?;
-    let bodies = Bodies::of(alloc, m.globals.as_slice(), limit)?;
-    let globals = linked_globals(alloc, &bodies, m.globals.as_slice())?;
+    let datalayout = given_text(alloc, TargetLine::Datalayout, modules)?;
+    let triple = given_text(alloc, TargetLine::Triple, modules)?;
+    let globals = linked_globals(
+        rt,
+        alloc,
+        jobs,
+        modules,
+        decided,
+        suffixes,
+        exports,
+        inline_limit,
+    )?;
     Ok(Module {
         datalayout,
         triple,

@@ -1,5 +1,5 @@
 //! Rows of the tables: a module before a pass, and what the pass makes of its first function.
-ghost use Rattle.std.specs.Prelude.{IfOk, IfSome};
+ghost use Rattle.std.specs.Prelude.{◌≡◌, IfOk, IfSome, map};
 ghost use Rattle.back_end.specs.Inlinable.{AreSound};
 ghost use Rattle.back_end.specs.Walking.{bodies_in};
 ghost use Rattle.ir_tree.specs.Rules.{Sound};
@@ -119,11 +119,22 @@ fn inlined_at_each(
     Ok(caller.into_function())
 }
 
+/// References to these global values.
+fn references<'a>(
+    alloc: Global,
+    globals: &'a [GlobalValue],
+) -> Result<Vec<&'a GlobalValue>, AllocError>
+    ensures { IfOk result (λ referred. map (λ g. g.now) referred.items ≡ globals.entry.now) }
+{
+    globals.iter().collect(alloc)
+}
+
 /// The bodies of a module up to a limit.
 fn bodies(alloc: Global, module: &Verified, limit: u32) -> Result<Bodies<'_>, AllocError>
     ensures { IfOk result (λ b. AreSound (bodies_in b)) }
 {
-    let bodies = Bodies::of(alloc, module.module().globals.as_slice(), limit)?;
+    let globals = references(alloc, module.module().globals.as_slice())?;
+    let bodies = Bodies::of(alloc, &globals, limit)?;
     Ok(bodies)
 }
 

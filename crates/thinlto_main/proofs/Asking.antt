@@ -1,7 +1,5 @@
 -- From a command to the words that ask for it, and back.
-use Rattle.std.proofs.Common.{ℕ, ◌≡◌, Bool, true, false, List, [], ◌∷◌, ◌++◌, OnErr, OnOk, Result, Ok, Err, ap, inl, inr, refl, subst}
-use Rattle.std.specs.Prelude.{◌&&◌, is_some, length, nat_eq, not}
-use Rattle.std.proofs.lemmas.Bool.{eqb-true}
+use Rattle.std.proofs.Common.{ℕ, ◌≡◌, true, List, [], ◌∷◌, ◌++◌, OnErr, OnOk, Result, Ok, Err, ap, inl, inr, refl, subst}
 use Rattle.lto_fault.specs.declared.kind.Kind.{Kind}
 use Rattle.lto_fault.specs.declared.refusal.Refusal.{Refusal}
 use Rattle.lto_fetch.specs.Fetching.{FetchFailed, fetch_calls}
@@ -36,7 +34,6 @@ asked_for one words c s i is = record {
   unwritten = λ name x. record { command = c; is = is; offered = x.1; so = x.0 };
   unreturned = λ why x. record { command = c; is = is; offered = x.1; so = x.0 };
   memory = λ x. inr (record { command = c; is = is; offered = x.1; so = x.0 });
-  other = λ x. x;
 }
 
 -- and so is what is said
@@ -50,17 +47,8 @@ pub on_each : {A : Type 0} (r : Result A Refusal) (P : Type 0) → P → OnOk r 
 on_each (Ok x) P h = (h, tt)
 on_each (Err why) P h = (tt, h)
 
--- a link that the program does is of one file
-last_true : (a b c : Bool) → a && (b && c) ≡ true → c ≡ true
-last_true true true c e = e
-last_true true false c e = absurd cc
-last_true false b c e = absurd cc
-
-pub offered_one : (options : LinkOptions) (names : List (List ℕ)) → is_offered_link options names ≡ true → length names ≡ 1
-offered_one options names e = eqb-true (length names) 1 (last_true (nat_eq options.jobs 1) (not (is_some options.cache)) (nat_eq (length names) 1) e)
-
 -- what a link answers is what the command does, and so of an index and of a run
-pub link_obeyed : (options : LinkOptions) (out : List ℕ) (names : List (List ℕ)) (s : Seen) (i : InputSeen) → is_offered_link options names ≡ true → s.unprinted → i.untaken
+pub link_obeyed : (options : LinkOptions) (out : List ℕ) (names : List (List ℕ)) (s : Seen) (i : InputSeen) → is_offered_link options ≡ true → s.unprinted → i.untaken
     → Implies (linking options out names s.files) (obeyed (Link options out names) s i)
 link_obeyed options out names s i offered same untaken = record {
   done = λ x. (((x, same), untaken), offered);
@@ -72,7 +60,6 @@ link_obeyed options out names s i offered same untaken = record {
   unwritten = λ name x. (((x, same), untaken), offered);
   unreturned = λ why x. absurd x;
   memory = λ x. (((x, same), untaken), offered);
-  other = λ x. x;
 }
 
 pub index_obeyed : (exports : List (List ℕ)) (limit : ℕ) (names : List (List ℕ)) (s : Seen) (i : InputSeen) → i.untaken → Implies (reporting exports limit names s) (obeyed (Index exports limit names) s i)
@@ -86,7 +73,6 @@ index_obeyed exports limit names s i untaken = record {
   unwritten = λ name x. ((x, untaken), refl);
   unreturned = λ why x. absurd x.0;
   memory = λ x. ((x, untaken), refl);
-  other = λ x. x.0;
 }
 
 pub run_obeyed : (root : List ℕ) (args : List Decimal) (steps : ℕ) (names : List (List ℕ)) (s : Seen) (i : InputSeen)
@@ -101,7 +87,6 @@ run_obeyed root args steps names s i = record {
   unwritten = λ name x. (x, refl);
   unreturned = λ why x. (x, refl);
   memory = λ x. (x, refl);
-  other = λ x. x;
 }
 
 -- ---- before anything is put
@@ -140,7 +125,6 @@ calm s i (Link options out names) = record {
   unwritten = λ name x. tt;
   unreturned = λ why x. absurd x.0.0;
   memory = λ x. x.0.0;
-  other = λ x. absurd x.0.0;
 }
 calm s i (Index exports limit names) = record {
   done = λ x. tt;
@@ -152,9 +136,8 @@ calm s i (Index exports limit names) = record {
   unwritten = λ name x. tt;
   unreturned = λ why x. absurd x.0.0;
   memory = λ x. x.0.0;
-  other = λ x. absurd x.0.0;
 }
-calm s i (Batch options list) = record { done = λ x. tt; usage = λ x. absurd x; unread = λ n x. absurd x; refused = λ f l k x. absurd x; unlinked = λ w x. absurd x; unfit = λ n x. absurd x; unwritten = λ n x. tt; unreturned = λ w x. absurd x; memory = λ x. absurd x; other = λ x. absurd x }
+calm s i (Batch options list) = record { done = λ x. tt; usage = λ x. absurd x; unread = λ n x. absurd x; refused = λ f l k x. absurd x; unlinked = λ w x. absurd x; unfit = λ n x. absurd x; unwritten = λ n x. tt; unreturned = λ w x. absurd x; memory = λ x. absurd x }
 calm s i (Run root args steps names) = record {
   done = λ x. tt;
   usage = λ x. absurd x;
@@ -165,9 +148,8 @@ calm s i (Run root args steps names) = record {
   unwritten = λ name x. tt;
   unreturned = λ why x. fetched_no_put names x.is.given s.files.did x.is.fetched;
   memory = λ x. run_memory root args steps names s i x;
-  other = λ x. absurd x;
 }
-calm s i (Gen seed modules jobs) = record { done = λ x. tt; usage = λ x. absurd x; unread = λ n x. absurd x; refused = λ f l k x. absurd x; unlinked = λ w x. absurd x; unfit = λ n x. absurd x; unwritten = λ n x. tt; unreturned = λ w x. absurd x; memory = λ x. absurd x; other = λ x. absurd x }
+calm s i (Gen seed modules jobs) = record { done = λ x. tt; usage = λ x. absurd x; unread = λ n x. absurd x; refused = λ f l k x. absurd x; unlinked = λ w x. absurd x; unfit = λ n x. absurd x; unwritten = λ n x. tt; unreturned = λ w x. absurd x; memory = λ x. absurd x }
 
 module _ (words : List (List ℕ)) (s : Seen) (i : InputSeen) where
   memory_no_put : (causes_of words s i).memory → DidNoPut s.files.did
@@ -185,7 +167,6 @@ module _ (words : List (List ℕ)) (s : Seen) (i : InputSeen) where
     unwritten = λ name x. tt;
     unreturned = λ why x. (calm s i x.command).unreturned why x.so;
     memory = λ x. memory_no_put x;
-    other = λ x. absurd x;
   }
 
 -- ---- before anything is printed, or taken from the input
@@ -235,7 +216,6 @@ module _ (words : List (List ℕ)) (s : Seen) (i : InputSeen) (tell : (c : Comma
     unwritten = λ name x. record { command = x.command; is = x.is; offered = x.offered; so = (tell x.command).unwritten name x.so };
     unreturned = λ why x. record { command = x.command; is = x.is; offered = x.offered; so = (tell x.command).unreturned why x.so };
     memory = λ x. tt;
-    other = λ x. tt;
   }
 
   -- an answer for words is one for the command that they ask for
@@ -250,5 +230,4 @@ module _ (words : List (List ℕ)) (s : Seen) (i : InputSeen) (tell : (c : Comma
     unwritten = λ name x. subst (λ (d : Command). (told d s i).unwritten name) (one words x.command c x.is is) ((tell x.command).unwritten name x.so);
     unreturned = λ why x. subst (λ (d : Command). (told d s i).unreturned why) (one words x.command c x.is is) ((tell x.command).unreturned why x.so);
     memory = λ x. tt;
-    other = λ x. x;
   }

@@ -3,7 +3,7 @@ use Rattle.std.proofs.Common.{ℕ, List, OnOk, Result, Ok, Err}
 use Rattle.lto_fault.specs.declared.kind.Kind.{Kind}
 use Rattle.lto_fault.specs.declared.refusal.Refusal.{Refusal}
 use Rattle.lto_fault.specs.declared.refusal.Refusal.TheVariants.{Usage, ReadFault, Refused, TargetClash, DuplicateSymbol, KindClash, UndefinedSymbol, NoExport, NameTaken, BadArguments, WriteFault, NoMemory, Undefined, Uninit, OutOfSteps}
-use Rattle.thinlto_main.specs.Causes.{Because, Causes, Comes, OnNoMemory, OnOther, OnReadFault, OnRefused, OnUnfit, OnUnlinked, OnUnreturned, OnUnused, OnUnwritten, OnUsage, OnWriteFault, always, free}
+use Rattle.thinlto_main.specs.Causes.{Because, Causes, Comes, OnNoMemory, OnReadFault, OnRefused, OnUnfit, OnUnlinked, OnUnreturned, OnUnused, OnUnwritten, OnUsage, OnWriteFault, always, free}
 
 -- each fact of the first implies that of the second
 pub record Implies (k l : Causes) : Type 0 where
@@ -16,7 +16,6 @@ pub record Implies (k l : Causes) : Type 0 where
   pub unwritten : (name : List ℕ) → k.unwritten name → l.unwritten name
   pub unreturned : (why : Refusal) → k.unreturned why → l.unreturned why
   pub memory : k.memory → l.memory
-  pub other : k.other → l.other
 
 pub because_map : {k l : Causes} → Implies k l → (why : Refusal) → Because k why → Because l why
 because_map i Usage h = i.usage h
@@ -27,7 +26,7 @@ because_map i (DuplicateSymbol name first second) h = i.unlinked (DuplicateSymbo
 because_map i (KindClash name function variable) h = i.unlinked (KindClash name function variable) h
 because_map i (UndefinedSymbol name file) h = i.unlinked (UndefinedSymbol name file) h
 because_map i (NoExport name) h = i.unlinked (NoExport name) h
-because_map i (NameTaken name) h = i.other h
+because_map i (NameTaken name) h = i.unlinked (NameTaken name) h
 because_map i (BadArguments name) h = i.unfit name h
 because_map i (WriteFault name) h = i.unwritten name h
 because_map i NoMemory h = i.memory h
@@ -50,38 +49,34 @@ both_imply i j = record {
   unwritten = λ name x. j.unwritten name (i.unwritten name x);
   unreturned = λ why x. j.unreturned why (i.unreturned why x);
   memory = λ x. j.memory (i.memory x);
-  other = λ x. j.other (i.other x);
 }
 
 -- ---- the fact of one answer
 
 module _ {A : Type 0} (k : Causes) (r : Result A Refusal) (h : Comes k r) where
   pub on_usage : OnUsage r k.usage
-  on_usage = comes_map {k = k} {l = record free { usage = k.usage }} (record { done = λ x. tt; usage = λ x. x; unread = λ n x. tt; refused = λ f l w x. tt; unlinked = λ w x. tt; unfit = λ n x. tt; unwritten = λ n x. tt; unreturned = λ w x. tt; memory = λ x. tt; other = λ x. tt }) r h
+  on_usage = comes_map {k = k} {l = record free { usage = k.usage }} (record { done = λ x. tt; usage = λ x. x; unread = λ n x. tt; refused = λ f l w x. tt; unlinked = λ w x. tt; unfit = λ n x. tt; unwritten = λ n x. tt; unreturned = λ w x. tt; memory = λ x. tt }) r h
 
   pub on_read_fault : OnReadFault r k.unread
-  on_read_fault = comes_map {k = k} {l = record free { unread = k.unread }} (record { done = λ x. tt; usage = λ x. tt; unread = λ n x. x; refused = λ f l w x. tt; unlinked = λ w x. tt; unfit = λ n x. tt; unwritten = λ n x. tt; unreturned = λ w x. tt; memory = λ x. tt; other = λ x. tt }) r h
+  on_read_fault = comes_map {k = k} {l = record free { unread = k.unread }} (record { done = λ x. tt; usage = λ x. tt; unread = λ n x. x; refused = λ f l w x. tt; unlinked = λ w x. tt; unfit = λ n x. tt; unwritten = λ n x. tt; unreturned = λ w x. tt; memory = λ x. tt }) r h
 
   pub on_refused : OnRefused r k.refused
-  on_refused = comes_map {k = k} {l = record free { refused = k.refused }} (record { done = λ x. tt; usage = λ x. tt; unread = λ n x. tt; refused = λ f l w x. x; unlinked = λ w x. tt; unfit = λ n x. tt; unwritten = λ n x. tt; unreturned = λ w x. tt; memory = λ x. tt; other = λ x. tt }) r h
+  on_refused = comes_map {k = k} {l = record free { refused = k.refused }} (record { done = λ x. tt; usage = λ x. tt; unread = λ n x. tt; refused = λ f l w x. x; unlinked = λ w x. tt; unfit = λ n x. tt; unwritten = λ n x. tt; unreturned = λ w x. tt; memory = λ x. tt }) r h
 
   pub on_unlinked : OnUnlinked r k.unlinked
-  on_unlinked = comes_map {k = k} {l = record free { unlinked = k.unlinked }} (record { done = λ x. tt; usage = λ x. tt; unread = λ n x. tt; refused = λ f l w x. tt; unlinked = λ w x. x; unfit = λ n x. tt; unwritten = λ n x. tt; unreturned = λ w x. tt; memory = λ x. tt; other = λ x. tt }) r h
+  on_unlinked = comes_map {k = k} {l = record free { unlinked = k.unlinked }} (record { done = λ x. tt; usage = λ x. tt; unread = λ n x. tt; refused = λ f l w x. tt; unlinked = λ w x. x; unfit = λ n x. tt; unwritten = λ n x. tt; unreturned = λ w x. tt; memory = λ x. tt }) r h
 
   pub on_unfit : OnUnfit r k.unfit
-  on_unfit = comes_map {k = k} {l = record free { unfit = k.unfit }} (record { done = λ x. tt; usage = λ x. tt; unread = λ n x. tt; refused = λ f l w x. tt; unlinked = λ w x. tt; unfit = λ n x. x; unwritten = λ n x. tt; unreturned = λ w x. tt; memory = λ x. tt; other = λ x. tt }) r h
+  on_unfit = comes_map {k = k} {l = record free { unfit = k.unfit }} (record { done = λ x. tt; usage = λ x. tt; unread = λ n x. tt; refused = λ f l w x. tt; unlinked = λ w x. tt; unfit = λ n x. x; unwritten = λ n x. tt; unreturned = λ w x. tt; memory = λ x. tt }) r h
 
   pub on_write_fault : OnWriteFault r k.unwritten
-  on_write_fault = comes_map {k = k} {l = record free { unwritten = k.unwritten }} (record { done = λ x. tt; usage = λ x. tt; unread = λ n x. tt; refused = λ f l w x. tt; unlinked = λ w x. tt; unfit = λ n x. tt; unwritten = λ n x. x; unreturned = λ w x. tt; memory = λ x. tt; other = λ x. tt }) r h
+  on_write_fault = comes_map {k = k} {l = record free { unwritten = k.unwritten }} (record { done = λ x. tt; usage = λ x. tt; unread = λ n x. tt; refused = λ f l w x. tt; unlinked = λ w x. tt; unfit = λ n x. tt; unwritten = λ n x. x; unreturned = λ w x. tt; memory = λ x. tt }) r h
 
   pub on_unreturned : OnUnreturned r k.unreturned
-  on_unreturned = comes_map {k = k} {l = record free { unreturned = k.unreturned }} (record { done = λ x. tt; usage = λ x. tt; unread = λ n x. tt; refused = λ f l w x. tt; unlinked = λ w x. tt; unfit = λ n x. tt; unwritten = λ n x. tt; unreturned = λ w x. x; memory = λ x. tt; other = λ x. tt }) r h
+  on_unreturned = comes_map {k = k} {l = record free { unreturned = k.unreturned }} (record { done = λ x. tt; usage = λ x. tt; unread = λ n x. tt; refused = λ f l w x. tt; unlinked = λ w x. tt; unfit = λ n x. tt; unwritten = λ n x. tt; unreturned = λ w x. x; memory = λ x. tt }) r h
 
   pub on_no_memory : OnNoMemory r k.memory
-  on_no_memory = comes_map {k = k} {l = record free { memory = k.memory }} (record { done = λ x. tt; usage = λ x. tt; unread = λ n x. tt; refused = λ f l w x. tt; unlinked = λ w x. tt; unfit = λ n x. tt; unwritten = λ n x. tt; unreturned = λ w x. tt; memory = λ x. x; other = λ x. tt }) r h
-
-  pub on_other : OnOther r k.other
-  on_other = comes_map {k = k} {l = record free { other = k.other }} (record { done = λ x. tt; usage = λ x. tt; unread = λ n x. tt; refused = λ f l w x. tt; unlinked = λ w x. tt; unfit = λ n x. tt; unwritten = λ n x. tt; unreturned = λ w x. tt; memory = λ x. tt; other = λ x. x }) r h
+  on_no_memory = comes_map {k = k} {l = record free { memory = k.memory }} (record { done = λ x. tt; usage = λ x. tt; unread = λ n x. tt; refused = λ f l w x. tt; unlinked = λ w x. tt; unfit = λ n x. tt; unwritten = λ n x. tt; unreturned = λ w x. tt; memory = λ x. x }) r h
 
   pub on_done : OnOk r k.done
   on_done = on_ok r h
@@ -94,9 +89,9 @@ module _ {A : Type 0} (k : Causes) (r : Result A Refusal) (h : Comes k r) where
   pub on_unused : (P : Type 0) → (k.usage → P) → ((file : List ℕ) (line : ℕ) (kind : Kind) → k.refused file line kind → P) → ((why : Refusal) → k.unlinked why → P) → ((name : List ℕ) → k.unfit name → P) → OnUnused r P
   on_unused P usage refused unlinked unfit =
       comes_map {k = k} {l = record free { usage = P; refused = λ file line kind. P; unlinked = λ why. P; unfit = λ name. P }}
-      (record { done = λ x. tt; usage = usage; unread = λ n x. tt; refused = refused; unlinked = unlinked; unfit = unfit; unwritten = λ n x. tt; unreturned = λ w x. tt; memory = λ x. tt; other = λ x. tt }) r h
+      (record { done = λ x. tt; usage = usage; unread = λ n x. tt; refused = refused; unlinked = unlinked; unfit = unfit; unwritten = λ n x. tt; unreturned = λ w x. tt; memory = λ x. tt }) r h
 
 pub on_unwritten_map : {A : Type 0} (P Q : Type 0) → (P → Q) → (r : Result A Refusal) → OnUnwritten r P → OnUnwritten r Q
 on_unwritten_map P Q f r h =
     comes_map {k = record (always P) { done = Unit {0}; unwritten = λ name. Unit {0} }} {l = record (always Q) { done = Unit {0}; unwritten = λ name. Unit {0} }}
-    (record { done = λ x. tt; usage = f; unread = λ n x. f x; refused = λ file l w x. f x; unlinked = λ w x. f x; unfit = λ n x. f x; unwritten = λ n x. tt; unreturned = λ w x. f x; memory = f; other = f }) r h
+    (record { done = λ x. tt; usage = f; unread = λ n x. f x; refused = λ file l w x. f x; unlinked = λ w x. f x; unfit = λ n x. f x; unwritten = λ n x. tt; unreturned = λ w x. f x; memory = f }) r h

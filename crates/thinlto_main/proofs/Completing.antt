@@ -1,5 +1,5 @@
 -- When a command has to be done, and when refused.
-use Rattle.std.proofs.Common.{ℕ, ◌≡◌, ◌⊎◌, ◌∙◌, Bool, true, false, List, [], ◌∷◌, replicate, Option, Some, None, ap, inl, inr, sym, subst}
+use Rattle.std.proofs.Common.{ℕ, ◌≡◌, ◌⊎◌, ◌∙◌, Bool, true, false, List, [], ◌∷◌, map, replicate, Option, Some, None, ap, inl, inr, sym, subst}
 use Rattle.std.specs.List.{AllZip}
 use Rattle.std.specs.Prelude.{IfSome}
 use Rattle.ir_tree.specs.declared.module.Module.{Module}
@@ -7,6 +7,9 @@ use Rattle.ir_meaning.specs.Program.{Program, State}
 use Rattle.ir_meaning.specs.Run.{Ending, Returned, run}
 use Rattle.ir_meaning.specs.declared.value.Value.{Value}
 use Rattle.link_one.specs.Laws.{AcceptedIsNotRefused, AcceptedIsOne, RefusedIsOne}
+use Rattle.link_one.specs.LinkedLaws.{UnlinkedIsNotLinked, UnlinkedIsOne}
+use Rattle.link_one.specs.Refusing.{CanBeLinked, IsUnlinked}
+use Rattle.promote_rename.specs.Suffixes.{suffix_of}
 use Rattle.lto_fault.specs.declared.kind.Kind.{Kind}
 use Rattle.lto_fault.specs.declared.refusal.Refusal.{Refusal}
 use Rattle.lto_outside.specs.Cause.{Rose}
@@ -18,21 +21,19 @@ use Rattle.thin_link.specs.Laws.{RefusalIsOne, ReportedIsNotRefused}
 use Rattle.thin_link.specs.Refusing.{IsRefused}
 use Rattle.thinlto_main.specs.Causes.{Causes, never}
 use Rattle.merge_meaning.specs.Merged.{merged}
-use Rattle.thinlto_main.specs.Linking.{HasThinLink}
 use Rattle.thinlto_main.specs.Running.{OfModules, file_of}
 use Rattle.thinlto_main.specs.Runs.{CannotSend, CannotTake, DidReturn, EndedOtherwise, EndsSo, IsUnfit, RunEnds}
 use Rattle.run_parts.specs.Said.{ending_refusal}
 use Rattle.thinlto_main.specs.Seen.{InputSeen, Seen, Streams, streams_of}
 use Rattle.run_parts.specs.Starting.{beginning}
-use Rattle.thinlto_main.specs.Telling.{CanDo, CanLink, EndsOver, Held, HoldFirstBad, HoldReport, HoldUnlinked, HoldsModule, IsTold, LinkHeld, MustNotBegin, MustNotLink, MustNotReturn, MustRefuse, RunComesTo, RunIsTold, told}
+use Rattle.thinlto_main.specs.Telling.{CanBeDone, CanDo, CanLink, EndsOver, Held, HoldFirstBad, HoldModules, HoldReport, HoldUnlinkable, HoldUnlinked, HoldsModule, IsTold, LinkHeld, MustNotBegin, MustNotLink, MustNotReturn, MustRefuse, RunComesTo, RunIsTold, told}
 use Rattle.thinlto_main.proofs.Causes.{Implies}
-use Rattle.thinlto_main.proofs.Held.{none_bad, one_first_bad, one_list}
-use Rattle.thinlto_main.proofs.Unlinked.{thin_is_not_refused}
+use Rattle.thinlto_main.proofs.Held.{hold_modules, none_bad, one_first_bad, one_inputs, one_list}
 use Rattle.lto_words.specs.declared.request.LinkOptions.{LinkOptions}
 
 -- what is told, of a command that is asked for
 abbrev pub telling : Command → Seen → InputSeen → Causes
-telling c s i = record (told c s i) { usage = ⊥; memory = Unit {0}; other = ⊥ }
+telling c s i = record (told c s i) { usage = ⊥; memory = Unit {0} }
 
 -- ---- of the files that tell
 
@@ -50,19 +51,21 @@ either (inr b) f g = g b
 
 -- ---- a link
 
-record HoldLinked (exports : List (List ℕ)) (limit : ℕ) (names : List (List ℕ)) (held : Store) : Type 0 where
-  m : Module
-  modules : AllZip (HoldsModule held) names (m ∷ [])
-  thin : HasThinLink (m ∷ []) exports limit
+record HoldLinked (options : LinkOptions) (names : List (List ℕ)) (held : Store) : Type 0 where
+  inputs : List (List ℕ)
+  ms : List Module
+  modules : HoldModules held names inputs ms
+  can : CanBeLinked options.exports options.import_limit (map suffix_of inputs) ms
 
 link_told : (put : Store → Store → List ℕ → List ℕ → Type 0) (options : LinkOptions) (out : List ℕ) (names : List (List ℕ)) (old new : Option Store)
-    → LinkHeld put options out names old new → IfSome old (HoldLinked options.exports options.import_limit names)
+    → LinkHeld put options out names old new → IfSome old (HoldLinked options names)
 link_told put options out names None new h = tt
 link_told put options out names (Some old) None h = absurd h
 link_told put options out names (Some old) (Some new) h = record {
-  m = h.is_link.m;
-  modules = subst (λ (l : List (List ℕ)). AllZip (HoldsModule old) l (h.is_link.m ∷ [])) (sym h.one) (record { bytes = h.bytes; here = h.held; short = h.short; accepted = h.is_link.accepted }, tt);
-  thin = h.thin;
+  inputs = h.inputs;
+  ms = h.is_link.ms;
+  modules = record { there = h.held; accepted = h.is_link.accepted };
+  can = record { index = h.is_link.linked.index; live = h.is_link.linked.live; imports = h.is_link.linked.imports; thin = h.is_link.linked.thin; named = h.is_link.linked.named };
 }
 
 -- ---- a run
@@ -87,19 +90,46 @@ begins_not : (p : Program) (root : List ℕ) (args : List Decimal) (first : Stat
 begins_not p root args first none some = let never : None ≡ Some first = sym none ∙ some in cc never
 
 module _ (apart : AcceptedIsNotRefused) (accepted : AcceptedIsOne) (s : Seen) (i : InputSeen) where
-  linked_bad : (exports names : List (List ℕ)) (limit : ℕ) (file : List ℕ) (line : ℕ) (kind : Kind) (held : Store) → HoldFirstBad held names file line kind → HoldLinked exports limit names held → ⊥
-  linked_bad exports names limit file line kind held bad linked = none_bad held apart names (linked.m ∷ []) file line kind linked.modules bad
+  linked_bad : (options : LinkOptions) (names : List (List ℕ)) (file : List ℕ) (line : ℕ) (kind : Kind) (held : Store) → HoldFirstBad held names file line kind → HoldLinked options names held → ⊥
+  linked_bad options names file line kind held bad linked =
+      none_bad held apart names linked.ms file line kind (hold_modules held names linked.inputs linked.ms linked.modules.there linked.modules.accepted) bad
+
+  unlinkable_bad : (options : LinkOptions) (names : List (List ℕ)) (why : Refusal) (file : List ℕ) (line : ℕ) (kind : Kind) (held : Store) → HoldUnlinkable options names held why → HoldFirstBad held names file line kind → ⊥
+  unlinkable_bad options names why file line kind held u bad =
+      none_bad held apart names u.ms file line kind (hold_modules held names u.inputs u.ms u.modules.there u.modules.accepted) bad
+
+  -- what is held is one list of modules from one list of bytes
+  moved_unlinked : (options : LinkOptions) (names : List (List ℕ)) (why : Refusal) (held : Store) (inputs : List (List ℕ)) (ms : List Module) → HoldModules held names inputs ms → (u : HoldUnlinkable options names held why)
+      → IsUnlinked names options.exports options.import_limit (map suffix_of inputs) ms why
+  moved_unlinked options names why held inputs ms h u =
+      let same : u.inputs ≡ inputs = one_inputs held names u.inputs inputs u.modules.there h.there in
+      let modules : u.ms ≡ ms = one_list held accepted names u.ms ms (hold_modules held names u.inputs u.ms u.modules.there u.modules.accepted) (hold_modules held names inputs ms h.there h.accepted) in
+      subst (λ (l : List Module). IsUnlinked names options.exports options.import_limit (map suffix_of inputs) l why) modules
+      (subst (λ (bs : List (List ℕ)). IsUnlinked names options.exports options.import_limit (map suffix_of bs) u.ms why) same u.unlinked)
+
+  linked_unlinkable : UnlinkedIsNotLinked → (options : LinkOptions) (names : List (List ℕ)) (why : Refusal) (held : Store) → HoldUnlinkable options names held why → HoldLinked options names held → ⊥
+  linked_unlinkable law options names why held u linked =
+      law names options.exports options.import_limit (map suffix_of linked.inputs) linked.ms why linked.can (moved_unlinked options names why held linked.inputs linked.ms linked.modules u)
+
+  one_unlinkable : UnlinkedIsOne → (options : LinkOptions) (names : List (List ℕ)) (why other : Refusal) (held : Store) → HoldUnlinkable options names held why → HoldUnlinkable options names held other → other ≡ why
+  one_unlinkable law options names why other held a b =
+      law names options.exports options.import_limit (map suffix_of a.inputs) a.ms other why (moved_unlinked options names other held a.inputs a.ms a.modules b) a.unlinked
+
+  done_bad : (options : LinkOptions) (names : List (List ℕ)) (file : List ℕ) (line : ℕ) (kind : Kind) (held : Store) → CanBeDone options names s.files held → HoldFirstBad held names file line kind → ⊥
+  done_bad options names file line kind held can bad =
+      none_bad held apart names can.ms file line kind (hold_modules held names can.inputs can.ms can.modules.there can.modules.accepted) bad
+
+  done_unlinkable : (options : LinkOptions) (names : List (List ℕ)) (why : Refusal) (held : Store) → CanBeDone options names s.files held → HoldUnlinkable options names held why → ⊥
+  done_unlinkable options names why held can u = can.linked why (moved_unlinked options names why held can.inputs can.ms can.modules u)
+
+  done_fine : (options : LinkOptions) (names : List (List ℕ)) → IsTold s.files.held (CanBeDone options names s.files) → ¬ (Rose s.files.faults s.files.faults_now)
+  done_fine options names can = told_fact (CanBeDone options names s.files) (λ held c. c.fine) s.files.held can
 
   reported_bad : (exports names : List (List ℕ)) (limit : ℕ) (done : Bool) (file : List ℕ) (line : ℕ) (kind : Kind) (held : Store) → HoldFirstBad held names file line kind → HoldReport exports names limit s done held → ⊥
   reported_bad exports names limit done file line kind held bad report = none_bad held apart names report.ms file line kind report.modules bad
 
   unlinked_bad : (exports names : List (List ℕ)) (why : Refusal) (file : List ℕ) (line : ℕ) (kind : Kind) (held : Store) → HoldUnlinked exports names held why → HoldFirstBad held names file line kind → ⊥
   unlinked_bad exports names why file line kind held unlinked bad = none_bad held apart names unlinked.ms file line kind unlinked.modules bad
-
-  linked_unlinked : (exports names : List (List ℕ)) (limit : ℕ) (why : Refusal) (held : Store) → HoldUnlinked exports names held why → HoldLinked exports limit names held → ⊥
-  linked_unlinked exports names limit why held unlinked linked =
-      thin_is_not_refused names exports (linked.m ∷ []) limit why linked.thin
-      (subst (λ (l : List Module). IsRefused names l exports why) (one_list held accepted names unlinked.ms (linked.m ∷ []) unlinked.modules linked.modules) unlinked.refused)
 
   reported_unlinked : ReportedIsNotRefused → (exports names : List (List ℕ)) (limit : ℕ) (done : Bool) (why : Refusal) (held : Store) → HoldUnlinked exports names held why → HoldReport exports names limit s done held → ⊥
   reported_unlinked reported exports names limit done why held unlinked report =
@@ -225,14 +255,13 @@ module _ (apart : AcceptedIsNotRefused) (accepted : AcceptedIsOne) (s : Seen) (i
   completes (Link options out names) can = record {
     done = λ x. tt;
     usage = λ x. x;
-    unread = λ name x. absurd (fine options.exports names can x);
-    refused = λ file line kind x. of_told _ _ (can_bad options.exports names file line kind) s.files.held can x;
-    unlinked = λ why x. of_told _ _ (can_unlinked options.exports names why) s.files.held can x;
+    unread = λ name x. absurd (done_fine options names can x);
+    refused = λ file line kind x. of_told _ _ (done_bad options names file line kind) s.files.held can x;
+    unlinked = λ why x. of_told _ _ (done_unlinkable options names why) s.files.held can x;
     unfit = λ name x. x;
-    unwritten = λ name x. absurd (fine options.exports names can x.1);
+    unwritten = λ name x. absurd (done_fine options names can x.1);
     unreturned = λ why x. x;
     memory = λ x. tt;
-    other = λ x. x;
   }
   completes (Index exports limit names) can = record {
     done = λ x. tt;
@@ -244,7 +273,6 @@ module _ (apart : AcceptedIsNotRefused) (accepted : AcceptedIsOne) (s : Seen) (i
     unwritten = λ name x. of_told (CanLink exports names s.files) (HoldReport exports names limit s false) (λ held c report. can.1 report.sent.4) s.files.held can.0 x.1;
     unreturned = λ why x. x;
     memory = λ x. tt;
-    other = λ x. x;
   }
   completes (Batch options list) can = absurd can
   completes (Run root args steps names) can = record {
@@ -257,7 +285,6 @@ module _ (apart : AcceptedIsNotRefused) (accepted : AcceptedIsOne) (s : Seen) (i
     unwritten = λ name x. can.work.out x.1.so.rose;
     unreturned = λ why x. returned_not root args steps names can.answer why can.comes x;
     memory = λ x. tt;
-    other = λ x. x;
   }
   completes (Gen seed modules jobs) can = absurd can
 
@@ -266,16 +293,15 @@ module _ (apart : AcceptedIsNotRefused) (accepted : AcceptedIsOne) (s : Seen) (i
   pub refuses : RefusedIsOne → (c : Command) (file : List ℕ) (line : ℕ) (kind : Kind) → MustRefuse c s file line kind
       → Implies (telling c s i) (record never { refused = λ f l k. (f ≡ file) × (l ≡ line) × (k ≡ kind); memory = Unit {0} })
   refuses one (Link options out names) file line kind must = record {
-    done = λ x. of_told _ _ (linked_bad options.exports names options.import_limit file line kind) s.files.held must.0 (link_told _ options out names s.files.held s.files.holds x);
+    done = λ x. of_told _ _ (linked_bad options names file line kind) s.files.held must.0 (link_told _ options out names s.files.held s.files.holds x);
     usage = λ x. x;
     unread = λ name x. absurd (must.1 x);
     refused = λ f l k x. of_told _ _ (λ held a b. one_first_bad held apart one names f file l line k kind b a) s.files.held must.0 x;
-    unlinked = λ why x. of_told _ _ (λ held bad u. unlinked_bad options.exports names why file line kind held u bad) s.files.held must.0 x;
+    unlinked = λ why x. of_told _ _ (λ held bad u. unlinkable_bad options names why file line kind held u bad) s.files.held must.0 x;
     unfit = λ name x. x;
     unwritten = λ name x. absurd (must.1 x.1);
     unreturned = λ why x. x;
     memory = λ x. tt;
-    other = λ x. x;
   }
   refuses one (Index exports limit names) file line kind must = record {
     done = λ x. of_told _ _ (reported_bad exports names limit true file line kind) s.files.held must.0 x.1;
@@ -287,7 +313,6 @@ module _ (apart : AcceptedIsNotRefused) (accepted : AcceptedIsOne) (s : Seen) (i
     unwritten = λ name x. of_told _ _ (reported_bad exports names limit false file line kind) s.files.held must.0 x.1;
     unreturned = λ why x. x;
     memory = λ x. tt;
-    other = λ x. x;
   }
   refuses one (Batch options list) file line kind must = absurd must
   refuses one (Run root args steps names) file line kind must = record {
@@ -300,27 +325,25 @@ module _ (apart : AcceptedIsNotRefused) (accepted : AcceptedIsOne) (s : Seen) (i
     unwritten = λ name x. modules_bad root names _ file line kind must.0 x.1;
     unreturned = λ why x. modules_bad root names _ file line kind must.0 x;
     memory = λ x. tt;
-    other = λ x. x;
   }
   refuses one (Gen seed modules jobs) file line kind must = absurd must
 
   -- ---- nothing but the modules
 
-  pub clashes : ReportedIsNotRefused → RefusalIsOne → (c : Command) (why : Refusal) → MustNotLink c s why
+  pub clashes : ReportedIsNotRefused → RefusalIsOne → UnlinkedIsNotLinked → UnlinkedIsOne → (c : Command) (why : Refusal) → MustNotLink c s why
       → Implies (telling c s i) (record never { unlinked = λ other. other ≡ why; memory = Unit {0} })
-  clashes reported one (Link options out names) why must = record {
-    done = λ x. of_told _ _ (linked_unlinked options.exports names options.import_limit why) s.files.held must.0 (link_told _ options out names s.files.held s.files.holds x);
+  clashes reported one linked unlinkable (Link options out names) why must = record {
+    done = λ x. of_told _ _ (linked_unlinkable linked options names why) s.files.held must.0 (link_told _ options out names s.files.held s.files.holds x);
     usage = λ x. x;
     unread = λ name x. absurd (must.1 x);
-    refused = λ file line kind x. of_told _ _ (unlinked_bad options.exports names why file line kind) s.files.held must.0 x;
-    unlinked = λ other x. of_told _ _ (one_unlinked one options.exports names why other) s.files.held must.0 x;
+    refused = λ file line kind x. of_told _ _ (unlinkable_bad options names why file line kind) s.files.held must.0 x;
+    unlinked = λ other x. of_told _ _ (one_unlinkable unlinkable options names why other) s.files.held must.0 x;
     unfit = λ name x. x;
     unwritten = λ name x. absurd (must.1 x.1);
     unreturned = λ w x. x;
     memory = λ x. tt;
-    other = λ x. x;
   }
-  clashes reported one (Index exports limit names) why must = record {
+  clashes reported one linked unlinkable (Index exports limit names) why must = record {
     done = λ x. of_told _ _ (reported_unlinked reported exports names limit true why) s.files.held must.0 x.1;
     usage = λ x. x;
     unread = λ name x. absurd (must.1 x);
@@ -330,10 +353,9 @@ module _ (apart : AcceptedIsNotRefused) (accepted : AcceptedIsOne) (s : Seen) (i
     unwritten = λ name x. of_told _ _ (reported_unlinked reported exports names limit false why) s.files.held must.0 x.1;
     unreturned = λ w x. x;
     memory = λ x. tt;
-    other = λ x. x;
   }
-  clashes reported one (Batch options list) why must = absurd must
-  clashes reported one (Run root args steps names) why must = record {
+  clashes reported one linked unlinkable (Batch options list) why must = absurd must
+  clashes reported one linked unlinkable (Run root args steps names) why must = record {
     done = λ x. modules_unlinked root names _ why must.0 x.1;
     usage = λ x. x;
     unread = λ name x. either x (λ a. must.1 a.0) (λ o. modules_unlinked root names _ why must.0 o);
@@ -343,9 +365,8 @@ module _ (apart : AcceptedIsNotRefused) (accepted : AcceptedIsOne) (s : Seen) (i
     unwritten = λ name x. modules_unlinked root names _ why must.0 x.1;
     unreturned = λ w x. modules_unlinked root names _ why must.0 x;
     memory = λ x. tt;
-    other = λ x. x;
   }
-  clashes reported one (Gen seed modules jobs) why must = absurd must
+  clashes reported one linked unlinkable (Gen seed modules jobs) why must = absurd must
 
   -- ---- nothing but that the root doesn't take the arguments
 
@@ -363,7 +384,6 @@ module _ (apart : AcceptedIsNotRefused) (accepted : AcceptedIsOne) (s : Seen) (i
     unwritten = λ n x. ends_not root args steps names (sends root args steps names n) must.none (λ m r. (r.gave_up.first, r.gave_up.begins)) x.1;
     unreturned = λ why x. ends_not root args steps names (ends_otherwise root args steps names why) must.none (λ m r. (r.ended.first, r.ended.begins)) x;
     memory = λ x. tt;
-    other = λ x. x;
   }
   begins_none (Gen seed modules jobs) name must = absurd must
 
@@ -383,6 +403,5 @@ module _ (apart : AcceptedIsNotRefused) (accepted : AcceptedIsOne) (s : Seen) (i
     unwritten = λ name x. must.work.out x.1.so.rose;
     unreturned = λ other x. otherwise_so root args steps names must.ending why other must.comes x;
     memory = λ x. tt;
-    other = λ x. x;
   }
   returns_none (Gen seed modules jobs) why must = absurd must

@@ -1,5 +1,5 @@
 -- What told files hold follows from what their fetches gave.
-use Rattle.std.proofs.Common.{ℕ, ◌≡◌, ◌<◌, ◌^◌, List, [], ◌∷◌, Option, Some, None, Ok, Err, refl, sym, ◌∙◌, ap, arith, length, subst, inl, inr}
+use Rattle.std.proofs.Common.{ℕ, ◌≡◌, ◌<◌, ◌^◌, List, [], ◌∷◌, ◌++◌, map, Option, Some, None, Ok, Err, refl, sym, ◌∙◌, ap, arith, length, subst, inl, inr}
 use Rattle.std.specs.List.{AllZip}
 use Rattle.ir_tree.specs.declared.module.Module.{Module}
 use Rattle.link_one.specs.Accepted.{Accepts}
@@ -10,8 +10,8 @@ use Rattle.lto_outside.specs.Calls.{Call, Fetched, NoPut, Put}
 use Rattle.lto_outside.specs.Replay.{Follows, Replays}
 use Rattle.lto_outside.specs.Store.{SameFiles, Stays, Store}
 use Rattle.lto_outside.specs.declared.fault.FetchFault.TheVariants.{Fault, NoMemory, TooLong}
-use Rattle.thinlto_main.specs.Modules.{FirstBad, IsBad, IsRead}
-use Rattle.thinlto_main.specs.Telling.{AreBad, HoldFirstBad, HoldsBad, HoldsModule}
+use Rattle.thinlto_main.specs.Modules.{FirstBad, IsBad, IsRead, bytes_of}
+use Rattle.thinlto_main.specs.Telling.{AreBad, HoldFirstBad, Holds, HoldsBad, HoldsModule}
 
 -- calls without a put leave the files as they were
 replays_same : (old new : Store) (calls : List Call) → NoPut calls → Replays old calls new → SameFiles old new
@@ -39,6 +39,15 @@ fetches_give old new (name ∷ names) [] each r = absurd (omega (arith, each))
 fetches_give old new (name ∷ names) (Some bytes ∷ given) each r = (r.0, fetches_give old new names given (omega (arith, each)) r.1)
 fetches_give old new (name ∷ names) (None ∷ given) each r = (r.0, fetches_give old new names given (omega (arith, each)) r.1)
 
+-- fetches in front of other calls
+pub fetches_then : (old new : Store) (names : List (List ℕ)) (given : List (Option (List ℕ))) (rest : List Call) → length given ≡ length names → Replays old (fetch_calls names given ++ rest) new
+    → AllZip (Gives old) names given × Replays old rest new
+fetches_then old new [] [] rest each r = (tt, r)
+fetches_then old new [] (g ∷ given) rest each r = absurd (omega (arith, each))
+fetches_then old new (name ∷ names) [] rest each r = absurd (omega (arith, each))
+fetches_then old new (name ∷ names) (Some bytes ∷ given) rest each r = let more = fetches_then old new names given rest (omega (arith, each)) r.1 in ((r.0, more.0), more.1)
+fetches_then old new (name ∷ names) (None ∷ given) rest each r = let more = fetches_then old new names given rest (omega (arith, each)) r.1 in ((r.0, more.0), more.1)
+
 module _ (held : Store) where
   held_module : (name : List ℕ) (g : Option (List ℕ)) (m : Module) → Gives held name g → IsRead g m → HoldsModule held name m
   held_module name None m gives read = absurd read
@@ -63,10 +72,41 @@ module _ (held : Store) where
   held_first_bad (name ∷ names) (g ∷ given) file line kind gives (inl bad) = inl (bad.0, held_bad name g line kind gives.0 bad.1)
   held_first_bad (name ∷ names) (g ∷ given) file line kind gives (inr (read, bad)) = inr ((read.0, held_module name g read.0 gives.0 read.1), held_first_bad names given file line kind gives.1 bad)
 
+  held_input : (name : List ℕ) (g : Option (List ℕ)) (m : Module) → Gives held name g → IsRead g m → Holds held name (bytes_of g)
+  held_input name None m gives read = absurd read
+  held_input name (Some bytes) m gives read = (gives, read.0)
+
+  pub held_inputs : (names : List (List ℕ)) (given : List (Option (List ℕ))) (ms : List Module) → AllZip (Gives held) names given → AllZip IsRead given ms → AllZip (Holds held) names (map bytes_of given)
+  held_inputs [] [] ms gives read = tt
+  held_inputs [] (g ∷ given) ms gives read = absurd gives
+  held_inputs (name ∷ names) [] ms gives read = absurd gives
+  held_inputs (name ∷ names) (g ∷ given) [] gives read = absurd read
+  held_inputs (name ∷ names) (g ∷ given) (m ∷ ms) gives read = (held_input name g m gives.0 read.0, held_inputs names given ms gives.1 read.1)
+
   -- ---- what is held is one list of modules, or has one first fault
 
   same_bytes : (name bytes other : List ℕ) → held name ≡ Some bytes → held name ≡ Some other → bytes ≡ other
   same_bytes name bytes other a b = let both : Some bytes ≡ Some other = sym a ∙ b in cc
+
+  pub one_inputs : (names inputs others : List (List ℕ)) → AllZip (Holds held) names inputs → AllZip (Holds held) names others → inputs ≡ others
+  one_inputs [] [] [] a b = refl
+  one_inputs [] [] (other ∷ others) a b = absurd b
+  one_inputs [] (bytes ∷ inputs) others a b = absurd a
+  one_inputs (name ∷ names) [] others a b = absurd a
+  one_inputs (name ∷ names) (bytes ∷ inputs) [] a b = absurd b
+  one_inputs (name ∷ names) (bytes ∷ inputs) (other ∷ others) a b =
+      let first : bytes ≡ other = same_bytes name bytes other a.0.0 b.0.0 in
+      let rest : inputs ≡ others = one_inputs names inputs others a.1 b.1 in
+      λ i. first i ∷ rest i
+
+  pub hold_modules : (names inputs : List (List ℕ)) (ms : List Module) → AllZip (Holds held) names inputs → AllZip Accepts inputs ms → AllZip (HoldsModule held) names ms
+  hold_modules [] [] [] there accepted = tt
+  hold_modules [] [] (m ∷ ms) there accepted = absurd accepted
+  hold_modules [] (bytes ∷ inputs) ms there accepted = absurd there
+  hold_modules (name ∷ names) [] ms there accepted = absurd there
+  hold_modules (name ∷ names) (bytes ∷ inputs) [] there accepted = absurd accepted
+  hold_modules (name ∷ names) (bytes ∷ inputs) (m ∷ ms) there accepted =
+      (record { bytes = bytes; here = there.0.0; short = there.0.1; accepted = accepted.0 }, hold_modules names inputs ms there.1 accepted.1)
 
   pub one_list : AcceptedIsOne → (names : List (List ℕ)) (ms ns : List Module) → AllZip (HoldsModule held) names ms → AllZip (HoldsModule held) names ns → ms ≡ ns
   one_list one [] [] [] a b = refl

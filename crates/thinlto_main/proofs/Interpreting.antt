@@ -164,7 +164,6 @@ module _ (p : Program) (root : List ℕ) (args : List Decimal) (steps : ℕ) (t 
         unwritten = λ n x. absurd x;
         unreturned = λ w x. record { ending = ending_meant names end; ended = run_ends; told = x };
         memory = λ x. inr (inr (record { ending = ending_meant names end; ended = run_ends }));
-        other = λ x. x;
       }) why because
 
   pub ended_returns : (gives : Option Reg) → gives ≡ result_of (root_of p root) → (r : Result line.Returned Refusal) → IfOk r (IsSaid gives (ending_meant names end)) → IfOk r (ReturnsSo p root args steps t)
@@ -190,5 +189,4 @@ unfit_because p root args file steps t none unused why h =
       unwritten = λ n x. absurd x;
       unreturned = λ w x. absurd x;
       memory = λ x. inl unused;
-      other = λ x. x;
     }) why h

@@ -1,6 +1,7 @@
 -- What is true of each answer for words, over what was seen.
 use Rattle.std.proofs.Common.{ℕ, List, OnOk, Result}
 use Rattle.link_one.specs.Laws.{AcceptedIsNotRefused, AcceptedIsOne, RefusedIsOne}
+use Rattle.link_one.specs.LinkedLaws.{UnlinkedIsNotLinked, UnlinkedIsOne}
 use Rattle.lto_fault.specs.declared.kind.Kind.{Kind}
 use Rattle.lto_fault.specs.declared.refusal.Refusal.{Refusal}
 use Rattle.lto_outside.specs.Calls.{Call, DidNoPut}
@@ -11,11 +12,11 @@ use Rattle.lto_words.specs.declared.request.Command.{Command}
 use Rattle.thin_link.specs.Laws.{RefusalIsOne, ReportIsOne, ReportedIsNotRefused}
 use Rattle.thinlto_main.specs.Answers.{IsRefusal, IsUnfitted, IsUnlinked, IsUnreturned, Succeeds, causes, causes_of}
 use Rattle.thinlto_main.specs.Asking.{AskNothing, Asked}
-use Rattle.thinlto_main.specs.Causes.{Causes, Comes, OnNoMemory, OnOther, OnReadFault, OnRefused, OnUnfit, OnUnlinked, OnUnreturned, OnUnused, OnUnwritten, OnUsage, OnWriteFault}
+use Rattle.thinlto_main.specs.Causes.{Causes, Comes, OnNoMemory, OnReadFault, OnRefused, OnUnfit, OnUnlinked, OnUnreturned, OnUnused, OnUnwritten, OnUsage, OnWriteFault}
 use Rattle.thinlto_main.specs.Seen.{InputSeen, Seen, Untouched}
 use Rattle.thinlto_main.specs.Telling.{CanDo, MustNotBegin, MustNotLink, MustNotReturn, MustRefuse, told, told_of}
 use Rattle.thinlto_main.proofs.Asking.{asked_refused, asked_unfit, asked_unlinked, calm_before, of_command, told_so}
-use Rattle.thinlto_main.proofs.Causes.{Implies, both_imply, comes_map, on_done, on_no_memory, on_other, on_read_fault, on_refused, on_unfit, on_unlinked, on_unreturned, on_unused, on_unwritten_map, on_usage, on_write_fault}
+use Rattle.thinlto_main.proofs.Causes.{Implies, both_imply, comes_map, on_done, on_no_memory, on_read_fault, on_refused, on_unfit, on_unlinked, on_unreturned, on_unused, on_unwritten_map, on_usage, on_write_fault}
 use Rattle.thinlto_main.proofs.Completing.{begins_none, clashes, completes, refuses, returns_none, telling}
 use Rattle.thinlto_main.proofs.Held.{follows_same}
 use Rattle.thinlto_main.proofs.Telling.{tell}
@@ -29,6 +30,8 @@ pub record Laws : Type 0 where
   pub reported : ReportedIsNotRefused
   pub report : ReportIsOne
   pub refusal : RefusalIsOne
+  pub linked : UnlinkedIsNotLinked
+  pub unlinked : UnlinkedIsOne
 
 pub record Judged {A : Type 0} (words : List (List ℕ)) (s : Seen) (i : InputSeen) (r : Result A Refusal) : Type 0 where
   pub usage : OnUsage r (AskNothing words × Untouched s × i.untaken)
@@ -40,7 +43,6 @@ pub record Judged {A : Type 0} (words : List (List ℕ)) (s : Seen) (i : InputSe
   pub out_of_memory : OnNoMemory r ((causes_of words s i).memory)
   pub unreturned : OnUnreturned r (λ why. Asked words (λ c. (causes c s i).unreturned why))
   pub done : OnOk r (Asked words (λ c. (causes c s i).done))
-  pub only : OnOther r ⊥
   pub holds_done : OnOk r (Asked words (λ c. (told c s i).done))
   pub holds_part : OnWriteFault r (λ name. Asked words (λ c. (told c s i).unwritten name))
   pub holds_refused : OnRefused r (λ file line kind. Asked words (λ c. (told c s i).refused file line kind))
@@ -81,7 +83,6 @@ module _ {A : Type 0} (laws : Laws) (words : List (List ℕ)) (s : Seen) (i : In
     out_of_memory = on_no_memory (causes_of words s i) r come;
     unreturned = on_unreturned (causes_of words s i) r come;
     done = on_done (causes_of words s i) r come;
-    only = on_other (causes_of words s i) r come;
     holds_done = on_done (told_of words s i) r told_comes;
     holds_part = on_write_fault (told_of words s i) r told_comes;
     holds_refused = on_refused (told_of words s i) r told_comes;
@@ -91,7 +92,7 @@ module _ {A : Type 0} (laws : Laws) (words : List (List ℕ)) (s : Seen) (i : In
     stay = on_unwritten_map _ _ (λ calm. follows_same s.files.held s.files.holds calm.calls calm.no_put (tells calm.calls calm.made)) r calm;
     complete = λ asked. ruled _ (completes laws.apart laws.accepted s i) asked;
     complete_refusal = λ file line kind asked. ruled _ (λ c must. refuses laws.apart laws.accepted s i laws.refused c file line kind must) asked;
-    complete_unlinked = λ why asked. ruled _ (λ c must. clashes laws.apart laws.accepted s i laws.reported laws.refusal c why must) asked;
+    complete_unlinked = λ why asked. ruled _ (λ c must. clashes laws.apart laws.accepted s i laws.reported laws.refusal laws.linked laws.unlinked c why must) asked;
     complete_unfit = λ name asked. ruled _ (λ c must. begins_none laws.apart laws.accepted s i c name must) asked;
     complete_unreturned = λ why asked. ruled _ (λ c must. returns_none laws.apart laws.accepted s i c why must) asked;
     no_put = calm;

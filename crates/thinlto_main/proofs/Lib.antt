@@ -2,6 +2,7 @@ mod Mapping
 mod Causes
 mod Reading
 mod Unlinked
+mod Renumbered
 mod Rereading
 mod Linking
 mod Reporting

@@ -39,7 +39,6 @@ module _ (root : List ℕ) (args : List Decimal) (steps : ℕ) (names : List (Li
     unwritten = λ name x. absurd x;
     unreturned = λ why x. absurd x;
     memory = λ x. inl (x, unused);
-    other = λ x. x;
   }
 
   -- and why they aren't linked
@@ -54,7 +53,6 @@ module _ (root : List ℕ) (args : List Decimal) (steps : ℕ) (names : List (Li
     unwritten = λ name x. absurd x;
     unreturned = λ why x. absurd x;
     memory = λ x. inl (fetched_no_put names r.given files.did r.fetched, unused);
-    other = λ x. x;
   }
 
   module _ (ms : List Module) (read : AreRead names files.did ms) (linked : (why : Refusal) → IsRefused names ms (root ∷ []) why → ⊥) where
@@ -73,7 +71,6 @@ module _ (root : List ℕ) (args : List Decimal) (steps : ℕ) (names : List (Li
       unwritten = λ name x. of_modules (λ ns. (merged_causes root args steps names t ns).unwritten name) x;
       unreturned = λ why x. of_modules (λ ns. (merged_causes root args steps names t ns).unreturned why) x;
       memory = λ x. inr (of_modules (λ ns. (merged_causes root args steps names t ns).memory) x);
-      other = λ x. x;
     }
 
     -- and what it returned is said

@@ -1,7 +1,6 @@
 -- How files are read one after another.
-use Rattle.std.proofs.Common.{◌≡◌, ◌<◌, ◌∙◌, ℕ, zero, suc, List, [], ◌∷◌, length, take, get_or, Option, Some, None, Result, Ok, Err, All, refl, sym, subst, inl, inr, arith}
+use Rattle.std.proofs.Common.{◌≡◌, ◌<◌, ◌∙◌, ℕ, zero, suc, List, [], ◌∷◌, length, take, get_or, Option, Some, None, All, refl, sym, subst, inl, inr, arith}
 use Rattle.std.specs.List.{AllZip}
-use Rattle.std.specs.Prelude.{IfOk, IfErr}
 use Rattle.std.proofs.lemmas.Slice.Zip.{AllZip-long}
 use Rattle.ir_tree.specs.declared.module.Module.{Module}
 use Rattle.link_one.specs.Laws.{AcceptedIsOne}
@@ -64,7 +63,6 @@ bad_because name bytes line kind bad why h =
       unwritten = λ n x. x;
       unreturned = λ w x. x;
       memory = λ x. x;
-      other = λ x. x;
     }) why h
 
 -- and of the first of all that isn't read
@@ -83,7 +81,6 @@ first_because names given ms i name bytes each lt name_is bytes_is read why h =
       unwritten = λ n x. x;
       unreturned = λ w x. x;
       memory = λ x. x;
-      other = λ x. x;
     }) why h
 
 -- of fetches, one of which failed
@@ -93,10 +90,9 @@ unfetched_because names files (error.Fault name) failed calm = record { failed =
 unfetched_because names files error.NoMemory failed calm = calm
 
 -- of a reader that answers for a file, that the command answers
-pub read_because : (names : List (List ℕ)) (given : List (Option (List ℕ))) (files : FilesSeen) → AreFetched names given files.did → {A : Type 0} (r : Result A Refusal)
-    → IfErr r (Because (record never { refused = FirstBad names given; memory = Unit {0} })) → IfErr r (Because (reading names files))
-read_because names given files fetched (Ok x) h = tt
-read_because names given files fetched (Err why) h =
+pub read_because : (names : List (List ℕ)) (given : List (Option (List ℕ))) (files : FilesSeen) → AreFetched names given files.did → (why : Refusal)
+    → Because (record never { refused = FirstBad names given; memory = Unit {0} }) why → Because (reading names files) why
+read_because names given files fetched why h =
     because_map {k = record never { refused = FirstBad names given; memory = Unit {0} }} {l = reading names files} (record {
       done = λ x. x;
       usage = λ x. x;
@@ -107,13 +103,7 @@ read_because names given files fetched (Err why) h =
       unwritten = λ name x. x;
       unreturned = λ w x. x;
       memory = λ x. fetched_no_put names given files.did fetched;
-      other = λ x. x;
     }) why h
-
-pub read_ok : (names : List (List ℕ)) (given : List (Option (List ℕ))) (did : List Call → Type 0) → AreFetched names given did → (r : Result (List Module) Refusal)
-    → IfOk r (λ ms. AllZip IsRead given ms) → IfOk r (AreRead names did)
-read_ok names given did fetched (Ok ms) h = record { given = given; fetched = fetched; read = h }
-read_ok names given did fetched (Err why) h = tt
 
 -- what is given is read as one list of modules
 pub one_reading : AcceptedIsOne → (given : List (Option (List ℕ))) (ms ns : List Module) → AllZip IsRead given ms → AllZip IsRead given ns → ms ≡ ns

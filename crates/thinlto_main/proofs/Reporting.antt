@@ -26,7 +26,6 @@ reading_reports exports names limit s same = record {
   unwritten = λ name x. absurd x;
   unreturned = λ why x. absurd x;
   memory = λ x. (x, same);
-  other = λ x. absurd x;
 }
 
 module _ (exports names : List (List ℕ)) (limit : ℕ) (s : Seen) (ms : List Module) (r : AreRead names s.files.did ms) where
@@ -42,7 +41,6 @@ module _ (exports names : List (List ℕ)) (limit : ℕ) (s : Seen) (ms : List M
     unwritten = λ name x. absurd x;
     unreturned = λ why x. absurd x;
     memory = λ x. (fetched_no_put names r.given s.files.did r.fetched, same);
-    other = λ x. absurd x;
   }
 
   pub did_report : AcceptedIsOne → ReportIsOne → (text : List ℕ) → IsIndexReport names ms exports limit text → (done : Bool) → Pushes s.out text done → DidReport exports names limit s done

@@ -1,5 +1,5 @@
 -- The causes of answers, where the files tell what they hold.
-use Rattle.std.proofs.Common.{ℕ, ◌≡◌, ◌∙◌, Bool, true, false, List, [], ◌∷◌, Option, Some, None, Ok, length, subst, inl, inr}
+use Rattle.std.proofs.Common.{ℕ, ◌≡◌, ◌∙◌, Bool, true, false, List, [], ◌∷◌, ◌++◌, map, Option, Some, None, length, subst, inl, inr}
 use Rattle.std.specs.List.{AllZip}
 use Rattle.std.specs.Prelude.{IfSome}
 use Rattle.ir_tree.specs.declared.module.Module.{Module}
@@ -7,7 +7,7 @@ use Rattle.link_one.specs.Laws.{AcceptedIsOne}
 use Rattle.lto_fault.specs.declared.kind.Kind.{Kind}
 use Rattle.lto_fault.specs.declared.refusal.Refusal.{Refusal}
 use Rattle.lto_fetch.specs.Fetching.{fetch_calls}
-use Rattle.lto_outside.specs.Calls.{Call, Fetched, Put}
+use Rattle.lto_outside.specs.Calls.{Call, Put}
 use Rattle.lto_outside.specs.Replay.{Follows}
 use Rattle.lto_outside.specs.Seen.{FilesSeen}
 use Rattle.lto_outside.specs.Store.{HasPart, HasPut, IsPart, SameFiles, Stays, Store}
@@ -18,14 +18,15 @@ use Rattle.thin_link.specs.Laws.{ReportIsOne}
 use Rattle.thin_link.specs.Linking.{IsIndexReport}
 use Rattle.thinlto_main.specs.Answers.{causes}
 use Rattle.thinlto_main.specs.Causes.{Causes}
-use Rattle.thinlto_main.specs.Linking.{DidLink}
-use Rattle.thinlto_main.specs.Modules.{AreFetched, AreRead, CannotLink, CannotRead}
+use Rattle.thinlto_main.specs.Linking.{CannotBeLinked, DidLink}
+use Rattle.thinlto_main.specs.Modules.{AreFetched, AreRead, CannotLink, CannotRead, bytes_of}
 use Rattle.thinlto_main.specs.Reporting.{DidReport}
 use Rattle.thinlto_main.specs.Running.{OfModules, merged_causes, running, running_by}
 use Rattle.thinlto_main.specs.Seen.{InputSeen, Seen, Streams, streams_of}
-use Rattle.thinlto_main.specs.Telling.{Held, HoldFirstBad, HoldReport, HoldUnlinked, LinkHeld, told, told_files}
+use Rattle.thinlto_main.specs.Telling.{Held, HoldFirstBad, HoldLink, HoldReport, HoldUnlinkable, HoldUnlinked, LinkHeld, told, told_files}
 use Rattle.thinlto_main.proofs.Causes.{Implies}
-use Rattle.thinlto_main.proofs.Held.{Gives, fetches_give, follows_same, held_first_bad, held_modules, one_list}
+use Rattle.thinlto_main.proofs.Held.{Gives, fetches_give, fetches_then, follows_same, held_first_bad, held_inputs, held_modules, one_list}
+use Rattle.thinlto_main.proofs.Linking.{accepted_bytes}
 use Rattle.thinlto_main.proofs.Mapping.{if_some_map}
 use Rattle.thinlto_main.proofs.Reading.{no_put_fetches}
 use Rattle.lto_words.specs.declared.request.LinkOptions.{LinkOptions}
@@ -57,6 +58,15 @@ module _ (files : FilesSeen) (tells : (calls : List Call) → files.did calls �
   pub modules_stay : (root : List ℕ) (names : List (List ℕ)) (P : List Module → Type 0) → OfModules (AreRead names files.did) root names P → Stays files.held files.holds
   modules_stay root names P o = fetched_stay names o.is.given o.is.fetched
 
+  pub unlinkable_told : (options : LinkOptions) (names : List (List ℕ)) (why : Refusal) → CannotBeLinked options names files why → IfSome files.held (λ held. HoldUnlinkable options names held why)
+  unlinkable_told options names why r =
+      if_some_map _ _ (λ held gives. record {
+        inputs = map bytes_of r.read.given;
+        ms = r.ms;
+        modules = record { there = held_inputs held names r.read.given r.ms gives r.read.read; accepted = accepted_bytes r.read.given r.ms r.read.read };
+        unlinked = r.unlinked;
+      }) files.held (fetched_told names r.read.given r.read.fetched)
+
   pub unlinked_told : (exports names : List (List ℕ)) (why : Refusal) → CannotLink exports names files why → IfSome files.held (λ held. HoldUnlinked exports names held why)
   unlinked_told exports names why r =
       if_some_map _ _ (λ held gives. record { ms = r.ms; modules = held_modules held names r.read.given r.ms gives r.read.read; refused = r.refused }) files.held (fetched_told names r.read.given r.read.fetched)
@@ -64,41 +74,35 @@ module _ (files : FilesSeen) (tells : (calls : List Call) → files.did calls �
 -- ---- what a link put
 
 module _ (options : LinkOptions) (out : List ℕ) (names : List (List ℕ)) (files : FilesSeen) where
-  held_done : (d : DidLink options out names files true) (old new : Option Store) → Follows old (Fetched d.file (Ok d.bytes) ∷ Put out d.text true ∷ []) new → LinkHeld HasPut options out names old new
-  held_done d None new f = tt
-  held_done d (Some old) None f = f
-  held_done d (Some old) (Some new) f = record {
-    file = d.file;
-    one = d.one;
-    bytes = d.bytes;
+  linked_held : (put : Store → Store → List ℕ → List ℕ → Type 0) (done : Bool) (d : DidLink options out names files done) (old new : Store) → AllZip (Gives old) names d.given → put old new out d.text
+      → HoldLink put options out names old new
+  linked_held put done d old new gives there = record {
+    inputs = map bytes_of d.given;
+    held = held_inputs old names d.given d.is_link.ms gives d.read;
     text = d.text;
-    held = f.0;
-    short = d.short;
     is_link = d.is_link;
     only = d.only;
-    thin = d.thin;
-    put_there = record { written = f.1.2 out ∙ f.1.1.written; others = λ other differs. f.1.2 other ∙ f.1.1.others other differs };
+    put_there = there;
   }
+
+  held_done : (d : DidLink options out names files true) (old new : Option Store) → Follows old (fetch_calls names d.given ++ Put out d.text true ∷ []) new → LinkHeld HasPut options out names old new
+  held_done d None new f = tt
+  held_done d (Some old) None f = f
+  held_done d (Some old) (Some new) f =
+      let both = fetches_then old new names d.given (Put out d.text true ∷ []) d.each f in
+      linked_held HasPut true d old new both.0 (record { written = both.1.2 out ∙ both.1.1.written; others = λ other differs. both.1.2 other ∙ both.1.1.others other differs })
 
   part_behind : (old next new : Store) (text : List ℕ) → IsPart old next out text → SameFiles next new → IsPart old new out text
   part_behind old next new text (inl is) same = inl (same out ∙ is)
   part_behind old next new text (inr (count, is)) same = inr (count, same out ∙ is)
 
-  held_part : (d : DidLink options out names files false) (old new : Option Store) → Follows old (Fetched d.file (Ok d.bytes) ∷ Put out d.text false ∷ []) new → LinkHeld HasPart options out names old new
+  held_part : (d : DidLink options out names files false) (old new : Option Store) → Follows old (fetch_calls names d.given ++ Put out d.text false ∷ []) new → LinkHeld HasPart options out names old new
   held_part d None new f = tt
   held_part d (Some old) None f = f
-  held_part d (Some old) (Some new) f = record {
-    file = d.file;
-    one = d.one;
-    bytes = d.bytes;
-    text = d.text;
-    held = f.0;
-    short = d.short;
-    is_link = d.is_link;
-    only = d.only;
-    thin = d.thin;
-    put_there = record { part = part_behind old f.1.0 new d.text f.1.1.part f.1.2; others = λ other differs. f.1.2 other ∙ f.1.1.others other differs };
-  }
+  held_part d (Some old) (Some new) f =
+      let both = fetches_then old new names d.given (Put out d.text false ∷ []) d.each f in
+      linked_held HasPart false d old new both.0
+      (record { part = part_behind old both.1.0 new d.text both.1.1.part both.1.2; others = λ other differs. both.1.2 other ∙ both.1.1.others other differs })
 
 -- ---- each command
 
@@ -143,12 +147,11 @@ module _ (accepted : AcceptedIsOne) (one : ReportIsOne) (s : Seen) (tells : (cal
     usage = λ x. absurd x.0.0;
     unread = λ name x. x.0.0.rose;
     refused = λ file line kind x. bad_told s.files tells names file line kind x.0.0;
-    unlinked = λ why x. unlinked_told s.files tells options.exports names why x.0.0;
+    unlinked = λ why x. unlinkable_told s.files tells options names why x.0.0;
     unfit = λ name x. absurd x.0.0;
     unwritten = λ name x. (held_part options out names s.files x.0.0.did_link s.files.held s.files.holds (tells _ x.0.0.did_link.calls), x.0.0.rose);
     unreturned = λ why x. absurd x.0.0;
     memory = λ x. tt;
-    other = λ x. absurd x.0.0;
   }
   tell i (Index exports limit names) = record {
     done = λ x. report_told exports names limit true x.0;
@@ -160,9 +163,8 @@ module _ (accepted : AcceptedIsOne) (one : ReportIsOne) (s : Seen) (tells : (cal
     unwritten = λ name x. report_told exports names limit false x.0.did_report;
     unreturned = λ why x. absurd x.0.0;
     memory = λ x. tt;
-    other = λ x. absurd x.0.0;
   }
-  tell i (Batch options list) = record { done = λ x. x; usage = λ x. x; unread = λ n x. x; refused = λ f l k x. x; unlinked = λ w x. x; unfit = λ n x. x; unwritten = λ n x. x; unreturned = λ w x. x; memory = λ x. x; other = λ x. x }
+  tell i (Batch options list) = record { done = λ x. x; usage = λ x. x; unread = λ n x. x; refused = λ f l k x. x; unlinked = λ w x. x; unfit = λ n x. x; unwritten = λ n x. x; unreturned = λ w x. x; memory = λ x. x }
   tell i (Run root args steps names) = record {
     done = λ x. (modules_stay s.files tells root names _ x, moved root args steps names (streams_of s i) (λ (k : Causes). k.done) x);
     usage = λ x. x;
@@ -173,6 +175,5 @@ module _ (accepted : AcceptedIsOne) (one : ReportIsOne) (s : Seen) (tells : (cal
     unwritten = λ name x. (modules_stay s.files tells root names _ x, moved root args steps names (streams_of s i) (λ (k : Causes). k.unwritten name) x);
     unreturned = λ why x. moved root args steps names (streams_of s i) (λ (k : Causes). k.unreturned why) x;
     memory = λ x. memory_told root args steps names (streams_of s i) x;
-    other = λ x. x;
   }
-  tell i (Gen seed modules jobs) = record { done = λ x. x; usage = λ x. x; unread = λ n x. x; refused = λ f l k x. x; unlinked = λ w x. x; unfit = λ n x. x; unwritten = λ n x. x; unreturned = λ w x. x; memory = λ x. x; other = λ x. x }
+  tell i (Gen seed modules jobs) = record { done = λ x. x; usage = λ x. x; unread = λ n x. x; refused = λ f l k x. x; unlinked = λ w x. x; unfit = λ n x. x; unwritten = λ n x. x; unreturned = λ w x. x; memory = λ x. x }

@@ -24,7 +24,6 @@ with_fact P k = record {
   unwritten = λ name. k.unwritten name × P;
   unreturned = λ why. k.unreturned why × P;
   memory = k.memory × P;
-  other = k.other × P;
 }
 
 abbrev pub reporting : List (List ℕ) → ℕ → List (List ℕ) → Seen → Causes
@@ -45,7 +44,6 @@ causes (Gen seed modules jobs) s i = never
 abbrev pub obeyed : Command → Seen → InputSeen → Causes
 obeyed c s i = record (with_fact (is_offered c ≡ true) (causes c s i)) {
   usage = (is_offered c ≡ false) × Untouched s × i.untaken;
-  other = ⊥;
 }
 
 -- of words; memory may run out where they are read
@@ -60,7 +58,6 @@ causes_of words s i = record {
   unwritten = λ name. Asked words (λ c. (causes c s i).unwritten name);
   unreturned = λ why. Asked words (λ c. (causes c s i).unreturned why);
   memory = (Untouched s × i.untaken) ⊎ Asked words (λ c. (causes c s i).memory);
-  other = ⊥;
 }
 
 -- what the notes got where the command was done: of a run its line, and else nothing

@@ -1,16 +1,16 @@
 -- What the words ask for, and what the program does so far.
-use Rattle.std.specs.Prelude.{◌≡◌, ◌&&◌, ℕ, Bool, true, false, List, length, nat_eq, is_some, not}
+use Rattle.std.specs.Prelude.{◌≡◌, ℕ, Bool, true, false, List, is_some, not}
 use Rattle.lto_words.specs.Commands.{IsCommand}
 use Rattle.lto_words.specs.declared.request.Command.{Command}
 use Rattle.lto_words.specs.declared.request.Command.TheVariants.{Link, Batch, Index, Run, Gen}
 use Rattle.lto_words.specs.declared.request.LinkOptions.{LinkOptions}
 
--- a link of one file, by one worker, without a cache
-abbrev pub is_offered_link : LinkOptions → List (List ℕ) → Bool
-is_offered_link options names = nat_eq options.jobs 1 && (not (is_some options.cache) && nat_eq (length names) 1)
+-- a link without a cache
+abbrev pub is_offered_link : LinkOptions → Bool
+is_offered_link options = not (is_some options.cache)
 
 abbrev pub is_offered : Command → Bool
-is_offered (Link options out names) = is_offered_link options names
+is_offered (Link options out names) = is_offered_link options
 is_offered (Batch options list) = false
 is_offered (Index exports limit names) = true
 is_offered (Run root args steps names) = true

@@ -4,7 +4,7 @@ use Rattle.lto_fault.specs.declared.kind.Kind.{Kind}
 use Rattle.lto_fault.specs.declared.refusal.Refusal.{Refusal}
 use Rattle.lto_fault.specs.declared.refusal.Refusal.TheVariants.{Usage, ReadFault, Refused, TargetClash, DuplicateSymbol, KindClash, UndefinedSymbol, NoExport, NameTaken, BadArguments, WriteFault, NoMemory, Undefined, Uninit, OutOfSteps}
 
--- a fact for each answer; `other` is for those that no command has so far
+-- a fact for each answer
 pub record Causes : Type 1 where
   pub done : Type 0
   pub usage : Type 0
@@ -17,7 +17,6 @@ pub record Causes : Type 1 where
   -- a run ended otherwise than by returning
   pub unreturned : Refusal → Type 0
   pub memory : Type 0
-  pub other : Type 0
 
 abbrev pub Because : Causes → Refusal → Type 0
 Because k Usage = k.usage
@@ -28,7 +27,7 @@ Because k (DuplicateSymbol name first second) = k.unlinked (DuplicateSymbol name
 Because k (KindClash name function variable) = k.unlinked (KindClash name function variable)
 Because k (UndefinedSymbol name file) = k.unlinked (UndefinedSymbol name file)
 Because k (NoExport name) = k.unlinked (NoExport name)
-Because k (NameTaken name) = k.other
+Because k (NameTaken name) = k.unlinked (NameTaken name)
 Because k (BadArguments name) = k.unfit name
 Because k (WriteFault name) = k.unwritten name
 Because k NoMemory = k.memory
@@ -53,7 +52,6 @@ always P = record {
   unwritten = λ name. P;
   unreturned = λ why. P;
   memory = P;
-  other = P;
 }
 
 abbrev pub free : Causes
@@ -87,10 +85,6 @@ OnUnreturned r P = Comes (record free { unreturned = P }) r
 
 abbrev pub OnNoMemory : {A : Type 0} → Result A Refusal → Type 0 → Type 0
 OnNoMemory r P = Comes (record free { memory = P }) r
-
--- for each answer that no command has
-abbrev pub OnOther : {A : Type 0} → Result A Refusal → Type 0 → Type 0
-OnOther r P = Comes (record free { other = P }) r
 
 -- for each answer that comes before anything was put, pushed or taken from the input
 abbrev pub OnUnused : {A : Type 0} → Result A Refusal → Type 0 → Type 0

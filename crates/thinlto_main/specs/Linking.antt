@@ -1,18 +1,23 @@
--- A link of one file.
-use Rattle.std.specs.Prelude.{◌≡◌, ◌≤◌, ◌^◌, ℕ, Bool, true, false, List, [], ◌∷◌, length, Ok}
+-- A link of files.
+use Rattle.std.specs.Prelude.{◌≡◌, ℕ, Bool, true, false, List, [], ◌∷◌, ◌++◌, All, length, map, Option}
+use Rattle.std.specs.List.{AllZip}
 use Rattle.ir_tree.specs.Names.{AllBytes}
 use Rattle.ir_tree.specs.declared.module.Module.{Module}
 use Rattle.ir_parse.specs.Reading.{Reads}
 use Rattle.read_again.specs.Within.{ModuleWithin}
+use Rattle.lto_fault.specs.declared.refusal.Refusal.{Refusal}
+use Rattle.lto_fetch.specs.Fetching.{fetch_calls}
 use Rattle.lto_words.specs.declared.request.LinkOptions.{LinkOptions}
-use Rattle.lto_outside.specs.Calls.{Fetched, Put}
+use Rattle.lto_outside.specs.Calls.{Put}
 use Rattle.lto_outside.specs.Cause.{Rose}
 use Rattle.lto_outside.specs.Seen.{FilesSeen}
 use Rattle.combined_index.specs.Combined.{Combined}
 use Rattle.link_one.specs.Linking.{IsLinkOf, IsOnlyLinkOf}
+use Rattle.link_one.specs.Refusing.{IsUnlinked}
+use Rattle.promote_rename.specs.Suffixes.{suffix_of}
 use Rattle.thin_link.specs.Linking.{IsThinLink}
 use Rattle.thinlto_main.specs.Causes.{Causes}
-use Rattle.thinlto_main.specs.Modules.{deciding}
+use Rattle.thinlto_main.specs.Modules.{AreRead, IsRead, bytes_of, reading}
 
 -- modules have a thin link
 pub record HasThinLink (ms : List Module) (exports : List (List ℕ)) (limit : ℕ) : Type 0 where
@@ -21,21 +26,29 @@ pub record HasThinLink (ms : List Module) (exports : List (List ℕ)) (limit : �
   pub imports : List (List ℕ)
   pub is : IsThinLink ms exports limit index live imports
 
--- The one file was fetched, its module has a thin link, and what a link makes of it was put, or its put failed; there were no
--- other calls. Both promises: the linked program does what the program read does, and no other text is a link of these
--- bytes. The text is read as the linked module.
+-- what stands behind the names of each module's locals
+abbrev pub suffixes_of : List (Option (List ℕ)) → List (List ℕ)
+suffixes_of given = map suffix_of (map bytes_of given)
+
+-- All files were fetched, in this order, and what a link makes of them was put, or its put failed; there were no other calls. Both
+-- promises: the linked program does what the modules do together, and no other text is a link of these bytes. The text is read as
+-- the linked module.
 pub record DidLink (options : LinkOptions) (out : List ℕ) (names : List (List ℕ)) (files : FilesSeen) (done : Bool) : Type 0 where
-  pub file : List ℕ
-  pub one : names ≡ file ∷ []
-  pub bytes : List ℕ
+  pub given : List (Option (List ℕ))
+  pub each : length given ≡ length names
   pub text : List ℕ
-  pub short : length bytes ≤ 2 ^ 24
-  pub is_link : IsLinkOf options.exports options.inline_limit bytes text
-  pub only : IsOnlyLinkOf options.exports options.inline_limit bytes text
-  -- within the reader's limits, which inlining may pass
-  pub reads : AllBytes bytes → ModuleWithin is_link.l → (lines : List (List ℕ)) × Reads text is_link.l lines
-  pub thin : HasThinLink (is_link.m ∷ []) options.exports options.import_limit
-  pub calls : files.did (Fetched file (Ok bytes) ∷ Put out text done ∷ [])
+  pub is_link : IsLinkOf options.exports options.import_limit options.inline_limit (map bytes_of given) text
+  pub read : AllZip IsRead given is_link.ms
+  pub only : IsOnlyLinkOf options.exports options.import_limit options.inline_limit (map bytes_of given) text
+  -- within the reader's limits, which a linked module may pass
+  pub reads : All AllBytes (map bytes_of given) → ModuleWithin is_link.l → (lines : List (List ℕ)) × Reads text is_link.l lines
+  pub calls : files.did (fetch_calls names given ++ Put out text done ∷ [])
+
+-- all are read, and can't be linked
+pub record CannotBeLinked (options : LinkOptions) (names : List (List ℕ)) (files : FilesSeen) (why : Refusal) : Type 0 where
+  pub ms : List Module
+  pub read : AreRead names files.did ms
+  pub unlinked : IsUnlinked names options.exports options.import_limit (suffixes_of read.given) ms why
 
 pub record LinkCannotWrite (options : LinkOptions) (out : List ℕ) (names : List (List ℕ)) (files : FilesSeen) (name : List ℕ) : Type 0 where
   pub named : name ≡ out
@@ -43,7 +56,8 @@ pub record LinkCannotWrite (options : LinkOptions) (out : List ℕ) (names : Lis
   pub rose : Rose files.faults files.faults_now
 
 abbrev pub linking : LinkOptions → List ℕ → List (List ℕ) → FilesSeen → Causes
-linking options out names files = record (deciding options.exports names files) {
+linking options out names files = record (reading names files) {
   done = DidLink options out names files true;
+  unlinked = CannotBeLinked options names files;
   unwritten = LinkCannotWrite options out names files;
 }

@@ -28,6 +28,11 @@ abbrev pub IsBad : Option (List ℕ) → ℕ → Kind → Type 0
 IsBad None line kind = (line ≡ 0) × (kind ≡ Limit)
 IsBad (Some bytes) line kind = (length bytes ≤ 2 ^ 24) × Refuses bytes line kind
 
+-- the bytes, where they are given
+abbrev pub bytes_of : Option (List ℕ) → List ℕ
+bytes_of None = []
+bytes_of (Some bytes) = bytes
+
 -- ---- all files
 
 -- of these files the first that isn't read, and why

@@ -1,5 +1,5 @@
 -- The same of files that tell what they hold.
-use Rattle.std.specs.Prelude.{◌≡◌, ◌⊎◌, ◌<◌, ◌≤◌, ◌^◌, ℕ, Bool, true, false, List, [], ◌∷◌, length, replicate, Option, Some, None, IfSome, MatchOption, ⊤}
+use Rattle.std.specs.Prelude.{◌≡◌, ◌⊎◌, ◌<◌, ◌≤◌, ◌^◌, ℕ, Bool, true, false, List, [], ◌∷◌, length, map, replicate, Option, Some, None, IfSome, MatchOption, ⊤}
 use Rattle.std.specs.List.{AllZip}
 use Rattle.ir_tree.specs.declared.module.Module.{Module}
 use Rattle.ir_meaning.specs.Program.{Program, State}
@@ -17,12 +17,13 @@ use Rattle.lto_words.specs.declared.request.Command.TheVariants.{Link, Batch, In
 use Rattle.lto_notes.specs.Pushing.{Pushes}
 use Rattle.link_one.specs.Accepted.{Accepts, Refuses}
 use Rattle.link_one.specs.Linking.{IsLinkOf, IsOnlyLinkOf}
+use Rattle.link_one.specs.Refusing.{IsUnlinked}
+use Rattle.promote_rename.specs.Suffixes.{suffix_of}
 use Rattle.thin_link.specs.Linking.{IsIndexReport}
 use Rattle.thin_link.specs.Refusing.{IsRefused}
 use Rattle.thinlto_main.specs.Asking.{Asked}
 use Rattle.thinlto_main.specs.Causes.{Causes, free, never}
 use Rattle.merge_meaning.specs.Merged.{merged}
-use Rattle.thinlto_main.specs.Linking.{HasThinLink}
 use Rattle.thinlto_main.specs.Running.{OfModules, file_of, merged_causes, running_by}
 use Rattle.run_parts.specs.Said.{ending_refusal}
 use Rattle.thinlto_main.specs.Seen.{InputSeen, Seen, streams_of}
@@ -53,6 +54,22 @@ HoldFirstBad held [] file line kind = ⊥
 HoldFirstBad held (name ∷ names) file line kind =
     ((file ≡ name) × HoldsBad held name line kind) ⊎ (((m : Module) × HoldsModule held name m) × HoldFirstBad held names file line kind)
 
+-- these bytes, 16 MiB at most
+abbrev pub Holds : Store → List ℕ → List ℕ → Type 0
+Holds held name bytes = (held name ≡ Some bytes) × (length bytes ≤ 2 ^ 24)
+
+-- these bytes, which are read as these modules
+pub record HoldModules (held : Store) (names inputs : List (List ℕ)) (ms : List Module) : Type 0 where
+  pub there : AllZip (Holds held) names inputs
+  pub accepted : AllZip Accepts inputs ms
+
+-- they hold modules that can't be linked
+pub record HoldUnlinkable (options : LinkOptions) (names : List (List ℕ)) (held : Store) (why : Refusal) : Type 0 where
+  pub inputs : List (List ℕ)
+  pub ms : List Module
+  pub modules : HoldModules held names inputs ms
+  pub unlinked : IsUnlinked names options.exports options.import_limit (map suffix_of inputs) ms why
+
 -- they hold modules that have no thin link
 pub record HoldUnlinked (exports names : List (List ℕ)) (held : Store) (why : Refusal) : Type 0 where
   pub ms : List Module
@@ -65,17 +82,13 @@ Held names files ms = IfSome files.held (λ held. AllZip (HoldsModule held) name
 
 -- ---- what a command did to them
 
--- they hold what a link makes of the file, or a front of it, and else what they held
+-- they hold what a link makes of these files, or a front of it, and else what they held
 pub record HoldLink (put : Store → Store → List ℕ → List ℕ → Type 0) (options : LinkOptions) (out : List ℕ) (names : List (List ℕ)) (old new : Store) : Type 0 where
-  pub file : List ℕ
-  pub one : names ≡ file ∷ []
-  pub bytes : List ℕ
+  pub inputs : List (List ℕ)
+  pub held : AllZip (Holds old) names inputs
   pub text : List ℕ
-  pub held : old file ≡ Some bytes
-  pub short : length bytes ≤ 2 ^ 24
-  pub is_link : IsLinkOf options.exports options.inline_limit bytes text
-  pub only : IsOnlyLinkOf options.exports options.inline_limit bytes text
-  pub thin : HasThinLink (is_link.m ∷ []) options.exports options.import_limit
+  pub is_link : IsLinkOf options.exports options.import_limit options.inline_limit inputs text
+  pub only : IsOnlyLinkOf options.exports options.import_limit options.inline_limit inputs text
   pub put_there : put old new out text
 
 abbrev pub LinkHeld : (Store → Store → List ℕ → List ℕ → Type 0) → LinkOptions → List ℕ → List (List ℕ) → Option Store → Option Store → Type 0
@@ -103,11 +116,11 @@ told_files exports names files = record free {
   unlinked = λ why. IfSome files.held (λ held. HoldUnlinked exports names held why);
   unfit = λ name. ⊥;
   unreturned = λ why. ⊥;
-  other = ⊥;
 }
 
 abbrev pub told : Command → Seen → InputSeen → Causes
 told (Link options out names) s i = record (told_files options.exports names s.files) {
+  unlinked = λ why. IfSome s.files.held (λ held. HoldUnlinkable options names held why);
   done = LinkHeld HasPut options out names s.files.held s.files.holds;
   unwritten = λ name. LinkHeld HasPart options out names s.files.held s.files.holds × Rose s.files.faults s.files.faults_now;
 }
@@ -140,6 +153,14 @@ pub record CanLink (exports names : List (List ℕ)) (files : FilesSeen) (held :
   pub ms : List Module
   pub modules : AllZip (HoldsModule held) names ms
   pub linked : (why : Refusal) → IsRefused names ms exports why → ⊥
+  pub fine : ¬ (Rose files.faults files.faults_now)
+
+-- they hold modules that can be linked, and no call failed
+pub record CanBeDone (options : LinkOptions) (names : List (List ℕ)) (files : FilesSeen) (held : Store) : Type 0 where
+  pub inputs : List (List ℕ)
+  pub ms : List Module
+  pub modules : HoldModules held names inputs ms
+  pub linked : (why : Refusal) → IsUnlinked names options.exports options.import_limit (map suffix_of inputs) ms why → ⊥
   pub fine : ¬ (Rose files.faults files.faults_now)
 
 abbrev pub IsTold : {X : Type 0} → Option X → (X → Type 0) → Type 0
@@ -175,7 +196,7 @@ pub record CanReturn (root : List ℕ) (args : List Decimal) (steps : ℕ) (name
 
 -- nothing is in the way
 abbrev pub CanDo : Command → Seen → InputSeen → Type 0
-CanDo (Link options out names) s i = IsTold s.files.held (CanLink options.exports names s.files)
+CanDo (Link options out names) s i = IsTold s.files.held (CanBeDone options names s.files)
 CanDo (Index exports limit names) s i = IsTold s.files.held (CanLink exports names s.files) × ¬ (Rose s.out.faults s.out.faults_now)
 CanDo (Batch options list) s i = ⊥
 CanDo (Run root args steps names) s i = CanReturn root args steps names s i
@@ -197,7 +218,7 @@ abbrev pub ModulesClash : List (List ℕ) → List (List ℕ) → FilesSeen → 
 ModulesClash exports names files why = IsTold files.held (λ held. HoldUnlinked exports names held why) × ¬ (Rose files.faults files.faults_now)
 
 abbrev pub MustNotLink : Command → Seen → Refusal → Type 0
-MustNotLink (Link options out names) s = ModulesClash options.exports names s.files
+MustNotLink (Link options out names) s = λ why. IsTold s.files.held (λ held. HoldUnlinkable options names held why) × ¬ (Rose s.files.faults s.files.faults_now)
 MustNotLink (Index exports limit names) s = ModulesClash exports names s.files
 MustNotLink (Batch options list) s = λ why. ⊥
 MustNotLink (Run root args steps names) s = ModulesClash (root ∷ []) names s.files

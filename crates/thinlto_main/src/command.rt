@@ -12,18 +12,20 @@ use crate::run::run;
 use crate::status::Status;
 use lto_fault::Refusal;
 use lto_outside::{ByteIn, ByteOut, Files};
-use lto_words::{Command, FileName, LinkOptions, WordsError, command, one_command};
+use lto_words::{Command, LinkOptions, WordsError, command, one_command};
 use std::alloc::Global;
+use std::thread::Threads;
 
-/// Whether the program does such a link: of one file, by one worker, without a cache.
-fn is_offered_link(options: &LinkOptions, names: &[FileName]) -> bool
-    ensures { result ≡ is_offered_link options.now names.now }
+/// Whether the program does such a link: without a cache.
+fn is_offered_link(options: &LinkOptions) -> bool
+    ensures { result ≡ is_offered_link options.now }
 {
-    options.jobs == 1 && options.cache.is_none() && names.len() == 1
+    options.cache.is_none()
 }
 
 /// Does a command. Where it is done, the notes get what it says.
-fn obey<F: Files, I: ByteIn, O: ByteOut, N: ByteOut>(
+fn obey<R: Threads + Sync, F: Files, I: ByteIn, O: ByteOut, N: ByteOut>(
+    rt: &R,
     alloc: Global,
     files: &mut F,
     input: &mut I,
@@ -42,10 +44,10 @@ fn obey<F: Files, I: ByteIn, O: ByteOut, N: ByteOut>(
             out: name,
             files: names,
         } => {
-            if !is_offered_link(&options, names.as_slice()) {
+            if !is_offered_link(&options) {
                 return Err(Refusal::Usage);
             }
-            link(alloc, files, &options, name, names.as_slice())
+            link(rt, alloc, files, &options, name, names.as_slice())
         }
         Command::Index {
             exports,
@@ -74,7 +76,8 @@ fn obey<F: Files, I: ByteIn, O: ByteOut, N: ByteOut>(
 }
 
 /// Does the command that the words are. Where it is done, the notes get what it says.
-pub(crate) fn do_command<F: Files, I: ByteIn, O: ByteOut, N: ByteOut>(
+pub(crate) fn do_command<R: Threads + Sync, F: Files, I: ByteIn, O: ByteOut, N: ByteOut>(
+    rt: &R,
     alloc: Global,
     words: &[String],
     files: &mut F,
@@ -89,7 +92,7 @@ pub(crate) fn do_command<F: Files, I: ByteIn, O: ByteOut, N: ByteOut>(
 {
     one_command();
     match command(alloc, words) {
-        Ok(command) => obey(alloc, files, input, out, notes, command),
+        Ok(command) => obey(rt, alloc, files, input, out, notes, command),
         Err(WordsError::Usage) => Err(Refusal::Usage),
         Err(WordsError::NoMemory) => Err(Refusal::NoMemory),
     }

@@ -9,14 +9,14 @@ ghost use Rattle.lto_outside.specs.Seen.{stream_seen};
 ghost use Rattle.lto_outside.specs.Store.{Stays};
 ghost use Rattle.thinlto_main.specs.Answers.{IsRefusal, IsUnfitted, IsUnlinked, IsUnreturned, Says, Succeeds, causes};
 ghost use Rattle.thinlto_main.specs.Asking.{AskNothing, Asked};
-ghost use Rattle.thinlto_main.specs.Causes.{OnNoMemory, OnOther, OnReadFault, OnRefused, OnUnfit, OnUnlinked, OnUnreturned, OnUnused, OnUnwritten, OnUsage, OnWriteFault};
+ghost use Rattle.thinlto_main.specs.Causes.{OnNoMemory, OnReadFault, OnRefused, OnUnfit, OnUnlinked, OnUnreturned, OnUnused, OnUnwritten, OnUsage, OnWriteFault};
 ghost use Rattle.thinlto_main.specs.Honest.{HonestEntry};
 ghost use Rattle.thinlto_main.specs.Seen.{Untouched, input_seen, notes_seen, seen};
 ghost use Rattle.thinlto_main.specs.Telling.{CanDo, MustNotBegin, MustNotLink, MustNotReturn, MustRefuse, told};
 
 use crate::command::do_command;
 use crate::status::Status;
-use link_one::{accepted_is_not_refused, refused_is_one};
+use link_one::{accepted_is_not_refused, refused_is_one, unlinked_is_one};
 use lto_notes::say;
 use lto_outside::{ByteIn, ByteOut, CacheDisk, Files, Gate};
 use lto_words::one_command;
@@ -82,9 +82,6 @@ pub fn top<
     // 0: the command was done. Of a link, both promises: reproducible bytes and preserved behaviour. Of a run, that it is the definition's.
     ensures done { OnOk result.status (Asked (map string_bytes words.now) (λ c. (causes c (seen F.did F.held F.faults O.sent O.faults files.old files.new out.old out.new) (input_seen I.left I.faults input.old input.new)).done)) }
 
-    // There are no other answers.
-    ensures only { OnOther result.status ⊥ }
-
     // Where the files tell what they hold: all that was put, or a front of it, or what they held.
     ensures holds_done { OnOk result.status (Asked (map string_bytes words.now) (λ c. (told c (seen F.did F.held F.faults O.sent O.faults files.old files.new out.old out.new) (input_seen I.left I.faults input.old input.new)).done)) }
     ensures holds_part { OnWriteFault result.status (λ name. Asked (map string_bytes words.now) (λ c. (told c (seen F.did F.held F.faults O.sent O.faults files.old files.new out.old out.new) (input_seen I.left I.faults input.old input.new)).unwritten name)) }
@@ -115,7 +112,8 @@ pub fn top<
     refused_is_one();
     one_command();
     one_answer();
-    let status = do_command(alloc, words, files, input, out, notes);
+    unlinked_is_one();
+    let status = do_command(rt, alloc, words, files, input, out, notes);
     say(notes, &status);
     Ended { status, disk }
 }

@@ -1,4 +1,4 @@
-//! The program `thinlto`: the link of one module, and the run and the index of many.
+//! The program `thinlto`: the link, the index and the run of modules.
 //!
 //! `top` is the program's one call: it takes the words of the command line and the outside as five
 //! objects, and its contract says when each answer comes and what was done to each object. `main`
@@ -12,8 +12,8 @@
 //! Which answer comes when is one definition by cases on the command (`specs/Answers.antt`), and what files that tell hold is
 //! another (`specs/Telling.antt`).
 //!
-//! The linker's two promises are kept here for one module of the whole language: the bytes put are the text of the linked
-//! module, and each run of the linked program is a run of the module as it was read. A run that is asked for is the
+//! The linker's two promises are kept here for any number of modules: the bytes put are the text of the linked module and of
+//! no other, and each run of the linked program is a run of what the modules mean together. A run that is asked for is the
 //! definition's of the merged modules with 0 as every free choice: its ending, what it writes and how much it reads. Beside the
 //! link itself, each byte is moved once; modules are copied once where they are merged.
 #![tactic(auto)]

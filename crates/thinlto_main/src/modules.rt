@@ -5,7 +5,8 @@ ghost use Rattle.lto_fault.specs.declared.refusal.Refusal.{Refusal};
 ghost use Rattle.lto_fetch.specs.Fetching.{IsShort};
 ghost use Rattle.lto_outside.specs.Seen.{files_seen};
 ghost use Rattle.thinlto_main.specs.Causes.{Because, never};
-ghost use Rattle.thinlto_main.specs.Modules.{AreRead, FirstBad, IsBad, IsRead, reading, unfetched};
+ghost use Rattle.thinlto_main.specs.Linking.{suffixes_of};
+ghost use Rattle.thinlto_main.specs.Modules.{AreFetched, AreRead, FirstBad, IsBad, IsRead, bytes_of, reading, unfetched};
 
 use ir_tree::{Rows, Text, Verified};
 use link_one::{LinkError, accepted};
@@ -13,6 +14,7 @@ use lto_fault::{Kind, Refusal};
 use lto_fetch::{FetchError, fetch_all};
 use lto_outside::Files;
 use lto_words::FileName;
+use promote_rename::suffix;
 use std::alloc::{AllocError, Global};
 
 /// The names as they are told in refusals.
@@ -88,6 +90,35 @@ fn unfetched(error: FetchError) -> Refusal
     }
 }
 
+/// What files gave, and the modules that they are read as.
+#[derive(Drop)]
+pub(crate) struct GivenModules {
+    /// The bytes of each file; `None` of one that is too long.
+    pub given: Rows<Option<Text>>,
+    pub modules: Rows<Verified>,
+}
+
+/// The bytes of these files and their modules: all are fetched, and then each is read.
+pub(crate) fn inputs<F: Files>(
+    alloc: Global,
+    files: &mut F,
+    names: &[FileName],
+) -> Result<GivenModules, Refusal>
+    ensures read { IfOk result (λ i. AreFetched names.now i.given (λ calls. F.did files.old calls files.new) × AllZip IsRead i.given i.modules) }
+    ensures because { IfErr result (Because (reading names.now (files_seen F.did F.held F.faults files.old files.new))) }
+    ensures later { F.faults files.old ≤ F.faults files.new }
+{
+    let given = match fetch_all(alloc, files, names) {
+        Ok(given) => given,
+        Err(error) => return Err(unfetched(error)),
+    };
+    let modules = match read_all(alloc, names, given.as_slice()) {
+        Ok(modules) => modules,
+        Err(why) => return Err(why),
+    };
+    Ok(GivenModules { given, modules })
+}
+
 /// The modules of these files: all are fetched, and then each is read.
 pub(crate) fn modules<F: Files>(
     alloc: Global,
@@ -98,9 +129,29 @@ pub(crate) fn modules<F: Files>(
     ensures because { IfErr result (Because (reading names.now (files_seen F.did F.held F.faults files.old files.new))) }
     ensures later { F.faults files.old ≤ F.faults files.new }
 {
-    let given = match fetch_all(alloc, files, names) {
-        Ok(given) => given,
-        Err(error) => return Err(unfetched(error)),
-    };
-    read_all(alloc, names, given.as_slice())
+    match inputs(alloc, files, names) {
+        Ok(inputs) => Ok(inputs.modules),
+        Err(why) => Err(why),
+    }
+}
+
+/// The suffix of each file, which stands behind the names of its module's locals.
+pub(crate) fn suffixes(alloc: Global, given: &[Option<Text>]) -> Result<Rows<Text>, AllocError>
+    ensures { IfOk result (λ suffixes. suffixes ≡ suffixes_of given.now) }
+{
+    let mut suffixes = Rows::new(alloc);
+    for bytes in given {
+        suffixes.push(suffix(alloc, slice_of(bytes))?)?;
+    }
+    Ok(suffixes)
+}
+
+/// The bytes that a file gave, if it did.
+fn slice_of(bytes: &Option<Text>) -> &[u8]
+    ensures { result.now ≡ bytes_of bytes.now }
+{
+    match bytes {
+        Some(bytes) => bytes.as_slice(),
+        None => &[],
+    }
 }

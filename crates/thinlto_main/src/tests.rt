@@ -164,9 +164,9 @@ const LINKED: [(&str, &[u8], &[u8]); 10] = [
         b"define i32 @main() {\n  br label %1\n1:\n  %2 = phi i32 [ 0, %0 ], [ %4, %1 ]\n  %3 = phi i32 [ 9, %0 ], [ %2, %1 ]\n  %4 = add i32 %2, 1\n  %5 = icmp eq i32 %4, 3\n  br i1 %5, label %6, label %1\n6:\n  ret i32 %3\n}\n",
     ),
     (
-        "variables, attributes, metadata, target lines and an `optnone` function",
-        b"source_filename = \"t.c\"\ntarget triple = \"x86_64-pc-linux-gnu\"\n@g = internal global { i32, i8 } { i32 5, i8 7 }\ndefine dso_local noundef i32 @main() local_unnamed_addr #0 {\n  %1 = load i32, ptr @g, align 4, !tbaa !5\n  %2 = add i32 %1, 0\n  ret i32 %2\n}\ndefine void @f() noinline optnone { %x = add i32 1, 2 ret void }\nattributes #0 = { nounwind \"frame-pointer\"=\"all\" }\n!0 = !{i32 1}\n",
-        b"target triple = \"x86_64-pc-linux-gnu\"\n@g = internal global { i32, i8 } { i32 5, i8 7 }, align 4\ndefine i32 @main() {\n  %1 = load i32, ptr @g, align 4\n  ret i32 %1\n}\ndefine void @f() noinline optnone {\n  %1 = add i32 1, 2\n  ret void\n}\n",
+        "variables, attributes, metadata, target lines, an `optnone` function, and what nobody refers to",
+        b"source_filename = \"t.c\"\ntarget triple = \"x86_64-pc-linux-gnu\"\n@g = internal global { i32, i8 } { i32 5, i8 7 }\n@unused = global i32 1\ndefine dso_local noundef i32 @main() local_unnamed_addr #0 {\n  %1 = load i32, ptr @g, align 4, !tbaa !5\n  %2 = add i32 %1, 0\n  call void @f()\n  ret i32 %2\n}\ndefine void @f() noinline optnone { %x = add i32 1, 2 ret void }\nattributes #0 = { nounwind \"frame-pointer\"=\"all\" }\n!0 = !{i32 1}\n",
+        b"target triple = \"x86_64-pc-linux-gnu\"\n@g.llvm.6461030682997138491 = internal global { i32, i8 } { i32 5, i8 7 }, align 4\ndefine internal void @f() noinline optnone {\n  %1 = add i32 1, 2\n  ret void\n}\ndefine i32 @main() {\n  %1 = load i32, ptr @g.llvm.6461030682997138491, align 4\n  call void @f()\n  ret i32 %1\n}\n",
     ),
     (
         "a slot that is read before it is written gives poison",
@@ -272,16 +272,125 @@ fn a_link_tells_why_not(rt: HostRuntime) -> Result<(), AllocError> {
     Ok(())
 }
 
+/// What `a.ll` and `b.ll` hold under the name of the row, and the status, what `o` holds and what is told of their link.
+const LINKED_TOGETHER: [(&str, &[u8], &[u8], u8, &[u8], &[u8]); 11] = [
+    (
+        "a body is imported and inlined, and the local that it calls is promoted",
+        b"define i32 @main() {\n  %r = call i32 @f(i32 4)\n  ret i32 %r\n}\ndeclare i32 @f(i32)\n",
+        b"define i32 @f(i32 %x) {\n  %y = call i32 @h(i32 %x)\n  %z = add i32 %y, 1\n  ret i32 %z\n}\ndefine internal i32 @h(i32 %x) noinline {\n  %y = mul i32 %x, 3\n  ret i32 %y\n}\n",
+        0,
+        b"define internal i32 @h.llvm.6896371823873366418(i32 %0) noinline {\n  %2 = mul i32 %0, 3\n  ret i32 %2\n}\ndefine i32 @main() {\n  %1 = call i32 @h.llvm.6896371823873366418(i32 4)\n  %2 = add i32 %1, 1\n  ret i32 %2\n}\n",
+        NOTHING,
+    ),
+    (
+        "what is imported is inlined too, until nothing is left to call",
+        b"define i32 @main() {\n  %r = call i32 @f(i32 4)\n  ret i32 %r\n}\ndeclare i32 @f(i32)\n",
+        b"define i32 @f(i32 %x) {\n  %y = call i32 @h(i32 %x)\n  %z = add i32 %y, 1\n  ret i32 %z\n}\ndefine internal i32 @h(i32 %x) {\n  %y = mul i32 %x, 3\n  ret i32 %y\n}\n",
+        0,
+        b"define i32 @main() {\n  ret i32 13\n}\n",
+        NOTHING,
+    ),
+    (
+        "the first of two definitions that are merged prevails",
+        b"define linkonce_odr i32 @f() {\n  ret i32 1\n}\n",
+        b"define linkonce_odr i32 @f() {\n  ret i32 2\n}\ndefine i32 @main() {\n  %r = call i32 @f()\n  ret i32 %r\n}\n",
+        0,
+        b"define i32 @main() {\n  ret i32 1\n}\n",
+        NOTHING,
+    ),
+    (
+        "in the other order the other does",
+        b"define linkonce_odr i32 @f() {\n  ret i32 2\n}\ndefine i32 @main() {\n  %r = call i32 @f()\n  ret i32 %r\n}\n",
+        b"define linkonce_odr i32 @f() {\n  ret i32 1\n}\n",
+        0,
+        b"define i32 @main() {\n  ret i32 2\n}\n",
+        NOTHING,
+    ),
+    (
+        "a replaceable body isn't inlined",
+        b"define weak i32 @f() {\n  ret i32 1\n}\ndefine i32 @main() {\n  %r = call i32 @f()\n  ret i32 %r\n}\n",
+        NOTHING,
+        0,
+        b"define internal i32 @f() {\n  ret i32 1\n}\ndefine i32 @main() {\n  %1 = call i32 @f()\n  ret i32 %1\n}\n",
+        NOTHING,
+    ),
+    (
+        "an external definition prevails over a weak one",
+        b"define weak i32 @f() {\n  ret i32 1\n}\ndefine i32 @main() {\n  %r = call i32 @f()\n  ret i32 %r\n}\n",
+        b"define i32 @f() {\n  ret i32 2\n}\n",
+        0,
+        b"define i32 @main() {\n  ret i32 2\n}\n",
+        NOTHING,
+    ),
+    (
+        "locals of one name in two modules",
+        b"define internal i32 @h() noinline {\n  ret i32 1\n}\ndeclare i32 @g()\ndefine i32 @main() {\n  %a = call i32 @h()\n  %b = call i32 @g()\n  %c = add i32 %a, %b\n  ret i32 %c\n}\n",
+        b"define internal i32 @h() noinline {\n  ret i32 2\n}\ndefine i32 @g() {\n  %r = call i32 @h()\n  ret i32 %r\n}\n",
+        0,
+        b"define internal i32 @h.llvm.15311662862325989949() noinline {\n  ret i32 2\n}\ndefine internal i32 @h.llvm.15324396603054630255() noinline {\n  ret i32 1\n}\ndefine i32 @main() {\n  %1 = call i32 @h.llvm.15324396603054630255()\n  %2 = call i32 @h.llvm.15311662862325989949()\n  %3 = add i32 %1, %2\n  ret i32 %3\n}\n",
+        NOTHING,
+    ),
+    (
+        "a module's own `putchar`",
+        b"declare i32 @putchar(i32)\ndefine i32 @main() {\n  %r = call i32 @putchar(i32 65)\n  ret i32 %r\n}\n",
+        b"define i32 @putchar(i32 %c) noinline {\n  ret i32 %c\n}\n",
+        0,
+        b"define i32 @main() {\n  %1 = call i32 @putchar(i32 65)\n  ret i32 %1\n}\ndefine internal i32 @putchar(i32 %0) noinline {\n  ret i32 %0\n}\n",
+        NOTHING,
+    ),
+    (
+        "a final name that another symbol has",
+        b"define internal i32 @h() noinline {\n  ret i32 1\n}\ndeclare i32 @g()\ndefine i32 @main() {\n  %a = call i32 @h()\n  %b = call i32 @g()\n  %c = add i32 %a, %b\n  ret i32 %c\n}\n",
+        b"define internal i32 @h() noinline {\n  ret i32 2\n}\ndefine i32 @g() {\n  %r = call i32 @h.llvm.15324396603054630255()\n  ret i32 %r\n}\ndefine i32 @h.llvm.15324396603054630255() {\n  ret i32 3\n}\n",
+        4,
+        BEFORE,
+        b"thinlto: name taken: @h.llvm.15324396603054630255\n",
+    ),
+    (
+        "two external definitions of one name",
+        b"define i32 @f() {\n  ret i32 2\n}\n",
+        b"define i32 @f() {\n  ret i32 2\n}\n",
+        4,
+        BEFORE,
+        b"thinlto: duplicate symbol @f in a.ll and b.ll\n",
+    ),
+    (
+        "a file that isn't read, behind one that is",
+        b"define i32 @main() {\n  %r = call i32 @f(i32 4)\n  ret i32 %r\n}\ndeclare i32 @f(i32)\n",
+        b"define",
+        3,
+        BEFORE,
+        b"thinlto: b.ll:1: syntax\n",
+    ),
+];
+
+#[test]
+fn modules_are_linked_together(rt: HostRuntime) -> Result<(), AllocError> {
+    let alloc = rt.alloc();
+    for jobs in ["1", "2", "64"] {
+        let words = ["link", "-o", "o", "--jobs", jobs, "a.ll", "b.ll"];
+        for (name, first, second, status, held, noted) in LINKED_TOGETHER {
+            let outside = (first, second, NONE, NONE);
+            let end = (status, held, NOTHING, noted);
+            assert!(rt;
+                ends_so(&rt, alloc, &words, outside, EMPTY, end)?,
+                "{name}, {jobs}"
+            );
+        }
+    }
+    Ok(())
+}
+
 const USAGE: &[u8] = b"thinlto: usage\n";
 
 /// The words of a run over a sum, its status, what `o` then holds, and what is told.
 const WORDS: [(&[&str], u8, &[u8], &[u8]); 12] = [
-    (&["link", "-o", "o", "a.ll", "b.ll"], 1, BEFORE, USAGE),
+    (&["link", "-o", "o", "a.ll", "b.ll"], 0, FIVE, NOTHING),
     (&["link", "-o", "o"], 1, BEFORE, USAGE),
     (&["link", "-o", "-x", "a.ll"], 1, BEFORE, USAGE),
     (&["link", "-o", "o", ""], 1, BEFORE, USAGE),
     (
-        &["link", "--jobs", "2", "-o", "o", "a.ll"],
+        &["link", "--jobs", "65", "-o", "o", "a.ll"],
         1,
         BEFORE,
         USAGE,
@@ -341,11 +450,11 @@ const CALLED: &[u8] =
 const INLINED: [(&str, &[u8]); 2] = [
     (
         "--inline-limit=0",
-        b"define i32 @main() {\n  %1 = call i32 @h()\n  ret i32 %1\n}\ndefine internal i32 @h() {\n  ret i32 7\n}\n",
+        b"define internal i32 @h.llvm.12302329681860578219() {\n  ret i32 7\n}\ndefine i32 @main() {\n  %1 = call i32 @h.llvm.12302329681860578219()\n  ret i32 %1\n}\n",
     ),
     (
         "--inline-limit=1",
-        b"define i32 @main() {\n  ret i32 7\n}\ndefine internal i32 @h() {\n  ret i32 7\n}\n",
+        b"define i32 @main() {\n  ret i32 7\n}\n",
     ),
 ];
 

@@ -9,25 +9,20 @@ use Rattle.thinlto_main.specs.Linking.{linking}
 use Rattle.thinlto_main.specs.Modules.{AreRead}
 use Rattle.thinlto_main.specs.Running.{SaysReturned, running}
 use Rattle.thinlto_main.specs.Seen.{input_seen, notes_seen, seen, streams_seen}
-use Rattle.thinlto_main.proofs.Asking.{index_obeyed, link_obeyed, offered_one, on_each, run_obeyed}
+use Rattle.thinlto_main.proofs.Asking.{index_obeyed, link_obeyed, on_each, run_obeyed}
 use Rattle.thinlto_main.proofs.Causes.{comes_map}
 use Rattle.thinlto_main.proofs.command.obey.Goals as goal
 
 pub returns-then-not-is_offered_link-clause-answer : goal.returns-then-not-is_offered_link-clause-answer
 returns-then-not-is_offered_link-clause-answer g c =
-    (ap is_offered c.in-Link.is ∙ ap (λ (ns : List (List ℕ)). is_offered_link c.in-Link.options ns) (sym c.as_slice.ensures) ∙ sym c.is_offered_link.ensures ∙ c.if-not-is_offered_link.true, (g.met.F.Files.did_none _, refl), refl)
-
-pub link-requires : goal.link-requires
-link-requires g c = offered_one c.in-Link.options c.as_slice-in-Link.result.now
-    (ap (λ (ns : List (List ℕ)). is_offered_link c.in-Link.options ns) (c.as_slice-in-Link.ensures ∙ sym c.as_slice.ensures) ∙ sym c.is_offered_link.ensures ∙ c.if-not-is_offered_link.false)
+    (ap is_offered c.in-Link.is ∙ sym c.is_offered_link.ensures ∙ c.if-not-is_offered_link.true, (g.met.F.Files.did_none _, refl), refl)
 
 pub returns-in-Link-clause-answer : goal.returns-in-Link-clause-answer
 returns-in-Link-clause-answer g c =
-    let offered : is_offered_link c.in-Link.options c.in-Link.names ≡ true =
-    ap (λ (ns : List (List ℕ)). is_offered_link c.in-Link.options ns) (sym c.as_slice.ensures) ∙ sym c.is_offered_link.ensures ∙ c.if-not-is_offered_link.false in
+    let offered : is_offered_link c.in-Link.options ≡ true = sym c.is_offered_link.ensures ∙ c.if-not-is_offered_link.false in
     subst (λ (k : Command). Comes (obeyed k (seen g.F.Files.did g.F.Files.held g.F.Files.faults g.O.ByteOut.sent g.O.ByteOut.faults c.args.files.now c.link.new.files c.args.out.now c.args.out.now) (input_seen g.I.ByteIn.left g.I.ByteIn.faults c.args.input.now c.args.input.now)) c.link.result) (sym c.in-Link.is)
     (comes_map (link_obeyed c.in-Link.options c.in-Link.name c.in-Link.names (seen g.F.Files.did g.F.Files.held g.F.Files.faults g.O.ByteOut.sent g.O.ByteOut.faults c.args.files.now c.link.new.files c.args.out.now c.args.out.now) (input_seen g.I.ByteIn.left g.I.ByteIn.faults c.args.input.now c.args.input.now) offered refl refl) c.link.result
-    (subst (λ (ns : List (List ℕ)). Comes (linking c.in-Link.options c.in-Link.name ns (files_seen g.F.Files.did g.F.Files.held g.F.Files.faults c.args.files.now c.link.new.files)) c.link.result) c.as_slice-in-Link.ensures c.link.ensures.answer))
+    (subst (λ (ns : List (List ℕ)). Comes (linking c.in-Link.options c.in-Link.name ns (files_seen g.F.Files.did g.F.Files.held g.F.Files.faults c.args.files.now c.link.new.files)) c.link.result) c.as_slice.ensures c.link.ensures.answer))
 
 pub returns-in-Link-clause-says : goal.returns-in-Link-clause-says
 returns-in-Link-clause-says g c =

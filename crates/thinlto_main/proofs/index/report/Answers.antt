@@ -4,7 +4,7 @@ use Rattle.lto_fault.specs.declared.refusal.Refusal.TheVariants.{NoMemory}
 use Rattle.thin_link.specs.Linking.{IsIndexReport}
 use Rattle.thin_link.specs.Refusing.{IsRefused}
 use Rattle.thinlto_main.specs.Causes.{never}
-use Rattle.thinlto_main.proofs.Unlinked.{if_unlinked_because}
+use Rattle.thinlto_main.proofs.Unlinked.{by_refusal, if_unlinked_because}
 use Rattle.thinlto_main.proofs.index.report.Goals as goal
 
 pub returns-clause-done : goal.returns-clause-done
@@ -13,6 +13,6 @@ returns-clause-done c =
 
 pub returns-clause-because : goal.returns-clause-because
 returns-clause-because c =
-    if_unlinked_because c.args.names.now c.args.exports.now c.args.modules.now (record never { unlinked = IsRefused c.args.names.now c.args.modules.now c.args.exports.now; memory = Unit {0} })
-    (λ why x. x) c.index.result
+    if_unlinked_because (record never { unlinked = IsRefused c.args.names.now c.args.modules.now c.args.exports.now; memory = Unit {0} }) (IsRefused c.args.names.now c.args.modules.now c.args.exports.now)
+    (by_refusal c.args.names.now c.args.exports.now c.args.modules.now (record never { unlinked = IsRefused c.args.names.now c.args.modules.now c.args.exports.now; memory = Unit {0} }) (λ why x. x)) c.index.result
     (subst (λ (fs : List (List ℕ)). IfErr c.index.result (λ why. why ≢ NoMemory → IsRefused fs c.args.modules.now c.args.exports.now why)) (c.as_slice.ensures ∙ c.in-Ok.ensures) c.index.ensures.refused) tt

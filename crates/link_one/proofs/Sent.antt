@@ -1,0 +1,87 @@
+-- Global values may cross threads, and be shared among them: they own memory of the heap alone.
+use denote.Param.Send.{IsSend, IsSync, sendable}
+use Rattle.std.proofs.Crossing.{crosses}
+use Rattle.ir_tree.proofs.shape.Shape.TheLaws.TheKnot as shapes
+use Rattle.ir_tree.specs.contracts.block.Block as block
+use Rattle.ir_tree.specs.contracts.function.Function as function
+use Rattle.ir_tree.specs.contracts.function.Variable as variable
+use Rattle.ir_tree.specs.contracts.instr.Incoming as incoming
+use Rattle.ir_tree.specs.contracts.instr.Instr as instr
+use Rattle.ir_tree.specs.contracts.instr.Line as line
+use Rattle.ir_tree.specs.contracts.instr.Phi as phi
+use Rattle.ir_tree.specs.contracts.module.GlobalValue as global
+use Rattle.ir_tree.specs.contracts.operand.Argument as argument
+use Rattle.ir_tree.specs.contracts.operand.Reg as reg
+use Rattle.ir_tree.specs.contracts.rows.Rows as rows
+
+-- `search` finds a type that stands in a field by the row of its field, and one that stands in a list by its own
+
+-- ---- may cross
+
+pub reg_send : IsSend reg.the_row
+reg_send = search (sendable, crosses) depth 60 fits 20000
+
+pub argument_send : IsSend argument.the_row
+argument_send = search (sendable, crosses) depth 60 fits 20000
+
+pub arguments_send : IsSend (rows.the_row argument.the_row)
+arguments_send = search (argument_send, sendable, crosses) depth 60 fits 20000
+
+pub incoming_send : IsSend incoming.the_row
+incoming_send = search (sendable, crosses) depth 60 fits 20000
+
+pub instr_send : IsSend (instr.the_field).row
+instr_send = search (reg_send, arguments_send, incoming_send, sendable, crosses, shapes.crosses) depth 60 fits 20000
+
+pub line_send : IsSend line.the_row
+line_send = search (instr_send, sendable, crosses) depth 60 fits 20000
+
+pub phi_send : IsSend phi.the_row
+phi_send = search (sendable, crosses) depth 60 fits 20000
+
+pub block_send : IsSend block.the_row
+block_send = search (line_send, phi_send, sendable, crosses) depth 60 fits 20000
+
+pub function_send : IsSend (function.the_field).row
+function_send = search (block_send, sendable, crosses) depth 60 fits 20000
+
+pub variable_send : IsSend (variable.the_field).row
+variable_send = search (sendable, crosses, shapes.crosses) depth 60 fits 20000
+
+pub global_send : IsSend global.the_row
+global_send = search (variable_send, function_send, sendable, crosses) depth 60 fits 20000
+
+-- ---- may be shared
+
+pub reg_sync : IsSync reg.the_row
+reg_sync = search (sendable, crosses) depth 60 fits 20000
+
+pub argument_sync : IsSync argument.the_row
+argument_sync = search (sendable, crosses) depth 60 fits 20000
+
+pub arguments_sync : IsSync (rows.the_row argument.the_row)
+arguments_sync = search (argument_sync, sendable, crosses) depth 60 fits 20000
+
+pub incoming_sync : IsSync incoming.the_row
+incoming_sync = search (sendable, crosses) depth 60 fits 20000
+
+pub instr_sync : IsSync (instr.the_field).row
+instr_sync = search (reg_sync, arguments_sync, incoming_sync, sendable, crosses, shapes.crosses) depth 60 fits 20000
+
+pub line_sync : IsSync line.the_row
+line_sync = search (instr_sync, sendable, crosses) depth 60 fits 20000
+
+pub phi_sync : IsSync phi.the_row
+phi_sync = search (sendable, crosses) depth 60 fits 20000
+
+pub block_sync : IsSync block.the_row
+block_sync = search (line_sync, phi_sync, sendable, crosses) depth 60 fits 20000
+
+pub function_sync : IsSync (function.the_field).row
+function_sync = search (block_sync, sendable, crosses) depth 60 fits 20000
+
+pub variable_sync : IsSync (variable.the_field).row
+variable_sync = search (sendable, crosses, shapes.crosses) depth 60 fits 20000
+
+pub global_sync : IsSync global.the_row
+global_sync = search (variable_sync, function_sync, sendable, crosses) depth 60 fits 20000

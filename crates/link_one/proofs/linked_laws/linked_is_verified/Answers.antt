@@ -1,0 +1,7 @@
+use Rattle.link_one.proofs.Refining.{linked_verified}
+use Rattle.link_one.proofs.linked_laws.linked_is_verified.Goals as goal
+
+pub returns : goal.returns
+returns c = linked_verified
+    (record { interface = c.made_has_interface.ensures; better = c.made_is_better.ensures.better; sounds = c.made_is_better.ensures.sound; knows = c.made_is_known.ensures; by_module = c.live_by_module.ensures.modules; defines = c.live_by_module.ensures.definitions; sound = c.live_by_module.ensures.sound; known = c.live_is_known.ensures.known })
+    (record { outside = c.live_by_module.ensures.outside; exported = c.live_is_known.ensures.exported; refines = c.live_refines.ensures.compiled; closed = c.emission_is_reordering.ensures.closed; reordered = c.emission_is_reordering.ensures.order; whole = c.emission_is_whole.ensures.whole; sound = c.emission_is_whole.ensures.sound })

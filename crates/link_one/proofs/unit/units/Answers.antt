@@ -1,0 +1,5 @@
+use Rattle.link_one.proofs.Among.{all_compiled}
+use Rattle.link_one.proofs.unit.units.Goals as goal
+
+pub returns : goal.returns
+returns g c = all_compiled _ c.in_ok-slots.slots.items c.in_ok-slots.ensures c.taken.result c.taken.ensures

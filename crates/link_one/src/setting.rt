@@ -1,0 +1,106 @@
+//! What each module is compiled from, and which bodies may be inlined in it.
+ghost use Rattle.std.specs.Prelude.{◌≡◌, ◌++◌, ℕ, IfOk, List, OnOk, option_copied, slice_get};
+ghost use Rattle.back_end.specs.Walking.{bodies_in};
+ghost use Rattle.link_one.specs.Linked.{bodies_for, brought, joined, value_named, value_of};
+ghost use Rattle.link_one.specs.Tables.{option_list, value_in, values};
+
+use crate::table::push_all;
+use back_end::Bodies;
+use ir_tree::{GlobalValue, Rows, Symbol, Text};
+use promote_rename::final_name;
+use std::alloc::{AllocError, Global};
+use std::collections::HashMap;
+
+/// Adds a value to those that are borrowed, if there is one.
+fn push_some<'a>(
+    list: &mut Vec<&'a GlobalValue>,
+    value: Option<&'a GlobalValue>,
+) -> Result<(), AllocError>
+    ensures { OnOk result (values list.new.items ≡ values list.old.items ++ option_list (option_copied value.entry)) }
+{
+    if let Some(global) = value {
+        list.push(global)?;
+    }
+    Ok(())
+}
+
+/// The symbol of this number.
+fn symbol_at(symbols: &[Symbol], number: u32) -> Option<&Symbol>
+    ensures { option_copied result ≡ slice_get symbols.now number }
+{
+    if (number as usize) < symbols.len() {
+        Some(&symbols[number as usize])
+    } else {
+        None
+    }
+}
+
+/// What each module is compiled from: the parts, and what the index decided.
+#[derive(Drop)]
+pub(crate) struct Setting<'a> {
+    pub(crate) parts: &'a [Rows<GlobalValue>],
+    pub(crate) symbols: &'a [Symbol],
+    pub(crate) suffixes: &'a [Text],
+    pub(crate) imports: &'a [Vec<u32>],
+    pub(crate) limit: u32,
+    pub(crate) table: HashMap<&'a [u8], &'a GlobalValue>,
+    ghost finds: { (name : List ℕ) → value_in table name ≡ value_named (joined parts.now) name },
+}
+
+impl<'a> Setting<'a> {
+    /// The value of this name.
+    fn value_named(&self, name: &[u8]) -> Option<&'a GlobalValue>
+        ensures { option_copied result ≡ value_named (joined self.now.parts.now) name.now }
+    {
+        match self.table.get(&name) {
+            Some(global) => Some(*global),
+            None => None,
+        }
+    }
+
+    /// The value of a symbol, under its final name.
+    fn value_of(
+        &self,
+        alloc: Global,
+        symbol: Option<&Symbol>,
+    ) -> Result<Option<&'a GlobalValue>, AllocError>
+        ensures { IfOk result (λ found. option_copied found ≡ value_of (joined self.now.parts.now) self.now.suffixes.now (option_copied symbol.entry)) }
+    {
+        let Some(symbol) = symbol else {
+            return Ok(None);
+        };
+        let name = final_name(alloc, self.suffixes, symbol)?;
+        Ok(self.value_named(name.as_slice()))
+    }
+
+    /// Adds the imported values, those of the symbols of these numbers.
+    fn push_brought(
+        &self,
+        alloc: Global,
+        list: &mut Vec<&'a GlobalValue>,
+        numbers: &[u32],
+    ) -> Result<(), AllocError>
+        ensures { OnOk result (values list.new.items ≡ values list.old.items ++ brought (joined self.now.parts.now) self.now.symbols.now self.now.suffixes.now numbers.now) }
+    {
+        for number in numbers {
+            let value = self.value_of(alloc, symbol_at(self.symbols, *number))?;
+            push_some(list, value)?;
+        }
+        Ok(())
+    }
+
+    /// The bodies that may be inlined in a module: its own, and those that it imports.
+    pub(crate) fn bodies(
+        &self,
+        alloc: Global,
+        numbers: &[u32],
+        part: &'a [GlobalValue],
+    ) -> Result<Bodies<'a>, AllocError>
+        ensures { IfOk result (λ b. bodies_in b ≡ bodies_for self.now.limit (joined self.now.parts.now) self.now.symbols.now self.now.suffixes.now numbers.now part.entry.now) }
+    {
+        let mut list = Vec::new(alloc);
+        self.push_brought(alloc, &mut list, numbers)?;
+        push_all(&mut list, part)?;
+        Bodies::of(alloc, &list, self.limit)
+    }
+}

@@ -1,0 +1,179 @@
+//! Each module compiled by itself: its part becomes its unit.
+ghost use Rattle.std.specs.Prelude.{◌≡◌, ◌<◌, [], All, IfOk, IfSome, Some, map, slice_index_or, vec_len};
+ghost use Rattle.std.specs.List.{AllZip};
+ghost use Rattle.ir_tree.specs.Wholes.{GlobalSound};
+ghost use Rattle.back_end.specs.Inlinable.{AreSound};
+ghost use Rattle.back_end.specs.Walking.{bodies_in};
+ghost use Rattle.import_plan.specs.Views.{rows};
+ghost use Rattle.link_one.specs.Linked.{AreCompiled, IsLinkedGlobal, joined};
+ghost use Rattle.link_one.specs.Units.{AreFilled, IsUnit};
+
+use crate::setting::Setting;
+use crate::table::table_of;
+use back_end::{Bodies, compile};
+use ir_tree::{Duplicate, GlobalValue, Rows, Symbol, Text};
+use std::alloc::{AllocError, Global};
+use std::thread::{Threads, for_each_mut};
+
+/// A variable as it is, and a function as the back end makes it with these bodies.
+fn linked_global(
+    alloc: Global,
+    bodies: &Bodies<'_>,
+    global: &GlobalValue,
+) -> Result<GlobalValue, AllocError>
+    requires sound { GlobalSound global.now }
+    requires bodies { AreSound (bodies_in bodies.now) }
+    ensures { IfOk result (λ g. IsLinkedGlobal (bodies_in bodies.now) global.now g) }
+{
+    match global {
+        GlobalValue::Variable(variable) => {
+            let variable = variable.duplicate(alloc)?;
+            Ok(GlobalValue::Variable(variable))
+        }
+        GlobalValue::Function(function) => {
+            let function = compile(alloc, bodies, function)?;
+            Ok(GlobalValue::Function(function))
+        }
+    }
+}
+
+fn linked_globals(
+    alloc: Global,
+    bodies: &Bodies<'_>,
+    globals: &[GlobalValue],
+) -> Result<Rows<GlobalValue>, AllocError>
+    requires sound { All GlobalSound globals.now }
+    requires bodies { AreSound (bodies_in bodies.now) }
+    ensures { IfOk result (λ rows. AllZip (IsLinkedGlobal (bodies_in bodies.now)) globals.now rows) }
+{
+    let mut rows = Rows::new(alloc);
+    'each: for global in globals {
+        rows.push(linked_global(alloc, bodies, global)?)?;
+    }
+    Ok(rows)
+}
+
+/// The part of this number.
+fn part_at(parts: &[Rows<GlobalValue>], number: usize) -> &[GlobalValue]
+    ensures { result.now ≡ slice_index_or parts.now number [] }
+{
+    match parts.get(number) {
+        Some(part) => part.as_slice(),
+        None => &[],
+    }
+}
+
+/// What the module of this number imports.
+fn imports_of(imports: &[Vec<u32>], number: usize) -> &[u32]
+    ensures { result.now ≡ slice_index_or (rows imports.now) number [] }
+{
+    match imports.get(number) {
+        Some(numbers) => numbers,
+        None => &[],
+    }
+}
+
+/// The unit of the module of this number.
+fn unit(
+    alloc: Global,
+    setting: &Setting<'_>,
+    number: usize,
+) -> Result<Rows<GlobalValue>, AllocError>
+    requires { All GlobalSound (joined setting.now.parts.now) }
+    ensures { IfOk result (λ unit. IsUnit setting.now number unit) }
+{
+    let part = part_at(setting.parts, number);
+    let bodies = setting.bodies(alloc, imports_of(setting.imports, number), part)?;
+    linked_globals(alloc, &bodies, part)
+}
+
+/// Puts the unit of the module of this number into its slot, or nothing where memory is lacking.
+fn fill(alloc: Global, setting: &Setting<'_>, number: usize, slot: &mut Option<Rows<GlobalValue>>)
+    requires { All GlobalSound (joined setting.now.parts.now) }
+    ensures { IfSome slot.new (IsUnit setting.now number) }
+{
+    *slot = unit(alloc, setting, number).ok();
+}
+
+/// So many slots with nothing in them.
+fn empty(alloc: Global, count: usize) -> Result<Vec<Option<Rows<GlobalValue>>>, AllocError>
+    ensures { IfOk result (λ slots. vec_len slots ≡ count) }
+{
+    let mut slots = Vec::new(alloc);
+    for _ in 0..count {
+        slots.push(None)?;
+    }
+    Ok(slots)
+}
+
+/// What is in the slots, in their order; a slot with nothing is want of memory.
+fn taken(
+    alloc: Global,
+    slots: Vec<Option<Rows<GlobalValue>>>,
+) -> Result<Vec<Rows<GlobalValue>>, AllocError>
+    ensures { IfOk result (λ units. slots.items ≡ map Some units.items) }
+{
+    let mut units = Vec::new(alloc);
+    for slot in slots {
+        units.push(slot.ok_or(AllocError)?)?;
+    }
+    Ok(units)
+}
+
+/// How many threads work: one at least.
+fn workers(jobs: u32) -> usize
+    ensures { 0 < result }
+{
+    if jobs == 0 { 1 } else { jobs as usize }
+}
+
+/// A slot for each module, each filled on one of up to so many threads.
+fn filled<R: Threads + Sync>(
+    rt: &R,
+    alloc: Global,
+    jobs: u32,
+    setting: &Setting<'_>,
+) -> Result<Vec<Option<Rows<GlobalValue>>>, AllocError>
+    requires { All GlobalSound (joined setting.now.parts.now) }
+    ensures { IfOk result (λ slots. AreFilled setting.now slots.items) }
+{
+    let mut slots = empty(alloc, setting.parts.len())?;
+    for_each_mut(
+        rt,
+        &mut slots,
+        workers(jobs),
+        &|number: usize, slot: &mut Option<Rows<GlobalValue>>|
+            requires { All GlobalSound (joined setting.now.parts.now) }
+            ensures { IfSome slot.exit.now (IsUnit setting.entry.now number) }
+        { fill(alloc, setting, number, slot) },
+    );
+    Ok(slots)
+}
+
+/// The units of the modules, each compiled by itself, on up to so many threads. The parts are those of all modules, in command
+/// order.
+pub(crate) fn units<R: Threads + Sync>(
+    rt: &R,
+    alloc: Global,
+    jobs: u32,
+    parts: &[Rows<GlobalValue>],
+    symbols: &[Symbol],
+    suffixes: &[Text],
+    imports: &[Vec<u32>],
+    limit: u32,
+) -> Result<Vec<Rows<GlobalValue>>, AllocError>
+    requires { All GlobalSound (joined parts.now) }
+    ensures { IfOk result (λ units. AreCompiled limit (joined parts.now) symbols.now suffixes.now (rows imports.now) 0 parts.now units.items) }
+{
+    let table = table_of(alloc, parts)?;
+    let setting = Setting {
+        parts,
+        symbols,
+        suffixes,
+        imports,
+        limit,
+        table,
+    };
+    let slots = filled(rt, alloc, jobs, &setting)?;
+    taken(alloc, slots)
+}

@@ -1,0 +1,25 @@
+use Rattle.std.proofs.Common.{ℕ, List, Option, sym, subst}
+use Rattle.std.specs.List.{AllZip}
+use Rattle.lto_outside.specs.Calls.{Call}
+use Rattle.lto_outside.specs.Seen.{files_seen}
+use Rattle.lto_fault.specs.declared.refusal.Refusal.{Refusal}
+use Rattle.thinlto_main.specs.Causes.{Because}
+use Rattle.thinlto_main.specs.Modules.{AreFetched, IsRead, reading}
+use Rattle.thinlto_main.proofs.Reading.{read_because, unfetched_because}
+use Rattle.thinlto_main.proofs.modules.inputs.Goals as goal
+
+pub returns-in-Err-clause-because : goal.returns-in-Err-clause-because
+returns-in-Err-clause-because g c =
+    subst (λ (why : Refusal). Because (reading c.args.names.now (files_seen g.F.Files.did g.F.Files.held g.F.Files.faults c.args.files.now c.fetch_all.new.files)) why) (sym c.unfetched.ensures)
+    (unfetched_because c.args.names.now (files_seen g.F.Files.did g.F.Files.held g.F.Files.faults c.args.files.now c.fetch_all.new.files) c.in-Err.error c.in-Err.ensures.failed c.fetch_all.ensures.no_put)
+
+pub returns-in-Err-read_all-clause-because : goal.returns-in-Err-read_all-clause-because
+returns-in-Err-read_all-clause-because g c =
+    let fetched : AreFetched c.args.names.now c.as_slice.result.now (λ (calls : List Call). g.F.Files.did c.args.files.now calls c.fetch_all.new.files) =
+    subst (λ (l : List (Option (List ℕ))). AreFetched c.args.names.now l (λ (calls : List Call). g.F.Files.did c.args.files.now calls c.fetch_all.new.files)) (sym c.as_slice.ensures) (record { each = c.in-Ok.ensures.each; calls = c.in-Ok.ensures.fetched }) in
+    read_because c.args.names.now c.as_slice.result.now (files_seen g.F.Files.did g.F.Files.held g.F.Files.faults c.args.files.now c.fetch_all.new.files) fetched c.in-Err-read_all.why
+    c.in-Err-read_all.ensures.because
+
+pub returns-clause-read : goal.returns-clause-read
+returns-clause-read g c =
+    (record { each = c.in-Ok.ensures.each; calls = c.in-Ok.ensures.fetched }, subst (λ (l : List (Option (List ℕ))). AllZip IsRead l c.in-Ok-read_all.modules) c.as_slice.ensures c.in-Ok-read_all.ensures.read)
