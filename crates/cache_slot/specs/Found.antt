@@ -25,6 +25,10 @@ FoundOn held faults faults_now dir before key (Err NoDirectory) = (text_of key b
 FoundOn held faults faults_now dir before key (Err Lacking) = (text_of key before ≡ None) × (dir ≢ None) × Lacks held dir key
 FoundOn held faults faults_now dir before key (Err Fault) = (text_of key before ≡ None) × (dir ≢ None) × Rose faults faults_now
 
+-- a look-up or store of the key needn't call the disk: an entry has the key, or there is no directory
+abbrev pub NeedsNoDisk : Option (List ℕ) → List Record → List ℕ → Type 0
+NeedsNoDisk dir before key = (text_of key before ≢ None) ⊎ (dir ≡ None)
+
 -- what reading the key's file finds
 abbrev pub LoadedAs : Option DiskStore → ℕ → ℕ → List ℕ → List ℕ → Finding → Type 0
 LoadedAs held faults faults_now dir key (Ok text) = Holds held (Some dir) key text

@@ -35,11 +35,11 @@ pub struct Refused<D: CacheDisk + Drop> {
 }
 
 impl<D: CacheDisk + Drop, S: Setting> SharedCache<D, S> {
-    ghost use Rattle.std.specs.Prelude.{◌≢◌, ℕ, ◌⊎◌, ◌^◌, ◌<◌, None, Some, IfOk, IfErr, IfSome};
+    ghost use Rattle.std.specs.Prelude.{◌≢◌, ℕ, ◌⊎◌, ◌^◌, ◌<◌, None, Some, IfOk, IfErr, IfSome, OnErr};
     ghost use Rattle.std.specs.List.{Contains};
     ghost use mathlib.Core.List.{IsPrefix};
     ghost use Rattle.cache_turn.specs.Views.{longer};
-    ghost use Rattle.cache_turn.specs.Places.{IsAt, seen_by};
+    ghost use Rattle.cache_turn.specs.Places.{IsAt, TookOneTurn, seen_by, before_turn};
     ghost use Rattle.lto_outside.specs.Honest.{IsHonest};
     ghost use Rattle.cache_slot.specs.Decoded.{decoded};
     ghost use Rattle.cache_slot.specs.Directory.{dir_of};
@@ -78,9 +78,12 @@ impl<D: CacheDisk + Drop, S: Setting> SharedCache<D, S> {
         requires { IsAt self.now.lock.table.shared.table_id pass.old.place.seat }
         ensures pass { IsAt self.now.lock.table.shared.table_id pass.new.place.seat }
 
-        // What it had seen begins the history of its turn, which it has then seen.
+        // What it had seen begins the history that its one turn found, to which this turn added one record, or none where
+        // memory was refused. It has seen all of that then.
+        ensures turn { TookOneTurn pass.old.place.seat pass.new.place.seat }
         ensures seen { IsPrefix (seen_by pass.old.place.seat) (seen_by pass.new.place.seat) }
-        ensures found { IfOk result (λ answer. (before : List Record) × IsPrefix (seen_by pass.old.place.seat) before × Looked S.dir key.now before (seen_by pass.new.place.seat) answer) }
+        ensures found { IfOk result (Looked S.dir key.now (before_turn pass.new.place.seat) (seen_by pass.new.place.seat)) }
+        ensures err { OnErr result (seen_by pass.new.place.seat ≡ before_turn pass.new.place.seat) }
 
         // A key that the pass has seen stored is found.
         ensures known { (text : List ℕ) → text_of key.now (seen_by pass.old.place.seat) ≡ Some text → IfOk result (λ answer. answer ≡ Some text) }
@@ -108,9 +111,12 @@ impl<D: CacheDisk + Drop, S: Setting> SharedCache<D, S> {
         requires made { D.fits key.now text.now }
         ensures pass { IsAt self.now.lock.table.shared.table_id pass.new.place.seat }
 
-        // What it had seen begins the history of its turn, which it has then seen.
+        // What it had seen begins the history that its one turn found, to which this turn added one record, or none where
+        // memory was refused. It has seen all of that then.
+        ensures turn { TookOneTurn pass.old.place.seat pass.new.place.seat }
         ensures seen { IsPrefix (seen_by pass.old.place.seat) (seen_by pass.new.place.seat) }
-        ensures stored { IfOk result (λ kept. (before : List Record) × IsPrefix (seen_by pass.old.place.seat) before × Stored S.dir key.now text.now before (seen_by pass.new.place.seat) kept) }
+        ensures stored { IfOk result (Stored S.dir key.now text.now (before_turn pass.new.place.seat) (seen_by pass.new.place.seat)) }
+        ensures err { OnErr result (seen_by pass.new.place.seat ≡ before_turn pass.new.place.seat) }
 
         // It has seen an entry of the key.
         ensures known { IfOk result (λ kept. text_of key.now (seen_by pass.new.place.seat) ≢ None) }

@@ -3,7 +3,7 @@ ghost use Rattle.std.specs.Prelude.{◌≡◌, ◌≢◌, ◌≤◌, ◌<◌, �
 ghost use Rattle.std.specs.Option.{option_copied};
 ghost use Rattle.lto_outside.specs.DiskStore.{DiskStays};
 ghost use Rattle.cache_slot.specs.Files.{file_of, bytes_of};
-ghost use Rattle.cache_slot.specs.Found.{LoadedAs, FoundOn, record_of};
+ghost use Rattle.cache_slot.specs.Found.{LoadedAs, FoundOn, NeedsNoDisk, record_of};
 ghost use Rattle.cache_slot.specs.Records.{text_of};
 
 use crate::record::{Record, Why};
@@ -79,7 +79,8 @@ fn load<D: CacheDisk>(
     }
 }
 
-/// The text of the key, or why there is none. No file changes.
+/// The text of the key, or why there is none. No file changes, and the disk is called only where no entry has the key and
+/// there is a directory.
 pub fn find<D: CacheDisk>(
     alloc: Global,
     records: &[Record],
@@ -91,6 +92,7 @@ pub fn find<D: CacheDisk>(
     ensures small { IfOk result (λ found. IfOk found (λ text. length text < 2 ^ 64)) }
     ensures stay { DiskStays (D.held disk.old) (D.held disk.new) }
     ensures later { D.faults disk.old ≤ D.faults disk.new }
+    ensures uncalled { NeedsNoDisk (option_copied dir.entry) records.now key.now → disk.new ≡ disk.old }
 {
     if let Some(text) = entry_text(records, key) {
         return Ok(Ok(Text::copied(alloc, text.as_slice())?));

@@ -10,9 +10,11 @@
 //! the turns. What stays over the life of a cache ([`Setting`]: keys, directory, and what the disk held at first) stands
 //! in contracts alone.
 //!
-//! **Promise.** A hit is an entry of this very key or a file that was decoded with this very key; a miss has its cause;
-//! a key that a pass has seen stored is never missed; what is found is made of its key, where the disk was honest. At
-//! the end the history says what each file of the directory holds, and every other file is as it was.
+//! **Promise.** Each look-up and each store is one turn, and adds one record to the history that this turn found, or none
+//! where memory was refused. A hit is an entry of this very key or a file that was decoded with this very key; a miss has
+//! its cause; a key that a pass has seen stored is never missed; what is found is made of its key, where the disk was
+//! honest. The disk is called only where no entry has the key and there is a directory. At the end the history says what
+//! each file of the directory holds, and every other file is as it was.
 //!
 //! **Cost.** Memory is taken first, and a refusal changes nothing. A record keeps a copy of its key, an entry one of its
 //! text too. A look-up goes through the records one by one and compares keys of equal length, so n look-ups take n^2

@@ -1,5 +1,5 @@
 //! Saving an entry in the directory.
-ghost use Rattle.std.specs.Prelude.{◌≡◌, ◌≤◌, ◌<◌, ◌^◌, length, IfOk, OnErr};
+ghost use Rattle.std.specs.Prelude.{◌≡◌, ◌≤◌, ◌<◌, ◌^◌, None, length, IfOk, OnErr};
 ghost use Rattle.std.specs.Option.{option_copied};
 ghost use Rattle.cache_slot.specs.Files.{bytes_of};
 ghost use Rattle.cache_slot.specs.Found.{SavedOn, kept_of};
@@ -21,6 +21,7 @@ pub fn save<D: CacheDisk>(
 ) -> Result<bool, AllocError>
     ensures saved { IfOk result (SavedOn (D.held disk.old) (D.held disk.new) (D.faults disk.old) (D.faults disk.new) (option_copied dir.entry) key.now text.now) }
     ensures later { D.faults disk.old ≤ D.faults disk.new }
+    ensures uncalled { option_copied dir.entry ≡ None → disk.new ≡ disk.old }
     ensures small { IfOk result (λ _. length (bytes_of key.now text.now) < 2 ^ 64) }
     ensures err { OnErr result (disk.new ≡ disk.old) }
 {

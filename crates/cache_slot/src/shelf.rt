@@ -37,7 +37,7 @@ impl<D: CacheDisk + Drop, S: Setting> Shelf<D, S> {
     ghost use Rattle.lto_outside.specs.DiskStore.{DiskStays};
     ghost use Rattle.lto_outside.specs.Honest.{IsHonest};
     ghost use Rattle.cache_slot.specs.Decoded.{decoded};
-    ghost use Rattle.cache_slot.specs.Found.{LookedOn, Stored, StoredOn};
+    ghost use Rattle.cache_slot.specs.Found.{NeedsNoDisk, LookedOn, Stored, StoredOn};
 
     /// A shelf with an empty history. Takes no memory.
     pub fn new(alloc: Global, disk: D, dir: Option<String>) -> Self
@@ -54,13 +54,15 @@ impl<D: CacheDisk + Drop, S: Setting> Shelf<D, S> {
         }
     }
 
-    /// The text of the key: that of an entry, or else that of the key's file. One record is added. Refused for memory
-    /// alone, and then the history and every file are as before.
+    /// The text of the key: that of an entry, or else that of the key's file. One record is added, and the disk is called
+    /// only where no entry has the key and there is a directory. Refused for memory alone, and then the history and every
+    /// file are as before.
     pub fn look(&mut self, alloc: Global, key: &[u8]) -> Result<Option<Text>, AllocError>
         ensures found { IfOk result (LookedOn (D.held self.old.disk) (D.faults self.old.disk) (D.faults self.new.disk) S.dir key.now self.old.records.items self.new.records.items) }
         ensures fits { IfOk result (λ answer. IfSome answer (λ text. (S.dir ≡ None) ⊎ IsHonest decoded D.fits S.files → ∥ D.fits key.now text ∥₁)) }
         ensures stay { DiskStays (D.held self.old.disk) (D.held self.new.disk) }
         ensures later { D.faults self.old.disk ≤ D.faults self.new.disk }
+        ensures uncalled { NeedsNoDisk S.dir self.old.records.items key.now → self.new.disk ≡ self.old.disk }
         ensures err { OnErr result (self.new.records.items ≡ self.old.records.items) }
     {
         let own = Text::copied(alloc, key)?;
@@ -84,6 +86,7 @@ impl<D: CacheDisk + Drop, S: Setting> Shelf<D, S> {
         ensures stored { IfOk result (Stored S.dir key.now text.now self.old.records.items self.new.records.items) }
         ensures disk { IfOk result (StoredOn (D.held self.old.disk) (D.held self.new.disk) (D.faults self.old.disk) (D.faults self.new.disk) S.dir key.now text.now) }
         ensures later { D.faults self.old.disk ≤ D.faults self.new.disk }
+        ensures uncalled { NeedsNoDisk S.dir self.old.records.items key.now → self.new.disk ≡ self.old.disk }
         ensures err { OnErr result ((self.new.records.items ≡ self.old.records.items) × (self.new.disk ≡ self.old.disk)) }
     {
         let own = Text::copied(alloc, key)?;

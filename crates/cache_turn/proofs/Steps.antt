@@ -12,7 +12,7 @@ use Rattle.atomic_table.proofs.Lists.{at_set, at_snoc, set_again, set_here, set_
 use Rattle.cache_turn.specs.declared.sight.Sight.{Sight}
 use Rattle.cache_turn.specs.declared.sight.Stage.{Stage}
 use Rattle.cache_turn.specs.declared.sight.Stage.TheVariants.{Out, Waiting, Inside, Counted}
-use Rattle.cache_turn.specs.Views.{share, ticket_count, is_outside, ticket_of, longer, Knows, tickets_held, turns_left, opening_sight, no_sight, staged, drawn, counted, left_sight, right_sight, both_sights, merged}
+use Rattle.cache_turn.specs.Views.{share, ticket_count, is_outside, ticket_of, longer, Knows, tickets_held, turns_left, opening_sight, no_sight, staged, drawn, entered, counted, left_sight, right_sight, both_sights, merged}
 use Rattle.cache_turn.specs.Rule.{PlaceRule, Home, TurnRule, held_log, DrawStep, AwaitStep, CountStep, ServeStep, MeetStep}
 use Rattle.cache_turn.proofs.Tallies.{sum_set, sum_at, sum_two, sum_push}
 use Rattle.cache_turn.proofs.Prefixes.{prefix_self, prefix_trans, prefix_shorter}
@@ -112,9 +112,9 @@ module _ {T R : Type 0} (log : T → List R) where
 
   -- the seat whose ticket is served takes the value
   takes_it : (s : St) (r : Rule s) (id : ℕ) (me : M) (t : ℕ) → get_elem? s.views id ≡ some me.0 → me.0.stage ≡ Waiting t → t ≡ slice_index s.words 1 → (h : Home log s.homes r.history)
-      → Rule record { words = s.words; homes = homes_after s.homes me.1 (takes 0 (Some h.0)); views = set s.views id (staged me.0 (Inside t (log h.0))) }
+      → Rule record { words = s.words; homes = homes_after s.homes me.1 (takes 0 (Some h.0)); views = set s.views id (entered me.0 t (log h.0)) }
   takes_it s r id me t at waiting is h =
-      let v = me.0 in let w = staged v (Inside t (log h.0)) in
+      let v = me.0 in let w = entered v t (log h.0) in
       let mine = r.each_place id v at in
       let same : (y : ℕ) → tickets_held y w ≡ tickets_held y v = λ y. sym (ap (ticket_count y) waiting) in
       let sums : (y : ℕ) → sum_by (tickets_held y) (set s.views id w) ≡ sum_by (tickets_held y) s.views = λ y. (let e = sum_set (tickets_held y) s.views id v w at in let z = same y in omega arith) in
@@ -163,13 +163,13 @@ module _ {T R : Type 0} (log : T → List R) where
       ⊎_elim
       (λ (is : served ≡ t).
       let h = r.home (all_outside s r id me.0 t at waiting (sym is)) in (
-        staged me.0 (Inside t (log h.0)),
+        entered me.0 t (log h.0),
         takes 0 (Some h.0),
         h.1,
-        subst (λ (ws : List ℕ). Rule record { words = ws; homes = homes_after s.homes me.1 (takes 0 (Some h.0)); views = set s.views id (staged me.0 (Inside t (log h.0))) }) (sym same)
+        subst (λ (ws : List ℕ). Rule record { words = ws; homes = homes_after s.homes me.1 (takes 0 (Some h.0)); views = set s.views id (entered me.0 t (log h.0)) }) (sym same)
             (takes_it s r id me t at waiting (sym is) h),
         (
-          (λ _. (h.0, ap (λ (k : ℕ). staged me.0 (Inside k (log h.0))) (sym is), refl, subst (IsPrefix me.0.seen) (sym h.2) mine.seen)),
+          (λ _. (h.0, ap (λ (k : ℕ). entered me.0 k (log h.0)) (sym is), refl, subst (IsPrefix me.0.seen) (sym h.2) mine.seen)),
           (λ ne. absurd (ne (is ∙ sym ticket))),
         ),
       ))

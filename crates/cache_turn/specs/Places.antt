@@ -1,11 +1,12 @@
 -- What a clause says of a place.
 use Rattle.std.specs.Prelude.{◌≡◌, ℕ, ◌+◌, List, [], ◌∷◌, Option, None}
+use mathlib.Core.List.{IsPrefix}
 use Rattle.atomic_table.specs.Seated.{TableId}
 use Rattle.atomic_table.specs.Table.{Me}
 use Rattle.atomic_table.specs.declared.shared.Seat.{Seat}
 use Rattle.cache_turn.specs.declared.sight.Sight.{Sight}
 use Rattle.cache_turn.specs.declared.sight.Stage.TheVariants.{Out, Inside}
-use Rattle.cache_turn.specs.Views.{staged, drawn, longer}
+use Rattle.cache_turn.specs.Views.{drawn, entered, longer}
 
 module _ {T R : Type 0} where
   -- the place is one of this lock
@@ -19,13 +20,20 @@ module _ {T R : Type 0} where
   abbrev pub IsSamePlace : Seat (Option T) (Sight R) → Seat (Option T) (Sight R) → Type 0
   IsSamePlace s t = (t.table_id ≡ s.table_id) × (t.id ≡ s.id)
 
-  -- the history as it was at the place's last turn
+  -- the history as the place's last turn left it, and as it found it
   abbrev pub seen_by : Seat (Option T) (Sight R) → List R
   seen_by s = s.me.0.seen
 
+  abbrev pub before_turn : Seat (Option T) (Sight R) → List R
+  before_turn s = s.me.0.before
+
+  -- the place took one turn, and what it had seen begins the history that this turn found
+  abbrev pub TookOneTurn : Seat (Option T) (Sight R) → Seat (Option T) (Sight R) → Type 0
+  TookOneTurn s t = (t.me.0.turns + 1 ≡ s.me.0.turns) × IsPrefix (seen_by s) (before_turn t)
+
   -- with the value in hand, whose history was l
   abbrev pub taken : Sight R → ℕ → List R → Me (Option T) (Sight R)
-  taken v t l = (staged (drawn v t) (Inside t l), (0, None) ∷ [])
+  taken v t l = (entered (drawn v t) t l, (0, None) ∷ [])
 
   -- the place has the turn t, and the history of the value that it took was l
   abbrev pub IsInside : Seat (Option T) (Sight R) → ℕ → List R → Type 0

@@ -7,8 +7,8 @@ use mathlib.Core.List.{IsPrefix}
 use lib.ListN.{get_elem?}
 use Rattle.atomic_table.specs.Table.{State, Me, Step, rest}
 use Rattle.cache_turn.specs.declared.sight.Sight.{Sight}
-use Rattle.cache_turn.specs.declared.sight.Stage.TheVariants.{Inside, Out}
-use Rattle.cache_turn.specs.Views.{ticket_of, is_outside, Knows, longer, tickets_held, turns_left, staged, drawn, counted, merged}
+use Rattle.cache_turn.specs.declared.sight.Stage.TheVariants.{Out}
+use Rattle.cache_turn.specs.Views.{ticket_of, is_outside, Knows, longer, tickets_held, turns_left, staged, drawn, entered, counted, merged}
 
 module _ {T R : Type 0} (log : T → List R) where
   -- what the rule says of each place, where the ticket `served` is served
@@ -57,7 +57,7 @@ module _ {T R : Type 0} (log : T → List R) where
 
   -- the place whose ticket is served takes the value
   abbrev pub AwaitStep : Step (Option T) → SeatView → ℕ → SeatView → Type 0
-  AwaitStep at me found after = (found ≡ ticket_of me.0.stage → (x : T) × (after.0 ≡ staged me.0 (Inside found (log x))) × (after.1 ≡ (0, Some x) ∷ me.1) × IsPrefix me.0.seen (log x))
+  AwaitStep at me found after = (found ≡ ticket_of me.0.stage → (x : T) × (after.0 ≡ entered me.0 found (log x)) × (after.1 ≡ (0, Some x) ∷ me.1) × IsPrefix me.0.seen (log x))
       × (found ≢ ticket_of me.0.stage → after ≡ me)
 
   -- the held value's records become what the place has seen

@@ -50,17 +50,21 @@ module _ {R : Type 0} where
 
   -- the first place, and what is left of one that another has taken in
   abbrev pub opening_sight : Sight R
-  opening_sight = record { turns = 9223372036854775808; seen = []; also = []; stage = Out }
+  opening_sight = record { turns = 9223372036854775808; before = []; seen = []; also = []; stage = Out }
 
   abbrev pub no_sight : Sight R
-  no_sight = record { turns = 0; seen = []; also = []; stage = Out }
+  no_sight = record { turns = 0; before = []; seen = []; also = []; stage = Out }
 
-  -- how the steps change a place: it goes to a stage, draws the ticket t, puts back a value whose history is l
+  -- how the steps change a place: it goes to a stage, draws the ticket t, takes the value at the turn t, whose history is
+  -- l, puts back a value whose history is l
   abbrev pub staged : Sight R → Stage R → Sight R
   staged v stage = record v { stage = stage }
 
   abbrev pub drawn : Sight R → ℕ → Sight R
   drawn v t = record v { turns = v.turns - 1; stage = Waiting t }
+
+  abbrev pub entered : Sight R → ℕ → List R → Sight R
+  entered v t l = record v { before = l; stage = Inside t l }
 
   abbrev pub counted : Sight R → List R → Sight R
   counted v l = record v { seen = l; stage = Counted (ticket_of v.stage) }

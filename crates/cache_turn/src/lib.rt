@@ -5,7 +5,8 @@
 //! shared-memory multiprocessors", ACM TOCS 9(1), 1991, section 2.2). So turns are granted in the order of the tickets.
 //!
 //! The value has a list of records ([`Logged`]), its history, to which a turn adds at the end and never else. Each
-//! [`Place`] knows how the history was at its last turn: what it has *seen*, which stands in contracts alone.
+//! [`Place`] knows how many turns it has left, how its last turn found the history, and how it left it: what it has *seen*.
+//! What it knows stands in contracts alone, but for the number of turns.
 //!
 //! **Promise.** In every interleaving of all calls one caller at a time has the value; what a place has seen begins the
 //! history, so of any two places the one has seen a beginning of what the other has; and the history begins with it

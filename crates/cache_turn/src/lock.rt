@@ -76,6 +76,7 @@ impl<T: Logged<R>, R> TicketLock<T, R> {
         ensures place { IsSamePlace place.old.seat place.new.seat }
         ensures taken { (t : ℕ) × (place.new.seat.me ≡ taken place.old.seat.me.0 t (T.log result)) }
         ensures seen { IsPrefix (seen_by place.old.seat) (T.log result) }
+        ensures left { 0 < place.old.seat.me.0.turns }
     {
         if place.left == 0 {
             wait_for_ever(rt);

@@ -17,7 +17,9 @@ pub enum Stage<R> {
 pub struct Sight<R> {
     /// So many turns it may still take.
     pub turns: u64,
-    /// The history as it was at its last turn.
+    /// The history as its last turn found it.
+    pub before: LinkedList<R>,
+    /// The history as its last turn left it.
     pub seen: LinkedList<R>,
     /// What a place had seen that it has just taken in.
     pub also: LinkedList<R>,
