@@ -1,60 +1,11 @@
-//! Names of locals of two modules that have the same name, and a local that an import promotes.
-use crate::files::{linked, texts};
-use combined_index::{Index, Live, Names};
-use lto_sets::Bits;
-use promote_rename::{NamesError, final_names, promoted, suffix};
-use std::alloc::Global;
-
-const LOCAL: &str = "define internal void @h() {
-  ret void
-}
-";
-
-const ANOTHER: &str = "define private void @h() {
-  ret void
-}
-define void @f() {
-  ret void
-}
-";
-
-/// An external function has the name that the first module's local gets.
-const TAKING: &str = "define private void @h() {
-  ret void
-}
-define void @h.llvm.1() {
-  ret void
-}
-";
-
-/// The final names where all symbols of two modules are live.
-fn all_named(alloc: Global, index: &Index) -> Result<Names, NamesError> {
-    let suffixes = texts(alloc, &[b".llvm.1", b".llvm.2"])?;
-    let size = index.symbols().len() as u32;
-    let live = Live::of(Bits::full(alloc, size)?);
-    if suffixes.len() != index.modules().len() {
-        return Err(NamesError::NoMemory);
-    }
-    final_names(alloc, index, &live, &suffixes)
-}
+//! The suffix of a module's locals, and a local that an import promotes.
+use crate::files::linked;
+use promote_rename::{promoted, suffix};
 
 #[test]
-fn locals_get_suffixes_unless_a_name_is_taken(rt: HostRuntime) {
-    let alloc = rt.alloc();
-    let known = suffix(alloc, b"abc").expect(&rt, "memory");
+fn a_suffix_is_known(rt: HostRuntime) {
+    let known = suffix(rt.alloc(), b"abc").expect(&rt, "memory");
     assert!(rt; known.equals(b".llvm.12220867466687316330"));
-    let index = linked(alloc, &[("a.ll", LOCAL), ("b.ll", ANOTHER)]).expect(&rt, "a link");
-    let Ok(names) = all_named(alloc, &index) else {
-        panic!(rt; "all apart");
-    };
-    assert!(rt; names.name_of(0) == Some(b"h.llvm.1".as_slice()));
-    assert!(rt; names.name_of(1) == Some(b"h.llvm.2".as_slice()));
-    assert!(rt; names.name_of(2) == Some(b"f".as_slice()));
-    let index = linked(alloc, &[("a.ll", LOCAL), ("b.ll", TAKING)]).expect(&rt, "a link");
-    let Err(NamesError::NameTaken { name }) = all_named(alloc, &index) else {
-        panic!(rt; "two of one name");
-    };
-    assert!(rt; name.equals(b"h.llvm.1"));
 }
 
 /// A local `g`, which refers to the local `h` beside it.

@@ -1,26 +1,8 @@
-//! Tests of what modules mean and of what runs them: operations on numbers and sets over vectors worked out outside (`lto_bits`,
-//! `lto_sets`); the interpreter's memory, addresses, registers, calls and lines (`ir_machine`, `ir_address`, `ir_frames`,
-//! `ir_calls`, `ir_lines`); lowering, over modules that are read and verified, with the memory that a run begins with
-//! (`machine_code`, `machine_memory`); and the machine and its runs (`machine_steps`, `ir_interp`), over small programs written
-//! as code of the machine.
+//! Tests of operations on numbers (`lto_bits`) and on sets (`lto_sets`), over vectors that were worked out outside.
 //!
-//! What the clauses of these crates say is not tried again here. The tests stand above the crates, so that their own proofs are
-//! not done twice, and in one crate, so that their statements are loaded once.
+//! What the clauses of these crates say is not tried again here. Whole programs, with what the interpreter makes of memory,
+//! addresses, calls and faults, are rows of the program's own tests, and the vectors under examples.
 #![tactic(auto)]
 
 #[cfg(test)]
-mod flags;
-#[cfg(test)]
-mod interpreter;
-#[cfg(test)]
-mod lowering;
-#[cfg(test)]
-mod make;
-#[cfg(test)]
 mod numbers;
-#[cfg(test)]
-mod openings;
-#[cfg(test)]
-mod programs;
-#[cfg(test)]
-mod texts;

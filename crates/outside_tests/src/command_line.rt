@@ -4,95 +4,110 @@ use lto_words::{Command, WordsError, command};
 use std::alloc::Global;
 use std::process::Abort;
 
+/// The name of a command, and its numbers.
+type Told = (&'static str, [usize; 5]);
+
+/// The name of a command, and its numbers: of workers, of limits, and how many names and files it has.
+fn told(command: &Command) -> Told {
+    match command {
+        Command::Link { options, files, .. } => {
+            let limits = (options.import_limit as usize, options.inline_limit as usize);
+            let names = options.exports.len();
+            (
+                "link",
+                [
+                    options.jobs as usize,
+                    limits.0,
+                    limits.1,
+                    names,
+                    files.len(),
+                ],
+            )
+        }
+        Command::Batch { options, .. } => ("batch", [options.jobs as usize, 0, 0, 0, 0]),
+        Command::Index {
+            exports,
+            import_limit,
+            files,
+        } => (
+            "index",
+            [0, *import_limit as usize, 0, exports.len(), files.len()],
+        ),
+        Command::Run {
+            args,
+            steps,
+            files,
+            ..
+        } => ("run", [*steps as usize, 0, 0, args.len(), files.len()]),
+        Command::Gen {
+            seed,
+            modules,
+            jobs,
+        } => (
+            "gen",
+            [*jobs as usize, *seed as usize, *modules as usize, 0, 0],
+        ),
+    }
+}
+
+/// No command.
+const USAGE: Told = ("usage", [0; 5]);
+
 /// What words are read as.
-fn read<R: Abort>(rt: &R, alloc: Global, words: &[&str]) -> Result<Command, WordsError> {
+fn read<R: Abort>(rt: &R, alloc: Global, words: &[&str]) -> Told {
     let mut owned = Vec::new(alloc);
     for word in words {
         owned
             .push(String::from_str(alloc, word).expect(rt, "a word"))
             .expect(rt, "words");
     }
-    command(alloc, &owned)
+    match command(alloc, &owned) {
+        Ok(command) => told(&command),
+        Err(WordsError::Usage) => USAGE,
+        Err(WordsError::NoMemory) => ("memory", [0; 5]),
+    }
 }
 
-#[test]
-fn links_are_read(rt: HostRuntime) {
-    let Ok(
-        Command::Link {
-            options,
-            out,
-            files,
-        },
-    ) = read(&rt, rt.alloc(), &[])
-    else {
-        panic!(rt; "standard input, linked");
-    };
-    assert!(rt; out.as_str() == "-" && files.len() == 1 && options.jobs == 1);
-    let words = [
-        "link",
-        "a.ll",
-        "--jobs=2",
-        "-oOUT",
-        "b.ll",
-        "--export",
-        "main,f,main",
-    ];
-    let Ok(
-        Command::Link {
-            options,
-            out,
-            files,
-        },
-    ) = read(&rt, rt.alloc(), &words)
-    else {
-        panic!(rt; "a link");
-    };
-    assert!(rt; options.jobs == 2 && options.import_limit == 100 && options.inline_limit == 40);
-    assert!(rt; options.cache.is_none() && options.exports.len() == 2);
-    assert!(rt; out.as_str() == "OUT" && files.len() == 2);
-}
+/// Words, and the command that they are.
+const COMMANDS: [(&[&str], Told); 6] = [
+    // no words are a link of the standard input
+    (&[], ("link", [1, 100, 40, 1, 1])),
+    (
+        &[
+            "link",
+            "a.ll",
+            "--jobs=2",
+            "-oOUT",
+            "b.ll",
+            "--export",
+            "main,f,main",
+        ],
+        ("link", [2, 100, 40, 2, 2]),
+    ),
+    (
+        &["run", "--args=-5", "--steps", "4000000000", "-"],
+        ("run", [4_000_000_000, 0, 0, 1, 1]),
+    ),
+    (
+        &["batch", "--cache", "d", "list"],
+        ("batch", [1, 0, 0, 0, 0]),
+    ),
+    (
+        &["index", "a.ll", "--import-limit=7"],
+        ("index", [0, 7, 0, 1, 1]),
+    ),
+    (
+        &["gen", "--modules", "2", "--seed", "0001"],
+        ("gen", [1, 1, 2, 0, 0]),
+    ),
+];
 
 #[test]
-fn other_commands_are_read(rt: HostRuntime) {
-    let alloc = rt.alloc();
-    let words = ["run", "--args=-5", "--steps", "4000000000", "-"];
-    let Ok(
-        Command::Run {
-            root: _,
-            args,
-            steps,
-            files,
-        },
-    ) = read(&rt, alloc, &words)
-    else {
-        panic!(rt; "a run");
-    };
-    let first = args.as_slice().first();
-    assert!(rt; matches!(first, Some(d) if d.negative && d.magnitude == Some(5)));
-    assert!(rt; steps == 4_000_000_000 && files.len() == 1);
-    let batch = read(&rt, alloc, &["batch", "--cache", "d", "list"]);
-    assert!(rt; matches!(batch, Ok(Command::Batch { .. })));
-    let index = read(&rt, alloc, &["index", "a.ll", "--import-limit=7"]);
-    assert!(rt;
-        matches!(
-            index,
-            Ok(Command::Index {
-                import_limit: 7,
-                ..
-            })
-        )
-    );
-    let generate = read(&rt, alloc, &["gen", "--modules", "2", "--seed", "0001"]);
-    assert!(rt;
-        matches!(
-            generate,
-            Ok(Command::Gen {
-                seed: 1,
-                modules: 2,
-                jobs: 1
-            })
-        )
-    );
+fn words_are_commands(rt: HostRuntime) {
+    for (words, wanted) in COMMANDS {
+        let found = read(&rt, rt.alloc(), words);
+        assert!(rt; found.0 == wanted.0 && found.1 == wanted.1, "{words:?}");
+    }
 }
 
 /// Words that are no command, and why.
@@ -133,8 +148,7 @@ const REFUSED: [(&str, &[&str]); 16] = [
 #[test]
 fn other_words_are_usage(rt: HostRuntime) {
     for (why, words) in REFUSED {
-        let refused = read(&rt, rt.alloc(), words);
-        assert!(rt; matches!(refused, Err(WordsError::Usage)), "{why}");
+        assert!(rt; read(&rt, rt.alloc(), words).0 == "usage", "{why}");
     }
 }
 
@@ -148,7 +162,7 @@ fn more_than_4096_files_are_usage(rt: HostRuntime) {
     for _ in 0..4_096 {
         words.push("a.ll").expect(&rt, "words");
     }
-    assert!(rt; read(&rt, alloc, &words).is_ok());
+    assert!(rt; read(&rt, alloc, &words).0 == "link");
     words.push("a.ll").expect(&rt, "words");
-    assert!(rt; matches!(read(&rt, alloc, &words), Err(WordsError::Usage)));
+    assert!(rt; read(&rt, alloc, &words).0 == "usage");
 }

@@ -24,66 +24,92 @@ fn opened(alloc: Global) -> Result<Core, AllocError> {
     Core::start(alloc, &links, &disk)
 }
 
+/// What a worker does in a turn; what it compiles is `A`.
+#[derive(Clone, Copy)]
+enum Turn {
+    Claim,
+    Look(bool),
+    Compile,
+    Keep(bool),
+}
+
+/// Whether the worker of a link may do this, and has done it.
+fn takes(
+    alloc: Global,
+    core: &mut Core,
+    link: u32,
+    worker: u32,
+    turn: Turn,
+) -> Result<bool, AllocError> {
+    let act = match turn {
+        Turn::Claim => Act::Claim,
+        Turn::Look(given) => Act::Look { given },
+        Turn::Compile => Act::Compile(Text::copied(alloc, b"A")?),
+        Turn::Keep(taken) => Act::Keep { taken },
+    };
+    let event = Event { link, worker, act };
+    Ok(core.has(&event) && core.step(alloc, &event).is_ok())
+}
+
+const TURNS: [(u32, u32, Turn); 10] = [
+    (0, 0, Turn::Claim),
+    (0, 1, Turn::Claim),
+    (0, 1, Turn::Look(true)),
+    (0, 0, Turn::Look(true)),
+    (0, 1, Turn::Claim),
+    (0, 0, Turn::Compile),
+    (0, 0, Turn::Keep(true)),
+    (1, 0, Turn::Claim),
+    (1, 0, Turn::Look(false)),
+    (1, 0, Turn::Claim),
+];
+
+/// Whether the results of a link are these.
+fn gave(core: &Core, link: u32, wanted: &[&[u8]]) -> bool {
+    let Some(results) = core.results(link) else {
+        return false;
+    };
+    let mut same = results.len() == wanted.len();
+    for (result, text) in results.iter().zip(wanted) {
+        same = same && matches!(result, Some(made) if made.equals(text));
+    }
+    same
+}
+
 #[test]
-fn two_links_over_one_list_and_an_act_that_is_not_enabled(rt: HostRuntime) {
+fn two_links_share_one_list(rt: HostRuntime) -> Result<(), AllocError> {
     let alloc = rt.alloc();
-    let mut core = opened(alloc).expect(&rt, "memory");
-    let made = Text::copied(alloc, b"A").expect(&rt, "memory");
-    let events = [
-        (0, 0, Act::Claim),
-        (0, 1, Act::Claim),
-        (0, 1, Act::Look { given: true }),
-        (0, 0, Act::Look { given: true }),
-        (0, 1, Act::Claim),
-        (0, 0, Act::Compile(made)),
-        (0, 0, Act::Keep { taken: true }),
-        (1, 0, Act::Claim),
-        (1, 0, Act::Look { given: false }),
-        (1, 0, Act::Claim),
-    ];
-    for (link, worker, act) in events {
-        let event = Event { link, worker, act };
-        assert!(rt; core.has(&event));
-        assert!(rt; core.step(alloc, &event).is_ok());
+    let mut core = opened(alloc)?;
+    for (link, worker, turn) in TURNS {
+        assert!(rt; takes(alloc, &mut core, link, worker, turn)?);
     }
     let [entry] = core.entries() else {
         panic!(rt; "one entry");
     };
-    assert!(rt; entry.key.equals(b"a"));
-    assert!(rt; entry.text.equals(b"A"));
-    let Some([Some(first), Some(second)]) = core.results(0) else {
-        panic!(rt; "two results");
-    };
-    assert!(rt; first.equals(b"A"));
-    assert!(rt; second.equals(b"B"));
-    let Some([Some(shared)]) = core.results(1) else {
-        panic!(rt; "one result");
-    };
-    assert!(rt; shared.equals(b"A"));
+    assert!(rt; entry.key.equals(b"a") && entry.text.equals(b"A"));
+    assert!(rt; gave(&core, 0, &[b"A", b"B"]) && gave(&core, 1, &[b"A"]));
+    Ok(())
+}
 
-    // A worker that has claimed a number claims no other one before it has looked the first one up.
-    let mut core = opened(alloc).expect(&rt, "memory");
+#[test]
+fn a_worker_claims_no_second_number_before_it_looks(rt: HostRuntime) -> Result<(), AllocError> {
+    let alloc = rt.alloc();
+    let mut core = opened(alloc)?;
+    assert!(rt; takes(alloc, &mut core, 1, 0, Turn::Claim)?);
     let claim = Event {
         link: 1,
         worker: 0,
         act: Act::Claim,
     };
     assert!(rt; core.has(&claim));
-    assert!(rt; core.step(alloc, &claim).is_ok());
-    assert!(rt; core.has(&claim));
-    let Err(
-        StepError::NotEnabled {
-            phase: Phase::Claimed(number),
-        },
-    ) = core.step(alloc, &claim)
-    else {
-        panic!(rt; "a worker claims once");
-    };
-    assert!(rt; number == 0);
-    let other = Event {
-        link: 1,
-        worker: 1,
-        act: Act::Claim,
-    };
-    assert!(rt; !core.has(&other));
+    let again = core.step(alloc, &claim);
+    assert!(rt;
+        matches!(
+            again,
+            Err(StepError::NotEnabled {
+                phase: Phase::Claimed(0)
+            })
+        )
+    );
+    Ok(())
 }

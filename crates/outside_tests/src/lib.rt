@@ -1,8 +1,7 @@
 //! Tests of the linker's outside, of its cache, and of what workers share: the traits of the outside (`lto_outside`) and
 //! the objects that meet them, in memory (`outside_memory`) and over real files (`outside_real`); entries of the cache
 //! (`cache_entry`), turns (`cache_turn`) and the shared cache over a disk in memory (`cache_slot`); numbers that workers
-//! draw (`claim_word`) and the core's events (`link_core`); the lines of refusals (`lto_fault`), and the words of the command
-//! line (`lto_words`).
+//! draw (`claim_word`) and the core's events (`link_core`); and the words of the command line (`lto_words`).
 //!
 //! What the clauses of these crates say is not tried again here. These tests show that the calls succeed with ample
 //! memory, what real files hold, and what threads beside each other get. The tests stand above the crates, so that their
@@ -25,8 +24,6 @@ mod meaning;
 mod memory;
 #[cfg(test)]
 mod real;
-#[cfg(test)]
-mod refusals;
 #[cfg(test)]
 mod traits;
 #[cfg(test)]

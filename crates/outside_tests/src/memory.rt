@@ -4,7 +4,7 @@ use lto_outside::{ByteIn, ByteOut, CacheDisk, FetchFault, Files, Gate, Stage};
 use outside_memory::{Failure, Leaves, MemoryDisk, MemoryFiles, MemoryGate, MemoryIn, MemoryOut};
 
 #[test]
-fn objects_in_memory(rt: HostRuntime) {
+fn files_keep_what_failed_puts_leave(rt: HostRuntime) {
     let alloc = rt.alloc();
     let half = Failure {
         call: 2,
@@ -20,7 +20,11 @@ fn objects_in_memory(rt: HostRuntime) {
     assert!(rt; held.equals(b"te"));
     assert!(rt; matches!(files.fetch(alloc, "c"), Err(FetchFault::Fault)));
     assert_eq!(rt; files.faults(), 2);
+}
 
+#[test]
+fn a_disk_keeps_what_failed_saves_leave(rt: HostRuntime) {
+    let alloc = rt.alloc();
     let gone = Failure {
         call: 1,
         leaves: Leaves::Absent,
@@ -36,7 +40,11 @@ fn objects_in_memory(rt: HostRuntime) {
     assert!(rt; loaded.is_none());
     assert!(rt; disk.save("d", "y", b"last").is_ok());
     assert!(rt; disk.content("d", "y").is_some());
+}
 
+#[test]
+fn streams_go_on_behind_a_failure(rt: HostRuntime) {
+    let alloc = rt.alloc();
     let bytes = vec![in alloc; b'x', b'y'].expect(&rt, "memory");
     let mut input = MemoryIn::new(bytes, vec![in alloc; 1].expect(&rt, "memory"));
     assert!(rt; input.next() == Ok(Some(b'x')));
@@ -47,7 +55,10 @@ fn objects_in_memory(rt: HostRuntime) {
     assert!(rt; out.push(b'q').is_err());
     assert!(rt; out.push(b'r').is_ok());
     assert_eq!(rt; out.sent(), b"pr".as_slice());
+}
 
+#[test]
+fn a_gate_counts_who_passes(rt: HostRuntime) {
     let gate = MemoryGate::new();
     gate.pass(0, None, Stage::Claim);
     gate.pass(0, Some(3), Stage::Done);

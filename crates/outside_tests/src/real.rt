@@ -16,7 +16,12 @@ fn a_file_is_put_and_fetched(rt: HostRuntime) {
     assert!(rt; matches!(files.fetch(alloc, "absent"), Err(FetchFault::Fault)));
     assert!(rt; files.put("absent/a", b"").is_err());
     assert_eq!(rt; files.faults(), 2);
+}
 
+#[test]
+fn a_file_past_the_limit_is_too_long(rt: HostRuntime) {
+    let alloc = rt.alloc();
+    let mut files = RealFiles::new(&rt);
     let full = vec![in alloc; b'x'; 1 << 24].expect(&rt, "memory");
     assert!(rt; files.put("full", full.as_slice()).is_ok());
     let text = files.fetch(alloc, "full").expect(&rt, "a file");
@@ -24,7 +29,7 @@ fn a_file_is_put_and_fetched(rt: HostRuntime) {
     let more = vec![in alloc; b'x'; (1 << 24) + 1].expect(&rt, "memory");
     assert!(rt; files.put("full", more.as_slice()).is_ok());
     assert!(rt; matches!(files.fetch(alloc, "full"), Err(FetchFault::TooLong)));
-    assert_eq!(rt; files.faults(), 2);
+    assert_eq!(rt; files.faults(), 0);
 }
 
 #[test]

@@ -1,8 +1,7 @@
 //! Tests of passes and of what they stand on: facts (`ir_facts`), dead code (`dead_code`), slots (`slot_promote`), the passes
 //! over blocks (`branch_simplify`, `block_trim`, `block_merge`), inlining at a call (`inline_site`), the inline walk and the
-//! order of all (`back_end`), by tables of texts: a module, and its first function as the pass makes it, worked out by hand. And
-//! values and operations (`ir_meaning`), the small passes of `ir_better` and the rule table (`fold_rules`), whose calls have no
-//! texts.
+//! order of all (`back_end`), by tables of texts: a module, and its first function as the pass makes it, worked out by hand. The
+//! rows of facts try the rule table (`fold_rules`).
 //!
 //! A module is read and verified (`ir_parse`, `ir_verify`), so a row is a sound module, numbered in the order of its text. One
 //! call applies each pass and prints (`rows`); each table has one test, which names the row that fails. What the clauses of these
@@ -10,8 +9,6 @@
 //! one crate, so that their statements are loaded once.
 #![tactic(auto)]
 
-#[cfg(test)]
-mod meaning;
 #[cfg(test)]
 mod points;
 #[cfg(test)]

@@ -1,8 +1,6 @@
-//! Long functions, which loops write: as texts, or as trees where a text is read for long.
-use crate::meaning::values::symbol;
-use crate::rows::{Pass, after};
+//! Long functions, which loops write.
+use crate::rows::{Pass, after, first, read};
 use block_merge::merge;
-use ir_tree::{Block, Function, Instr, Line, Linkage, Operand, Reg, Rows, Terminator};
 use std::alloc::{AllocError, Global};
 use std::fmt::Write;
 
@@ -27,59 +25,33 @@ fn a_long_chain_of_copies_goes(rt: HostRuntime) -> Result<(), AllocError> {
     Ok(())
 }
 
-/// A block that freezes a number and leads on.
-fn freezing(alloc: Global, number: u32, end: Terminator) -> Result<Block, AllocError> {
-    let instr = Instr::Freeze {
-        reg: Reg::Int(32),
-        value: Operand::Number { width: 32, bits: 1 },
-    };
-    let line = Line {
-        local: Some(number.saturating_add(1)),
-        instr,
-    };
-    Ok(Block {
-        number,
-        phis: Rows::new(alloc),
-        lines: Rows::of(vec![in alloc; line]?),
-        end,
-    })
+/// A function of a first block with an end, of a last one, and of so many others, each of which leads to the one before it,
+/// against the text.
+fn backward(alloc: Global, count: u32, first: &str) -> Result<String, AllocError> {
+    let mut text = format!(in alloc; "define void @f() {{\n  {first}\nb0:\n  unreachable\n")?;
+    for before in 0..count {
+        let block = before.saturating_add(1);
+        writeln!(
+            text,
+            "b{block}:\n  %x{block} = freeze i32 1\n  br label %b{before}"
+        )?;
+    }
+    writeln!(text, "}}")?;
+    Ok(text)
 }
 
-/// A function of a first block with an end and of so many others, each of which leads to the one before it, against the text.
-fn backward(alloc: Global, count: u32, first: Terminator) -> Result<Function, AllocError> {
-    let mut blocks = Rows::new(alloc);
-    blocks.push(freezing(alloc, 0, first)?)?;
-    let mut end = Terminator::Unreachable;
-    for before in 0..count {
-        let number = before.saturating_add(1).saturating_mul(2);
-        blocks.push(freezing(alloc, number, end)?)?;
-        end = Terminator::Jump(number);
-    }
-    Ok(Function {
-        symbol: symbol(alloc, b"f")?,
-        linkage: Linkage::External,
-        result: None,
-        params: Rows::new(alloc),
-        noinline: false,
-        optnone: false,
-        blocks,
-    })
+/// How many blocks a function has when they are merged.
+fn blocks_left(alloc: Global, text: &str) -> Option<usize> {
+    let module = read(alloc, text.as_bytes())?;
+    let merged = merge(alloc, first(&module)?).ok()?;
+    Some(merged.blocks.len())
 }
 
 #[test]
 fn a_long_chain_becomes_one_block(rt: HostRuntime) -> Result<(), AllocError> {
-    let g = merge(
-        rt.alloc(),
-        &backward(rt.alloc(), 60_000, Terminator::Jump(120_000))?,
-    )?;
-    assert!(rt; g.blocks.len() == 1);
-    for block in g.blocks.as_slice() {
-        assert!(rt; block.lines.len() == 60_001);
-    }
-    let h = merge(
-        rt.alloc(),
-        &backward(rt.alloc(), 60_000, Terminator::Unreachable)?,
-    )?;
-    assert!(rt; h.blocks.len() == 2);
+    let reached = backward(rt.alloc(), 60_000, "br label %b60000")?;
+    assert!(rt; blocks_left(rt.alloc(), reached.as_str()) == Some(1));
+    let apart = backward(rt.alloc(), 60_000, "unreachable")?;
+    assert!(rt; blocks_left(rt.alloc(), apart.as_str()) == Some(2));
     Ok(())
 }

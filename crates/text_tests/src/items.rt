@@ -1,3 +1,2 @@
 //! First faults of the items of a module, over small texts.
-mod definitions;
 mod faults;

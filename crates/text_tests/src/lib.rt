@@ -1,17 +1,16 @@
 //! Tests of text and of what is read of it, on small examples worked out by hand: trees, tokens, printed forms, edits and data
 //! flow (`ir_tree`, `ir_lex`, `ir_print`, `ir_edit`, `ir_flow`); numbers that digits write (`ir_read`), first faults of
-//! definitions of functions (`ir_bodies`) and of items (`ir_items`); whole modules, as they are printed or refused (`ir_parse`),
+//! items (`ir_items`); whole modules, as they are printed or refused (`ir_parse`),
 //! some of them read again from their print (`ir_definitions`); the circles of one graph (`ir_names`); and the verifier
 //! (`ir_verify`).
 //!
 //! What the clauses of these crates say is not tried again here: these texts, whose places and kinds of faults were worked out
-//! by hand, try whether their forms and definitions are the language. Like cases are rows of one table, which one test reads.
+//! by hand, try whether their forms and definitions are the language. Like cases are rows of one constant table, which one test
+//! reads: a row of a constant costs the proof next to nothing, a row in a function's body a second and more.
 //! The tests stand above the crates, so that their own proofs are not done twice, and in one crate, so that their statements
 //! are loaded once.
 #![tactic(auto)]
 
-#[cfg(test)]
-mod bodies;
 #[cfg(test)]
 mod forms;
 #[cfg(test)]

@@ -1,14 +1,7 @@
-//! Modules that are read from texts, and no flags.
+//! Modules that are read from texts.
 use ir_parse::parse;
-use ir_tree::{Flags, Parsed};
+use ir_tree::Parsed;
 use std::alloc::Global;
-
-/// No flags.
-pub(crate) const UNMARKED: Flags = Flags {
-    nuw: false,
-    nsw: false,
-    exact: false,
-};
 
 /// The module that a text is read as; none where it is read as no module, or memory runs out.
 pub(crate) fn read(alloc: Global, text: &[u8]) -> Option<Parsed> {

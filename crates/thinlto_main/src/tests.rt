@@ -490,7 +490,7 @@ type Indexed = (
     (u8, &'static [u8], &'static [u8]),
 );
 
-const INDICES: [Indexed; 11] = [
+const INDICES: [Indexed; 15] = [
     (
         "a function is imported",
         INDEX,
@@ -582,6 +582,58 @@ const INDICES: [Indexed; 11] = [
         ),
     ),
     (
+        "what main refers to is live, and what nobody exports is dead",
+        INDEX,
+        (
+            b"@first = global ptr @gone\n@gone = external global i8\n",
+            b"@main = global { ptr, ptr } { ptr @own, ptr @putchar }\n@own = internal global ptr @getchar\ndeclare i32 @putchar(i32)\ndeclare i32 @getchar()\n",
+            NONE,
+            NONE,
+        ),
+        (
+            0,
+            b"module 0 a.ll\n  define @first - dead\nmodule 1 b.ll\n  define @main - live\n  define @own - live\n",
+            b"",
+        ),
+    ),
+    (
+        "of names that nobody defines the least is told, before what is exported and not defined",
+        &["index", "--export=a,main", "a.ll", "b.ll"],
+        (
+            b"@first = global ptr @gone\n@gone = external global i8\n",
+            b"@main = global { ptr, ptr, ptr } { ptr @z, ptr @b, ptr @putchar }\n@z = external global i8\n@b = external global i8\ndeclare i32 @putchar(i32)\n",
+            NONE,
+            NONE,
+        ),
+        (4, b"", b"thinlto: undefined symbol @b in b.ll\n"),
+    ),
+    (
+        "a local is no definition of an exported name",
+        &["index", "--export=z,main,own", "b.ll"],
+        (
+            NOTHING,
+            b"@main = global ptr @own\n@own = internal global ptr null\n",
+            NONE,
+            NONE,
+        ),
+        (4, b"", b"thinlto: no definition of exported @own\n"),
+    ),
+    (
+        "locals of one name are two symbols, and calls are counted with the other instructions",
+        INDEX,
+        (
+            b"define i32 @main() noinline {\n  %1 = call i32 @h()\n  %2 = call i32 @f()\n  %3 = call i32 @h()\n  ret i32 %2\n}\ndefine internal i32 @h() {\n  ret i32 1\n}\ndeclare i32 @f()\n",
+            b"define private i32 @h() {\n  ret i32 2\n}\ndefine i32 @f() {\n  %1 = call i32 @h()\n  ret i32 %1\n}\n",
+            NONE,
+            NONE,
+        ),
+        (
+            0,
+            b"module 0 a.ll\n  define @h 1 live\n  define @main 4 live\n  import @f from 1 2\n  import @h from 1 1\nmodule 1 b.ll\n  define @f 2 live\n  define @h 1 live\n",
+            b"",
+        ),
+    ),
+    (
         "a push fails behind the first bytes",
         INDEX,
         (CALLER, CALLEE, NONE, 6),
@@ -605,7 +657,7 @@ const RUN: &[&str] = &["run", "a.ll"];
 const THOUSAND_STEPS: &[&str] = &["run", "--steps=1000", "a.ll"];
 
 /// The name of a row, a module, and how its run from `main` ends: the status, and the line that is told.
-const ENDINGS: [(&str, &[u8], u8, &[u8]); 15] = [
+const ENDINGS: [(&str, &[u8], u8, &[u8]); 47] = [
     ("a number", SUM, 0, b"returned 5\n"),
     (
         "no value",
@@ -668,6 +720,198 @@ const ENDINGS: [(&str, &[u8], u8, &[u8]); 15] = [
         b"thinlto: uninitialised byte read in @main of a.ll at instruction 2\n",
     ),
     (
+        "a load of what a slot holds",
+        b"define i32 @main() {\n  %s = alloca i32, align 4\n  store i32 7, ptr %s, align 4\n  %v = load i32, ptr %s, align 4\n  ret i32 %v\n}\n",
+        0,
+        b"returned 7\n",
+    ),
+    (
+        "a load wider than its slot",
+        b"define i64 @main() {\n  %s = alloca i32, align 4\n  store i32 7, ptr %s, align 4\n  %v = load i64, ptr %s, align 4\n  ret i64 %v\n}\n",
+        7,
+        b"thinlto: undefined behaviour in @main of a.ll at instruction 3: out of bounds\n",
+    ),
+    (
+        "a load at a greater alignment than the slot's",
+        b"define i32 @main() {\n  %s = alloca i32, align 4\n  store i32 7, ptr %s, align 4\n  %v = load i32, ptr %s, align 8\n  ret i32 %v\n}\n",
+        7,
+        b"thinlto: undefined behaviour in @main of a.ll at instruction 3: misaligned\n",
+    ),
+    (
+        "a slot behind its function's return",
+        b"define ptr @f() {\n  %s = alloca i32, align 4\n  ret ptr %s\n}\ndefine i32 @main() {\n  %p = call ptr @f()\n  %v = load i32, ptr %p, align 4\n  ret i32 %v\n}\n",
+        7,
+        b"thinlto: undefined behaviour in @main of a.ll at instruction 2: bad pointer\n",
+    ),
+    (
+        "numbers are stored from their low byte on",
+        b"define i16 @main() {\n  %s = alloca i64, align 8\n  %p = getelementptr i8, ptr %s, i64 4\n  store i32 16909060, ptr %p, align 4\n  %q = getelementptr i8, ptr %s, i64 6\n  %v = load i16, ptr %q, align 2\n  ret i16 %v\n}\n",
+        0,
+        b"returned 258\n",
+    ),
+    (
+        "a load whose half was never written",
+        b"define i64 @main() {\n  %s = alloca i64, align 8\n  store i32 1, ptr %s, align 4\n  %v = load i64, ptr %s, align 8\n  ret i64 %v\n}\n",
+        8,
+        b"thinlto: uninitialised byte read in @main of a.ll at instruction 3\n",
+    ),
+    (
+        "a part of a pointer",
+        b"define i8 @main() {\n  %s = alloca ptr, align 8\n  store ptr %s, ptr %s, align 8\n  %v = load i8, ptr %s, align 1\n  ret i8 %v\n}\n",
+        0,
+        b"returned poison\n",
+    ),
+    (
+        "a pointer that was stored",
+        b"define i1 @main() {\n  %s = alloca ptr, align 8\n  store ptr %s, ptr %s, align 8\n  %p = load ptr, ptr %s, align 8\n  %e = icmp eq ptr %p, %s\n  ret i1 %e\n}\n",
+        0,
+        b"returned true\n",
+    ),
+    (
+        "a store to a constant",
+        b"@k = constant i8 1, align 1\ndefine i32 @main() {\n  store i8 2, ptr @k, align 1\n  ret i32 0\n}\n",
+        7,
+        b"thinlto: undefined behaviour in @main of a.ll at instruction 1: store to constant\n",
+    ),
+    (
+        "members stand behind padding, which is zero",
+        b"@a = global { i8, i32, [2 x i16] } { i8 1, i32 258, [2 x i16] [i16 3, i16 -1] }, align 4\ndefine i32 @main() {\n  %p = getelementptr i8, ptr @a, i64 4\n  %x = load i32, ptr %p, align 4\n  %q = getelementptr i8, ptr @a, i64 8\n  %y = load i32, ptr %q, align 4\n  %f = load i32, ptr @a, align 4\n  %s = add i32 %x, %y\n  %t = add i32 %s, %f\n  ret i32 %t\n}\n",
+        0,
+        b"returned -65274\n",
+    ),
+    (
+        "packed members have no padding",
+        b"@n = global <{ i8, i32 }> <{ i8 -1, i32 5 }>, align 1\ndefine i32 @main() {\n  %p = getelementptr i8, ptr @n, i64 1\n  %v = load i32, ptr %p, align 1\n  ret i32 %v\n}\n",
+        0,
+        b"returned 5\n",
+    ),
+    (
+        "a pointer in an initialiser",
+        b"@b = constant [3 x i8] c\"ab\\00\", align 1\n@p = global { ptr, ptr } { ptr getelementptr (i8, ptr @b, i64 1), ptr null }, align 8\ndefine i8 @main() {\n  %p = load ptr, ptr @p, align 8\n  %v = load i8, ptr %p, align 1\n  ret i8 %v\n}\n",
+        0,
+        b"returned 98\n",
+    ),
+    (
+        "null in an initialiser",
+        b"@p = global { ptr, ptr } { ptr @p, ptr null }, align 8\ndefine i8 @main() {\n  %q = getelementptr i8, ptr @p, i64 8\n  %p = load ptr, ptr %q, align 8\n  %v = load i8, ptr %p, align 1\n  ret i8 %v\n}\n",
+        7,
+        b"thinlto: undefined behaviour in @main of a.ll at instruction 3: bad pointer\n",
+    ),
+    (
+        "the last of many zeros",
+        b"@z = global [16777216 x i8] zeroinitializer, align 16\ndefine i8 @main() {\n  %p = getelementptr i8, ptr @z, i64 16777215\n  %v = load i8, ptr %p, align 1\n  ret i8 %v\n}\n",
+        0,
+        b"returned 0\n",
+    ),
+    (
+        "an index into a structure",
+        b"define i32 @main() {\n  %s = alloca { i8, [4 x i32] }, align 4\n  %p = getelementptr inbounds { i8, [4 x i32] }, ptr %s, i64 0, i32 1, i64 2\n  store i32 9, ptr %p, align 4\n  %q = getelementptr i8, ptr %s, i64 12\n  %v = load i32, ptr %q, align 4\n  ret i32 %v\n}\n",
+        0,
+        b"returned 9\n",
+    ),
+    (
+        "an address past the end, in bounds alone",
+        b"define i32 @main() {\n  %s = alloca i32, align 4\n  %p = getelementptr inbounds i8, ptr %s, i64 5\n  store i32 9, ptr %p, align 4\n  ret i32 0\n}\n",
+        7,
+        b"thinlto: undefined behaviour in @main of a.ll at instruction 3: bad pointer\n",
+    ),
+    (
+        "a slot in a loop, stored in its sixth turn",
+        b"define i32 @main() {\nentry:\n  %s = alloca i32, align 4\n  store i32 0, ptr %s, align 4\n  br label %loop\nloop:\n  %i = phi i32 [ 0, %entry ], [ %j, %next ]\n  %c = icmp eq i32 %i, 5\n  br i1 %c, label %add, label %next\nadd:\n  store i32 %i, ptr %s, align 4\n  br label %next\nnext:\n  %j = add i32 %i, 1\n  %d = icmp eq i32 %j, 10\n  br i1 %d, label %done, label %loop\ndone:\n  %v = load i32, ptr %s, align 4\n  ret i32 %v\n}\n",
+        0,
+        b"returned 5\n",
+    ),
+    (
+        "phis that take their values at once",
+        b"define i32 @main() {\ne:\n  br label %l\nl:\n  %v = phi i32 [ 0, %e ], [ %n, %l ]\n  %y = phi i32 [ 9, %e ], [ %x, %l ]\n  %x = add i32 %v, 0\n  %n = add i32 %v, 1\n  %c = icmp eq i32 %n, 3\n  br i1 %c, label %o, label %l\no:\n  ret i32 %y\n}\n",
+        0,
+        b"returned 1\n",
+    ),
+    (
+        "phis that take each other's value",
+        b"define i32 @main() {\ne:\n  br label %l\nl:\n  %a = phi i32 [ 3, %e ], [ %b, %l ]\n  %b = phi i32 [ 4, %e ], [ %a, %l ]\n  %n = phi i32 [ 0, %e ], [ %m, %l ]\n  %m = add i32 %n, 1\n  %c = icmp eq i32 %m, 4\n  br i1 %c, label %o, label %l\no:\n  ret i32 %a\n}\n",
+        0,
+        b"returned 4\n",
+    ),
+    (
+        "the answer of a call, given to another",
+        b"define i32 @f(i32 %x) {\n  %y = add i32 %x, 1\n  ret i32 %y\n}\ndefine i32 @main() {\n  %a = call i32 @f(i32 20)\n  %b = call i32 @f(i32 %a)\n  ret i32 %b\n}\n",
+        0,
+        b"returned 22\n",
+    ),
+    (
+        "a call of another type",
+        b"define void @f() {\n  ret void\n}\ndefine i32 @main() {\n  %a = call i32 @f()\n  ret i32 %a\n}\n",
+        7,
+        b"thinlto: undefined behaviour in @main of a.ll at instruction 1: call of another type\n",
+    ),
+    (
+        "a call of no function",
+        b"define i32 @main() {\n  %a = call i32 null()\n  ret i32 %a\n}\n",
+        7,
+        b"thinlto: undefined behaviour in @main of a.ll at instruction 1: call of no function\n",
+    ),
+    (
+        "a branch on poison",
+        b"define i32 @main() {\n  br i1 poison, label %1, label %1\n1:\n  ret i32 0\n}\n",
+        7,
+        b"thinlto: undefined behaviour in @main of a.ll at instruction 1: branch on poison\n",
+    ),
+    (
+        "a sum beyond its width",
+        b"define i8 @main() {\n  %s = add i8 200, 100\n  ret i8 %s\n}\n",
+        0,
+        b"returned 44\n",
+    ),
+    (
+        "a sum with a flag beyond its width",
+        b"define i8 @main() {\n  %s = add nuw i8 200, 100\n  ret i8 %s\n}\n",
+        0,
+        b"returned poison\n",
+    ),
+    (
+        "a shift by the width",
+        b"define i8 @main() {\n  %s = shl i8 1, 8\n  ret i8 %s\n}\n",
+        0,
+        b"returned poison\n",
+    ),
+    (
+        "a division by zero",
+        b"define i8 @main() {\n  %s = udiv i8 7, 0\n  ret i8 %s\n}\n",
+        7,
+        b"thinlto: undefined behaviour in @main of a.ll at instruction 1: division by zero\n",
+    ),
+    (
+        "a division by poison",
+        b"define i8 @main() {\n  %s = udiv i8 7, poison\n  ret i8 %s\n}\n",
+        7,
+        b"thinlto: undefined behaviour in @main of a.ll at instruction 1: poison divisor\n",
+    ),
+    (
+        "numbers compared with their sign",
+        b"define i1 @main() {\n  %c = icmp slt i8 255, 7\n  ret i1 %c\n}\n",
+        0,
+        b"returned true\n",
+    ),
+    (
+        "a number made wider with its sign",
+        b"define i16 @main() {\n  %c = sext i8 255 to i16\n  ret i16 %c\n}\n",
+        0,
+        b"returned -1\n",
+    ),
+    (
+        "a select by poison",
+        b"define i8 @main() {\n  %c = select i1 poison, i8 7, i8 7\n  ret i8 %c\n}\n",
+        0,
+        b"returned poison\n",
+    ),
+    (
+        "poison that is frozen",
+        b"define i8 @main() {\n  %c = freeze i8 poison\n  ret i8 %c\n}\n",
+        0,
+        b"returned 0\n",
+    ),
+    (
         "an endless loop",
         b"define i32 @main() {\n  br label %l\nl:\n  br label %l\n}\n",
         9,
@@ -715,6 +959,10 @@ const ECHO: &[u8] =
 const COPY: &[u8] =
     b"define available_externally i32 @putchar(i32 %c) {\n  ret i32 7\n}\ndefine i32 @main() {\n  %r = call i32 @putchar(i32 65)\n  ret i32 %r\n}\n";
 
+/// A number beyond a byte, of which the low byte is written and given.
+const WIDER: &[u8] =
+    b"declare i32 @putchar(i32)\ndefine i32 @main() {\n  %r = call i32 @putchar(i32 321)\n  ret i32 %r\n}\n";
+
 const GIVES_FIRST: &[u8] = b"define i8 @f(i8 %x, i1 %y) {\n  ret i8 %x\n}\n";
 
 /// The words of a run, its module, the input, which push fails, and the status, what is printed and what is told.
@@ -726,7 +974,7 @@ type Ran = (
     (u8, &'static [u8], &'static [u8]),
 );
 
-const RUNS: [Ran; 10] = [
+const RUNS: [Ran; 11] = [
     (RUN, ECHO, (b"ab", NONE), NONE, (0, b"ab", b"returned -1\n")),
     // the second read fails, and then the second push
     (
@@ -744,6 +992,7 @@ const RUNS: [Ran; 10] = [
         (5, b"a", b"thinlto: cannot write output\n"),
     ),
     (RUN, COPY, EMPTY, NONE, (0, b"A", b"returned 65\n")),
+    (RUN, WIDER, EMPTY, NONE, (0, b"A", b"returned 65\n")),
     // arguments are literals of their widths
     (
         &["run", "--root=f", "--args=-128,1", "a.ll"],

@@ -1,8 +1,10 @@
 //! One caller: faults, broken and misplaced entries, a cache in memory, and a warm one.
-use crate::cache::script::{Answer, Key, Step, on_disk};
+use crate::cache::script::{Answer, Disk, Key, Step, on_disk};
 use cache_slot::{Cause, Kept};
 use lto_outside::CacheDisk;
 use outside_memory::{Failure, Leaves, MemoryDisk};
+use std::alloc::{AllocError, Global};
+use std::sync::Wait;
 
 const NEW: Answer = Answer::Kept(Kept::New);
 
@@ -44,122 +46,159 @@ const LEFT: [(Leaves, Option<&[u8]>); 5] = [
     (Leaves::Front(100), Some(A_1)),
 ];
 
+/// The disk behind a script on a new cache over this disk, where its answers are these.
+fn answered<W: Wait>(
+    rt: &W,
+    alloc: Global,
+    disk: Disk,
+    dir: Option<&str>,
+    script: &[Step],
+    wanted: &[Answer],
+) -> Result<Option<Disk>, AllocError> {
+    let dir = match dir {
+        Some(name) => Some(String::from_str(alloc, name)?),
+        None => None,
+    };
+    let (answers, disk) = on_disk(rt, alloc, disk, dir, script)?;
+    if answers.as_slice() == wanted {
+        Ok(Some(disk))
+    } else {
+        Ok(None)
+    }
+}
+
+/// Whether the file of a name in the directory `d` holds these bytes, or isn't there.
+fn holds(disk: &Disk, name: &str, wanted: Option<&[u8]>) -> bool {
+    match (disk.content("d", name), wanted) {
+        (Some(bytes), Some(wanted)) => bytes.equals(wanted),
+        (None, None) => true,
+        _ => false,
+    }
+}
+
+/// The disk is called by the steps 0, 1, 4 and 5.
+const FAILING: [Step; 7] = [
+    Step::Look(Key::A),
+    Step::Keep(Key::A, b'1'),
+    Step::Look(Key::A),
+    Step::Keep(Key::A, b'2'),
+    Step::Look(Key::B),
+    Step::Keep(Key::B, b'3'),
+    Step::Look(Key::B),
+];
+
+/// Whether a script over a disk that fails once gives these answers, and so many faults and this file are left.
+fn fails_so<W: Wait>(
+    rt: &W,
+    alloc: Global,
+    failure: Failure,
+    wanted: &[Answer],
+    faults: u64,
+    left: Option<&[u8]>,
+) -> Result<bool, AllocError> {
+    let disk = MemoryDisk::new(alloc, vec![in alloc; failure]?);
+    match answered(rt, alloc, disk, Some("d"), &FAILING, wanted)? {
+        Some(disk) => Ok(disk.faults() == faults && holds(&disk, A, left)),
+        None => Ok(false),
+    }
+}
+
 #[test]
-fn each_call_of_the_disk_fails_alone(rt: HostRuntime) {
-    let alloc = rt.alloc();
-    let script = [
-        Step::Look(Key::A),
-        Step::Keep(Key::A, b'1'),
-        Step::Look(Key::A),
-        Step::Keep(Key::A, b'2'),
-        Step::Look(Key::B),
-        Step::Keep(Key::B, b'3'),
-        Step::Look(Key::B),
-    ];
-    // The disk is called by the steps 0, 1, 4 and 5.
+fn each_call_of_the_disk_fails_alone(rt: HostRuntime) -> Result<(), AllocError> {
     for (call, first, second, faults) in CALLS {
         for (leaves, left) in LEFT {
-            let failure = Failure { call, leaves };
-            let disk = MemoryDisk::new(alloc, vec![in alloc; failure].expect(&rt, "memory"));
-            let dir = String::from_str(alloc, "d").expect(&rt, "memory");
-            let (answers, disk) = on_disk(&rt, alloc, disk, Some(dir), &script).expect(
-                &rt, "memory",
-            );
-            let expected = [
+            let found = [Answer::Found(b'1'), Answer::Found(b'3')];
+            let wanted = [
                 Answer::Missed,
                 first,
-                Answer::Found(b'1'),
+                found[0],
                 AGAIN,
                 Answer::Missed,
                 second,
-                Answer::Found(b'3'),
+                found[1],
             ];
+            let kept = if call == 1 { left } else { Some(A_1) };
+            let failure = Failure { call, leaves };
             assert!(rt;
-                answers.as_slice() == expected.as_slice(),
+                fails_so(&rt, rt.alloc(), failure, &wanted, faults, kept)?,
                 "call {call}, {leaves:?}"
             );
-            assert!(rt; disk.faults() == faults, "call {call}, {leaves:?}");
-            let wanted = if call == 1 { left } else { Some(A_1) };
-            let is_wanted = match (disk.content("d", A), wanted) {
-                (Some(bytes), Some(wanted)) => bytes.equals(wanted),
-                (None, None) => true,
-                _ => false,
-            };
-            assert!(rt; is_wanted, "call {call}, {leaves:?}");
         }
     }
+    Ok(())
 }
 
-#[test]
-fn a_cut_entry_is_missed_and_mended(rt: HostRuntime) {
-    let alloc = rt.alloc();
+/// Whether the entry of `a` is found so where its file holds these bytes, and is stored anew.
+fn mends<W: Wait>(rt: &W, alloc: Global, front: &[u8], found: Answer) -> Result<bool, AllocError> {
+    let mut disk = MemoryDisk::new(alloc, Vec::new(alloc));
+    disk.with("d", A, front)?;
     let script = [Step::Look(Key::A), Step::Keep(Key::A, b'2')];
-    let whole = A_1;
-    for len in 0..=whole.len() {
-        let mut disk = MemoryDisk::new(alloc, Vec::new(alloc));
-        disk.with("d", A, &whole[..len]).expect(&rt, "memory");
-        let dir = String::from_str(alloc, "d").expect(&rt, "memory");
-        let (answers, disk) = on_disk(&rt, alloc, disk, Some(dir), &script).expect(&rt, "memory");
-        let found = if len == whole.len() {
-            Answer::Found(b'1')
-        } else {
-            Answer::Missed
-        };
-        assert!(rt;
-            answers.as_slice() == [found, NEW].as_slice(),
-            "{len} bytes"
-        );
-        let mended = match disk.content("d", A) {
-            Some(bytes) => bytes.equals(A_2),
-            None => false,
-        };
-        assert!(rt; mended, "{len} bytes");
+    match answered(rt, alloc, disk, Some("d"), &script, &[found, NEW])? {
+        Some(disk) => Ok(holds(&disk, A, Some(A_2))),
+        None => Ok(false),
     }
 }
 
 #[test]
-fn entries_under_each_others_names_are_missed(rt: HostRuntime) {
-    let alloc = rt.alloc();
-    let mut disk = MemoryDisk::new(alloc, Vec::new(alloc));
-    disk.with("d", A, B_2).expect(&rt, "memory");
-    disk.with("d", B, A_1).expect(&rt, "memory");
-    let dir = String::from_str(alloc, "d").expect(&rt, "memory");
-    let script = [
-        Step::Look(Key::A),
-        Step::Look(Key::B),
-        Step::Keep(Key::A, b'1'),
-        Step::Look(Key::A),
-    ];
-    let (answers, disk) = on_disk(&rt, alloc, disk, Some(dir), &script).expect(&rt, "memory");
-    let expected = [Answer::Missed, Answer::Missed, NEW, Answer::Found(b'1')];
-    assert!(rt; answers.as_slice() == expected.as_slice());
-
-    // A new cache over the same disk finds what was stored, and still misses the other.
-    let dir = String::from_str(alloc, "d").expect(&rt, "memory");
-    let script = [Step::Look(Key::A), Step::Look(Key::B)];
-    let (answers, _) = on_disk(&rt, alloc, disk, Some(dir), &script).expect(&rt, "memory");
-    assert!(rt; answers.as_slice() == [Answer::Found(b'1'), Answer::Missed].as_slice());
+fn a_cut_entry_is_missed_and_mended(rt: HostRuntime) -> Result<(), AllocError> {
+    let whole = A_1;
+    for len in 0..whole.len() {
+        assert!(rt;
+            mends(&rt, rt.alloc(), &whole[..len], Answer::Missed)?,
+            "{len} bytes"
+        );
+    }
+    assert!(rt; mends(&rt, rt.alloc(), whole, Answer::Found(b'1'))?);
+    Ok(())
 }
 
+/// Entries under each other's names.
+fn swapped(alloc: Global) -> Result<Disk, AllocError> {
+    let mut disk = MemoryDisk::new(alloc, Vec::new(alloc));
+    disk.with("d", A, B_2)?;
+    disk.with("d", B, A_1)?;
+    Ok(disk)
+}
+
+const LOOKS_AND_KEEPS: [Step; 4] = [
+    Step::Look(Key::A),
+    Step::Look(Key::B),
+    Step::Keep(Key::A, b'1'),
+    Step::Look(Key::A),
+];
+
 #[test]
-fn a_cache_without_a_directory_lives_in_memory(rt: HostRuntime) {
+fn entries_under_each_others_names_are_missed(rt: HostRuntime) -> Result<(), AllocError> {
+    let alloc = rt.alloc();
+    let wanted = [Answer::Missed, Answer::Missed, NEW, Answer::Found(b'1')];
+    let disk = swapped(alloc)?;
+    let Some(disk) = answered(&rt, alloc, disk, Some("d"), &LOOKS_AND_KEEPS, &wanted)? else {
+        panic!(rt; "other answers");
+    };
+    // A new cache over the same disk finds what was stored, and still misses the other.
+    let script = [Step::Look(Key::A), Step::Look(Key::B)];
+    let wanted = [Answer::Found(b'1'), Answer::Missed];
+    assert!(rt; answered(&rt, alloc, disk, Some("d"), &script, &wanted)?.is_some());
+    Ok(())
+}
+
+const IN_MEMORY: [Step; 5] = [
+    Step::Look(Key::A),
+    Step::Keep(Key::A, b'1'),
+    Step::Keep(Key::A, b'2'),
+    Step::Look(Key::A),
+    Step::Look(Key::B),
+];
+
+#[test]
+fn a_cache_without_a_directory_lives_in_memory(rt: HostRuntime) -> Result<(), AllocError> {
     let alloc = rt.alloc();
     let disk = MemoryDisk::new(alloc, Vec::new(alloc));
-    let script = [
-        Step::Look(Key::A),
-        Step::Keep(Key::A, b'1'),
-        Step::Keep(Key::A, b'2'),
-        Step::Look(Key::A),
-        Step::Look(Key::B),
-    ];
-    let (answers, disk) = on_disk(&rt, alloc, disk, None, &script).expect(&rt, "memory");
-    let expected = [
-        Answer::Missed,
-        NEW,
-        AGAIN,
-        Answer::Found(b'1'),
-        Answer::Missed,
-    ];
-    assert!(rt; answers.as_slice() == expected.as_slice());
-    assert!(rt; disk.calls().made == 0);
+    let found = Answer::Found(b'1');
+    let wanted = [Answer::Missed, NEW, AGAIN, found, Answer::Missed];
+    match answered(&rt, alloc, disk, None, &IN_MEMORY, &wanted)? {
+        Some(disk) => assert!(rt; disk.calls().made == 0),
+        None => panic!(rt; "other answers"),
+    }
+    Ok(())
 }

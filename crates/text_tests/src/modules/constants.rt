@@ -3,52 +3,55 @@
 use crate::modules::shown::{shown, stays};
 use std::alloc::AllocError;
 
+/// Texts, and what is printed of the module, or the line and the kind of the first fault.
+const CONSTANTS: [(&str, &str); 10] = [
+    // `poison` behind a type name is of the type that the name stands for.
+    (
+        "%t = type i32\n@g = global %t poison",
+        "@g = global i32 poison, align 4\n",
+    ),
+    (
+        "@g = global %t poison\n%t = type %u\n%u = type ptr",
+        "@g = global ptr poison, align 8\n",
+    ),
+    (
+        "%t = type i8\n@g = global { %t, [1 x %t] } { %t poison, [1 x %t] [%t poison] }",
+        "@g = global { i8, [1 x i8] } { i8 poison, [1 x i8] [i8 poison] }, align 1\n",
+    ),
+    (
+        "%t = type [2 x i8]\n@g = global %t poison",
+        "@g = global [2 x i8] poison, align 1\n",
+    ),
+    // A number behind a name, or behind a pointer, has no type there, and fits neither.
+    (
+        "%t = type i8\n@g = global %t 300",
+        "@g = global i8 false, align 1\n",
+    ),
+    ("@g = global ptr 300", "@g = global ptr false, align 8\n"),
+    (
+        "%t = type i32\n@g = global %t zeroinitializer",
+        "@g = global i32 zeroinitializer, align 4\n",
+    ),
+    (
+        "%t = type i32\n@g = global %t null",
+        "@g = global i32 null, align 4\n",
+    ),
+    // Types that differ, which only the verifier refuses.
+    (
+        "@g = global i32 [i8 1, ptr poison]",
+        "@g = global i32 [i8 1, ptr poison], align 4\n",
+    ),
+    (
+        "define ptr @f() {\n  ret i8 true\n}",
+        "define ptr @f() {\n  ret i8 true\n}\n",
+    ),
+];
+
 #[test]
 fn constants_are_read_again(rt: HostRuntime) -> Result<(), AllocError> {
-    for (text, want) in [
-        // `poison` behind a type name is of the type that the name stands for.
-        (
-            "%t = type i32\n@g = global %t poison",
-            "@g = global i32 poison, align 4\n",
-        ),
-        (
-            "@g = global %t poison\n%t = type %u\n%u = type ptr",
-            "@g = global ptr poison, align 8\n",
-        ),
-        (
-            "%t = type i8\n@g = global { %t, [1 x %t] } { %t poison, [1 x %t] [%t poison] }",
-            "@g = global { i8, [1 x i8] } { i8 poison, [1 x i8] [i8 poison] }, align 1\n",
-        ),
-        (
-            "%t = type [2 x i8]\n@g = global %t poison",
-            "@g = global [2 x i8] poison, align 1\n",
-        ),
-        // A number behind a name, or behind a pointer, has no type there, and fits neither.
-        (
-            "%t = type i8\n@g = global %t 300",
-            "@g = global i8 false, align 1\n",
-        ),
-        ("@g = global ptr 300", "@g = global ptr false, align 8\n"),
-        (
-            "%t = type i32\n@g = global %t zeroinitializer",
-            "@g = global i32 zeroinitializer, align 4\n",
-        ),
-        (
-            "%t = type i32\n@g = global %t null",
-            "@g = global i32 null, align 4\n",
-        ),
-        // Types that differ, which only the verifier refuses.
-        (
-            "@g = global i32 [i8 1, ptr poison]",
-            "@g = global i32 [i8 1, ptr poison], align 4\n",
-        ),
-        (
-            "define ptr @f() {\n  ret i8 true\n}",
-            "define ptr @f() {\n  ret i8 true\n}\n",
-        ),
-    ] {
-        assert!(rt; shown(rt.alloc(), text)?.as_str() == want);
-        assert!(rt; stays(rt.alloc(), text)?);
+    for (text, want) in CONSTANTS {
+        assert!(rt; shown(rt.alloc(), text)?.as_str() == want, "{text}");
+        assert!(rt; stays(rt.alloc(), text)?, "{text}");
     }
     Ok(())
 }

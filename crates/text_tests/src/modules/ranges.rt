@@ -6,130 +6,135 @@ use std::alloc::{AllocError, Global};
 use std::fmt::Write;
 use std::string::String;
 
+/// Texts, and what is printed of the module, or the line and the kind of the first fault.
+const NUMBERS: [(&str, &str); 23] = [
+    // Past 2^32 - 1, at the token.
+    ("\n@4294967296 = private global i8 0", "2: number"),
+    ("@4294967296\n= internal constant i8 0", "1: number"),
+    (
+        "@4294967296 = global i8 0",
+        "1: not in the profile: @4294967296",
+    ),
+    ("@g = global ptr\n@4294967296", "2: number"),
+    ("@g = global { ptr } {\nptr\n@4294967296 }", "3: number"),
+    (
+        "@g = global ptr getelementptr (i8,\nptr @4294967296, i64 1)",
+        "2: number",
+    ),
+    (
+        "define private void\n@4294967296() {\n  ret void\n}",
+        "2: number",
+    ),
+    (
+        "define void @4294967296() {\n  ret void\n}",
+        "1: not in the profile: @4294967296",
+    ),
+    (
+        "declare void @4294967296()",
+        "1: not in the profile: @4294967296",
+    ),
+    ("define ptr @f() {\n  ret ptr @4294967296\n}", "2: number"),
+    (
+        "define void @f() {\n  call void\n@4294967296()\n  ret void\n}",
+        "3: number",
+    ),
+    (
+        "define ptr @f() {\n  ret ptr getelementptr (i8, ptr @4294967296, i64 0)\n}",
+        "2: number",
+    ),
+    ("attributes\n#4294967296 = { }", "2: number"),
+    (
+        "define void @f()\n#4294967296 {\n  ret void\n}",
+        "2: number",
+    ),
+    ("declare void @f()\n\n#4294967296", "3: number"),
+    (
+        "declare void @h()\ndefine void @f() {\n  call void @h()\n#4294967296\n  ret void\n}",
+        "4: number",
+    ),
+    // The greatest.
+    (
+        "@4294967295 = private global i8 0",
+        "@\"4294967295\" = private global i8 0, align 1\n",
+    ),
+    (
+        "define void @f() #4294967295 {\n  ret void\n}\nattributes #4294967295 = { noinline }",
+        "define void @f() noinline {\n  ret void\n}\n",
+    ),
+    // Digits in quotes are a name.
+    (
+        "@\"4294967296\" = global i8 0",
+        "@\"4294967296\" = global i8 0, align 1\n",
+    ),
+    // Below the counter: a token that is fine, and a number that is too low.
+    (
+        "@5 = private global i8 0\n\n@3 = private global i8 0",
+        "3: twice",
+    ),
+    ("define void @f(i8 %5,\ni8 %3) {\n  ret void\n}", "2: twice"),
+    (
+        "define void @f() {\n7:\n  br label %8\n8:\n  br label %8\n6:\n  ret void\n}",
+        "6: twice",
+    ),
+    (
+        "define void @f() {\n  %9 = add i8 1, 2\n  %8 = add i8 1, 2\n  ret void\n}",
+        "3: twice",
+    ),
+];
+
 #[test]
 fn numbers_of_names_are_in_range(rt: HostRuntime) -> Result<(), AllocError> {
-    for (text, want) in [
-        // Past 2^32 - 1, at the token.
-        ("\n@4294967296 = private global i8 0", "2: number"),
-        ("@4294967296\n= internal constant i8 0", "1: number"),
-        (
-            "@4294967296 = global i8 0",
-            "1: not in the profile: @4294967296",
-        ),
-        ("@g = global ptr\n@4294967296", "2: number"),
-        ("@g = global { ptr } {\nptr\n@4294967296 }", "3: number"),
-        (
-            "@g = global ptr getelementptr (i8,\nptr @4294967296, i64 1)",
-            "2: number",
-        ),
-        (
-            "define private void\n@4294967296() {\n  ret void\n}",
-            "2: number",
-        ),
-        (
-            "define void @4294967296() {\n  ret void\n}",
-            "1: not in the profile: @4294967296",
-        ),
-        (
-            "declare void @4294967296()",
-            "1: not in the profile: @4294967296",
-        ),
-        ("define ptr @f() {\n  ret ptr @4294967296\n}", "2: number"),
-        (
-            "define void @f() {\n  call void\n@4294967296()\n  ret void\n}",
-            "3: number",
-        ),
-        (
-            "define ptr @f() {\n  ret ptr getelementptr (i8, ptr @4294967296, i64 0)\n}",
-            "2: number",
-        ),
-        ("attributes\n#4294967296 = { }", "2: number"),
-        (
-            "define void @f()\n#4294967296 {\n  ret void\n}",
-            "2: number",
-        ),
-        ("declare void @f()\n\n#4294967296", "3: number"),
-        (
-            "declare void @h()\ndefine void @f() {\n  call void @h()\n#4294967296\n  ret void\n}",
-            "4: number",
-        ),
-        // The greatest.
-        (
-            "@4294967295 = private global i8 0",
-            "@\"4294967295\" = private global i8 0, align 1\n",
-        ),
-        (
-            "define void @f() #4294967295 {\n  ret void\n}\nattributes #4294967295 = { noinline }",
-            "define void @f() noinline {\n  ret void\n}\n",
-        ),
-        // Digits in quotes are a name.
-        (
-            "@\"4294967296\" = global i8 0",
-            "@\"4294967296\" = global i8 0, align 1\n",
-        ),
-        // Below the counter: a token that is fine, and a number that is too low.
-        (
-            "@5 = private global i8 0\n\n@3 = private global i8 0",
-            "3: twice",
-        ),
-        ("define void @f(i8 %5,\ni8 %3) {\n  ret void\n}", "2: twice"),
-        (
-            "define void @f() {\n7:\n  br label %8\n8:\n  br label %8\n6:\n  ret void\n}",
-            "6: twice",
-        ),
-        (
-            "define void @f() {\n  %9 = add i8 1, 2\n  %8 = add i8 1, 2\n  ret void\n}",
-            "3: twice",
-        ),
-    ] {
-        assert!(rt; shown(rt.alloc(), text)?.as_str() == want);
+    for (text, want) in NUMBERS {
+        assert!(rt; shown(rt.alloc(), text)?.as_str() == want, "{text}");
     }
     Ok(())
 }
 
+const COUNTS: [(&str, &str); 9] = [
+    (
+        "define void @f() {\n  %1 = alloca\ni8,\ni64\n2147483649\n  ret void\n}",
+        "5: limit",
+    ),
+    (
+        "define void @f() {\n  %1 = alloca\ni8,\ni64\n2147483649, align 3\n  ret void\n}",
+        "5: limit",
+    ),
+    (
+        "define void @f() {\n  %1 = alloca i8, i64 2147483648\n  ret void\n}",
+        "define void @f() {\n  %1 = alloca [2147483648 x i8], align 1\n  ret void\n}\n",
+    ),
+    (
+        "define void @f() {\n  %1 = alloca [1024 x i64], i64\n262145\n  ret void\n}",
+        "3: limit",
+    ),
+    // Past its range a count is no number of its type.
+    (
+        "define void @f() {\n  %1 = alloca i8, i8\n256\n  ret void\n}",
+        "3: number",
+    ),
+    (
+        "define void @f() {\n  %1 = alloca i8, i8\n-1\n  ret void\n}",
+        "3: number",
+    ),
+    (
+        "define void @f() {\n  %1 = alloca i8, i64\n18446744073709551616\n  ret void\n}",
+        "3: number",
+    ),
+    // Behind a type name the shape is looked at as it expands.
+    (
+        "%t = type [65536 x i64]\ndefine void @f() {\n  %1 = alloca\n%t, i64\n65536\n  ret void\n}",
+        "4: limit",
+    ),
+    (
+        "define void @f() {\n  %1 = alloca i8, i1 true\n  ret void\n}",
+        "2: syntax",
+    ),
+];
+
 #[test]
 fn counts_of_slots_are_within_the_limits(rt: HostRuntime) -> Result<(), AllocError> {
-    for (text, want) in [
-        (
-            "define void @f() {\n  %1 = alloca\ni8,\ni64\n2147483649\n  ret void\n}",
-            "5: limit",
-        ),
-        (
-            "define void @f() {\n  %1 = alloca\ni8,\ni64\n2147483649, align 3\n  ret void\n}",
-            "5: limit",
-        ),
-        (
-            "define void @f() {\n  %1 = alloca i8, i64 2147483648\n  ret void\n}",
-            "define void @f() {\n  %1 = alloca [2147483648 x i8], align 1\n  ret void\n}\n",
-        ),
-        (
-            "define void @f() {\n  %1 = alloca [1024 x i64], i64\n262145\n  ret void\n}",
-            "3: limit",
-        ),
-        // Past its range a count is no number of its type.
-        (
-            "define void @f() {\n  %1 = alloca i8, i8\n256\n  ret void\n}",
-            "3: number",
-        ),
-        (
-            "define void @f() {\n  %1 = alloca i8, i8\n-1\n  ret void\n}",
-            "3: number",
-        ),
-        (
-            "define void @f() {\n  %1 = alloca i8, i64\n18446744073709551616\n  ret void\n}",
-            "3: number",
-        ),
-        // Behind a type name the shape is looked at as it expands.
-        (
-            "%t = type [65536 x i64]\ndefine void @f() {\n  %1 = alloca\n%t, i64\n65536\n  ret void\n}",
-            "4: limit",
-        ),
-        (
-            "define void @f() {\n  %1 = alloca i8, i1 true\n  ret void\n}",
-            "2: syntax",
-        ),
-    ] {
-        assert!(rt; shown(rt.alloc(), text)?.as_str() == want);
+    for (text, want) in COUNTS {
+        assert!(rt; shown(rt.alloc(), text)?.as_str() == want, "{text}");
     }
     Ok(())
 }
@@ -158,45 +163,47 @@ fn a_count_of_slots_is_a_level(rt: HostRuntime) -> Result<(), AllocError> {
     Ok(())
 }
 
+const INITIALISERS: [(&str, &str); 8] = [
+    (
+        "%T = type i32\n@g = global %T 5",
+        "@g = global i32 5, align 4\n",
+    ),
+    (
+        "%T = type i32\n@g = global { %T } { %T 5 }",
+        "@g = global { i32 } { i32 5 }, align 4\n",
+    ),
+    (
+        "%T = type i32\n@g = global [1 x %T] [%T 1]",
+        "@g = global [1 x i32] [i32 1], align 4\n",
+    ),
+    (
+        "@g = global %T -128\n%T = type %U\n%U = type i8",
+        "@g = global i8 -128, align 1\n",
+    ),
+    (
+        "%T = type i8\n@g = global %T 255",
+        "@g = global i8 -1, align 1\n",
+    ),
+    // Out of range, or for no integer, it fits nothing, as the verifier says.
+    (
+        "%T = type i8\n@g = global %T 256",
+        "@g = global i8 false, align 1\n",
+    ),
+    (
+        "%T = type ptr\n@g = global %T 0",
+        "@g = global ptr false, align 8\n",
+    ),
+    (
+        "%T = type [2 x i8]\n@g = global %T 0",
+        "@g = global [2 x i8] false, align 1\n",
+    ),
+];
+
 #[test]
 fn numbers_stand_behind_type_names(rt: HostRuntime) -> Result<(), AllocError> {
-    for (text, want) in [
-        (
-            "%T = type i32\n@g = global %T 5",
-            "@g = global i32 5, align 4\n",
-        ),
-        (
-            "%T = type i32\n@g = global { %T } { %T 5 }",
-            "@g = global { i32 } { i32 5 }, align 4\n",
-        ),
-        (
-            "%T = type i32\n@g = global [1 x %T] [%T 1]",
-            "@g = global [1 x i32] [i32 1], align 4\n",
-        ),
-        (
-            "@g = global %T -128\n%T = type %U\n%U = type i8",
-            "@g = global i8 -128, align 1\n",
-        ),
-        (
-            "%T = type i8\n@g = global %T 255",
-            "@g = global i8 -1, align 1\n",
-        ),
-        // Out of range, or for no integer, it fits nothing, as the verifier says.
-        (
-            "%T = type i8\n@g = global %T 256",
-            "@g = global i8 false, align 1\n",
-        ),
-        (
-            "%T = type ptr\n@g = global %T 0",
-            "@g = global ptr false, align 8\n",
-        ),
-        (
-            "%T = type [2 x i8]\n@g = global %T 0",
-            "@g = global [2 x i8] false, align 1\n",
-        ),
-    ] {
-        assert!(rt; shown(rt.alloc(), text)?.as_str() == want);
-        assert!(rt; stays(rt.alloc(), text)?);
+    for (text, want) in INITIALISERS {
+        assert!(rt; shown(rt.alloc(), text)?.as_str() == want, "{text}");
+        assert!(rt; stays(rt.alloc(), text)?, "{text}");
     }
     Ok(())
 }

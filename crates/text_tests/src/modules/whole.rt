@@ -62,42 +62,47 @@ fn a_module_of_clang_is_read(rt: HostRuntime) -> Result<(), AllocError> {
     Ok(())
 }
 
+/// Texts, and what is printed of the module, or the line and the kind of the first fault.
+const TARGETS: [(&str, &str); 3] = [
+    ("", ""),
+    (
+        "target triple = \"a\"\ntarget datalayout = \"e\"\ntarget triple = \"b\"",
+        "target datalayout = \"e\"\ntarget triple = \"b\"\n",
+    ),
+    ("target triple = \"a\"\ntarget triple = \"\"", ""),
+];
+
 #[test]
 fn the_last_target_line_stands(rt: HostRuntime) -> Result<(), AllocError> {
-    for (text, want) in [
-        ("", ""),
-        (
-            "target triple = \"a\"\ntarget datalayout = \"e\"\ntarget triple = \"b\"",
-            "target datalayout = \"e\"\ntarget triple = \"b\"\n",
-        ),
-        ("target triple = \"a\"\ntarget triple = \"\"", ""),
-    ] {
-        assert!(rt; shown(rt.alloc(), text)?.as_str() == want);
+    for (text, want) in TARGETS {
+        assert!(rt; shown(rt.alloc(), text)?.as_str() == want, "{text}");
     }
     Ok(())
 }
 
+const GROUPS: [(&str, &str); 4] = [
+    (
+        "define void @f() #7 {\n  ret void\n}",
+        "define void @f() {\n  ret void\n}\n",
+    ),
+    (
+        "attributes #7 = { noinline }\ndefine void @f() #7 {\n  ret void\n}\nattributes #07 = { optnone }",
+        "define void @f() noinline optnone {\n  ret void\n}\n",
+    ),
+    (
+        "define void @f() noinline #1 {\n  ret void\n}\nattributes #1 = { nounwind }",
+        "define void @f() noinline {\n  ret void\n}\n",
+    ),
+    (
+        "declare void @f() #1\nattributes #1 = { noinline }",
+        "declare void @f()\n",
+    ),
+];
+
 #[test]
 fn groups_of_one_number_add_up(rt: HostRuntime) -> Result<(), AllocError> {
-    for (text, want) in [
-        (
-            "define void @f() #7 {\n  ret void\n}",
-            "define void @f() {\n  ret void\n}\n",
-        ),
-        (
-            "attributes #7 = { noinline }\ndefine void @f() #7 {\n  ret void\n}\nattributes #07 = { optnone }",
-            "define void @f() noinline optnone {\n  ret void\n}\n",
-        ),
-        (
-            "define void @f() noinline #1 {\n  ret void\n}\nattributes #1 = { nounwind }",
-            "define void @f() noinline {\n  ret void\n}\n",
-        ),
-        (
-            "declare void @f() #1\nattributes #1 = { noinline }",
-            "declare void @f()\n",
-        ),
-    ] {
-        assert!(rt; shown(rt.alloc(), text)?.as_str() == want);
+    for (text, want) in GROUPS {
+        assert!(rt; shown(rt.alloc(), text)?.as_str() == want, "{text}");
     }
     Ok(())
 }

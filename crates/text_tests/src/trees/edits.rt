@@ -1,98 +1,9 @@
-//! Each edit of a loop that counts to its parameter.
-use crate::parts::UNMARKED;
+//! Edits of a loop that counts to its parameter.
+use crate::parts::read;
 use ir_edit::{renumber, shift_numbers, substitute};
 use ir_print::print_function;
-use ir_tree::{
-    Argument, BinaryOp, Block, Function, Incoming, Instr, Line, Linkage, Operand, Param, Phi,
-    Predicate, Reg, Rows, Symbol, Terminator, Text,
-};
-use std::alloc::{AllocError, Global};
-
-/// The block of the loop below: its phi is `%2`, the sum `%19`, the comparison `%18`.
-fn body(alloc: Global) -> Result<Block, AllocError> {
-    let first = Incoming {
-        from: 6,
-        value: Operand::Number { width: 32, bits: 1 },
-    };
-    let next = Incoming {
-        from: 3,
-        value: Operand::Local(19),
-    };
-    let phi = Phi {
-        local: 2,
-        reg: Reg::Int(32),
-        incoming: Rows::of(vec![in alloc; first, next]?),
-    };
-    let phis = Rows::of(vec![in alloc; phi]?);
-    let sum = Line {
-        local: Some(19),
-        instr: Instr::Binary {
-            op: BinaryOp::Add,
-            flags: UNMARKED,
-            width: 32,
-            left: Operand::Local(2),
-            right: Operand::Number { width: 32, bits: 1 },
-        },
-    };
-    let comparison = Line {
-        local: Some(18),
-        instr: Instr::Icmp {
-            predicate: Predicate::Eq,
-            reg: Reg::Int(32),
-            left: Operand::Local(19),
-            right: Operand::Local(40),
-        },
-    };
-    let lines = Rows::of(vec![in alloc; sum, comparison]?);
-    let end = Terminator::Branch {
-        condition: Operand::Local(18),
-        if_true: 17,
-        if_false: 3,
-    };
-    Ok(Block {
-        number: 3,
-        phis,
-        lines,
-        end,
-    })
-}
-
-/// The loop under numbers that don't follow its text, which no text that is read has.
-fn scattered(alloc: Global) -> Result<Function, AllocError> {
-    let name = Text::copied(alloc, b"count")?;
-    let body = body(alloc)?;
-    let entry = Block {
-        number: 6,
-        phis: Rows::new(alloc),
-        lines: Rows::new(alloc),
-        end: Terminator::Jump(3),
-    };
-    let result = Argument {
-        reg: Reg::Int(32),
-        operand: Operand::Local(2),
-    };
-    let last = Block {
-        number: 17,
-        phis: Rows::new(alloc),
-        lines: Rows::new(alloc),
-        end: Terminator::Return(Some(result)),
-    };
-    let blocks = Rows::of(vec![in alloc; entry, body, last]?);
-    let param = Param {
-        local: 40,
-        reg: Reg::Int(32),
-    };
-    let params = Rows::of(vec![in alloc; param]?);
-    Ok(Function {
-        symbol: Symbol { home: None, name },
-        linkage: Linkage::External,
-        result: Some(Reg::Int(32)),
-        params,
-        noinline: false,
-        optnone: false,
-        blocks,
-    })
-}
+use ir_tree::Operand;
+use std::alloc::AllocError;
 
 const COUNTING: &[u8] = b"define i32 @count(i32 %0) {
   br label %2
@@ -135,13 +46,15 @@ const SWAPPED: &[u8] = b"define i32 @count(i32 %0) {
 #[test]
 fn numbers_and_uses_change(rt: HostRuntime) -> Result<(), AllocError> {
     let alloc = rt.alloc();
-    let f = renumber(alloc, &scattered(alloc)?)?;
-    assert!(rt; print_function(alloc, &f)?.equals(COUNTING));
-    let shifted = shift_numbers(alloc, &f, 7)?;
+    let parsed = read(alloc, COUNTING).expect(&rt, "a module");
+    let f = parsed.module().function(b"count").expect(&rt, "a function");
+    let shifted = shift_numbers(alloc, f, 7)?;
     assert!(rt; print_function(alloc, &shifted)?.equals(SHIFTED));
-    assert!(rt; shift_numbers(alloc, &f, u32::MAX).is_err());
+    assert!(rt; shift_numbers(alloc, f, u32::MAX).is_err());
+    let again = renumber(alloc, &shifted)?;
+    assert!(rt; print_function(alloc, &again)?.equals(COUNTING));
     let others = [(3, Operand::Local(4)), (4, Operand::Local(3))];
-    let swapped = substitute(alloc, &f, &others)?;
+    let swapped = substitute(alloc, f, &others)?;
     assert!(rt; print_function(alloc, &swapped)?.equals(SWAPPED));
     Ok(())
 }

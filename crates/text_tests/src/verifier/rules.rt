@@ -1,8 +1,8 @@
 //! Each rule kept and broken, with the line at fault, and the order of faults.
 use crate::parts::read;
-use ir_tree::Rule;
+use ir_tree::{Parsed, Rule};
 use ir_verify::{VerifyError, VerifyFault, module_fault, verify};
-use std::alloc::AllocError;
+use std::alloc::{AllocError, Global};
 
 /// What a row shows, a module that begins with its function, and the line and the rule of the fault, where there is one.
 type Row = (&'static str, &'static [u8], Option<(u32, Rule)>);
@@ -416,30 +416,43 @@ const ROWS: [Row; 40] = [
     ),
 ];
 
+/// The line and the rule of a fault; on no line where it isn't in the first function.
+fn place(fault: &VerifyFault) -> (u32, Rule) {
+    match fault.function {
+        Some(0) => (fault.line, fault.kind),
+        _ => (0, fault.kind),
+    }
+}
+
+/// The place of the least fault of a module.
+fn least(alloc: Global, parsed: &Parsed) -> Result<Option<(u32, Rule)>, AllocError> {
+    let fault = module_fault(alloc, parsed)?;
+    Ok(fault.as_ref().map(place))
+}
+
+/// The place of the fault that a module is refused for.
+fn refused(alloc: Global, parsed: Parsed) -> Result<Option<(u32, Rule)>, AllocError> {
+    match verify(alloc, parsed) {
+        Ok(_) => Ok(None),
+        Err(VerifyError::Fault(fault)) => Ok(Some(place(&fault))),
+        Err(VerifyError::NoMemory) => Err(AllocError),
+    }
+}
+
+/// Whether a text is read, and its least fault, for which it is refused, is this one or none.
+fn is_so(alloc: Global, text: &[u8], wanted: Option<(u32, Rule)>) -> Result<bool, AllocError> {
+    let Some(parsed) = read(alloc, text) else {
+        return Ok(false);
+    };
+    let least = least(alloc, &parsed)?;
+    let told = refused(alloc, parsed)?;
+    Ok(least == wanted && told == wanted)
+}
+
 #[test]
 fn rules_are_kept_and_broken(rt: HostRuntime) -> Result<(), AllocError> {
     for (name, text, broken) in ROWS {
-        let parsed = read(rt.alloc(), text).expect(&rt, name);
-        let wanted = match broken {
-            Some((line, kind)) => Some(VerifyFault {
-                function: Some(0),
-                line,
-                kind,
-            }),
-            None => None,
-        };
-        let least = module_fault(rt.alloc(), &parsed)?;
-        assert!(rt; least == wanted, "{name}");
-        let count = parsed.module().globals.len();
-        let told = match verify(rt.alloc(), parsed) {
-            Ok(verified) => {
-                assert!(rt; verified.module().globals.len() == count, "{name}");
-                None
-            }
-            Err(VerifyError::Fault(fault)) => Some(fault),
-            Err(VerifyError::NoMemory) => return Err(AllocError),
-        };
-        assert!(rt; told == wanted, "{name}");
+        assert!(rt; is_so(rt.alloc(), text, broken)?, "{name}");
     }
     Ok(())
 }

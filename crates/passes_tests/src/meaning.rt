@@ -1,3 +1,0 @@
-mod operations;
-mod small_passes;
-pub(crate) mod values;

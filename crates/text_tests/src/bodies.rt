@@ -1,2 +1,0 @@
-//! The reader of definitions, over small texts.
-mod definitions;
