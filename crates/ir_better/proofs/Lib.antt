@@ -8,5 +8,4 @@ pub mod Rules
 pub mod Slots
 pub mod Blocks
 pub mod Names
-pub mod Worked
 pub mod Numbers

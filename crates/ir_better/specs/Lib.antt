@@ -7,12 +7,5 @@ pub mod Promote
 pub mod Reshape
 pub mod Laws
 pub mod Rename
-pub mod Examples
-pub mod ExamplesNamed
-pub mod Straight
-pub mod Copies
-pub mod Joins
-pub mod Calls
-pub mod Stack
 pub mod Renumber
 pub mod Table

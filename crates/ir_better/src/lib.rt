@@ -5,32 +5,18 @@
 //! and has by the law that its result is better in every program; what is better in one program may be
 //! taken in a row there, and a program of better functions refines the program.
 //!
-//! Beside the laws stand small passes over one instruction, one block or one phi, each proved by the
-//! law of its kind: they show that the laws say something, since the wrong bodies of `must-fail/` are
-//! refused. Below this crate stand `ir_meaning`, whose definitions the laws speak of, and `ir_tree`.
+//! Below this crate stand `ir_meaning`, whose definitions the laws speak of, and `ir_tree`.
 #![tactic(auto)]
 
-mod calls;
-mod copies;
-mod examples;
 mod functions;
-mod joins;
 mod naming;
 mod passes;
 mod programs;
-mod stack;
-mod unread;
 
-pub use calls::difference_inlined;
-pub use copies::{Copied, Rewritten, copy_forwarded};
-pub use examples::{emission_applies, passes_apply};
 pub use functions::{composition, larger_bounds, passes_in_a_row, reflexivity};
-pub use joins::common_source;
 pub use naming::{chain_under, emitted_refines, kept_refines, linked_refines, renamed_refines};
 pub use passes::{
     inlined_better, needed_better, promoted_better, renumbered_better, replaced_better,
     reshaped_better, rules_right, table_right,
 };
 pub use programs::{congruence, transitivity};
-pub use stack::slot_promoted;
-pub use unread::without_local;

@@ -1,4 +1,0 @@
-pub mod Passes
-pub mod Naming
-pub mod Inlining
-pub mod Promotion
