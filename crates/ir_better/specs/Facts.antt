@@ -13,10 +13,11 @@ use Rattle.ir_tree.specs.declared.instr.Phi.{Phi}
 use Rattle.ir_tree.specs.declared.operand.Argument.{Argument}
 use Rattle.ir_tree.specs.declared.operand.Operand.{Operand}
 use Rattle.ir_tree.specs.declared.operand.Operand.TheVariants.{Local}
+use Rattle.ir_tree.specs.declared.operand.Symbol.{Symbol}
 use Rattle.ir_meaning.specs.Act.{find_block}
 use Rattle.ir_meaning.specs.Execute.{Asked, Broke, Effect, Went, evaluate, execute}
-use Rattle.ir_meaning.specs.Frame.{Locals, Signature, value_of}
-use Rattle.ir_meaning.specs.Memory.{Memory}
+use Rattle.ir_meaning.specs.Frame.{AVariable, Locals, Signature, value_of}
+use Rattle.ir_meaning.specs.Memory.{Lives, Memory}
 use Rattle.ir_meaning.specs.declared.value.Value.{Value}
 use Rattle.ir_meaning.specs.declared.value.Value.TheVariants.{Poison}
 use Rattle.ir_better.specs.Inline.{with_operands}
@@ -112,14 +113,18 @@ GivesFor m place v (Went (Some r) None m' place' es) = Stands v r × (m' ≡ m) 
 GivesFor m place v (Went _ _ m' place' es) = ⊥
 GivesFor m place v (Asked s vs) = ⊥
 
--- the operand may stand for what the instruction gives, whatever the free choice
+-- the program's variables live
+abbrev pub VariablesLive : Signature → Memory → Type 0
+VariablesLive sig m = (s : Symbol) (number : ℕ) → sig.kind s ≡ AVariable number → Lives m number
+
+-- where the program's variables live, the operand may stand for what the instruction gives, whatever the free choice
 abbrev pub RuleAlways : Instr → Operand → Type 0
-RuleAlways i v = (sig : Signature) (input : List ℕ) (m : Memory) (place choice : ℕ) (ls : Locals) →
+RuleAlways i v = (sig : Signature) (input : List ℕ) (m : Memory) (place choice : ℕ) (ls : Locals) → VariablesLive sig m →
     GivesFor m place (value_of sig ls v) (execute sig input m place choice (evaluate (value_of sig ls) i))
 
 -- or for some free choice
 abbrev pub RuleSometimes : Instr → Operand → Type 0
-RuleSometimes i v = (sig : Signature) (input : List ℕ) (m : Memory) (place : ℕ) (ls : Locals) →
+RuleSometimes i v = (sig : Signature) (input : List ℕ) (m : Memory) (place : ℕ) (ls : Locals) → VariablesLive sig m →
     (choice : ℕ) × GivesFor m place (value_of sig ls v) (execute sig input m place choice (evaluate (value_of sig ls) i))
 
 abbrev pub is_free : Instr → Bool

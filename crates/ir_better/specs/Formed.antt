@@ -2,7 +2,7 @@
 use Rattle.std.specs.Prelude.{◌≡◌, ℕ, ◌<◌, List, [], ◌∷◌}
 use Rattle.ir_tree.specs.declared.operand.Symbol.{Symbol}
 use Rattle.ir_meaning.specs.Frame.{AVariable}
-use Rattle.ir_meaning.specs.Memory.{Memory}
+use Rattle.ir_meaning.specs.Memory.{Lives, Memory}
 use Rattle.ir_meaning.specs.Program.{Program, variables}
 use Rattle.ir_meaning.specs.declared.value.Base.{Base}
 use Rattle.ir_meaning.specs.declared.value.Base.TheVariants.{Cell}
@@ -26,9 +26,10 @@ abbrev pub MemoryIsInside : ℕ → Memory → Type 0
 MemoryIsInside n [] = Unit {0}
 MemoryIsInside n (b ∷ bs) = BytesAreInside n b.bytes × MemoryIsInside n bs
 
--- the variables hold pointers to variables alone
-abbrev pub OpensInside : Program → Type 0
-OpensInside p = MemoryIsInside (variables p) p.opening
+-- the variables hold pointers to variables alone, and live
+pub record OpensInside (p : Program) : Type 0 where
+  pub inside : MemoryIsInside (variables p) p.opening
+  pub alive : (l : ℕ) → l < variables p → Lives p.opening l
 
 -- each symbol of a variable has a number of the variables
 abbrev pub IsFormed : Program → Type 0

@@ -1,15 +1,13 @@
 -- The operations on words are those of instructions, operator by operator.
 use Rattle.std.proofs.Common.{◌≡◌, ℕ, ◌-◌, ◌<◌, ◌^◌, ◌==◌, Bool, ◌&&◌, ◌||◌, true, false, if◌then◌else◌, Option, Some, None, refl, sym, ap, ◌∙◌}
-use Rattle.std.specs.Prelude.{nat_lt}
 use Rattle.std.proofs.lemmas.Bool.{eq-eqb, lt-ltb}
 use Rattle.ir_tree.specs.declared.instr.BinaryOp.{BinaryOp}
 use Rattle.ir_tree.specs.declared.instr.BinaryOp.TheVariants.{Add, And, Ashr, Lshr, Mul, Or, Sdiv, Shl, Srem, Sub, Udiv, Urem, Xor}
-use Rattle.ir_tree.specs.declared.instr.CastOp.{CastOp}
 use Rattle.ir_tree.specs.declared.instr.CastOp.TheVariants.{Sext, Trunc, Zext}
 use Rattle.ir_tree.specs.declared.instr.Flags.{Flags}
 use Rattle.ir_tree.specs.declared.instr.Predicate.{Predicate}
 use Rattle.ir_tree.specs.declared.instr.Predicate.TheVariants.{Eq, Ne, Sge, Sgt, Sle, Slt, Uge, Ugt, Ule, Ult}
-use Rattle.ir_meaning.specs.Operate.{Answer, Is, Never, binary_bits, bit, bits_of, cast_bits, compared_bits, number_or_poison}
+use Rattle.ir_meaning.specs.Operate.{Is, Never, binary_bits, bit, bits_of, cast_bits, compared_bits, number_or_poison}
 use Rattle.ir_meaning.specs.Wrapping.{arithmetic, breaks, compare, cast_number, division_cause, is_division, may_break}
 use Rattle.ir_meaning.specs.declared.fault.Cause.TheVariants as cause
 use Rattle.ir_meaning.specs.declared.value.Value.TheVariants.{Number}

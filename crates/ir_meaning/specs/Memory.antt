@@ -1,5 +1,5 @@
 -- Blocks of memory and their lives (LangRef, "Memory Model", "Object Lifetime" and "alloca Instruction").
-use Rattle.std.specs.Prelude.{ℕ, Bool, true, false, List, [], ◌∷◌, replicate, slice_get, slice_set, Option, Some, None}
+use Rattle.std.specs.Prelude.{◌≡◌, ℕ, Bool, true, false, List, [], ◌∷◌, replicate, slice_get, slice_set, Option, Some, None}
 use Rattle.ir_meaning.specs.declared.value.Base.{Base}
 use Rattle.ir_meaning.specs.declared.value.Base.TheVariants.{Cell, Code, Nowhere}
 use Rattle.ir_meaning.specs.declared.value.Byte.{Byte}
@@ -16,6 +16,10 @@ pub record MemoryBlock : Type 0 where
 -- the blocks, by their numbers: first the variables of the program, in its order, then the stack blocks as they were made
 abbrev pub Memory : Type 0
 Memory = List MemoryBlock
+
+-- the block of this number is there, and lives
+abbrev pub Lives : Memory → ℕ → Type 0
+Lives memory k = (b : MemoryBlock) × (slice_get memory k ≡ Some b) × (b.live ≡ true)
 
 abbrev pub fresh : ℕ → ℕ → MemoryBlock
 fresh size align = record { size = size; align = align; bytes = replicate size Unset; live = true; writable = true }

@@ -43,9 +43,9 @@ abbrev pub Against : Type 1
 Against = Frame → Memory → State → Type 0
 
 -- both go on with agreed answers and kept memories
-abbrev pub GoesOn : Against → Point → Frame → Frame → List Frame → Type 0
-GoesOn near q waiting waiting' below =
-    (q' : Point) (v v' : Option Value) (place : ℕ) → Kept q q' → ValuesAgree q' v v' →
+abbrev pub GoesOn : ℕ → Against → Point → Frame → Frame → List Frame → Type 0
+GoesOn g near q waiting waiting' below =
+    (q' : Point) (v v' : Option Value) (place : ℕ) → Kept g q q' → ValuesAgree q' v v' →
     near (resume waiting v) q'.left (record { top = resume waiting' v'; below = below; memory = q'.right; place = place })
 
 -- the program makes the same call
@@ -66,7 +66,7 @@ pub record CallsToo (z : Setting) (near : Against) (memory : Memory) (right : St
   pub related : Related point
   pub fixes : Fixes (variables z.program) point
   pub agree : ArgumentsAgree point arguments arguments'
-  pub goes_on : GoesOn near point waiting waiting' state.below
+  pub goes_on : GoesOn (variables z.program) near point waiting waiting' state.below
 
 -- the program goes on too
 pub record GoesToo (z : Setting) (near : Against) (frame : Frame) (memory : Memory) (place : ℕ) (events : List Event)
@@ -82,7 +82,7 @@ pub record GivesToo (z : Setting) (entry : Point) (answer : Option Value) (memor
   pub point : Point
   pub answers : Answers z right [] (Done answer' point.right right.place)
   pub left : point.left ≡ memory
-  pub kept : Kept entry point
+  pub kept : Kept (variables z.program) entry point
   pub agree : ValuesAgree point answer answer'
 
 -- what the better function does is answered

@@ -1,7 +1,7 @@
 -- How the memory of a better program stands for that of the program: a one to one pairing of its blocks with the
 -- program's (Leroy and Blazy's memory injections), under which poison and unwritten bytes may become anything.
 use Rattle.std.specs.Prelude.{◌≡◌, ◌≢◌, ℕ, ◌<◌, ◌≤◌, false, IsTrue, List, [], ◌∷◌, length, slice_get, Option, Some, None}
-use Rattle.ir_meaning.specs.Memory.{Memory, MemoryBlock}
+use Rattle.ir_meaning.specs.Memory.{Lives, Memory, MemoryBlock}
 use Rattle.ir_meaning.specs.declared.value.Base.{Base}
 use Rattle.ir_meaning.specs.declared.value.Base.TheVariants.{Cell, Code, Nowhere}
 use Rattle.ir_meaning.specs.declared.value.Byte.{Byte}
@@ -73,10 +73,11 @@ pub record Point : Type 0 where
   pub left : Memory
   pub right : Memory
 
--- each of the g variables stands for itself
+-- each of the g variables stands for itself, and lives
 pub record Fixes (g : ℕ) (p : Point) : Type 0 where
   pub variables : g ≤ length p.left
   pub stay : (l : ℕ) → l < g → p.pairing l ≡ l
+  pub alive : (l : ℕ) → l < g → Lives p.right l
 
 -- each block of the first stands for one block of the second
 pub record Related (p : Point) : Type 0 where
@@ -88,8 +89,8 @@ pub record Related (p : Point) : Type 0 where
 abbrev pub IsUnpaired : Point → ℕ → Type 0
 IsUnpaired p r = (l : ℕ) → l < length p.left → p.pairing l ≢ r
 
--- what happened from p to q kept both memories
-pub record Kept (p q : Point) : Type 0 where
+-- what happened from p to q kept both memories, and the g variables alive
+pub record Kept (g : ℕ) (p q : Point) : Type 0 where
   pub related : Related q
   pub grown : length p.left ≤ length q.left
   pub extends : (l : ℕ) → l < length p.left → q.pairing l ≡ p.pairing l
@@ -97,6 +98,8 @@ pub record Kept (p q : Point) : Type 0 where
   -- a dead block of the program stays dead
   pub ended : (r : ℕ) (b : MemoryBlock) → slice_get p.right r ≡ Some b → b.live ≡ false → (b' : MemoryBlock) ×
       (slice_get q.right r ≡ Some b') × (b'.live ≡ false)
+  -- a variable that lives goes on living
+  pub alive : (l : ℕ) → l < g → Lives p.right l → Lives q.right l
   pub private : (r : ℕ) (b : MemoryBlock) → slice_get p.right r ≡ Some b → IsUnpaired p r → (slice_get q.right r ≡ Some b) × IsUnpaired q r
 
 abbrev pub ValuesAgree : Point → Option Value → Option Value → Type 0

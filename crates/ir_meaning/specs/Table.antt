@@ -2,7 +2,7 @@
 --
 -- `rule` takes the first row that fits. Integer constants count where they are numbers of the operation's width, as all are in
 -- formed functions.
-use Rattle.std.specs.Prelude.{◌≡◌, ℕ, zero, suc, ◌+◌, ◌-◌, ◌^◌, Bool, true, false, not, ◌&&◌, ◌||◌, ◌==◌, nat_lt, if◌then◌else◌, ℤ, pos, List, [], ◌∷◌, Option, Some, None}
+use Rattle.std.specs.Prelude.{ℕ, zero, suc, ◌-◌, ◌^◌, Bool, true, false, not, ◌&&◌, ◌||◌, ◌==◌, nat_lt, if◌then◌else◌, ℤ, pos, List, [], ◌∷◌, Option, Some, None}
 use Rattle.ir_tree.specs.Forms.{Form}
 use Rattle.ir_tree.specs.declared.instr.BinaryOp.{BinaryOp}
 use Rattle.ir_tree.specs.declared.instr.BinaryOp.TheVariants.{Add, And, Ashr, Lshr, Mul, Or, Sdiv, Shl, Srem, Sub, Udiv, Urem, Xor}
@@ -20,10 +20,10 @@ use Rattle.ir_tree.specs.declared.operand.Reg.TheVariants.{Int, Ptr}
 use Rattle.ir_meaning.specs.Address.{displacements, sum_from}
 use Rattle.ir_meaning.specs.Execute.{reg_eq}
 use Rattle.ir_meaning.specs.Frame.{cons_index}
-use Rattle.ir_meaning.specs.Operate.{Answer, Is, Never, Unwritten, binary_bits}
+use Rattle.ir_meaning.specs.Operate.{Answer, Is, binary_bits}
 use Rattle.ir_tree.specs.Symbols.{symbol_eq}
 use Rattle.ir_meaning.specs.Wrapping.{cast_number, compare, is_division, signed, wrapped}
-use Rattle.ir_meaning.specs.declared.value.Value.TheVariants.{Number, Pointer, Poison}
+use Rattle.ir_meaning.specs.declared.value.Value.TheVariants.{Number, Poison}
 
 -- ---- choices among rows
 
@@ -223,16 +223,12 @@ is_equality Eq = true
 is_equality Ne = true
 is_equality p = false
 
-abbrev pub one_symbol : Operand → Operand → Bool
-one_symbol (Named s i) (Named t j) = symbol_eq s t
-one_symbol l r = false
-
--- pointers whose comparison may be a free choice
+-- an ordered comparison of a pointer with itself
 abbrev pub compares_freely : Predicate → Reg → Operand → Operand → Bool
 compares_freely p (Int w) l r = false
-compares_freely p Ptr l r = not (is_poison l || is_poison r) && not (is_equality p && (same l r || one_symbol l r))
+compares_freely p Ptr l r = not (is_equality p) && same l r && not (is_poison l)
 
--- the row may rest on an answer to a free choice: of a freeze of poison, or of a comparison of pointers
+-- the row may rest on an answer to a free choice: of a freeze of poison, or of an ordered comparison of a pointer with itself
 abbrev pub may_choose : Instr → Bool
 may_choose (Freeze reg o) = is_poison o
 may_choose (Icmp p reg l r) = compares_freely p reg l r

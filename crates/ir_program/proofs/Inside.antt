@@ -1,5 +1,5 @@
--- What variables begin with points at variables alone.
-use Rattle.std.proofs.Common.{◌≡◌, ℕ, zero, suc, ◌<◌, Bool, List, [], ◌∷◌, ◌++◌, ◌+◌, ◌-◌, ◌/◌, length, map, replicate, Option, Some, None, refl}
+-- What variables begin with points at variables alone, and each of them lives.
+use Rattle.std.proofs.Common.{◌≡◌, ℕ, zero, suc, ◌<◌, Bool, List, [], ◌∷◌, ◌++◌, ◌+◌, ◌-◌, ◌/◌, length, map, replicate, Option, Some, None, refl, arith}
 use Rattle.ir_tree.specs.Forms.{Form, int, pointer, array, structure}
 use Rattle.ir_tree.specs.Initials.{Initial, plain, zeros, bytes, elements, members, Initials, no_initials, initial}
 use Rattle.ir_tree.specs.Layout.{begins, size}
@@ -11,7 +11,7 @@ use Rattle.ir_tree.specs.declared.operand.Reg.TheVariants.{Int, Ptr}
 use Rattle.ir_tree.specs.declared.operand.Symbol.{Symbol}
 use Rattle.ir_meaning.specs.Bytes.{bits_stored, fragments, number_bytes, pointer_bytes, stored_bytes}
 use Rattle.ir_meaning.specs.Frame.{AFunction, AHost, AVariable, Kind, Missing, named, value_of}
-use Rattle.ir_meaning.specs.Memory.{Memory}
+use Rattle.ir_meaning.specs.Memory.{Lives, Memory}
 use Rattle.ir_meaning.specs.Operate.{bits_of}
 use Rattle.ir_meaning.specs.declared.value.Base.{Base}
 use Rattle.ir_meaning.specs.declared.value.Base.TheVariants.{Cell, Code, Nowhere}
@@ -21,7 +21,7 @@ use Rattle.ir_meaning.specs.declared.value.Value.{Value}
 use Rattle.ir_meaning.specs.declared.value.Value.TheVariants.{Number, Pointer, Poison}
 use Rattle.ir_better.specs.Formed.{ByteIsInside, BytesAreInside, IsInside, MemoryIsInside, OpensInside}
 use Rattle.ir_program.specs.Constants.{element_bytes, initial_bytes, member_bytes, scalar_bytes, zero_bytes}
-use Rattle.ir_program.specs.Programs.{Body, Definition, Storage, defined, opening_from, program_of, signature_of, storage_in}
+use Rattle.ir_program.specs.Programs.{Body, Definition, Storage, block_of, defined, opening_from, program_of, signature_of, storage_in}
 use Rattle.ir_program.proofs.Numbered.{programs_formed}
 
 -- ---- bytes
@@ -125,5 +125,22 @@ operands_inside gs Null = tt
 operands_inside gs (PoisonOf reg) = tt
 operands_inside gs (Named s offset) = kind_inside (length (program_of gs).opening) ((signature_of gs).kind s) s offset (programs_formed gs s)
 
+-- ---- lives
+
+storage_lives : (value : Operand → Value) (d : Option Definition) (rest : Memory) → ((l : ℕ) → l < length rest → Lives rest l) →
+    (l : ℕ) → l < length (storage_in value d rest) → Lives (storage_in value d rest) l
+storage_lives value None rest h l lt = h l lt
+storage_lives value (Some (Body f)) rest h l lt = h l lt
+storage_lives value (Some (Storage k v init)) rest h zero lt = (block_of value v init, refl, refl)
+storage_lives value (Some (Storage k v init)) rest h (suc l) lt = h l (omega arith)
+
+opening_lives : (value : Operand → Value) (gs : List GlobalValue) (l : ℕ) → l < length (opening_from value gs) →
+    Lives (opening_from value gs) l
+opening_lives value [] l lt = absurd (omega arith)
+opening_lives value (g ∷ gs) l lt = storage_lives value (defined 0 g) (opening_from value gs) (opening_lives value gs) l lt
+
 pub programs_inside : (gs : List GlobalValue) → OpensInside (program_of gs)
-programs_inside gs = opening_inside (length (program_of gs).opening) (value_of (signature_of gs) []) (operands_inside gs) gs
+programs_inside gs = record {
+  inside = opening_inside (length (program_of gs).opening) (value_of (signature_of gs) []) (operands_inside gs) gs;
+  alive = opening_lives (value_of (signature_of gs) []) gs;
+}

@@ -18,7 +18,6 @@ use Rattle.ir_meaning.specs.Program.{Program, variables, State, On, Done, Broken
 use Rattle.ir_meaning.specs.Relate.{Pairing, Point, Fixes, Kept, Agrees, ValuesAgree}
 use Rattle.ir_meaning.specs.declared.event.Event.{Event}
 use Rattle.ir_meaning.specs.declared.value.Value.{Value}
-use Rattle.ir_meaning.specs.declared.value.Value.TheVariants.{Number, Pointer, Poison}
 use Rattle.ir_better.specs.Formed.{IsFormed}
 pub use Rattle.ir_better.specs.Needed.{EdgesKept, PhisKept, EndReads}
 use Rattle.ir_better.proofs.Alike.Effects.{SlotAgrees, EffectsAlike}
@@ -183,13 +182,13 @@ breaks_at_once z one b memory place choice why e =
     }
 
 -- one instruction on each side, with alike effects
-pub answered_effects : (z : Setting) → 1 ≤ z.bound → (near : Against) (entry p : Point) → Kept entry p →
+pub answered_effects : (z : Setting) → 1 ≤ z.bound → (near : Against) (entry p : Point) → Kept (variables z.program) entry p →
     Fixes (variables z.program) p → (a b b' : Frame) (la lb : Option ℕ) (place choice : ℕ) (x y : Effect) →
     act z.program.signature z.input b p.right place choice ≡ apply b' lb y → EffectsAlike p x y →
-    ((q : Point) (v v' : Option Value) (slot slot' : Option ℕ) (place' : ℕ) → Kept p q → ValuesAgree q v v' →
-    SlotAgrees q slot slot' → near (record a { locals = bind la v a.locals; slots = with_slot slot a.slots }) q.left
+    ((q : Point) (v v' : Option Value) (slot slot' : Option ℕ) (place' : ℕ) → Kept (variables z.program) p q → ValuesAgree q v v' →
+    SlotAgrees p q slot slot' → near (record a { locals = bind la v a.locals; slots = with_slot slot a.slots }) q.left
     (alone (record b' { locals = bind lb v' b'.locals; slots = with_slot slot' b'.slots }) q.right place')) →
-    ((q : Point) (v v' : Option Value) (place' : ℕ) → Kept p q → ValuesAgree q v v' →
+    ((q : Point) (v v' : Option Value) (place' : ℕ) → Kept (variables z.program) p q → ValuesAgree q v v' →
     near (resume (record a { awaits = la }) v) q.left (alone (resume (record b' { awaits = lb }) v') q.right place')) →
     IsAnswered z near entry p.left (alone b p.right place) (apply a la x)
 answered_effects z one near entry p k fix a b b' la lb place choice x (Broke why) e h went asked =
@@ -202,7 +201,7 @@ answered_effects z one near entry p k fix a b b' la lb place choice (Went v slot
     let leads' = subst (λ (l : List Event). Leads z.program z.input 1 (alone b p.right place) l (On (alone b'' m' pl')))
     (sym h.events) leads in
     let q = h.point in
-    let near' = went q v v' slot slot' pl' h.kept h.value h.slot_is in
+    let near' = went q v v' slot slot' pl' (h.kept (variables z.program)) h.value h.slot_is in
     let near'' = subst (λ (c : Memory). near a' c (alone b'' q.right pl')) h.left near' in
     inr (record {
       state = alone b'' m' pl';
@@ -235,7 +234,7 @@ answered_effects z one near entry p k fix a b b' la lb place choice (Broke w) (W
 answered_effects z one near entry p k fix a b b' la lb place choice (Broke w) (Asked s' us) e h went asked = absurd h
 
 -- both return
-pub answered_return : (z : Setting) → 1 ≤ z.bound → (near : Against) (entry p q : Point) → Kept entry q →
+pub answered_return : (z : Setting) → 1 ≤ z.bound → (near : Against) (entry p q : Point) → Kept (variables z.program) entry q →
     (b : Frame) (place choice : ℕ) (v v' : Option Value) →
     act z.program.signature z.input b p.right place choice ≡ Gives v' q.right → ValuesAgree q v v' →
     IsAnswered z near entry p.left (alone b p.right place) (Gives v q.left)

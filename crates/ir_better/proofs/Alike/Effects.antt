@@ -50,23 +50,23 @@ value_wider n n' w w' le e Poison (Pointer y j) a = absurd a
 value_wider n n' w w' le e (Number k) (Pointer y j) a = absurd a
 
 -- a value that agreed still agrees
-pub value_later : (p q : Point) → Kept p q → (v u : Value) → Agrees p.pairing (length p.left) v u → Agrees q.pairing (length q.left) v u
+pub value_later : {g : ℕ} (p q : Point) → Kept g p q → (v u : Value) → Agrees p.pairing (length p.left) v u → Agrees q.pairing (length q.left) v u
 value_later p q k v u a = value_wider (length p.left) (length q.left) p.pairing q.pairing k.grown k.extends v u a
 
-pub answer_later : (p q : Point) → Kept p q → (v u : Option Value) → ValuesAgree p v u → ValuesAgree q v u
+pub answer_later : {g : ℕ} (p q : Point) → Kept g p q → (v u : Option Value) → ValuesAgree p v u → ValuesAgree q v u
 answer_later p q k None None a = tt
 answer_later p q k (Some v) (Some u) a = value_later p q k v u a
 answer_later p q k None (Some u) a = absurd a
 answer_later p q k (Some v) None a = absurd a
 
-pub locals_later : (p q : Point) → Kept p q → (keeps : ℕ → Bool) (ls rs : Locals) →
+pub locals_later : {g : ℕ} (p q : Point) → Kept g p q → (keeps : ℕ → Bool) (ls rs : Locals) →
     LocalsAgree keeps p.pairing (length p.left) ls rs → LocalsAgree keeps q.pairing (length q.left) ls rs
 locals_later p q k keeps ls rs h x kept = value_later p q k (look_up ls x) (look_up rs x) (h x kept)
 
-pub slots_later : (p q : Point) → Kept p q → (ls rs : List ℕ) → SlotsPaired p.pairing (length p.left) ls rs →
-    SlotsPaired q.pairing (length q.left) ls rs
+pub slots_later : {g : ℕ} (p q : Point) → Kept g p q → (ls rs : List ℕ) → SlotsPaired g p.pairing (length p.left) ls rs →
+    SlotsPaired g q.pairing (length q.left) ls rs
 slots_later p q k [] [] h = tt
-slots_later p q k (l ∷ ls) (r ∷ rs) h = (omega (arith, h.0, k.grown), k.extends l h.0 ∙ h.1, slots_later p q k ls rs h.2)
+slots_later p q k (l ∷ ls) (r ∷ rs) h = (omega (arith, h.0, k.grown), k.extends l h.0 ∙ h.1, h.2, slots_later p q k ls rs h.3)
 slots_later p q k [] (r ∷ rs) h = absurd h
 slots_later p q k (l ∷ ls) [] h = absurd h
 
@@ -143,21 +143,22 @@ reads_agree sig w n c keeps ls rs h (StrayPhi reg es) x = tt
 
 -- ---- effects
 
-abbrev pub SlotAgrees : Point → Option ℕ → Option ℕ → Type 0
-SlotAgrees q None None = Unit {0}
-SlotAgrees q (Some l) (Some r) = (l < length q.left) × (q.pairing l ≡ r)
-SlotAgrees q _ _ = ⊥
+-- from p to q both made a slot or neither did
+abbrev pub SlotAgrees : Point → Point → Option ℕ → Option ℕ → Type 0
+SlotAgrees p q None None = Unit {0}
+SlotAgrees p q (Some l) (Some r) = (l < length q.left) × (q.pairing l ≡ r) × (length p.right ≤ r)
+SlotAgrees p q _ _ = ⊥
 
 pub record WentAlike (p : Point) (v v' : Option Value) (slot slot' : Option ℕ) (m m' : Memory) (place place' : ℕ)
     (es es' : List Event) : Type 0 where
   pub point : Point
-  pub kept : Kept p point
+  pub kept : (g : ℕ) → Kept g p point
   pub left : point.left ≡ m
   pub right : point.right ≡ m'
   pub place_is : place ≡ place'
   pub events : es ≡ es'
   pub value : ValuesAgree point v v'
-  pub slot_is : SlotAgrees point slot slot'
+  pub slot_is : SlotAgrees p point slot slot'
 
 -- the second breaks, or both do the same
 abbrev pub EffectsAlike : Point → Effect → Effect → Type 0
@@ -170,7 +171,7 @@ went_still : (p : Point) → Related p → (v u : Option Value) (place : ℕ) (e
     WentAlike p v u None None p.left p.right place place es es
 went_still p rel v u place es a = record {
   point = p;
-  kept = kept_refl p rel;
+  kept = λ g. kept_refl p rel;
   left = refl;
   right = refl;
   place_is = refl;
@@ -306,12 +307,12 @@ store_in_alike p rel why why' place l r lt e reg v u offset align agree (Some x)
     let marks : SameMarks (block_of p.left l) new =
     subst (λ (y : MemoryBlock). SameMarks y new) (sym is) (record { size = refl; align = refl; writable = refl }) in
     let at' : block_of p.right (p.pairing l) ≡ x' = block_is p.right (p.pairing l) x' (ap (λ (i : ℕ). slice_get p.right i) e ∙ there) in
-    let k = update_kept p rel l new new' lt same marks (λ d. ap (λ (y : MemoryBlock). y.live) (sym at') ∙ d) in
     let q = updated p l new new' in
     let go : WentAlike p None None None None (slice_set p.left l new) (slice_set p.right r new') place place [] [] =
     record {
       point = q;
-      kept = k;
+      kept = λ g. update_kept {g = g} p rel l new new' lt same marks (λ d. ap (λ (y : MemoryBlock). y.live) (sym at') ∙ d)
+          (λ below d. ap (λ (y : MemoryBlock). y.live) (sym at') ∙ d);
       left = refl;
       right = ap (λ (i : ℕ). slice_set p.right i new') e;
       place_is = refl;
@@ -421,13 +422,13 @@ reserve_alike p rel place size align =
     let longer = length-append p.left (x ∷ []) in
     record {
       point = q;
-      kept = more_kept p rel x x (fresh_same (pairing_more p) (length (p.left ++ x ∷ [])) size align);
+      kept = λ g. more_kept p rel x x (fresh_same (pairing_more p) (length (p.left ++ x ∷ [])) size align);
       left = refl;
       right = refl;
       place_is = refl;
       events = refl;
       value = ((omega (arith, longer), more_new p), refl);
-      slot_is = (omega (arith, longer), more_new p);
+      slot_is = (omega (arith, longer), more_new p, omega arith);
     }
 
 -- what is done with agreed values is alike, for some answer to a free choice

@@ -25,7 +25,7 @@ use Rattle.ir_better.specs.Formed.{IsFormed}
 use Rattle.ir_better.specs.Laws.{Reflexivity}
 use Rattle.ir_better.proofs.Alike.Answering.{near_by, alone, answered_effects, answered_return, answered_go, answered_fails, breaks_at_once, bind_agrees, EdgesKept, PhisKept, phis_agree, EndReads, ExitsAgree, exit_agrees, names_of, act_at_line, act_at_end}
 use Rattle.ir_better.proofs.Alike.Effects.{answer_later, locals_later, slots_later, evaluate_agrees, Reads, reads_agree, SlotAgrees, execute_alike}
-use Rattle.ir_better.proofs.Alike.Keeping.{kept_refl, kept_trans, kept_fixes, more, SlotsPaired, kill_kept}
+use Rattle.ir_better.proofs.Alike.Keeping.{kept_refl, kept_trans, kept_fixes, fixes_right, more, SlotsPaired, kill_kept}
 use Rattle.ir_better.proofs.Alike.Values.{LocalsAgree, IsKept, AllKept, if_agrees}
 
 abbrev pub every : ℕ → Bool
@@ -72,14 +72,14 @@ end_all (Switch w o d cs) = kept_all o
 end_all Unreachable = tt
 
 -- the same frame, but for its values and the numbers of its slots
-record FramesAgree (p : Point) (a b : Frame) : Type 0 where
+record FramesAgree (g : ℕ) (p : Point) (a b : Frame) : Type 0 where
   function : a.function ≡ b.function
   block : a.block ≡ b.block
   rest : a.rest ≡ b.rest
   end : a.end ≡ b.end
   awaits : a.awaits ≡ b.awaits
   locals : LocalsAgree every p.pairing (length p.left) a.locals b.locals
-  slots : SlotsPaired p.pairing (length p.left) a.slots b.slots
+  slots : SlotsPaired g p.pairing (length p.left) a.slots b.slots
 
 -- both sides are in the same place
 record Holds (z : Setting) (entry : Point) (a : Frame) (m : Memory) (s : State) : Type 0 where
@@ -88,11 +88,11 @@ record Holds (z : Setting) (entry : Point) (a : Frame) (m : Memory) (s : State) 
   frame : Frame
   place : ℕ
   is : s ≡ alone frame point.right place
-  kept : Kept entry point
+  kept : Kept (variables z.program) entry point
   fixes : Fixes (variables z.program) entry
-  frames : FramesAgree point a frame
+  frames : FramesAgree (variables z.program) point a frame
 
-frames_later : (p q : Point) → Kept p q → (a b : Frame) → FramesAgree p a b → FramesAgree q a b
+frames_later : {g : ℕ} (p q : Point) → Kept g p q → (a b : Frame) → FramesAgree g p a b → FramesAgree g q a b
 frames_later p q k a b f = record {
   function = f.function;
   block = f.block;
@@ -103,15 +103,15 @@ frames_later p q k a b f = record {
   slots = slots_later p q k a.slots b.slots f.slots;
 }
 
-pub slots_more : (q : Point) (slot slot' : Option ℕ) (ls rs : List ℕ) → SlotAgrees q slot slot' →
-    SlotsPaired q.pairing (length q.left) ls rs → SlotsPaired q.pairing (length q.left) (with_slot slot ls) (with_slot slot' rs)
-slots_more q None None ls rs a h = h
-slots_more q (Some l) (Some r) ls rs a h = (a.0, a.1, h)
-slots_more q None (Some r) ls rs a h = absurd a
-slots_more q (Some l) None ls rs a h = absurd a
+pub slots_more : (g : ℕ) (p q : Point) → Fixes g p → (slot slot' : Option ℕ) (ls rs : List ℕ) → SlotAgrees p q slot slot' →
+    SlotsPaired g q.pairing (length q.left) ls rs → SlotsPaired g q.pairing (length q.left) (with_slot slot ls) (with_slot slot' rs)
+slots_more g p q f None None ls rs a h = h
+slots_more g p q f (Some l) (Some r) ls rs a h = (a.0, a.1, omega (arith, fixes_right g p f, a.2), h)
+slots_more g p q f None (Some r) ls rs a h = absurd a
+slots_more g p q f (Some l) None ls rs a h = absurd a
 
-holds : (z : Setting) (entry p : Point) (a b : Frame) (place : ℕ) → Kept entry p → Fixes (variables z.program) entry →
-    FramesAgree p a b → Holds z entry a p.left (alone b p.right place)
+holds : (z : Setting) (entry p : Point) (a b : Frame) (place : ℕ) → Kept (variables z.program) entry p → Fixes (variables z.program) entry →
+    FramesAgree (variables z.program) p a b → Holds z entry a p.left (alone b p.right place)
 holds z entry p a b place k fix f = record {
   point = p;
   left = refl;
@@ -123,8 +123,8 @@ holds z entry p a b place k fix f = record {
   frames = f;
 }
 
-resume_alike : (p : Point) (a b : Frame) → FramesAgree p a b → (v u : Option Value) → ValuesAgree p v u →
-    FramesAgree p (resume a v) (resume b u)
+resume_alike : {g : ℕ} (p : Point) (a b : Frame) → FramesAgree g p a b → (v u : Option Value) → ValuesAgree p v u →
+    FramesAgree g p (resume a v) (resume b u)
 unfolding resume
 resume_alike p a b f v u agree = record {
   function = f.function;
@@ -138,8 +138,8 @@ resume_alike p a b f v u agree = record {
 }
 
 -- one instruction on both sides
-at_line : (z : Setting) → 1 ≤ z.bound → IsFormed z.program → (entry p : Point) (a b : Frame) (place choice : ℕ) → Kept entry p →
-    Fixes (variables z.program) entry → FramesAgree p a b → (line : Line) (rest : List Line) → a.rest ≡ line ∷ rest →
+at_line : (z : Setting) → 1 ≤ z.bound → IsFormed z.program → (entry p : Point) (a b : Frame) (place choice : ℕ) →
+    Kept (variables z.program) entry p → Fixes (variables z.program) entry → FramesAgree (variables z.program) p a b → (line : Line) (rest : List Line) → a.rest ≡ line ∷ rest →
     IsAnswered z (Holds z entry) entry p.left (alone b p.right place) (act z.program.signature z.input a p.left place choice)
 at_line z one formed entry p a b place choice k fix f line rest e =
     let sig = z.program.signature in
@@ -164,7 +164,7 @@ at_line z one formed entry p a b place choice k fix f line rest e =
       awaits = f.awaits;
       locals = bind_agrees every q line.local v v' a.locals b.locals agree
           (locals_later p q k' every a.locals b.locals f.locals);
-      slots = slots_more q slot slot' a.slots b.slots slots (slots_later p q k' a.slots b.slots f.slots);
+      slots = slots_more (variables z.program) p q fix' slot slot' a.slots b.slots slots (slots_later p q k' a.slots b.slots f.slots);
     }))
     (λ q v v' place' k' agree. holds z entry q _ _ place' (kept_trans entry p q k k') fix
     (resume_alike q (record a' { awaits = line.local }) (record b' { awaits = line.local })
@@ -182,8 +182,8 @@ at_line z one formed entry p a b place choice k fix f line rest e =
     (sym (act_at_line sig z.input a p.left place choice line rest e)) r
 
 -- a jump on both sides
-jump : (z : Setting) → 1 ≤ z.bound → IsFormed z.program → (entry p : Point) (a b : Frame) (place choice : ℕ) → Kept entry p →
-    Fixes (variables z.program) entry → FramesAgree p a b → (o : Option Block) →
+jump : (z : Setting) → 1 ≤ z.bound → IsFormed z.program → (entry p : Point) (a b : Frame) (place choice : ℕ) →
+    Kept (variables z.program) entry p → Fixes (variables z.program) entry → FramesAgree (variables z.program) p a b → (o : Option Block) →
     act z.program.signature z.input b p.right place choice ≡ enters_block z.program.signature b p.right place o →
     IsAnswered z (Holds z entry) entry p.left (alone b p.right place) (enters_block z.program.signature a p.left place o)
 jump z one formed entry p a b place choice k fix f None e = breaks_at_once z one b p.right place choice _ e
@@ -205,15 +205,15 @@ jump z one formed entry p a b place choice k fix f (Some x) e =
       slots = f.slots;
     }))
 
-at_exit : (z : Setting) → 1 ≤ z.bound → IsFormed z.program → (entry p : Point) (a b : Frame) (place choice : ℕ) → Kept entry p →
-    Fixes (variables z.program) entry → FramesAgree p a b → (x y : Exit) → ExitsAgree p x y →
+at_exit : (z : Setting) → 1 ≤ z.bound → IsFormed z.program → (entry p : Point) (a b : Frame) (place choice : ℕ) →
+    Kept (variables z.program) entry p → Fixes (variables z.program) entry → FramesAgree (variables z.program) p a b → (x y : Exit) → ExitsAgree p x y →
     act z.program.signature z.input b p.right place choice ≡ exits z.program.signature b p.right place y →
     IsAnswered z (Holds z entry) entry p.left (alone b p.right place) (exits z.program.signature a p.left place x)
 at_exit z one formed entry p a b place choice k fix f x (Stuck cause) h e =
     answered_fails z (Holds z entry) entry p.left (alone b p.right place) (breaks_at_once z one b p.right place choice _ e)
     (exits z.program.signature a p.left place x)
 at_exit z one formed entry p a b place choice k fix f (Leaves v) (Leaves u) h e =
-    let kill' = kill_kept a.slots b.slots p k.related f.slots in
+    let kill' = kill_kept (variables z.program) a.slots b.slots p k.related f.slots in
     let q : Point = record { pairing = p.pairing; left = kill a.slots p.left; right = kill b.slots p.right } in
     answered_return z one (Holds z entry) entry p q (kept_trans entry p q k kill') b place choice v u e (answer_later p q kill' v u h)
 at_exit z one formed entry p a b place choice k fix f (Leads' s) (Leads' t) h e =
@@ -227,8 +227,8 @@ at_exit z one formed entry p a b place choice k fix f (Stuck cause) (Leads' t) h
 at_exit z one formed entry p a b place choice k fix f (Leaves v) (Leads' t) h e = absurd h
 at_exit z one formed entry p a b place choice k fix f (Leads' s) (Leaves u) h e = absurd h
 
-at_rest : (z : Setting) → 1 ≤ z.bound → IsFormed z.program → (entry p : Point) (a b : Frame) (place choice : ℕ) → Kept entry p →
-    Fixes (variables z.program) entry → FramesAgree p a b → (rest : List Line) → a.rest ≡ rest →
+at_rest : (z : Setting) → 1 ≤ z.bound → IsFormed z.program → (entry p : Point) (a b : Frame) (place choice : ℕ) →
+    Kept (variables z.program) entry p → Fixes (variables z.program) entry → FramesAgree (variables z.program) p a b → (rest : List Line) → a.rest ≡ rest →
     IsAnswered z (Holds z entry) entry p.left (alone b p.right place) (act z.program.signature z.input a p.left place choice)
 at_rest z one formed entry p a b place choice k fix f (line ∷ rest) e = at_line z one formed entry p a b place choice k fix f line rest e
 at_rest z one formed entry p a b place choice k fix f [] e =
@@ -259,10 +259,10 @@ params_agree w n (x ∷ ps) (v ∷ vs) (u ∷ us) h y kept = if_agrees w n (x.lo
 params_agree w n (x ∷ ps) [] (u ∷ us) h y kept = absurd h
 params_agree w n (x ∷ ps) (v ∷ vs) [] h y kept = absurd h
 
-enter_at_alike : (p : Point) (f : Function) (bs : List Block) (ls rs : Locals) →
-    LocalsAgree every p.pairing (length p.left) ls rs → FramesAgree p (enter_at f bs ls) (enter_at f bs rs)
-enter_at_alike p f [] ls rs h = record { function = refl; block = refl; rest = refl; end = refl; awaits = refl; locals = h; slots = tt }
-enter_at_alike p f (b ∷ bs) ls rs h = record {
+enter_at_alike : (g : ℕ) (p : Point) (f : Function) (bs : List Block) (ls rs : Locals) →
+    LocalsAgree every p.pairing (length p.left) ls rs → FramesAgree g p (enter_at f bs ls) (enter_at f bs rs)
+enter_at_alike g p f [] ls rs h = record { function = refl; block = refl; rest = refl; end = refl; awaits = refl; locals = h; slots = tt }
+enter_at_alike g p f (b ∷ bs) ls rs h = record {
   function = refl;
   block = refl;
   rest = refl;
@@ -272,9 +272,9 @@ enter_at_alike p f (b ∷ bs) ls rs h = record {
   slots = tt;
 }
 
-enter_alike : (p : Point) (f : Function) (vs us : List Value) → ArgumentsAgree p vs us → FramesAgree p (enter f vs) (enter f us)
+enter_alike : (g : ℕ) (p : Point) (f : Function) (vs us : List Value) → ArgumentsAgree p vs us → FramesAgree g p (enter f vs) (enter f us)
 unfolding enter
-enter_alike p f vs us h = enter_at_alike p f f.blocks (params_bound f.params vs) (params_bound f.params us)
+enter_alike g p f vs us h = enter_at_alike g p f f.blocks (params_bound f.params vs) (params_bound f.params us)
     (params_agree p.pairing (length p.left) f.params vs us h)
 
 pub same_better : Reflexivity
@@ -282,4 +282,4 @@ same_better p formed f input n entry vs us place rel fix agree =
     let z : Setting = record { program = p; input = input; bound = 1 } in
     near_by z (Holds z) (step_answered z (omega arith) formed) n entry (enter f vs) entry.left
     (alone (enter f us) entry.right place) (holds z entry entry (enter f vs) (enter f us) place (kept_refl entry rel) fix
-    (enter_alike entry f vs us agree))
+    (enter_alike (variables p) entry f vs us agree))

@@ -1,9 +1,9 @@
 -- What keeps memories: nothing, one thing after another, a store, a new block, the end of blocks.
-use Rattle.std.proofs.Common.{◌≡◌, ◌≢◌, ℕ, zero, suc, ◌+◌, ◌<◌, ◌≤◌, false, List, [], ◌∷◌, ◌++◌, length, replicate, Option, Some, slice_get, ◌⊎◌, inl, inr, refl, sym, ap, ◌∙◌, subst, arith, length-set, length-append}
+use Rattle.std.proofs.Common.{◌≡◌, ◌≢◌, ℕ, zero, suc, ◌+◌, ◌<◌, ◌≤◌, true, false, List, [], ◌∷◌, ◌++◌, length, replicate, Option, Some, slice_get, ◌⊎◌, inl, inr, refl, sym, ap, ◌∙◌, subst, arith, length-set, length-append}
 use Rattle.std.proofs.lemmas.Bool.{cases_lt, cases_eq}
 use Rattle.std.proofs.lemmas.Option.{slice_get_within}
 use Rattle.std.specs.Prelude.{slice_set}
-use Rattle.ir_meaning.specs.Memory.{MemoryBlock, Memory, fresh, dead, end_life, kill}
+use Rattle.ir_meaning.specs.Memory.{MemoryBlock, Memory, Lives, fresh, dead, end_life, kill}
 use Rattle.ir_meaning.specs.Relate.{Pairing, Point, Fixes, Related, Kept, IsUnpaired, SameBytes, SameMarks, SameBlock}
 use Rattle.ir_meaning.specs.declared.value.Byte.TheVariants.{Unset}
 use Rattle.ir_better.proofs.Between.Middle.{block_wider}
@@ -37,17 +37,18 @@ get_append_new (y ∷ xs) x = get_append_new xs x
 pub marks_same : (b : MemoryBlock) → SameMarks b b
 marks_same b = record { size = refl; align = refl; writable = refl }
 
-pub kept_refl : (p : Point) → Related p → Kept p p
+pub kept_refl : {g : ℕ} (p : Point) → Related p → Kept g p p
 kept_refl p r = record {
   related = r;
   grown = omega arith;
   extends = λ l lt. refl;
   marks = λ l b e. (b, e, marks_same b);
   ended = λ r b e d. (b, e, d);
+  alive = λ l lt a. a;
   private = λ l b e u. (e, u);
 }
 
-pub kept_trans : (p q r : Point) → Kept p q → Kept q r → Kept p r
+pub kept_trans : {g : ℕ} (p q r : Point) → Kept g p q → Kept g q r → Kept g p r
 kept_trans p q r a b = record {
   related = b.related;
   grown = omega (arith, a.grown, b.grown);
@@ -59,29 +60,40 @@ kept_trans p q r a b = record {
   ended = λ l x e d.
       let y = a.ended l x e d in
       b.ended l y.0 y.1 y.2;
+  alive = λ l lt x. b.alive l lt (a.alive l lt x);
   private = λ l x e u. let y = a.private l x e u in b.private l x y.0 y.1;
 }
 
-pub kept_fixes : (g : ℕ) (p q : Point) → Fixes g p → Kept p q → Fixes g q
+pub kept_fixes : (g : ℕ) (p q : Point) → Fixes g p → Kept g p q → Fixes g q
 kept_fixes g p q f k = record {
   variables = omega (arith, f.variables, k.grown);
   stay = λ l lt. k.extends l (omega (arith, f.variables)) ∙ f.stay l lt;
+  alive = λ l lt. k.alive l lt (f.alive l lt);
 }
+
+pub fixes_right : (g : ℕ) (p : Point) → Fixes g p → g ≤ length p.right
+fixes_right zero p f = omega arith
+fixes_right (suc k) p f =
+    let a = f.alive k (omega arith) in
+    let lt = slice_get_within p.right k a.0 a.1 in
+    omega arith
 
 -- ---- a write to a block and its counterpart
 
 abbrev pub updated : Point → ℕ → MemoryBlock → MemoryBlock → Point
 updated p l b b' = record { pairing = p.pairing; left = slice_set p.left l b; right = slice_set p.right (p.pairing l) b' }
 
-pub update_kept : (p : Point) → Related p → (l : ℕ) (b b' : MemoryBlock) → l < length p.left →
+pub update_kept : {g : ℕ} (p : Point) → Related p → (l : ℕ) (b b' : MemoryBlock) → l < length p.left →
     SameBlock p.pairing (length p.left) b b' → SameMarks (block_of p.left l) b →
-    ((block_of p.right (p.pairing l)).live ≡ false → b'.live ≡ false) → Kept p (updated p l b b')
-update_kept p rel l b b' lt same marks end = record {
+    ((block_of p.right (p.pairing l)).live ≡ false → b'.live ≡ false) →
+    (p.pairing l < g → (block_of p.right (p.pairing l)).live ≡ true → b'.live ≡ true) → Kept g p (updated p l b b')
+update_kept {g} p rel l b b' lt same marks end going = record {
   related = record { blocks = blocks; one_to_one = λ m n a c e. rel.one_to_one m n (omega (arith, size)) (omega (arith, size)) e };
   grown = omega (arith, size);
   extends = λ m lm. refl;
   marks = λ m x e. marked m x e (cases_eq m l);
   ended = λ r x e d. ended_by r x e d (cases_eq r (p.pairing l));
+  alive = λ r below a. alive_by r below a (cases_eq r (p.pairing l));
   private = λ r x e u. (get_set_other p.right (p.pairing l) r b' (λ s. u l lt (sym s)) ∙ e, λ m lm. u m (omega (arith, size)));
 }
   where
@@ -117,6 +129,18 @@ update_kept p rel l b b' lt same marks end = record {
         )
     ended_by r x e d (inr ne) = (x, get_set_other p.right (p.pairing l) r b' ne ∙ e, d)
 
+    alive_by : (r : ℕ) → r < g → Lives p.right r → (r ≡ p.pairing l) ⊎ (r ≡ p.pairing l → ⊥) →
+        Lives (slice_set p.right (p.pairing l) b') r
+    alive_by r below a (inl s) =
+        let is : block_of p.right (p.pairing l) ≡ a.0 =
+        block_is p.right (p.pairing l) a.0 (ap (λ (i : ℕ). slice_get p.right i) (sym s) ∙ a.1) in (
+          b',
+          ap (λ (i : ℕ). slice_get (slice_set p.right (p.pairing l) b') i) s
+              ∙ get_set_same p.right (p.pairing l) b' (lands p rel l lt),
+          going (omega arith) (ap (λ (y : MemoryBlock). y.live) is ∙ a.2),
+        )
+    alive_by r below a (inr ne) = (a.0, get_set_other p.right (p.pairing l) r b' ne ∙ a.1, a.2)
+
     blocks : (m : ℕ) (x : MemoryBlock) → slice_get (slice_set p.left l b) m ≡ Some x → (x' : MemoryBlock) ×
         (slice_get (slice_set p.right (p.pairing l) b') (p.pairing m) ≡ Some x') ×
         SameBlock p.pairing (length (slice_set p.left l b)) x x'
@@ -149,14 +173,15 @@ pub more_new : (p : Point) → pairing_more p (length p.left) ≡ length p.right
 more_new p = pick_second (length p.left) (length p.left) (p.pairing (length p.left)) (length p.right)
     (cases_lt (length p.left) (length p.left)) (omega arith)
 
-pub more_kept : (p : Point) → Related p → (b b' : MemoryBlock) → SameBlock (pairing_more p) (length (p.left ++ b ∷ [])) b b' →
-    Kept p (more p b b')
+pub more_kept : {g : ℕ} (p : Point) → Related p → (b b' : MemoryBlock) → SameBlock (pairing_more p) (length (p.left ++ b ∷ [])) b b' →
+    Kept g p (more p b b')
 more_kept p rel b b' same = record {
   related = record { blocks = λ l x e. block_by l x e (cases_lt l (length p.left)); one_to_one = one };
   grown = omega (arith, size);
   extends = more_old p;
   marks = λ l x e. (x, get_append_old p.left (b ∷ []) l (slice_get_within p.left l x e) ∙ e, marks_same x);
   ended = λ r x e d. (x, get_append_old p.right (b' ∷ []) r (slice_get_within p.right r x e) ∙ e, d);
+  alive = λ r below a. (a.0, get_append_old p.right (b' ∷ []) r (slice_get_within p.right r a.0 a.1) ∙ a.1, a.2);
   private = λ r x e u.
       let lr = slice_get_within p.right r x e in
       (get_append_old p.right (b' ∷ []) r lr ∙ e, λ l ll. alone r u lr l (cases_lt l (length p.left)));
@@ -221,18 +246,18 @@ fresh_same w n size align = record { marks = marks_same (fresh size align); live
 
 -- ---- the end of blocks
 
--- the slots are counterparts
-abbrev pub SlotsPaired : Pairing → ℕ → List ℕ → List ℕ → Type 0
-SlotsPaired w n [] [] = Unit {0}
-SlotsPaired w n (l ∷ ls) (r ∷ rs) = (l < n) × (w l ≡ r) × SlotsPaired w n ls rs
-SlotsPaired w n _ _ = ⊥
+-- the slots are counterparts, and none is one of the g variables
+abbrev pub SlotsPaired : ℕ → Pairing → ℕ → List ℕ → List ℕ → Type 0
+SlotsPaired g w n [] [] = Unit {0}
+SlotsPaired g w n (l ∷ ls) (r ∷ rs) = (l < n) × (w l ≡ r) × (g ≤ r) × SlotsPaired g w n ls rs
+SlotsPaired g w n _ _ = ⊥
 
-pub kill_kept : (ls rs : List ℕ) (p : Point) → Related p → SlotsPaired p.pairing (length p.left) ls rs →
-    Kept p (record { pairing = p.pairing; left = kill ls p.left; right = kill rs p.right })
-kill_kept [] [] p rel s = kept_refl p rel
-kill_kept [] (r ∷ rs) p rel s = absurd s
-kill_kept (l ∷ ls) [] p rel s = absurd s
-kill_kept (l ∷ ls) (r ∷ rs) p rel s =
+pub kill_kept : (g : ℕ) (ls rs : List ℕ) (p : Point) → Related p → SlotsPaired g p.pairing (length p.left) ls rs →
+    Kept g p (record { pairing = p.pairing; left = kill ls p.left; right = kill rs p.right })
+kill_kept g [] [] p rel s = kept_refl p rel
+kill_kept g [] (r ∷ rs) p rel s = absurd s
+kill_kept g (l ∷ ls) [] p rel s = absurd s
+kill_kept g (l ∷ ls) (r ∷ rs) p rel s =
     let b = block_of p.left l in
     let at = block_here p.left l s.0 in
     let x = rel.blocks l b at in
@@ -243,18 +268,19 @@ kill_kept (l ∷ ls) (r ∷ rs) p rel s =
       bytes = x.2.bytes;
     } in
     let q = updated p l (dead b) (dead x.0) in
-    let k = update_kept p rel l (dead b) (dead x.0) s.0 same (record { size = refl; align = refl; writable = refl }) (λ d. refl) in
+    let k = update_kept {g = g} p rel l (dead b) (dead x.0) s.0 same (record { size = refl; align = refl; writable = refl }) (λ d. refl)
+    (λ below a. absurd (omega (arith, s.1, s.2))) in
     let size = length-set p.left l (dead b) in
-    let s' = subst (λ (n : ℕ). SlotsPaired p.pairing n ls rs) (sym size) s.2 in
-    let rest = kill_kept ls rs q k.related s' in
+    let s' = subst (λ (n : ℕ). SlotsPaired g p.pairing n ls rs) (sym size) s.3 in
+    let rest = kill_kept g ls rs q k.related s' in
     let all = kept_trans p q (record { pairing = p.pairing; left = kill ls q.left; right = kill rs q.right }) k rest in
     let left_is : end_life p.left l (slice_get p.left l) ≡ q.left = ap (λ (o : Option MemoryBlock). end_life p.left l o) at in
     let right_is : end_life p.right r (slice_get p.right r) ≡ q.right =
     ap (λ (i : ℕ). end_life p.right i (slice_get p.right i)) (sym s.1)
     ∙ ap (λ (o : Option MemoryBlock). end_life p.right (p.pairing l) o) x.1 in
-    let all' = subst (λ (m : Memory). Kept p (record { pairing = p.pairing; left = kill ls m; right = kill rs q.right }))
+    let all' = subst (λ (m : Memory). Kept g p (record { pairing = p.pairing; left = kill ls m; right = kill rs q.right }))
     (sym left_is) all in
-    subst (λ (m : Memory). Kept p (record {
+    subst (λ (m : Memory). Kept g p (record {
       pairing = p.pairing;
       left = kill ls (end_life p.left l (slice_get p.left l));
       right = kill rs m;

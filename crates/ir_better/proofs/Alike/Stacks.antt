@@ -53,14 +53,14 @@ one_answer z one near entry memory s s' choice e a m' place pl h =
       near_still = h;
     })
 
-pub stack_effects : (z : Setting) → 1 ≤ z.bound → (near : Against) (entry p : Point) → Kept entry p → Fixes (variables z.program) p →
+pub stack_effects : (z : Setting) → 1 ≤ z.bound → (near : Against) (entry p : Point) → Kept (variables z.program) entry p → Fixes (variables z.program) p →
     (a b b' : Frame) (bs : List Frame) (la lb : Option ℕ) (place choice : ℕ) (x y : Effect) → act z.program.signature z.input b p.right
     place choice ≡ apply b' lb y → EffectsAlike p x y → ((q : Point) (v v' : Option Value) (slot slot' : Option ℕ) (place' : ℕ) →
-    Kept p q → ValuesAgree q v v' → SlotAgrees q slot slot' → near (record a {
+    Kept (variables z.program) p q → ValuesAgree q v v' → SlotAgrees p q slot slot' → near (record a {
       locals = bind la v a.locals;
       slots = with_slot slot a.slots;
     }) q.left (stack (record b' { locals = bind lb v' b'.locals; slots = with_slot slot' b'.slots }) bs
-    q.right place')) → ((q : Point) (v v' : Option Value) (place' : ℕ) → Kept p q → ValuesAgree q v v' →
+    q.right place')) → ((q : Point) (v v' : Option Value) (place' : ℕ) → Kept (variables z.program) p q → ValuesAgree q v v' →
     near (resume (record a { awaits = la }) v) q.left (stack (resume (record b' { awaits = lb }) v') bs q.right place')) →
     IsAnswered z near entry p.left (stack b bs p.right place) (apply a la x)
 stack_effects z one near entry p k fix a b b' bs la lb place choice x (Broke why) e h went asked =
@@ -73,7 +73,7 @@ stack_effects z one near entry p k fix a b b' bs la lb place choice (Went v slot
     let leads' = subst (λ (l : List Event). Leads z.program z.input 1 (stack b bs p.right place) l (On (stack b'' bs m' pl')))
     (sym h.events) leads in
     let q = h.point in
-    let near' = went q v v' slot slot' pl' h.kept h.value h.slot_is in
+    let near' = went q v v' slot slot' pl' (h.kept (variables z.program)) h.value h.slot_is in
     let near'' = subst (λ (c : Memory). near a' c (stack b'' bs q.right pl')) h.left near' in
     inr (record {
       state = stack b'' bs m' pl';

@@ -179,7 +179,7 @@ record SimCalls (z : Setting) (m : ℕ) (first : Point) (left right : State) (ca
   related : Related point
   fixes : Fixes (variables z.program) point
   agree : ArgumentsAgree point arguments arguments'
-  goes_on : (q : Point) (v v' : Option Value) (place : ℕ) → Kept point q → ValuesAgree q v v' →
+  goes_on : (q : Point) (v v' : Option Value) (place : ℕ) → Kept (variables z.program) point q → ValuesAgree q v v' →
       Sim z m first (record { top = resume waiting v; below = left.below; memory = q.left; place = place })
       (record { top = resume waiting' v'; below = state.below; memory = q.right; place = place })
 
@@ -378,6 +378,7 @@ module _ (p : Program) (b : ℕ) (z : Setting) (better : IsBetter p z.program z.
       record {
         variables = omega (arith, f12.variables);
         stay = λ l lt. ap p23.pairing (f12.stay l (omega arith)) ∙ f23.stay l lt;
+        alive = f23.alive;
       }
 
   calls_through : (n : ℕ) (first12 first23 first : Point) → Composes first12 first23 first → IsFull first12 → Related first12 →
@@ -435,18 +436,24 @@ module _ (p : Program) (b : ℕ) (z : Setting) (better : IsBetter p z.program z.
             fixes = fixes_through t.point u.point t.fixes u.fixes;
             agree = all_compose (length t.point.left) (length u.point.left) t.point.pairing u.point.pairing pt.pairing
                 (λ l lt. refl) arguments t.arguments' u.arguments' t.agree u.agree;
-            goes_on = λ q13 v v' pl k a. after q13 v v' pl a u (between t.point u.point pt q13 d t.related u.related k);
+            goes_on = λ q13 v v' pl k a. after q13 v v' pl a u
+                (between (variables z.program) t.point u.point pt q13 d t.related u.related k
+                (subst (λ (g : ℕ). Fixes g t.point) as_many t.fixes) u.fixes);
           })
         where
+          as_many : variables p ≡ variables z.program
+          as_many = ap (λ (m : Memory). length m) better.opening
+
           after : (q13 : Point) (v v' : Option Value) (pl : ℕ) → ValuesAgree q13 v v' →
               (u : SimCalls z (n * b) first23 t.state r callee t.arguments' t.waiting') →
-              Between t.point u.point (compose t.point u.point) q13 →
+              Between (variables z.program) t.point u.point (compose t.point u.point) q13 →
               Mid p b z n first (resume waiting v) q13.left
               (record { top = resume u.waiting' v'; below = u.state.below; memory = q13.right; place = pl })
           after q13 v v' pl a u x =
               let a' = subst (λ (m : Memory). AnswersAgree q13.pairing (length m) v v') (sym x.left) a in
               let y = answer_between (length x.q12.left) (length x.q23.left) x.q12.pairing x.q23.pairing q13.pairing x.passes v v' a' in
-              let near = t.goes_on x.q12 v y.0 pl x.kept12 y.1 in
+              let kept12 = subst (λ (g : ℕ). Kept g t.point x.q12) (sym as_many) x.kept12 in
+              let near = t.goes_on x.q12 v y.0 pl kept12 y.1 in
               let near' = subst (λ (m : Memory). near12 n first12 (resume waiting v) m
               (record { top = resume t.waiting' y.0; below = t.state.below; memory = x.q12.right; place = pl })) x.left near in
               let sim = u.goes_on x.q23 y.0 v' pl x.kept23 y.2 in

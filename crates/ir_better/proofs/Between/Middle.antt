@@ -2,7 +2,7 @@
 use Rattle.std.proofs.Common.{◌≡◌, ◌≢◌, ℕ, ◌+◌, ◌-◌, ◌<◌, ◌≤◌, Bool, true, false, List, [], ◌∷◌, length, Option, Some, None, slice_get, ◌⊎◌, inl, inr, refl, sym, ap, ◌∙◌, subst, arith}
 use Rattle.std.proofs.lemmas.Bool.{cases_lt}
 use Rattle.std.proofs.lemmas.Option.{slice_get_within}
-use Rattle.ir_meaning.specs.Memory.{MemoryBlock, Memory}
+use Rattle.ir_meaning.specs.Memory.{MemoryBlock, Memory, Lives}
 use Rattle.ir_meaning.specs.Relate.{Pairing, Point, Fixes, Related, Kept, IsUnpaired, SameBase, SameByte, SameBytes, SameMarks, SameBlock, Agrees, AllAgree, AnswersAgree}
 use Rattle.ir_meaning.specs.declared.value.Base.{Base}
 use Rattle.ir_meaning.specs.declared.value.Base.TheVariants.{Nowhere, Code, Cell}
@@ -215,7 +215,7 @@ middle_at p12 p13 q13 m = middle_from p12 p13 q13 m (inverse (first' p12 p13 q13
 abbrev middle : (p12 p13 q13 : Point) → Memory
 middle p12 p13 q13 = tabulate (middle_size p12 q13) (middle_at p12 p13 q13)
 
-pub record Between (p12 p23 p13 q13 : Point) : Type 0 where
+pub record Between (g : ℕ) (p12 p23 p13 q13 : Point) : Type 0 where
   pub q12 : Point
   pub q23 : Point
   pub left : q12.left ≡ q13.left
@@ -223,8 +223,8 @@ pub record Between (p12 p23 p13 q13 : Point) : Type 0 where
   pub right : q23.right ≡ q13.right
   pub composes : Composes q12 q23 q13
   pub passes : Passes (length q12.left) (length q23.left) q12.pairing q23.pairing q13.pairing
-  pub kept12 : Kept p12 q12
-  pub kept23 : Kept p23 q23
+  pub kept12 : Kept g p12 q12
+  pub kept23 : Kept g p23 q23
 
 marks_sym : (x y : MemoryBlock) → SameMarks x y → SameMarks y x
 marks_sym x y a = record { size = sym a.size; align = sym a.align; writable = sym a.writable }
@@ -237,7 +237,7 @@ not_live false b h e = refl
 not_live true false h e = absurd (cc (h refl))
 not_live true true h e = absurd (cc e)
 
-module _ (p12 p23 p13 q13 : Point) (c : Composes p12 p23 p13) (r12 : Related p12) (r23 : Related p23) (k : Kept p13 q13) where
+module _ (g : ℕ) (p12 p23 p13 q13 : Point) (c : Composes p12 p23 p13) (r12 : Related p12) (r23 : Related p23) (k : Kept g p13 q13) where
   w : ℕ → ℕ
   w l = first' p12 p13 q13 l
 
@@ -485,13 +485,30 @@ module _ (p12 p23 p13 q13 : Point) (c : Composes p12 p23 p13) (r12 : Related p12
         ap (λ (z : MemoryBlock). z.live) is ∙ y.2,
       )
 
-  kept12 : Kept p12 (record { pairing = first' p12 p13 q13; left = q13.left; right = middle p12 p13 q13 })
-  kept12 = record {
+  -- a variable between lives as the program's does
+  alive12 : Fixes g p12 → Fixes g p23 → (m : ℕ) → m < g → Lives (middle p12 p13 q13) m
+  alive12 f12 f23 m lt =
+      let old : m < length p12.left = omega (arith, f12.variables) in
+      let same : first' p12 p13 q13 m ≡ m = first_old m old ∙ f12.stay m lt in
+      let there : q13.pairing m ≡ m =
+      k.extends m (omega (arith, size)) ∙ c.pairing m old ∙ ap p23.pairing (f12.stay m lt) ∙ f23.stay m lt in
+      let a = f23.alive m lt in
+      let x = k.alive m lt (a.0, ap (λ (z : Memory). slice_get z m) c.right ∙ a.1, a.2) in
+      let is : block_of q13.right (q13.pairing m) ≡ x.0 =
+      block_is q13.right (q13.pairing m) x.0 (ap (λ (i : ℕ). slice_get q13.right i) there ∙ x.1) in (
+        between_block (first' p12 p13 q13) (block_of q13.left m) (block_of q13.right (q13.pairing m)),
+        ap (λ (i : ℕ). slice_get (middle p12 p13 q13) i) (sym same) ∙ middle_paired m (omega (arith, grown)),
+        ap (λ (z : MemoryBlock). z.live) is ∙ x.2,
+      )
+
+  kept12 : Fixes g p12 → Fixes g p23 → Kept g p12 (record { pairing = first' p12 p13 q13; left = q13.left; right = middle p12 p13 q13 })
+  kept12 f12 f23 = record {
     related = related12;
     grown = grown;
     extends = first_old;
     marks = λ l b e. k.marks l b (ap (λ (x : Memory). slice_get x l) c.left ∙ e);
     ended = λ m b e d. ended12_from m b e d (inverse (first' p12 p13 q13) (length q13.left) m);
+    alive = λ m lt a. alive12 f12 f23 m lt;
     private = λ m b e u.
         let lt = slice_get_within p12.right m b e in
         let none = λ (l : ℕ) (ll : l < length q13.left). still_alone m lt u l ll (cases_lt l (length p12.left)) in
@@ -528,13 +545,14 @@ module _ (p12 p23 p13 q13 : Point) (c : Composes p12 p23 p13) (r12 : Related p12
       let lt = slice_get_within p12.right m b e in
       (b, middle_alone m lt none ∙ ap (λ (x : MemoryBlock). Some x) (block_is p12.right m b e), marks_refl b)
 
-  kept23 : Kept p23 (record { pairing = second' p12 p23 q13; left = middle p12 p13 q13; right = q13.right })
+  kept23 : Kept g p23 (record { pairing = second' p12 p23 q13; left = middle p12 p13 q13; right = q13.right })
   kept23 = record {
     related = related23;
     grown = wide;
     extends = λ m lt. second_old m (omega (arith, mid));
     marks = λ m b e. marks23_from m b (ap (λ (x : Memory). slice_get x m) c.middle ∙ e) (inverse (first' p12 p13 q13) (length q13.left) m);
     ended = λ r b e d. k.ended r b (ap (λ (z : Memory). slice_get z r) c.right ∙ e) d;
+    alive = λ r lt a. k.alive r lt (a.0, ap (λ (z : Memory). slice_get z r) c.right ∙ a.1, a.2);
     private = λ r b e u.
         let x = k.private r b (ap (λ (z : Memory). slice_get z r) c.right ∙ e) (unpaired_later p12 p23 p13 c r12 r u) in
         (x.0, λ m lt e'. alone23 r u x.1 m (omega (arith, middle_length)) e' (cases_lt m (length p12.right)));
@@ -545,8 +563,8 @@ module _ (p12 p23 p13 q13 : Point) (c : Composes p12 p23 p13) (r12 : Related p12
       alone23 r u u' m lt e (inl a) = u m (omega (arith, mid)) (sym (second_old m a) ∙ e)
       alone23 r u u' m lt e (inr b) = u' (length p12.left + (m - length p12.right)) (omega (arith, grown)) (sym (second_new m b) ∙ e)
 
-  pub between : Between p12 p23 p13 q13
-  between = record {
+  pub between : Fixes g p12 → Fixes g p23 → Between g p12 p23 p13 q13
+  between f12 f23 = record {
     q12 = record { pairing = first' p12 p13 q13; left = q13.left; right = middle p12 p13 q13 };
     q23 = record { pairing = second' p12 p23 q13; left = middle p12 p13 q13; right = q13.right };
     left = refl;
@@ -554,7 +572,7 @@ module _ (p12 p23 p13 q13 : Point) (c : Composes p12 p23 p13) (r12 : Related p12
     right = refl;
     composes = record { left = refl; middle = refl; right = refl; pairing = through };
     passes = passes;
-    kept12 = kept12;
+    kept12 = kept12 f12 f23;
     kept23 = kept23;
   }
 
@@ -568,13 +586,14 @@ nothing_related = record { blocks = λ l b e. absurd (cc e); one_to_one = λ l m
 nothing_composes : Composes nothing nothing nothing
 nothing_composes = record { left = refl; middle = refl; right = refl; pairing = λ l lt. refl }
 
-nothing_kept : (q : Point) → Related q → Kept nothing q
+nothing_kept : (q : Point) → Related q → Kept 0 nothing q
 nothing_kept q r = record {
   related = r;
   grown = omega arith;
   extends = λ l lt. absurd (omega arith);
   marks = λ l b e. absurd (cc e);
   ended = λ l b e. absurd (cc e);
+  alive = λ l lt a. absurd (cc (a.1));
   private = λ l b e. absurd (cc e);
 }
 
@@ -603,31 +622,42 @@ entry_between g q13 r f = record {
     left = refl;
     middle = refl;
     right = refl;
-    pairing = through nothing nothing nothing q13 nothing_composes nothing_related nothing_related k;
+    pairing = through 0 nothing nothing nothing q13 nothing_composes nothing_related nothing_related k;
   };
-  passes = passes nothing nothing nothing q13 nothing_composes nothing_related nothing_related k;
-  related12 = related12 nothing nothing nothing q13 nothing_composes nothing_related nothing_related k;
-  related23 = related23 nothing nothing nothing q13 nothing_composes nothing_related nothing_related k;
+  passes = passes 0 nothing nothing nothing q13 nothing_composes nothing_related nothing_related k;
+  related12 = related12 0 nothing nothing nothing q13 nothing_composes nothing_related nothing_related k;
+  related23 = related23 0 nothing nothing nothing q13 nothing_composes nothing_related nothing_related k;
   full = λ m lt. (m, omega (arith, size'), same m);
-  fixes12 = record { variables = f.variables; stay = λ l lt. same l };
-  fixes23 = record { variables = omega (arith, size', f.variables); stay = λ m lt. same' m ∙ f.stay m lt };
+  fixes12 = record { variables = f.variables; stay = λ l lt. same l; alive = alive };
+  fixes23 = record { variables = omega (arith, size', f.variables); stay = λ m lt. same' m ∙ f.stay m lt; alive = f.alive };
 }
   where
-    k : Kept nothing q13
+    k : Kept 0 nothing q13
     k = nothing_kept q13 r
 
     size' : length (middle nothing nothing q13) ≡ 0 + (length q13.left - 0)
-    size' = middle_length nothing nothing nothing q13 nothing_composes nothing_related nothing_related k
+    size' = middle_length 0 nothing nothing nothing q13 nothing_composes nothing_related nothing_related k
 
     same : (m : ℕ) → first' nothing nothing q13 m ≡ m
     same m =
         let e : first' nothing nothing q13 m ≡ 0 + (m - 0) =
-        first_new nothing nothing nothing q13 nothing_composes nothing_related nothing_related k m (omega arith) in
+        first_new 0 nothing nothing nothing q13 nothing_composes nothing_related nothing_related k m (omega arith) in
         e ∙ omega arith
 
     same' : (m : ℕ) → second' nothing nothing q13 m ≡ q13.pairing m
     same' m =
         let e : second' nothing nothing q13 m ≡ q13.pairing (0 + (m - 0)) =
-        second_new nothing nothing nothing q13 nothing_composes nothing_related nothing_related k m (omega arith) in
+        second_new 0 nothing nothing nothing q13 nothing_composes nothing_related nothing_related k m (omega arith) in
         let i : 0 + (m - 0) ≡ m = omega arith in
         e ∙ ap q13.pairing i
+
+    alive : (l : ℕ) → l < g → Lives (middle nothing nothing q13) l
+    alive l lt =
+        let a = f.alive l lt in
+        let is : block_of q13.right (q13.pairing l) ≡ a.0 =
+        block_is q13.right (q13.pairing l) a.0 (ap (λ (i : ℕ). slice_get q13.right i) (f.stay l lt) ∙ a.1) in (
+          between_block (first' nothing nothing q13) (block_of q13.left l) (block_of q13.right (q13.pairing l)),
+          ap (λ (i : ℕ). slice_get (middle nothing nothing q13) i) (sym (same l))
+              ∙ middle_paired 0 nothing nothing nothing q13 nothing_composes nothing_related nothing_related k l (omega (arith, f.variables)),
+          ap (λ (z : MemoryBlock). z.live) is ∙ a.2,
+        )

@@ -249,8 +249,8 @@ unpaired_past p12 p23 p13 c r12 r23 m lt u l la e =
     u l la' (r23.one_to_one (p12.pairing l) m (omega arith) lt (sym (c.pairing l la') ∙ e))
 
 -- kept memories compose, from a point where each block of the middle has a counterpart
-pub kept_compose : (p12 p23 p13 q12 q23 q13 : Point) → Composes p12 p23 p13 → IsFull p12 → Related p12 → Composes q12 q23 q13 →
-    Kept p12 q12 → Kept p23 q23 → Kept p13 q13
+pub kept_compose : {g g' : ℕ} (p12 p23 p13 q12 q23 q13 : Point) → Composes p12 p23 p13 → IsFull p12 → Related p12 → Composes q12 q23 q13 →
+    Kept g' p12 q12 → Kept g p23 q23 → Kept g p13 q13
 kept_compose p12 p23 p13 q12 q23 q13 c full r12 d k12 k23 = record {
   related = compose_related q12 q23 q13 d k12.related k23.related;
   grown = omega (arith, k12.grown, size, size');
@@ -258,6 +258,9 @@ kept_compose p12 p23 p13 q12 q23 q13 c full r12 d k12 k23 = record {
   marks = marks;
   ended = λ r b e d'.
       let x = k23.ended r b (ap (λ (m : Memory). slice_get m r) (sym c.right) ∙ e) d' in
+      (x.0, ap (λ (m : Memory). slice_get m r) d.right ∙ x.1, x.2);
+  alive = λ r below a.
+      let x = k23.alive r below (a.0, ap (λ (m : Memory). slice_get m r) (sym c.right) ∙ a.1, a.2) in
       (x.0, ap (λ (m : Memory). slice_get m r) d.right ∙ x.1, x.2);
   private = private;
 }

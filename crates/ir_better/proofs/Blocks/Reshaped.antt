@@ -40,14 +40,14 @@ here a = record { block = a.block; rest = a.rest; end = a.end }
 module _ (z : Setting) (formed : IsFormed z.program) (at : Spots) (most : ℕ) (first second : Function)
     (shape : IsShape at most first second) (bound : most + 1 ≤ z.bound) where
   record Shaped (entry p : Point) (a b : Frame) (k : ℕ) : Type 0 where
-    kept : Kept entry p
+    kept : Kept (variables z.program) entry p
     fixes : Fixes (variables z.program) entry
     function : a.function ≡ first
     function' : b.function ≡ second
     places : at k (here a) (here b)
     few : k ≤ most
     locals : LocalsAgree every p.pairing (length p.left) a.locals b.locals
-    slots : SlotsPaired p.pairing (length p.left) a.slots b.slots
+    slots : SlotsPaired (variables z.program) p.pairing (length p.left) a.slots b.slots
 
   record Holds (entry : Point) (a : Frame) (m : Memory) (s : State) : Type 0 where
     point : Point
@@ -91,7 +91,7 @@ module _ (z : Setting) (formed : IsFormed z.program) (at : Spots) (most : ℕ) (
         few = s.few;
         locals = bind_agrees every q line.local v v' a.locals b.locals agree
             (locals_later p q k' every a.locals b.locals s.locals);
-        slots = slots_more q slot slot' a.slots b.slots slots (slots_later p q k' a.slots b.slots s.slots);
+        slots = slots_more (variables z.program) p q fix' slot slot' a.slots b.slots slots (slots_later p q k' a.slots b.slots s.slots);
       }))
       (λ q v v' place' k' agree.
       let h : Shaped entry q (record a { rest = l.0; locals = bind line.local v a.locals; awaits = None })
@@ -129,7 +129,7 @@ module _ (z : Setting) (formed : IsFormed z.program) (at : Spots) (most : ℕ) (
       (exits z.program.signature a p.left place (exit_of (value_of z.program.signature a.locals) a.end))
   at_exit j one entry p a b place choice k s e (Leaves v) (Leaves u) q h is (inl st) = absurd st
   at_exit j one entry p a b place choice k s e (Leaves v) (Leaves u) q h is (inr l) =
-      let kill' = kill_kept a.slots b.slots p s.kept.related s.slots in
+      let kill' = kill_kept (variables z.program) a.slots b.slots p s.kept.related s.slots in
       let pt : Point = record { pairing = p.pairing; left = kill a.slots p.left; right = kill b.slots p.right } in
       let r = answered_return (bounded z j) one (Holds entry) entry p pt (kept_trans entry p pt s.kept kill') b place choice v u
       is (answer_later p pt kill' v u h) in

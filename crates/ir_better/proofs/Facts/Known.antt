@@ -19,17 +19,17 @@ use Rattle.ir_meaning.specs.Frame.{Locals, Frame, Signature, look_up, bind, valu
 use Rattle.ir_meaning.specs.Memory.{Memory, kill}
 use Rattle.ir_meaning.specs.Near.{Setting, Against, IsAnswered}
 use Rattle.ir_meaning.specs.Operate.{bits_of, frozen}
-use Rattle.ir_meaning.specs.Program.{variables, State, On, place_of, advance, Leads}
+use Rattle.ir_meaning.specs.Program.{Program, variables, State, On, place_of, advance, Leads}
 use Rattle.ir_meaning.specs.Relate.{Pairing, Point, Fixes, Related, Kept, Agrees, AllAgree, ValuesAgree, ArgumentsAgree}
 use Rattle.ir_meaning.specs.declared.event.Event.{Event}
 use Rattle.ir_meaning.specs.declared.value.Value.{Value}
-use Rattle.ir_meaning.specs.declared.value.Value.TheVariants.{Number, Pointer, Poison}
-use Rattle.ir_better.specs.Facts.{Facts, without, with_fact, behind_local, behind_lines, replaced, lines_replaced, end_replaced, phis_replaced, block_replaced, blocks_replaced, function_replaced, Stands, GivesFor, RuleAlways, RuleSometimes, is_free, RuleFor, IsOther, LineRule, LinesRight, EdgeFacts, InCases, IsTarget, BlockRight, BlocksRight, EntryBare, FactsRight}
+use Rattle.ir_better.specs.Facts.{Facts, without, with_fact, behind_local, behind_lines, replaced, lines_replaced, end_replaced, phis_replaced, block_replaced, blocks_replaced, function_replaced, Stands, GivesFor, VariablesLive, RuleAlways, RuleSometimes, is_free, RuleFor, IsOther, LineRule, LinesRight, EdgeFacts, InCases, IsTarget, BlockRight, BlocksRight, EntryBare, FactsRight}
 use Rattle.ir_better.specs.Formed.{IsFormed}
 use Rattle.ir_better.specs.Inline.{with_operands, each_moved}
 use Rattle.ir_better.specs.Laws.{ReplacedBetter}
 use Rattle.ir_better.proofs.Alike.Answering.{by_value_agrees, near_by, answered_return, answered_fails, bind_agrees, EndReads, ExitsAgree, names_of, act_at_line, act_at_end}
 use Rattle.ir_better.proofs.Alike.Effects.{answer_later, locals_later, slots_later, TasksAgree, OperandsAgree, evaluate_agrees, Reads, SlotAgrees, EffectsAlike, execute_alike}
+use Rattle.ir_better.proofs.Alike.Itself.{slots_more}
 use Rattle.ir_better.proofs.Alike.Keeping.{kept_refl, kept_trans, kept_fixes, more, SlotsPaired, kill_kept}
 use Rattle.ir_better.proofs.Alike.Values.{LocalsAgree, IsKept, AllKept, EachAgrees, Names, if_agrees, value_of_agrees}
 use Rattle.ir_better.proofs.Alike.Stacks.{stack, stack_breaks, one_answer}
@@ -158,14 +158,19 @@ target_in value (Switch w o d cs) n q = by (bits_of w (value o)) q
     by None q' = absurd (cc q')
 target_in value Unreachable n q = absurd (cc q)
 
+-- where the program's variables stand for themselves, they live
+variables_live : (p : Program) → IsFormed p → (q : Point) → Fixes (variables p) q → VariablesLive p.signature q.right
+variables_live p formed q fix s n e = fix.alive n (formed s n e)
+
 -- one instruction on each side, with alike effects, and what the right one was
-known_effects : (z : Setting) → 1 ≤ z.bound → (near : Against) (entry p : Point) → Kept entry p → Fixes (variables z.program) p →
+known_effects : (z : Setting) → 1 ≤ z.bound → (near : Against) (entry p : Point) → Kept (variables z.program) entry p → Fixes (variables z.program) p →
     (a b b' : Frame) (la lb : Option ℕ) (at choice : ℕ) (x y : Effect) → act z.program.signature z.input b p.right at choice ≡ apply b' lb
     y → EffectsAlike p x y → ((q : Point) (v v' : Option Value) (slot slot' : Option ℕ) (at' : ℕ) (m' : Memory) (es' : List Event) →
-    y ≡ Went v' slot' m' at' es' → Kept p q → ValuesAgree q v v' → SlotAgrees q slot slot' →
+    y ≡ Went v' slot' m' at' es' → Kept (variables z.program) p q → ValuesAgree q v v' →
+    SlotAgrees p q slot slot' →
     near (record a { locals = bind la v a.locals; slots = with_slot slot a.slots }) q.left
     (stack (record b' { locals = bind lb v' b'.locals; slots = with_slot slot' b'.slots }) [] q.right at')) →
-    ((s : Symbol) (us : List Value) → y ≡ Asked s us → (q : Point) (v v' : Option Value) (at' : ℕ) → Kept p q → ValuesAgree q v v' →
+    ((s : Symbol) (us : List Value) → y ≡ Asked s us → (q : Point) (v v' : Option Value) (at' : ℕ) → Kept (variables z.program) p q → ValuesAgree q v v' →
     near (resume (record a { awaits = la }) v) q.left (stack (resume (record b' { awaits = lb }) v') [] q.right at')) →
     IsAnswered z near entry p.left (stack b [] p.right at) (apply a la x)
 known_effects z one near entry p k fix a b b' la lb at choice x (Broke why) e h went asked =
@@ -178,7 +183,7 @@ known_effects z one near entry p k fix a b b' la lb at choice (Went v slot m pl 
     let leads' = subst (λ (l : List Event). Leads z.program z.input 1 (stack b [] p.right at) l (On (stack b'' [] m' pl'))) (sym h.events)
     leads in
     let q = h.point in
-    let near' = went q v v' slot slot' pl' m' es' refl h.kept h.value h.slot_is in
+    let near' = went q v v' slot slot' pl' m' es' refl (h.kept (variables z.program)) h.value h.slot_is in
     let near'' = subst (λ (c : Memory). near a' c (stack b'' [] q.right pl')) h.left near' in
     inr (record {
       state = stack b'' [] m' pl';
@@ -234,7 +239,7 @@ module _ (z : Setting) (one : 1 ≤ z.bound) (formed : IsFormed z.program) (f : 
   keeps x = not (loose x)
 
   record Known (entry p : Point) (a b : Frame) (fs : Facts) : Type 0 where
-    kept : Kept entry p
+    kept : Kept (variables z.program) entry p
     fixes : Fixes (variables z.program) entry
     function : a.function ≡ function_replaced candidate starts ends f
     function' : b.function ≡ f
@@ -243,7 +248,7 @@ module _ (z : Setting) (one : 1 ≤ z.bound) (formed : IsFormed z.program) (f : 
     end : a.end ≡ end_replaced (ends b.block) b.end
     ends_are : ends b.block ≡ behind_lines candidate b.rest fs
     locals : LocalsAgree keeps p.pairing (length p.left) a.locals b.locals
-    slots : SlotsPaired p.pairing (length p.left) a.slots b.slots
+    slots : SlotsPaired (variables z.program) p.pairing (length p.left) a.slots b.slots
     holds : AllHold z.program.signature b.locals fs
     lines : LinesRight candidate loose fs b.rest
     reads : EndReads keeps (end_replaced (ends b.block) b.end)
@@ -262,18 +267,11 @@ module _ (z : Setting) (one : 1 ≤ z.bound) (formed : IsFormed z.program) (f : 
   holds_at : (entry p : Point) (a b : Frame) (at : ℕ) (fs : Facts) → Known entry p a b fs → Holds entry a p.left (stack b [] p.right at)
   holds_at entry p a b at fs k = record { point = p; left = refl; frame = b; at = at; is = refl; facts = fs; known = k }
 
-  slots_more : (q : Point) (slot slot' : Option ℕ) (ls rs : List ℕ) → SlotAgrees q slot slot' → SlotsPaired q.pairing (length q.left) ls
-      rs → SlotsPaired q.pairing (length q.left) (with_slot slot ls) (with_slot slot' rs)
-  slots_more q None None ls rs a h = h
-  slots_more q (Some l) (Some r) ls rs a h = (a.0, a.1, h)
-  slots_more q None (Some r) ls rs a h = absurd a
-  slots_more q (Some l) None ls rs a h = absurd a
-
   -- the state behind a line
   behind : (entry p q : Point) (a b : Frame) (fs fs' : Facts) (line : Line) (rest : List Line) → Known entry p a b fs →
-      b.rest ≡ line ∷ rest → fs' ≡ behind_local candidate line.local fs → Kept p q → (la lb : Locals) →
+      b.rest ≡ line ∷ rest → fs' ≡ behind_local candidate line.local fs → Kept (variables z.program) p q → (la lb : Locals) →
       LocalsAgree keeps q.pairing (length q.left) la lb → AllHold z.program.signature lb fs' → (ls rs : List ℕ) →
-      SlotsPaired q.pairing (length q.left) ls rs → (i j : Option ℕ) → Known entry q (record a {
+      SlotsPaired (variables z.program) q.pairing (length q.left) ls rs → (i j : Option ℕ) → Known entry q (record a {
         rest = lines_replaced candidate fs' rest;
         locals = la;
         slots = ls;
@@ -347,6 +345,7 @@ module _ (z : Setting) (one : 1 ≤ z.bound) (formed : IsFormed z.program) (f : 
       let sg = z.program.signature in
       let fix' = kept_fixes (variables z.program) entry p k.fixes k.kept in
       let names = names_of z.program formed p fix' in
+      let live = variables_live z.program formed p fix' in
       let lines = subst (λ (x : List Line). LinesRight candidate loose fs x) e k.lines in
       let g = replaced fs in
       let ops = operands_read p.pairing (length p.left) keeps g (λ o. value_of sg a.locals (g o)) (value_of sg b.locals)
@@ -370,12 +369,12 @@ module _ (z : Setting) (one : 1 ≤ z.bound) (formed : IsFormed z.program) (f : 
       _ (bind_agrees keeps q line.local v v' a.locals b.locals agree (locals_later p q k' keeps a.locals b.locals k.locals))
       (bound_holds sg line.local line.instr lines.0 fs b.locals v' (λ n r' w ln vr cn. stands_for fs k line at x.0 w
       (always n w ln cn) v' slot' m' at' es' is r' vr) (λ n w ln vr cn. gives_some fs k line at x.0 w (always n w ln cn) v' slot' m'
-      at' es' is vr) k.holds) _ _ (slots_more q slot slot' a.slots b.slots slots' (slots_later p q k' a.slots b.slots k.slots))
+      at' es' is vr) k.holds) _ _ (slots_more (variables z.program) p q fix' slot slot' a.slots b.slots slots' (slots_later p q k' a.slots b.slots k.slots))
       a.awaits b.awaits))
       (λ s us is q v v' at' k' agree.
       let h' = bound_holds sg line.local line.instr lines.0 fs b.locals v' (λ n r' w ln vr cn.
-      absurd (asked_not p.right at (value_of sg b.locals w) y (always n w ln cn sg z.input p.right at x.0 b.locals) s us is))
-      (λ n w ln vr cn. asked_not p.right at (value_of sg b.locals w) y (always n w ln cn sg z.input p.right at x.0 b.locals) s us is)
+      absurd (asked_not p.right at (value_of sg b.locals w) y (always n w ln cn sg z.input p.right at x.0 b.locals live) s us is))
+      (λ n w ln vr cn. asked_not p.right at (value_of sg b.locals w) y (always n w ln cn sg z.input p.right at x.0 b.locals live) s us is)
       k.holds in
       let c = behind entry p q a b fs fs' line rest k e refl k' (bind line.local v a.locals) (bind line.local v' b.locals)
       (bind_agrees keeps q line.local v v' a.locals b.locals agree (locals_later p q k' keeps a.locals b.locals k.locals)) h' a.slots
@@ -388,6 +387,9 @@ module _ (z : Setting) (one : 1 ≤ z.bound) (formed : IsFormed z.program) (f : 
       subst (λ (w : Act). IsAnswered z (Holds entry) entry p.left (stack b [] p.right at) w)
       (sym (act_at_line sg z.input a p.left at choice line' (lines_replaced candidate fs' rest) ea)) r
     where
+      living : (fs : Facts) → Known entry p a b fs → VariablesLive z.program.signature p.right
+      living fs k = variables_live z.program formed p (kept_fixes (variables z.program) entry p k.fixes k.kept)
+
       stands_for : (fs : Facts) → Known entry p a b fs → (line : Line) (at c : ℕ) (w : Operand) → RuleAlways line.instr w →
           (v' : Option Value) (slot' : Option ℕ) (m' : Memory) (at' : ℕ) (es' : List Event) → execute z.program.signature z.input p.right
           at c (evaluate (value_of z.program.signature b.locals) line.instr) ≡ Went v' slot' m' at' es' → (r' : Value) → v' ≡ Some r' →
@@ -395,7 +397,7 @@ module _ (z : Setting) (one : 1 ≤ z.bound) (formed : IsFormed z.program) (f : 
       stands_for fs k line at c w rule v' slot' m' at' es' is r' vr =
           let y = given z.program.signature p.right at (value_of z.program.signature b.locals w) (execute z.program.signature z.input
           p.right at c (evaluate (value_of z.program.signature b.locals) line.instr)) (rule z.program.signature z.input p.right at c
-          b.locals) v' slot' m' at' es' is in
+          b.locals (living fs k)) v' slot' m' at' es' is in
           let same : y.0 ≡ r' = cc (y.1, vr) in
           subst (λ (q : Value). Stands (value_of z.program.signature b.locals w) q) same y.2
 
@@ -405,7 +407,7 @@ module _ (z : Setting) (one : 1 ≤ z.bound) (formed : IsFormed z.program) (f : 
       gives_some fs k line at c w rule v' slot' m' at' es' is vr =
           let y = given z.program.signature p.right at (value_of z.program.signature b.locals w) (execute z.program.signature z.input
           p.right at c (evaluate (value_of z.program.signature b.locals) line.instr)) (rule z.program.signature z.input p.right at c
-          b.locals) v' slot' m' at' es' is in
+          b.locals (living fs k)) v' slot' m' at' es' is in
           cc (y.1, vr)
 
   -- an instruction whose local has its fact by a free choice
@@ -419,7 +421,8 @@ module _ (z : Setting) (one : 1 ≤ z.bound) (formed : IsFormed z.program) (f : 
       let fs' = behind_local candidate line.local fs in
       let line' : Line = record { local = line.local; instr = with_operands g line.instr } in
       let ea : a.rest ≡ line' ∷ lines_replaced candidate fs' rest = k.rest ∙ ap (λ (l : List Line). lines_replaced candidate fs l) e in
-      let c = rule sg z.input p.right at b.locals in
+      let live = variables_live z.program formed p (kept_fixes (variables z.program) entry p k.fixes k.kept) in
+      let c = rule sg z.input p.right at b.locals live in
       let left = free_went sg z.input p.left at choice (value_of sg a.locals) (with_operands g line.instr) (free_with g line.instr ∙ fr) in
       let rt = free_went sg z.input p.right at c.0 (value_of sg b.locals) line.instr fr in
       let st = given sg p.right at (value_of sg b.locals v) (execute sg z.input p.right at c.0 (evaluate (value_of sg b.locals)
@@ -546,7 +549,7 @@ module _ (z : Setting) (one : 1 ≤ z.bound) (formed : IsFormed z.program) (f : 
   at_exit entry p a b at choice fs k e x (Stuck cause) q h is = answered_fails z (Holds entry) entry p.left (stack b [] p.right at)
       (stack_breaks z one b [] p.right at choice _ is) (exits z.program.signature a p.left at x)
   at_exit entry p a b at choice fs k e (Leaves v) (Leaves u) q h is =
-      let kill' = kill_kept a.slots b.slots p k.kept.related k.slots in
+      let kill' = kill_kept (variables z.program) a.slots b.slots p k.kept.related k.slots in
       let pt : Point = record { pairing = p.pairing; left = kill a.slots p.left; right = kill b.slots p.right } in
       answered_return z one (Holds entry) entry p pt (kept_trans entry p pt k.kept kill') b at choice v u is (answer_later p pt kill' v u h)
   at_exit entry p a b at choice fs k e (Leads' m) (Leads' n) q h is =

@@ -25,13 +25,12 @@ use Rattle.ir_meaning.specs.Program.{variables, State, On, place_of, Took, go_in
 use Rattle.ir_meaning.specs.Relate.{Pairing, Point, Fixes, Related, Kept, Agrees, AllAgree, AnswersAgree, ValuesAgree, ArgumentsAgree}
 use Rattle.ir_meaning.specs.declared.fault.Cause.TheVariants.{UnreachableReached, CallOfAnotherType}
 use Rattle.ir_meaning.specs.declared.value.Value.{Value}
-use Rattle.ir_meaning.specs.declared.value.Value.TheVariants.{Number, Pointer, Poison}
 use Rattle.ir_better.specs.Formed.{IsFormed}
 use Rattle.ir_better.specs.Inline.{Site, moved, local_moved, line_moved, lines_moved, phis_moved, end_moved, blocks_moved, return_edges, join_phis, renamed, phis_renamed, block_renamed, blocks_renamed, entry_number, first_part, second_part, inlined_blocks, inlined, below, LinesBelow, BlockBelow, BlocksBelow, IsNoParameter, LinesSparing, ReturnsFor, BlockSparing, CanInline}
 use Rattle.ir_better.specs.Laws.{InlinedBetter}
 use Rattle.ir_better.proofs.Alike.Answering.{near_by, answered_return, answered_fails, bind_agrees, EndReads, ExitsAgree, exit_agrees, names_of, act_at_line, act_at_end}
 use Rattle.ir_better.proofs.Alike.Effects.{value_later, locals_later, TasksAgree, evaluate_agrees, Reads, reads_agree, SlotAgrees, execute_alike}
-use Rattle.ir_better.proofs.Alike.Keeping.{kept_refl, kept_trans, kept_fixes}
+use Rattle.ir_better.proofs.Alike.Keeping.{kept_refl, kept_trans, kept_fixes, fixes_right}
 use Rattle.ir_better.proofs.Alike.Values.{LocalsAgree, AllKept, Names, if_agrees}
 use Rattle.ir_better.proofs.Inlining.Slots.{SlotsOver, over_later, over_killed, callee_killed}
 use Rattle.ir_better.proofs.Inlining.Blocks.{found_below, found_sparing, found_first, found_other, found_inside, found_join}
@@ -69,19 +68,19 @@ module _ (z : Setting) (one : 1 ≤ z.bound) (formed : IsFormed z.program) (f : 
   args_kept = call_args t.by t.call.instr t.result (Named t.callee 0) t.arguments can.calls split.0
 
   record Outside (entry p : Point) (a b : Frame) : Type 0 where
-    kept : Kept entry p
+    kept : Kept (variables z.program) entry p
     fixes : Fixes (variables z.program) entry
     function : a.function ≡ inlined t f
     function' : b.function ≡ f
     small : b.block < t.by
     locals : LocalsAgree (below t.by) p.pairing (length p.left) a.locals b.locals
-    slots : SlotsOver p a.slots b.slots
+    slots : SlotsOver (variables z.program) p a.slots b.slots
     lines : LinesBelow t.by b.rest
     reads : EndReads (below t.by) b.end
     place : Where t can.block.end a.rest a.end a.block b.rest b.end b.block
 
   record Inside (entry p : Point) (a c b : Frame) : Type 0 where
-    kept : Kept entry p
+    kept : Kept (variables z.program) entry p
     fixes : Fixes (variables z.program) entry
     function : a.function ≡ inlined t f
     function_c : c.function ≡ t.body
@@ -91,7 +90,7 @@ module _ (z : Setting) (one : 1 ≤ z.bound) (formed : IsFormed z.program) (f : 
     end : a.end ≡ end_moved t c.end
     locals : LocalsAgree (below t.by) p.pairing (length p.left) a.locals b.locals
     callee : CalleeAgrees z.program.signature t p.pairing (length p.left) a.locals c.locals
-    slots : SlotsOver p a.slots (c.slots ++ b.slots)
+    slots : SlotsOver (variables z.program) p a.slots (c.slots ++ b.slots)
     lines : LinesSparing t c.rest
     returns : ReturnsFor t c.end
     found : (x : Block) × (find_block t.body.blocks c.block ≡ Some x) × (c.end ≡ x.end)
@@ -126,18 +125,22 @@ module _ (z : Setting) (one : 1 ≤ z.bound) (formed : IsFormed z.program) (f : 
   in_holds : (entry p : Point) (a c b : Frame) (at : ℕ) → Inside entry p a c b → Holds entry a p.left (stack c (b ∷ []) p.right at)
   in_holds entry p a c b at i = inr (record { point = p; left = refl; frame = c; caller = b; at = at; is = refl; into = i })
 
-  slots_more : (q : Point) (slot slot' : Option ℕ) (ls rs : List ℕ) → SlotAgrees q slot slot' → SlotsOver q ls rs → SlotsOver q (with_slot slot ls) (with_slot slot' rs)
-  slots_more q None None ls rs a h = h
-  slots_more q (Some l) (Some r) ls rs a h = (a.0, inl (r, rs, refl, a.1, h))
-  slots_more q None (Some r) ls rs a h = absurd a
-  slots_more q (Some l) None ls rs a h = absurd a
+  no_variable : (p q : Point) → Fixes (variables z.program) p → (l r : ℕ) → SlotAgrees p q (Some l) (Some r) → variables z.program ≤ r
+  no_variable p q fix l r a = omega (arith, fixes_right (variables z.program) p fix, a.2)
 
-  more_inside : (q : Point) (slot slot' : Option ℕ) (ls cs bs : List ℕ) → SlotAgrees q slot slot' → SlotsOver q ls (cs ++ bs) →
-      SlotsOver q (with_slot slot ls) (with_slot slot' cs ++ bs)
-  more_inside q None None ls cs bs a h = h
-  more_inside q (Some l) (Some r) ls cs bs a h = (a.0, inl (r, cs ++ bs, refl, a.1, h))
-  more_inside q None (Some r) ls cs bs a h = absurd a
-  more_inside q (Some l) None ls cs bs a h = absurd a
+  slots_more : (p q : Point) → Fixes (variables z.program) p → (slot slot' : Option ℕ) (ls rs : List ℕ) → SlotAgrees p q slot slot' →
+      SlotsOver (variables z.program) q ls rs → SlotsOver (variables z.program) q (with_slot slot ls) (with_slot slot' rs)
+  slots_more p q fix None None ls rs a h = h
+  slots_more p q fix (Some l) (Some r) ls rs a h = (a.0, inl (r, rs, refl, a.1, no_variable p q fix l r a, h))
+  slots_more p q fix None (Some r) ls rs a h = absurd a
+  slots_more p q fix (Some l) None ls rs a h = absurd a
+
+  more_inside : (p q : Point) → Fixes (variables z.program) p → (slot slot' : Option ℕ) (ls cs bs : List ℕ) → SlotAgrees p q slot slot' →
+      SlotsOver (variables z.program) q ls (cs ++ bs) → SlotsOver (variables z.program) q (with_slot slot ls) (with_slot slot' cs ++ bs)
+  more_inside p q fix None None ls cs bs a h = h
+  more_inside p q fix (Some l) (Some r) ls cs bs a h = (a.0, inl (r, cs ++ bs, refl, a.1, no_variable p q fix l r a, h))
+  more_inside p q fix None (Some r) ls cs bs a h = absurd a
+  more_inside p q fix (Some l) None ls cs bs a h = absurd a
 
   -- ---- outside the callee
 
@@ -159,7 +162,7 @@ module _ (z : Setting) (one : 1 ≤ z.bound) (formed : IsFormed z.program) (f : 
   }
 
   behind : (entry p q : Point) (a b : Frame) (line : Line) (ra rb : List Line) → Outside entry p a b → b.rest ≡ line ∷ rb → Where t can.block.end ra a.end a.block rb b.end
-      b.block → Kept p q → (la lb : Locals) → LocalsAgree (below t.by) q.pairing (length q.left) la lb → (ls rs : List ℕ) → SlotsOver q ls rs → (i j : Option ℕ) →
+      b.block → Kept (variables z.program) p q → (la lb : Locals) → LocalsAgree (below t.by) q.pairing (length q.left) la lb → (ls rs : List ℕ) → SlotsOver (variables z.program) q ls rs → (i j : Option ℕ) →
       Outside entry q (record a { rest = ra; locals = la; slots = ls; awaits = i }) (record b { rest = rb; locals = lb; slots = rs; awaits = j })
   behind entry p q a b line ra rb o e w kq la lb l ls rs s i j = record {
     kept = kept_trans entry p q o.kept kq;
@@ -192,7 +195,7 @@ module _ (z : Setting) (one : 1 ≤ z.bound) (formed : IsFormed z.program) (f : 
       (evaluate (value_of sg a.locals) line.instr)) (execute sg z.input p.right at x.0 (evaluate (value_of sg b.locals) line.instr)) (act_at_line sg z.input b p.right
       at x.0 line rb eb) x.1
       (λ q v v' slot slot' at' k' agree slots'. out_holds entry q _ _ at' (behind entry p q a b line ra rb o eb w k' _ _ (bind_agrees (below t.by) q line.local v v'
-      a.locals b.locals agree (locals_later p q k' (below t.by) a.locals b.locals o.locals)) _ _ (slots_more q slot slot' a.slots b.slots slots'
+      a.locals b.locals agree (locals_later p q k' (below t.by) a.locals b.locals o.locals)) _ _ (slots_more p q fix' slot slot' a.slots b.slots slots'
       (over_later p q k' a.slots b.slots o.slots)) a.awaits b.awaits))
       (λ q v v' at' k' agree. out_holds entry q _ _ at' (resumed_outside entry q (record a' { awaits = line.local }) (record b' { awaits = line.local })
       (behind entry p q a b line ra rb o eb w k' a.locals b.locals (locals_later p q k' (below t.by) a.locals b.locals o.locals) a.slots b.slots
@@ -315,7 +318,7 @@ module _ (z : Setting) (one : 1 ≤ z.bound) (formed : IsFormed z.program) (f : 
       choice _ e) (exits z.program.signature a p.left at x)
   outside_exit entry p a b at choice o na (Leaves v) (Leaves u) h e =
       let q : Point = record { pairing = p.pairing; left = kill a.slots p.left; right = kill b.slots p.right } in
-      answered_return z one (Holds entry) entry p q (over_killed a.slots b.slots entry p o.kept o.slots) b at choice v u e (returned v u h)
+      answered_return z one (Holds entry) entry p q (over_killed (variables z.program) a.slots b.slots entry p o.kept o.slots) b at choice v u e (returned v u h)
     where
       ended : (m : Memory) (l : ℕ) (o : Option MemoryBlock) → length (end_life m l o) ≡ length m
       ended m l None = refl
@@ -500,13 +503,13 @@ module _ (z : Setting) (one : 1 ≤ z.bound) (formed : IsFormed z.program) (f : 
     b_awaits = i.b_awaits;
   }
 
-  callee_later : (p q : Point) → Kept p q → (ls cs : Locals) → CalleeAgrees z.program.signature t p.pairing (length p.left) ls cs → CalleeAgrees z.program.signature t
+  callee_later : (p q : Point) → Kept (variables z.program) p q → (ls cs : Locals) → CalleeAgrees z.program.signature t p.pairing (length p.left) ls cs → CalleeAgrees z.program.signature t
       q.pairing (length q.left) ls cs
   callee_later p q k ls cs h x = value_later p q k (value_of z.program.signature ls (moved t (Local x))) (look_up cs x) (h x)
 
-  behind_inside : (entry p q : Point) (a c b : Frame) (rest : List Line) → Inside entry p a c b → LinesSparing t rest → Kept p q → (la lc : Locals) →
+  behind_inside : (entry p q : Point) (a c b : Frame) (rest : List Line) → Inside entry p a c b → LinesSparing t rest → Kept (variables z.program) p q → (la lc : Locals) →
       LocalsAgree (below t.by) q.pairing (length q.left) la b.locals → CalleeAgrees z.program.signature t q.pairing (length q.left) la lc → (ls rs : List ℕ) →
-      SlotsOver q ls (rs ++ b.slots) → (i j : Option ℕ) → Inside entry q (record a { rest = lines_moved t rest; locals = la; slots = ls; awaits = i })
+      SlotsOver (variables z.program) q ls (rs ++ b.slots) → (i j : Option ℕ) → Inside entry q (record a { rest = lines_moved t rest; locals = la; slots = ls; awaits = i })
       (record c { rest = rest; locals = lc; slots = rs; awaits = j }) b
   behind_inside entry p q a c b rest i sparing kq la lc l cl ls rs s o o' = record {
     kept = kept_trans entry p q i.kept kq;
@@ -551,7 +554,7 @@ module _ (z : Setting) (one : 1 ≤ z.bound) (formed : IsFormed z.program) (f : 
       (λ q v v' slot slot' at' k' agree slots'. in_holds entry q _ _ b at' (behind_inside entry p q a c b rest i sparing.1 k' _ _
       (caller_binds t.by q.pairing (length q.left) line.local v a.locals b.locals (locals_later p q k' (below t.by) a.locals b.locals i.locals))
       (callee_binds sg t q.pairing (length q.left) args_kept line.local sparing.0 v v' agree a.locals c.locals (callee_later p q k' a.locals c.locals i.callee)) _ _
-      (more_inside q slot slot' a.slots c.slots b.slots slots' (over_later p q k' a.slots (c.slots ++ b.slots) i.slots)) a.awaits c.awaits))
+      (more_inside p q fix' slot slot' a.slots c.slots b.slots slots' (over_later p q k' a.slots (c.slots ++ b.slots) i.slots)) a.awaits c.awaits))
       (λ q v v' at' k' agree. in_holds entry q _ _ b at' (resumed_inside entry q (record a' { awaits = local_moved t.by line.local }) (record c' { awaits = line.local }) b
       (behind_inside entry p q a c b rest i sparing.1 k' a.locals c.locals (locals_later p q k' (below t.by) a.locals b.locals i.locals)
       (callee_later p q k' a.locals c.locals i.callee) a.slots c.slots (over_later p q k' a.slots (c.slots ++ b.slots) i.slots) (local_moved t.by line.local)
@@ -607,7 +610,7 @@ module _ (z : Setting) (one : 1 ≤ z.bound) (formed : IsFormed z.program) (f : 
       subst (λ (w : Act). IsAnswered z (Holds entry) entry p.left (stack c (b ∷ []) p.right at) w) (sym is) r
 
   -- the return of the callee
-  joined : (p q : Point) (a c b : Frame) (entry : Point) → Inside entry p a c b → Kept p q → Names z.program.signature q.pairing (length q.left) →
+  joined : (p q : Point) (a c b : Frame) (entry : Point) → Inside entry p a c b → Kept (variables z.program) p q → Names z.program.signature q.pairing (length q.left) →
       (argument : Option Argument) → c.end ≡ Return argument → (local : Option ℕ) → local ≡ t.call.local → LocalsAgree (below t.by) q.pairing (length q.left)
       (phis_bound z.program.signature a.locals a.block (join_phis t local) a.locals) (bind local (answer_of (value_of z.program.signature c.locals) argument) b.locals)
   joined p q a c b entry i k names argument e None w = locals_later p q k (below t.by) a.locals b.locals i.locals
@@ -633,7 +636,7 @@ module _ (z : Setting) (one : 1 ≤ z.bound) (formed : IsFormed z.program) (f : 
       IsAnswered z (Holds entry) entry p.left (stack c (b ∷ []) p.right at) (jumps z.program.signature a p.left at t.join)
   inside_return entry p a c b at choice i argument end_c e =
       let sg = z.program.signature in
-      let killed = callee_killed a.slots c.slots b.slots p i.kept.related i.slots in
+      let killed = callee_killed (variables z.program) a.slots c.slots b.slots p i.kept.related i.slots in
       let q : Point = record { pairing = p.pairing; left = p.left; right = kill c.slots p.right } in
       let kq = killed.kept in
       let v = answer_of (value_of sg c.locals) argument in

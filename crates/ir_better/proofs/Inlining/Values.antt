@@ -20,7 +20,6 @@ use Rattle.ir_meaning.specs.Execute.{evaluate, ToAddress, ToCall}
 use Rattle.ir_meaning.specs.Frame.{Locals, Signature, look_up, bind, value_of, regs_of, values_of, indices_of, index_of, cons_index}
 use Rattle.ir_meaning.specs.Relate.{Pairing, Agrees, AnswersAgree}
 use Rattle.ir_meaning.specs.declared.value.Value.{Value}
-use Rattle.ir_meaning.specs.declared.value.Value.TheVariants.{Number, Pointer, Poison}
 use Rattle.ir_better.specs.Inline.{Site, argument_of, or_moved, moved, each_moved, with_operands, local_moved, edges_moved, phis_moved, cases_moved, end_moved, return_edge, return_edges, renamed, edges_renamed, phis_renamed, below, EdgesBelow, PhisBelow, IsNoParameter, PhisSparing}
 use Rattle.ir_better.proofs.Alike.Effects.{OperandsAgree}
 use Rattle.ir_better.proofs.Alike.Keeping.{more}

@@ -24,7 +24,6 @@ use Rattle.ir_meaning.specs.Near.{Setting, IsAnswered}
 use Rattle.ir_meaning.specs.Program.{variables, State}
 use Rattle.ir_meaning.specs.Relate.{Pairing, Point, Fixes, Kept, Agrees, AllAgree, ValuesAgree, ArgumentsAgree}
 use Rattle.ir_meaning.specs.declared.value.Value.{Value}
-use Rattle.ir_meaning.specs.declared.value.Value.TheVariants.{Number, Pointer, Poison}
 use Rattle.ir_better.specs.Formed.{IsFormed}
 use Rattle.ir_better.specs.Renumber.{operand_renumbered, incoming_renumbered, instr_renumbered, line_renumbered, phi_renumbered, case_renumbered, end_renumbered, block_renumbered, param_renumbered, renumbered, IsOneToOne, RenumberedBetter}
 use Rattle.ir_better.proofs.Alike.Answering.{near_by, alone, answered_effects, answered_return, answered_go, answered_fails, breaks_at_once, names_of, act_at_line, act_at_end}
@@ -76,7 +75,7 @@ binds new once p (Some x) (Some v) (Some u) ls rs a h = one_more new once p.pair
 binds new once p (Some x) None (Some u) ls rs a h = absurd a
 binds new once p (Some x) (Some v) None ls rs a h = absurd a
 
-locals_stay : (new : ℕ → ℕ) (p q : Point) → Kept p q → (ls rs : Locals) → LocalsUnder new p.pairing (length p.left) ls rs → LocalsUnder new q.pairing (length q.left) ls rs
+locals_stay : (new : ℕ → ℕ) {g : ℕ} (p q : Point) → Kept g p q → (ls rs : Locals) → LocalsUnder new p.pairing (length p.left) ls rs → LocalsUnder new q.pairing (length q.left) ls rs
 locals_stay new p q k ls rs h x = value_later p q k (look_up ls (new x)) (look_up rs x) (h x)
 
 -- ---- phis
@@ -135,14 +134,14 @@ exit_agrees sig new p c ls rs h Unreachable = tt
 -- ---- frames
 
 -- the left frame is the right one under the new numbers; where there is no block yet, the frame is stuck
-record FramesUnder (new : ℕ → ℕ) (p : Point) (a b : Frame) : Type 0 where
+record FramesUnder (new : ℕ → ℕ) (g : ℕ) (p : Point) (a b : Frame) : Type 0 where
   function : a.function ≡ renumbered new b.function
   block : (b.end ≡ Unreachable) ⊎ (a.block ≡ new b.block)
   rest : a.rest ≡ map (line_renumbered new) b.rest
   end : a.end ≡ end_renumbered new b.end
   awaits : a.awaits ≡ option_map new b.awaits
   locals : LocalsUnder new p.pairing (length p.left) a.locals b.locals
-  slots : SlotsPaired p.pairing (length p.left) a.slots b.slots
+  slots : SlotsPaired g p.pairing (length p.left) a.slots b.slots
 
 record Holds (new : ℕ → ℕ) (z : Setting) (entry : Point) (a : Frame) (m : Memory) (s : State) : Type 0 where
   point : Point
@@ -150,14 +149,14 @@ record Holds (new : ℕ → ℕ) (z : Setting) (entry : Point) (a : Frame) (m : 
   frame : Frame
   place : ℕ
   is : s ≡ alone frame point.right place
-  kept : Kept entry point
+  kept : Kept (variables z.program) entry point
   fixes : Fixes (variables z.program) entry
-  frames : FramesUnder new point a frame
+  frames : FramesUnder new (variables z.program) point a frame
 
-holds : (new : ℕ → ℕ) (z : Setting) (entry p : Point) (a b : Frame) (place : ℕ) → Kept entry p → Fixes (variables z.program) entry → FramesUnder new p a b → Holds new z entry a p.left (alone b p.right place)
+holds : (new : ℕ → ℕ) (z : Setting) (entry p : Point) (a b : Frame) (place : ℕ) → Kept (variables z.program) entry p → Fixes (variables z.program) entry → FramesUnder new (variables z.program) p a b → Holds new z entry a p.left (alone b p.right place)
 holds new z entry p a b place k fix f = record { point = p; left = refl; frame = b; place = place; is = refl; kept = k; fixes = fix; frames = f }
 
-resume_alike : (new : ℕ → ℕ) → IsOneToOne new → (p : Point) (a b : Frame) → FramesUnder new p a b → (v u : Option Value) → ValuesAgree p v u → FramesUnder new p (resume a v) (resume b u)
+resume_alike : (new : ℕ → ℕ) → IsOneToOne new → {g : ℕ} (p : Point) (a b : Frame) → FramesUnder new g p a b → (v u : Option Value) → ValuesAgree p v u → FramesUnder new g p (resume a v) (resume b u)
 unfolding resume
 resume_alike new once p a b f v u agree = record {
   function = f.function;
@@ -183,7 +182,7 @@ evaluated new value (Call result c args) = evaluate_with (operand_renumbered new
 evaluated new value (StrayPhi reg es) = refl
 
 -- one instruction on both sides
-at_line : (new : ℕ → ℕ) → IsOneToOne new → (z : Setting) → 1 ≤ z.bound → IsFormed z.program → (entry p : Point) (a b : Frame) (place choice : ℕ) → Kept entry p → Fixes (variables z.program) entry → FramesUnder new p a b → (line : Line) (rest : List Line) → b.rest ≡ line ∷ rest → IsAnswered z (Holds new z entry) entry p.left (alone b p.right place) (act z.program.signature z.input a p.left place choice)
+at_line : (new : ℕ → ℕ) → IsOneToOne new → (z : Setting) → 1 ≤ z.bound → IsFormed z.program → (entry p : Point) (a b : Frame) (place choice : ℕ) → Kept (variables z.program) entry p → Fixes (variables z.program) entry → FramesUnder new (variables z.program) p a b → (line : Line) (rest : List Line) → b.rest ≡ line ∷ rest → IsAnswered z (Holds new z entry) entry p.left (alone b p.right place) (act z.program.signature z.input a p.left place choice)
 at_line new once z one formed entry p a b place choice k fix f line rest e =
     let sig = z.program.signature in
     let fix' = kept_fixes (variables z.program) entry p fix k in
@@ -197,14 +196,14 @@ at_line new once z one formed entry p a b place choice k fix f line rest e =
     let a' : Frame = record a { rest = map (line_renumbered new) rest } in
     let b' : Frame = record b { rest = rest } in
     let r = answered_effects z one (Holds new z entry) entry p k fix' a' b b' left.local line.local place x.0 (execute sig z.input p.left place choice (evaluate (λ o. left_value (operand_renumbered new o)) line.instr)) (execute sig z.input p.right place x.0 (evaluate right_value line.instr)) (act_at_line sig z.input b p.right place x.0 line rest e) x.1
-    (λ q v v' slot slot' place' k' agree slots. holds new z entry q _ _ place' (kept_trans entry p q k k') fix (record { function = f.function; block = f.block; rest = refl; end = f.end; awaits = f.awaits; locals = binds new once q line.local v v' a.locals b.locals agree (locals_stay new p q k' a.locals b.locals f.locals); slots = slots_more q slot slot' a.slots b.slots slots (slots_later p q k' a.slots b.slots f.slots) }))
+    (λ q v v' slot slot' place' k' agree slots. holds new z entry q _ _ place' (kept_trans entry p q k k') fix (record { function = f.function; block = f.block; rest = refl; end = f.end; awaits = f.awaits; locals = binds new once q line.local v v' a.locals b.locals agree (locals_stay new p q k' a.locals b.locals f.locals); slots = slots_more (variables z.program) p q fix' slot slot' a.slots b.slots slots (slots_later p q k' a.slots b.slots f.slots) }))
     (λ q v v' place' k' agree. holds new z entry q _ _ place' (kept_trans entry p q k k') fix (resume_alike new once q (record a' { awaits = left.local }) (record b' { awaits = line.local }) (record { function = f.function; block = f.block; rest = refl; end = f.end; awaits = refl; locals = locals_stay new p q k' a.locals b.locals f.locals; slots = slots_later p q k' a.slots b.slots f.slots }) v v' agree)) in
     let at_left = act_at_line sig z.input a p.left place choice left (map (line_renumbered new) rest) (f.rest ∙ ap (map (line_renumbered new)) e) in
     let same = ap (λ t. apply a' left.local (execute sig z.input p.left place choice t)) (evaluated new left_value line.instr) in
     subst (λ (y : Act). IsAnswered z (Holds new z entry) entry p.left (alone b p.right place) y) (sym (at_left ∙ same)) r
 
 -- a jump on both sides
-jump : (new : ℕ → ℕ) → IsOneToOne new → (z : Setting) → 1 ≤ z.bound → IsFormed z.program → (entry p : Point) (a b : Frame) (place choice : ℕ) → Kept entry p → Fixes (variables z.program) entry → FramesUnder new p a b → a.block ≡ new b.block → (o : Option Block) → act z.program.signature z.input b p.right place choice ≡ enters_block z.program.signature b p.right place o → IsAnswered z (Holds new z entry) entry p.left (alone b p.right place) (enters_block z.program.signature a p.left place (option_map (block_renumbered new) o))
+jump : (new : ℕ → ℕ) → IsOneToOne new → (z : Setting) → 1 ≤ z.bound → IsFormed z.program → (entry p : Point) (a b : Frame) (place choice : ℕ) → Kept (variables z.program) entry p → Fixes (variables z.program) entry → FramesUnder new (variables z.program) p a b → a.block ≡ new b.block → (o : Option Block) → act z.program.signature z.input b p.right place choice ≡ enters_block z.program.signature b p.right place o → IsAnswered z (Holds new z entry) entry p.left (alone b p.right place) (enters_block z.program.signature a p.left place (option_map (block_renumbered new) o))
 jump new once z one formed entry p a b place choice k fix f same None e = breaks_at_once z one b p.right place choice _ e
 jump new once z one formed entry p a b place choice k fix f same (Some x) e =
     let sig = z.program.signature in
@@ -213,10 +212,10 @@ jump new once z one formed entry p a b place choice k fix f same (Some x) e =
     let l' = subst (λ (i : ℕ). LocalsUnder new p.pairing (length p.left) (phis_bound sig a.locals i (map (phi_renumbered new) x.phis) a.locals) (phis_bound sig b.locals b.block x.phis b.locals)) (sym same) l in
     answered_go z one (Holds new z entry) entry p _ b _ place choice e (holds new z entry p _ _ place k fix (record { function = f.function; block = inr refl; rest = refl; end = refl; awaits = f.awaits; locals = l'; slots = f.slots }))
 
-at_exit : (new : ℕ → ℕ) → IsOneToOne new → (z : Setting) → 1 ≤ z.bound → IsFormed z.program → (entry p : Point) (a b : Frame) (place choice : ℕ) → Kept entry p → Fixes (variables z.program) entry → FramesUnder new p a b → a.block ≡ new b.block → (x y : Exit) → ExitsUnder new p x y → act z.program.signature z.input b p.right place choice ≡ exits z.program.signature b p.right place y → IsAnswered z (Holds new z entry) entry p.left (alone b p.right place) (exits z.program.signature a p.left place x)
+at_exit : (new : ℕ → ℕ) → IsOneToOne new → (z : Setting) → 1 ≤ z.bound → IsFormed z.program → (entry p : Point) (a b : Frame) (place choice : ℕ) → Kept (variables z.program) entry p → Fixes (variables z.program) entry → FramesUnder new (variables z.program) p a b → a.block ≡ new b.block → (x y : Exit) → ExitsUnder new p x y → act z.program.signature z.input b p.right place choice ≡ exits z.program.signature b p.right place y → IsAnswered z (Holds new z entry) entry p.left (alone b p.right place) (exits z.program.signature a p.left place x)
 at_exit new once z one formed entry p a b place choice k fix f same x (Stuck cause) h e = answered_fails z (Holds new z entry) entry p.left (alone b p.right place) (breaks_at_once z one b p.right place choice _ e) (exits z.program.signature a p.left place x)
 at_exit new once z one formed entry p a b place choice k fix f same (Leaves v) (Leaves u) h e =
-    let kill' = kill_kept a.slots b.slots p k.related f.slots in
+    let kill' = kill_kept (variables z.program) a.slots b.slots p k.related f.slots in
     let q : Point = record { pairing = p.pairing; left = kill a.slots p.left; right = kill b.slots p.right } in
     answered_return z one (Holds new z entry) entry p q (kept_trans entry p q k kill') b place choice v u e (answer_later p q kill' v u h)
 at_exit new once z one formed entry p a b place choice k fix f same (Leads' s) (Leads' t) h e =
@@ -229,7 +228,7 @@ at_exit new once z one formed entry p a b place choice k fix f same (Stuck cause
 at_exit new once z one formed entry p a b place choice k fix f same (Leaves v) (Leads' t) h e = absurd h
 at_exit new once z one formed entry p a b place choice k fix f same (Leads' s) (Leaves u) h e = absurd h
 
-at_end : (new : ℕ → ℕ) → IsOneToOne new → (z : Setting) → 1 ≤ z.bound → IsFormed z.program → (entry p : Point) (a b : Frame) (place choice : ℕ) → Kept entry p → Fixes (variables z.program) entry → FramesUnder new p a b → b.rest ≡ [] → (b.end ≡ Unreachable) ⊎ (a.block ≡ new b.block) → IsAnswered z (Holds new z entry) entry p.left (alone b p.right place) (act z.program.signature z.input a p.left place choice)
+at_end : (new : ℕ → ℕ) → IsOneToOne new → (z : Setting) → 1 ≤ z.bound → IsFormed z.program → (entry p : Point) (a b : Frame) (place choice : ℕ) → Kept (variables z.program) entry p → Fixes (variables z.program) entry → FramesUnder new (variables z.program) p a b → b.rest ≡ [] → (b.end ≡ Unreachable) ⊎ (a.block ≡ new b.block) → IsAnswered z (Holds new z entry) entry p.left (alone b p.right place) (act z.program.signature z.input a p.left place choice)
 at_end new once z one formed entry p a b place choice k fix f e (inl stuck) =
     let sig = z.program.signature in
     let breaks = act_at_end sig z.input b p.right place choice e ∙ ap (λ (t : Terminator). exits sig b p.right place (exit_of (value_of sig b.locals) t)) stuck in
@@ -242,7 +241,7 @@ at_end new once z one formed entry p a b place choice k fix f e (inr same) =
     let r = at_exit new once z one formed entry p a b place choice k fix f same (exit_of (value_of sig a.locals) a.end) (exit_of (value_of sig b.locals) b.end) x' (act_at_end sig z.input b p.right place choice e) in
     subst (λ (y : Act). IsAnswered z (Holds new z entry) entry p.left (alone b p.right place) y) (sym (act_at_end sig z.input a p.left place choice (f.rest ∙ ap (map (line_renumbered new)) e))) r
 
-at_rest : (new : ℕ → ℕ) → IsOneToOne new → (z : Setting) → 1 ≤ z.bound → IsFormed z.program → (entry p : Point) (a b : Frame) (place choice : ℕ) → Kept entry p → Fixes (variables z.program) entry → FramesUnder new p a b → (rest : List Line) → b.rest ≡ rest → IsAnswered z (Holds new z entry) entry p.left (alone b p.right place) (act z.program.signature z.input a p.left place choice)
+at_rest : (new : ℕ → ℕ) → IsOneToOne new → (z : Setting) → 1 ≤ z.bound → IsFormed z.program → (entry p : Point) (a b : Frame) (place choice : ℕ) → Kept (variables z.program) entry p → Fixes (variables z.program) entry → FramesUnder new (variables z.program) p a b → (rest : List Line) → b.rest ≡ rest → IsAnswered z (Holds new z entry) entry p.left (alone b p.right place) (act z.program.signature z.input a p.left place choice)
 at_rest new once z one formed entry p a b place choice k fix f (line ∷ rest) e = at_line new once z one formed entry p a b place choice k fix f line rest e
 at_rest new once z one formed entry p a b place choice k fix f [] e = at_end new once z one formed entry p a b place choice k fix f e f.block
 
@@ -262,15 +261,15 @@ params_agree new once w n (x ∷ ps) (v ∷ vs) (u ∷ us) h = one_more new once
 params_agree new once w n (x ∷ ps) [] (u ∷ us) h = absurd h
 params_agree new once w n (x ∷ ps) (v ∷ vs) [] h = absurd h
 
-enter_at_alike : (new : ℕ → ℕ) (p : Point) (f : Function) (bs : List Block) (ls rs : Locals) → LocalsUnder new p.pairing (length p.left) ls rs → FramesUnder new p (enter_at (renumbered new f) (map (block_renumbered new) bs) ls) (enter_at f bs rs)
-enter_at_alike new p f [] ls rs h = record { function = refl; block = inl refl; rest = refl; end = refl; awaits = refl; locals = h; slots = tt }
-enter_at_alike new p f (b ∷ bs) ls rs h = record { function = refl; block = inr refl; rest = refl; end = refl; awaits = refl; locals = h; slots = tt }
+enter_at_alike : (new : ℕ → ℕ) (g : ℕ) (p : Point) (f : Function) (bs : List Block) (ls rs : Locals) → LocalsUnder new p.pairing (length p.left) ls rs → FramesUnder new g p (enter_at (renumbered new f) (map (block_renumbered new) bs) ls) (enter_at f bs rs)
+enter_at_alike new g p f [] ls rs h = record { function = refl; block = inl refl; rest = refl; end = refl; awaits = refl; locals = h; slots = tt }
+enter_at_alike new g p f (b ∷ bs) ls rs h = record { function = refl; block = inr refl; rest = refl; end = refl; awaits = refl; locals = h; slots = tt }
 
-enter_alike : (new : ℕ → ℕ) → IsOneToOne new → (p : Point) (f : Function) (vs us : List Value) → ArgumentsAgree p vs us → FramesUnder new p (enter (renumbered new f) vs) (enter f us)
+enter_alike : (new : ℕ → ℕ) → IsOneToOne new → (g : ℕ) (p : Point) (f : Function) (vs us : List Value) → ArgumentsAgree p vs us → FramesUnder new g p (enter (renumbered new f) vs) (enter f us)
 unfolding enter
-enter_alike new once p f vs us h = enter_at_alike new p f f.blocks _ _ (params_agree new once p.pairing (length p.left) f.params vs us h)
+enter_alike new once g p f vs us h = enter_at_alike new g p f f.blocks _ _ (params_agree new once p.pairing (length p.left) f.params vs us h)
 
 pub renumbered_better : RenumberedBetter
 renumbered_better p formed new once f input n entry vs us place rel fix agree =
     let z : Setting = record { program = p; input = input; bound = 1 } in
-    near_by z (Holds new z) (step_answered new once z (omega arith) formed) n entry (enter (renumbered new f) vs) entry.left (alone (enter f us) entry.right place) (holds new z entry entry (enter (renumbered new f) vs) (enter f us) place (kept_refl entry rel) fix (enter_alike new once entry f vs us agree))
+    near_by z (Holds new z) (step_answered new once z (omega arith) formed) n entry (enter (renumbered new f) vs) entry.left (alone (enter f us) entry.right place) (holds new z entry entry (enter (renumbered new f) vs) (enter f us) place (kept_refl entry rel) fix (enter_alike new once (variables p) entry f vs us agree))

@@ -1,7 +1,7 @@
 -- The rows of the rule table on comparisons.
-use Rattle.std.proofs.Common.{◌≡◌, ℕ, zero, suc, Bool, true, false, ◌&&◌, ◌||◌, ◌==◌, nat_lt, if◌then◌else◌, Option, Some, None, ◌⊎◌, inl, inr, refl, sym, ap, ◌∙◌, subst}
+use Rattle.std.proofs.Common.{◌≡◌, ℕ, zero, suc, Bool, true, false, ◌&&◌, ◌||◌, ◌==◌, nat_lt, if◌then◌else◌, Option, Some, None, ◌⊎◌, inl, inr, refl, sym, ap, ◌∙◌, subst, arith}
 use Rattle.std.specs.Prelude.{not, nat_le}
-use Rattle.std.proofs.lemmas.Bool.{eq-eqb, or_cases}
+use Rattle.std.proofs.lemmas.Bool.{and_from, eq-eqb, le-leb, or_cases}
 use Rattle.ir_tree.specs.declared.instr.Predicate.{Predicate}
 use Rattle.ir_tree.specs.declared.instr.Predicate.TheVariants.{Eq, Ne, Sge, Sgt, Sle, Slt, Uge, Ugt, Ule, Ult}
 use Rattle.ir_tree.specs.declared.operand.Operand.{Operand}
@@ -11,17 +11,17 @@ use Rattle.ir_tree.specs.declared.operand.Reg.TheVariants.{Int, Ptr}
 use Rattle.ir_tree.specs.declared.operand.Symbol.{Symbol}
 use Rattle.ir_meaning.specs.Execute.{compares}
 use Rattle.ir_meaning.specs.Frame.{Locals, Signature, Kind, AFunction, AVariable, AHost, Missing, named, value_of}
-use Rattle.ir_meaning.specs.Memory.{Memory}
+use Rattle.ir_meaning.specs.Memory.{Lives, Memory}
 use Rattle.ir_meaning.specs.Operate.{bits_of, bit, compared_bits}
-use Rattle.ir_meaning.specs.Pointers.{chosen, settled, settled_equal, settled_order, apart_equal, unequal_if, is_at, negated, compared_pointers}
+use Rattle.ir_meaning.specs.Pointers.{chosen, settled, settled_equal, settled_order, apart_equal, unequal_if, is_at, lives_with, negated, compared_pointers}
 use Rattle.ir_tree.specs.Symbols.{symbol_eq}
 use Rattle.ir_meaning.specs.Wrapping.{compare}
 use Rattle.ir_meaning.specs.declared.value.Base.{Base}
 use Rattle.ir_meaning.specs.declared.value.Base.TheVariants.{Cell, Code, Nowhere}
 use Rattle.ir_meaning.specs.declared.value.Value.{Value}
 use Rattle.ir_meaning.specs.declared.value.Value.TheVariants.{Number, Pointer, Poison}
-use Rattle.ir_better.specs.Facts.{Stands}
-use Rattle.ir_meaning.specs.Table.{first, when, is_poison, number_of, same, truth, compared_numbers, compared_constants, is_reflexive, equality, compared_addresses, comparison_rule, is_equality, one_symbol, compares_freely}
+use Rattle.ir_better.specs.Facts.{Stands, VariablesLive}
+use Rattle.ir_meaning.specs.Table.{first, when, is_poison, number_of, same, truth, compared_numbers, compared_constants, is_reflexive, equality, compared_addresses, comparison_rule, is_equality, compares_freely}
 use Rattle.ir_tree.proofs.Symbols.{symbol_true}
 use Rattle.ir_better.proofs.Rules.Arithmetic.{compare_same, order_same}
 use Rattle.ir_better.proofs.Rules.Operations.{first_cases, when_is, number_bits, poison_is, same_is}
@@ -139,49 +139,39 @@ equality_is Sge b v e = absurd (cc e)
 equality_is Slt b v e = absurd (cc e)
 equality_is Sle b v e = absurd (cc e)
 
-is_equality_of : (p : Predicate) (b : Bool) (v : Operand) → equality p b ≡ Some v → is_equality p ≡ true
-is_equality_of p b v e = by (equality_is p b v e)
+-- an equality of pointers that is settled
+settled_compared : (sig : Signature) (ls : Locals) (m : Memory) (choice : ℕ) (x y : Base) (i j : ℕ) (b : Bool) → settled_equal m x i y j ≡ Some b →
+    (p : Predicate) (v : Operand) → equality p b ≡ Some v → Stands (value_of sig ls v) (compared_pointers m p (Pointer x i) (Pointer y j) choice)
+settled_compared sig ls m choice x y i j b h p v e = by (equality_is p b v e)
   where
-    by : ((p ≡ Eq) × (truth b ≡ v)) ⊎ ((p ≡ Ne) × (truth (not b) ≡ v)) → is_equality p ≡ true
-    by (inl h) = ap is_equality h.0
-    by (inr h) = ap is_equality h.0
+    by : ((p ≡ Eq) × (truth b ≡ v)) ⊎ ((p ≡ Ne) × (truth (not b) ≡ v)) → Stands (value_of sig ls v) (compared_pointers m p (Pointer x i) (Pointer y j) choice)
+    by (inl k) = inr (ap (value_of sig ls) (sym k.1) ∙ sym (ap (λ (q : Predicate). compared_pointers m q (Pointer x i) (Pointer y j) choice) k.0 ∙ ap (λ (o : Option Bool). chosen o choice) h))
+    by (inr k) = inr (ap (value_of sig ls) (sym k.1) ∙ sym (ap (λ (q : Predicate). compared_pointers m q (Pointer x i) (Pointer y j) choice) k.0 ∙ ap (λ (o : Option Bool). chosen (negated o) choice) h))
 
-unequal : (b : Bool) → (unequal_if b ≡ None) ⊎ (unequal_if b ≡ Some false)
-unequal true = inr refl
-unequal false = inl refl
+-- a block that lives has its start
+start_lives : (m : Memory) (k : ℕ) → Lives m k → unequal_if (is_at m k 0) ≡ Some false
+start_lives m k a = ap unequal_if (ap (lives_with (λ size. nat_le 0 size)) a.1 ∙ and_from a.0.live (nat_le 0 a.0.size) a.2 (le-leb 0 a.0.size (omega arith)))
 
-negated_unequal : (o : Option Bool) → (o ≡ None) ⊎ (o ≡ Some false) → (negated o ≡ None) ⊎ (negated o ≡ Some true)
-negated_unequal o (inl e) = inl (ap negated e)
-negated_unequal o (inr e) = inr (ap negated e)
+-- null is no symbol's address
+null_left : (sig : Signature) (ls : Locals) (m : Memory) (choice : ℕ) (kind : Kind) → ((number : ℕ) → kind ≡ AVariable number → Lives m number) →
+    (s : Symbol) (p : Predicate) (v : Operand) → equality p false ≡ Some v → Stands (value_of sig ls v) (compared_pointers m p (Pointer Nowhere 0) (named kind s 0) choice)
+null_left sig ls m choice (AFunction params result) live s p v e = settled_compared sig ls m choice Nowhere (Code s) 0 0 false refl p v e
+null_left sig ls m choice (AVariable k) live s p v e = settled_compared sig ls m choice Nowhere (Cell k) 0 0 false (start_lives m k (live k refl)) p v e
+null_left sig ls m choice (AHost host) live s p v e = settled_compared sig ls m choice Nowhere (Code s) 0 0 false refl p v e
+null_left sig ls m choice Missing live s p v e = inl refl
 
-apart_choose : (sig : Signature) (ls : Locals) (m : Memory) (x y : Base) (i j : ℕ) → (settled_equal m x i y j ≡ None) ⊎ (settled_equal m x i y j ≡ Some false) → (p : Predicate) (v : Operand) → equality p false ≡ Some v → Chooses (value_of sig ls v) (compared_pointers m p (Pointer x i) (Pointer y j))
-apart_choose sig ls m x y i j h p v e = by (equality_is p false v e)
-  where
-    by : ((p ≡ Eq) × (truth false ≡ v)) ⊎ ((p ≡ Ne) × (truth true ≡ v)) → Chooses (value_of sig ls v) (compared_pointers m p (Pointer x i) (Pointer y j))
-    by (inl k) = subst (λ (o : Operand). Chooses (value_of sig ls o) (compared_pointers m p (Pointer x i) (Pointer y j))) k.1 (subst (λ (q : Predicate). Chooses (bit false) (compared_pointers m q (Pointer x i) (Pointer y j))) (sym k.0) (choose false (settled_equal m x i y j) h))
-    by (inr k) = subst (λ (o : Operand). Chooses (value_of sig ls o) (compared_pointers m p (Pointer x i) (Pointer y j))) k.1 (subst (λ (q : Predicate). Chooses (bit true) (compared_pointers m q (Pointer x i) (Pointer y j))) (sym k.0) (choose true (negated (settled_equal m x i y j)) (negated_unequal (settled_equal m x i y j) h)))
-
-null_left : (sig : Signature) (ls : Locals) (m : Memory) (kind : Kind) (s : Symbol) (p : Predicate) (v : Operand) → equality p false ≡ Some v → Chooses (value_of sig ls v) (compared_pointers m p (Pointer Nowhere 0) (named kind s 0))
-null_left sig ls m (AFunction params result) s p v e = apart_choose sig ls m Nowhere (Code s) 0 0 (inr refl) p v e
-null_left sig ls m (AVariable k) s p v e = apart_choose sig ls m Nowhere (Cell k) 0 0 (unequal (is_at m k 0)) p v e
-null_left sig ls m (AHost host) s p v e = apart_choose sig ls m Nowhere (Code s) 0 0 (inr refl) p v e
-null_left sig ls m Missing s p v e = (0, inl refl)
-
-null_right : (sig : Signature) (ls : Locals) (m : Memory) (kind : Kind) (s : Symbol) (p : Predicate) (v : Operand) → equality p false ≡ Some v → Chooses (value_of sig ls v) (compared_pointers m p (named kind s 0) (Pointer Nowhere 0))
-null_right sig ls m (AFunction params result) s p v e = apart_choose sig ls m (Code s) Nowhere 0 0 (inr refl) p v e
-null_right sig ls m (AVariable k) s p v e = apart_choose sig ls m (Cell k) Nowhere 0 0 (unequal (is_at m k 0)) p v e
-null_right sig ls m (AHost host) s p v e = apart_choose sig ls m (Code s) Nowhere 0 0 (inr refl) p v e
-null_right sig ls m Missing s p v e = (0, inl refl)
+null_right : (sig : Signature) (ls : Locals) (m : Memory) (choice : ℕ) (kind : Kind) → ((number : ℕ) → kind ≡ AVariable number → Lives m number) →
+    (s : Symbol) (p : Predicate) (v : Operand) → equality p false ≡ Some v → Stands (value_of sig ls v) (compared_pointers m p (named kind s 0) (Pointer Nowhere 0) choice)
+null_right sig ls m choice (AFunction params result) live s p v e = settled_compared sig ls m choice (Code s) Nowhere 0 0 false refl p v e
+null_right sig ls m choice (AVariable k) live s p v e = settled_compared sig ls m choice (Cell k) Nowhere 0 0 false (start_lives m k (live k refl)) p v e
+null_right sig ls m choice (AHost host) live s p v e = settled_compared sig ls m choice (Code s) Nowhere 0 0 false refl p v e
+null_right sig ls m choice Missing live s p v e = inl refl
 
 offsets_settled : (m : Memory) (x : Base) (i j : ℕ) → settled_equal m x i x j ≡ Some (i == j)
 offsets_settled m x i j = ap (λ (t : Bool). if t then Some (i == j) else apart_equal m x i x j) (same_base x)
 
 offsets_compared : (sig : Signature) (ls : Locals) (m : Memory) (choice : ℕ) (x : Base) (i j : ℕ) (p : Predicate) (v : Operand) → equality p (i == j) ≡ Some v → Stands (value_of sig ls v) (compared_pointers m p (Pointer x i) (Pointer x j) choice)
-offsets_compared sig ls m choice x i j p v e = by (equality_is p (i == j) v e)
-  where
-    by : ((p ≡ Eq) × (truth (i == j) ≡ v)) ⊎ ((p ≡ Ne) × (truth (not (i == j)) ≡ v)) → Stands (value_of sig ls v) (compared_pointers m p (Pointer x i) (Pointer x j) choice)
-    by (inl k) = inr (ap (value_of sig ls) (sym k.1) ∙ sym (ap (λ (q : Predicate). compared_pointers m q (Pointer x i) (Pointer x j) choice) k.0 ∙ ap (λ (o : Option Bool). chosen o choice) (offsets_settled m x i j)))
-    by (inr k) = inr (ap (value_of sig ls) (sym k.1) ∙ sym (ap (λ (q : Predicate). compared_pointers m q (Pointer x i) (Pointer x j) choice) k.0 ∙ ap (λ (o : Option Bool). chosen (negated o) choice) (offsets_settled m x i j)))
+offsets_compared sig ls m choice x i j p v e = settled_compared sig ls m choice x x i j (i == j) (offsets_settled m x i j) p v e
 
 symbol_compared : (sig : Signature) (ls : Locals) (m : Memory) (choice : ℕ) (kind : Kind) (s : Symbol) (i j : ℕ) (p : Predicate) (v : Operand) → equality p (i == j) ≡ Some v → Stands (value_of sig ls v) (compared_pointers m p (named kind s i) (named kind s j) choice)
 symbol_compared sig ls m choice (AFunction params result) s i j p v e = offsets_compared sig ls m choice (Code s) i j p v e
@@ -189,45 +179,34 @@ symbol_compared sig ls m choice (AVariable k) s i j p v e = offsets_compared sig
 symbol_compared sig ls m choice (AHost host) s i j p v e = offsets_compared sig ls m choice (Code s) i j p v e
 symbol_compared sig ls m choice Missing s i j p v e = inl refl
 
--- an equality of addresses: of one symbol always, or of null and a symbol under some choice
-abbrev AddressRow : Signature → Locals → Memory → Predicate → Operand → Operand → Operand → Type 0
-AddressRow sig ls m p l r v =
-    ((one_symbol l r ≡ true) × (is_equality p ≡ true) × ((choice : ℕ) → Stands (value_of sig ls v) (compared_pointers m p (value_of sig ls l) (value_of sig ls r) choice)))
-    ⊎ ((compares_freely p Ptr l r ≡ true) × Chooses (value_of sig ls v) (compared_pointers m p (value_of sig ls l) (value_of sig ls r)))
-
--- an equality of operands that are neither one nor of one symbol
-is_free : (p : Predicate) (l r : Operand) → (is_poison l || is_poison r) ≡ false → (same l r || one_symbol l r) ≡ false → is_equality p ≡ true → compares_freely p Ptr l r ≡ true
-is_free p l r a b c =
-    ap (λ (t : Bool). not t && not (is_equality p && (same l r || one_symbol l r))) a ∙ ap (λ (t : Bool). true && not (is_equality p && t)) b ∙ ap (λ (t : Bool). true && not (t && false)) c
-
-one_symbol_row : (sig : Signature) (ls : Locals) (m : Memory) (p : Predicate) (s t : Symbol) (i j : ℕ) (v : Operand) → (if symbol_eq s t then equality p (i == j) else None) ≡ Some v → AddressRow sig ls m p (Named s i) (Named t j) v
-one_symbol_row sig ls m p s t i j v e = by (symbol_eq s t) refl e
+-- an equality of addresses: null and a symbol, or one symbol at two offsets
+one_symbol_row : (sig : Signature) (ls : Locals) (m : Memory) (choice : ℕ) (p : Predicate) (s t : Symbol) (i j : ℕ) (v : Operand) → (if symbol_eq s t then equality p (i == j) else None) ≡ Some v → Stands (value_of sig ls v) (compared_pointers m p (value_of sig ls (Named s i)) (value_of sig ls (Named t j)) choice)
+one_symbol_row sig ls m choice p s t i j v e = by (symbol_eq s t) refl e
   where
-    by : (b : Bool) → symbol_eq s t ≡ b → (if b then equality p (i == j) else None) ≡ Some v → AddressRow sig ls m p (Named s i) (Named t j) v
-    by true q e' =
-        inl (q, is_equality_of p (i == j) v e', λ choice. subst (λ (u : Symbol). Stands (value_of sig ls v) (compared_pointers m p (value_of sig ls (Named s i)) (value_of sig ls (Named u j)) choice)) (symbol_true s t q) (symbol_compared sig ls m choice (sig.kind s) s i j p v e'))
+    by : (b : Bool) → symbol_eq s t ≡ b → (if b then equality p (i == j) else None) ≡ Some v → Stands (value_of sig ls v) (compared_pointers m p (value_of sig ls (Named s i)) (value_of sig ls (Named t j)) choice)
+    by true q e' = subst (λ (u : Symbol). Stands (value_of sig ls v) (compared_pointers m p (value_of sig ls (Named s i)) (value_of sig ls (Named u j)) choice)) (symbol_true s t q) (symbol_compared sig ls m choice (sig.kind s) s i j p v e')
     by false q e' = absurd (cc e')
 
-address_row : (sig : Signature) (ls : Locals) (m : Memory) (p : Predicate) (l r v : Operand) → compared_addresses p Ptr l r ≡ Some v → AddressRow sig ls m p l r v
-address_row sig ls m p (Local x) r v e = absurd (cc e)
-address_row sig ls m p (Constant w n) r v e = absurd (cc e)
-address_row sig ls m p (PoisonOf reg) r v e = absurd (cc e)
-address_row sig ls m p Null (Local x) v e = absurd (cc e)
-address_row sig ls m p Null (Constant w n) v e = absurd (cc e)
-address_row sig ls m p Null Null v e = absurd (cc e)
-address_row sig ls m p Null (PoisonOf reg) v e = absurd (cc e)
-address_row sig ls m p Null (Named s zero) v e = inr (is_free p Null (Named s zero) refl refl (is_equality_of p false v e), null_left sig ls m (sig.kind s) s p v e)
-address_row sig ls m p Null (Named s (suc i)) v e = absurd (cc e)
-address_row sig ls m p (Named s zero) (Local x) v e = absurd (cc e)
-address_row sig ls m p (Named s zero) (Constant w n) v e = absurd (cc e)
-address_row sig ls m p (Named s zero) Null v e = inr (is_free p (Named s zero) Null refl refl (is_equality_of p false v e), null_right sig ls m (sig.kind s) s p v e)
-address_row sig ls m p (Named s zero) (PoisonOf reg) v e = absurd (cc e)
-address_row sig ls m p (Named s zero) (Named t j) v e = one_symbol_row sig ls m p s t zero j v e
-address_row sig ls m p (Named s (suc i)) (Local x) v e = absurd (cc e)
-address_row sig ls m p (Named s (suc i)) (Constant w n) v e = absurd (cc e)
-address_row sig ls m p (Named s (suc i)) Null v e = absurd (cc e)
-address_row sig ls m p (Named s (suc i)) (PoisonOf reg) v e = absurd (cc e)
-address_row sig ls m p (Named s (suc i)) (Named t j) v e = one_symbol_row sig ls m p s t (suc i) j v e
+address_row : (sig : Signature) (ls : Locals) (m : Memory) → VariablesLive sig m → (choice : ℕ) (p : Predicate) (l r v : Operand) → compared_addresses p Ptr l r ≡ Some v → Stands (value_of sig ls v) (compared_pointers m p (value_of sig ls l) (value_of sig ls r) choice)
+address_row sig ls m live choice p (Local x) r v e = absurd (cc e)
+address_row sig ls m live choice p (Constant w n) r v e = absurd (cc e)
+address_row sig ls m live choice p (PoisonOf reg) r v e = absurd (cc e)
+address_row sig ls m live choice p Null (Local x) v e = absurd (cc e)
+address_row sig ls m live choice p Null (Constant w n) v e = absurd (cc e)
+address_row sig ls m live choice p Null Null v e = absurd (cc e)
+address_row sig ls m live choice p Null (PoisonOf reg) v e = absurd (cc e)
+address_row sig ls m live choice p Null (Named s zero) v e = null_left sig ls m choice (sig.kind s) (live s) s p v e
+address_row sig ls m live choice p Null (Named s (suc i)) v e = absurd (cc e)
+address_row sig ls m live choice p (Named s zero) (Local x) v e = absurd (cc e)
+address_row sig ls m live choice p (Named s zero) (Constant w n) v e = absurd (cc e)
+address_row sig ls m live choice p (Named s zero) Null v e = null_right sig ls m choice (sig.kind s) (live s) s p v e
+address_row sig ls m live choice p (Named s zero) (PoisonOf reg) v e = absurd (cc e)
+address_row sig ls m live choice p (Named s zero) (Named t j) v e = one_symbol_row sig ls m choice p s t zero j v e
+address_row sig ls m live choice p (Named s (suc i)) (Local x) v e = absurd (cc e)
+address_row sig ls m live choice p (Named s (suc i)) (Constant w n) v e = absurd (cc e)
+address_row sig ls m live choice p (Named s (suc i)) Null v e = absurd (cc e)
+address_row sig ls m live choice p (Named s (suc i)) (PoisonOf reg) v e = absurd (cc e)
+address_row sig ls m live choice p (Named s (suc i)) (Named t j) v e = one_symbol_row sig ls m choice p s t (suc i) j v e
 
 -- ---- all rows
 
@@ -262,44 +241,41 @@ integers_stand sig ls m choice p w l r v e = by (which_row p (Int w) l r v e)
         subst (λ (o : Operand). Stands (value_of sig ls o) (compares m choice p (Int w) (value_of sig ls l) (value_of sig ls r))) k.1 (subst (λ (u : Value). Stands (bit (is_reflexive p)) (compares m choice p (Int w) (value_of sig ls l) u)) (same_is sig ls l r k.0) (numbers_same p w (bits_of w (value_of sig ls l))))
     by (inr (inr (inr e'))) = absurd (cc e')
 
--- an equality that isn't free, of operands that aren't poison
-equality_of : (p : Predicate) (l r : Operand) → (is_poison l || is_poison r) ≡ false → compares_freely p Ptr l r ≡ false → is_equality p ≡ true
-equality_of p l r a h = by (is_equality p) refl
+left_false : (x y : Bool) → (x || y) ≡ false → x ≡ false
+left_false false y e = refl
+left_false true y e = absurd (cc e)
+
+-- a comparison of a pointer with itself that isn't free is an equality
+equality_of : (p : Predicate) (l r : Operand) → is_poison l ≡ false → same l r ≡ true → compares_freely p Ptr l r ≡ false → is_equality p ≡ true
+equality_of p l r a s h = by (is_equality p) refl
   where
     by : (t : Bool) → is_equality p ≡ t → is_equality p ≡ true
     by true q = q
     by false q =
-        let free : compares_freely p Ptr l r ≡ true = ap (λ (t : Bool). not t && not (is_equality p && (same l r || one_symbol l r))) a ∙ ap (λ (t : Bool). true && not (t && (same l r || one_symbol l r))) q in
+        let free : compares_freely p Ptr l r ≡ true =
+        ap (λ (t : Bool). not t && same l r && not (is_poison l)) q ∙ ap (λ (t : Bool). true && t && not (is_poison l)) s ∙ ap (λ (t : Bool). true && true && not t) a in
         absurd (cc (sym free ∙ h))
 
-pub pointers_stand : (sig : Signature) (ls : Locals) (m : Memory) (choice : ℕ) (p : Predicate) (l r v : Operand) → comparison_rule p Ptr l r ≡ Some v → compares_freely p Ptr l r ≡ false → Stands (value_of sig ls v) (compares m choice p Ptr (value_of sig ls l) (value_of sig ls r))
-pointers_stand sig ls m choice p l r v e h = by_poison (is_poison l || is_poison r) refl
+pub pointers_stand : (sig : Signature) (ls : Locals) (m : Memory) → VariablesLive sig m → (choice : ℕ) (p : Predicate) (l r v : Operand) → comparison_rule p Ptr l r ≡ Some v → compares_freely p Ptr l r ≡ false → Stands (value_of sig ls v) (compares m choice p Ptr (value_of sig ls l) (value_of sig ls r))
+pointers_stand sig ls m live choice p l r v e h = by_poison (is_poison l || is_poison r) refl
   where
     by : (is_poison l || is_poison r) ≡ false → WhichRow p Ptr l r v → Stands (value_of sig ls v) (compares m choice p Ptr (value_of sig ls l) (value_of sig ls r))
     by a (inl e') = absurd (cc e')
     by a (inr (inl t)) = inl (poison_either sig ls m choice p Ptr l r t)
     by a (inr (inr (inl k))) =
-        subst (λ (o : Operand). Stands (value_of sig ls o) (compares m choice p Ptr (value_of sig ls l) (value_of sig ls r))) k.1 (subst (λ (u : Value). Stands (bit (is_reflexive p)) (compares m choice p Ptr (value_of sig ls l) u)) (same_is sig ls l r k.0) (pointers_same m p choice (value_of sig ls l) (equality_of p l r a h)))
-    by a (inr (inr (inr e'))) = by_row (address_row sig ls m p l r v e')
-      where
-        by_row : AddressRow sig ls m p l r v → Stands (value_of sig ls v) (compares m choice p Ptr (value_of sig ls l) (value_of sig ls r))
-        by_row (inl k) = k.2 choice
-        by_row (inr k) = absurd (cc (sym k.0 ∙ h))
+        subst (λ (o : Operand). Stands (value_of sig ls o) (compares m choice p Ptr (value_of sig ls l) (value_of sig ls r))) k.1 (subst (λ (u : Value). Stands (bit (is_reflexive p)) (compares m choice p Ptr (value_of sig ls l) u)) (same_is sig ls l r k.0) (pointers_same m p choice (value_of sig ls l) (equality_of p l r (left_false (is_poison l) (is_poison r) a) k.0 h)))
+    by a (inr (inr (inr e'))) = address_row sig ls m live choice p l r v e'
 
     by_poison : (t : Bool) → (is_poison l || is_poison r) ≡ t → Stands (value_of sig ls v) (compares m choice p Ptr (value_of sig ls l) (value_of sig ls r))
     by_poison true t = inl (poison_either sig ls m choice p Ptr l r t)
     by_poison false a = by a (which_row p Ptr l r v e)
 
-pub pointers_may : (sig : Signature) (ls : Locals) (m : Memory) (p : Predicate) (l r v : Operand) → comparison_rule p Ptr l r ≡ Some v → Chooses (value_of sig ls v) (compared_pointers m p (value_of sig ls l) (value_of sig ls r))
-pointers_may sig ls m p l r v e = by (which_row p Ptr l r v e)
+pub pointers_may : (sig : Signature) (ls : Locals) (m : Memory) → VariablesLive sig m → (p : Predicate) (l r v : Operand) → comparison_rule p Ptr l r ≡ Some v → Chooses (value_of sig ls v) (compared_pointers m p (value_of sig ls l) (value_of sig ls r))
+pointers_may sig ls m live p l r v e = by (which_row p Ptr l r v e)
   where
     by : WhichRow p Ptr l r v → Chooses (value_of sig ls v) (compared_pointers m p (value_of sig ls l) (value_of sig ls r))
     by (inl e') = absurd (cc e')
     by (inr (inl t)) = (0, inl (poison_either sig ls m 0 p Ptr l r t))
     by (inr (inr (inl k))) =
         subst (λ (o : Operand). Chooses (value_of sig ls o) (compared_pointers m p (value_of sig ls l) (value_of sig ls r))) k.1 (subst (λ (u : Value). Chooses (bit (is_reflexive p)) (compared_pointers m p (value_of sig ls l) u)) (same_is sig ls l r k.0) (pointers_choose m p (value_of sig ls l)))
-    by (inr (inr (inr e'))) = by_row (address_row sig ls m p l r v e')
-      where
-        by_row : AddressRow sig ls m p l r v → Chooses (value_of sig ls v) (compared_pointers m p (value_of sig ls l) (value_of sig ls r))
-        by_row (inl k) = (0, k.2 0)
-        by_row (inr k) = k.1
+    by (inr (inr (inr e'))) = (0, address_row sig ls m live 0 p l r v e')

@@ -1,5 +1,5 @@
 -- Some rows of the rule table, and what a load of a stored value gives.
-use Rattle.std.proofs.Common.{◌≡◌, ℕ, zero, suc, ◌+◌, ◌*◌, ◌/◌, ◌%◌, ◌^◌, ◌<◌, Bool, true, false, ◌&&◌, ◌==◌, nat_lt, if◌then◌else◌, List, [], ◌∷◌, replicate, Option, Some, None, inl, inr, refl, sym, ap, ◌∙◌, subst, arith, mod-eq_of_lt, pow_pos, pow-add, pow-suc, add-zero}
+use Rattle.std.proofs.Common.{◌≡◌, ℕ, zero, suc, ◌+◌, ◌*◌, ◌/◌, ◌%◌, ◌^◌, ◌<◌, Bool, true, false, ◌&&◌, ◌==◌, nat_lt, if◌then◌else◌, List, replicate, Option, Some, None, inl, inr, refl, sym, ap, ◌∙◌, subst, arith, mod-eq_of_lt, pow_pos, pow-add, pow-suc, add-zero}
 use Rattle.std.proofs.lemmas.Bool.{and_from, ltb-true, lt-ltb, eq-eqb}
 use Rattle.ir_tree.specs.declared.instr.BinaryOp.TheVariants.{Add}
 use Rattle.ir_tree.specs.declared.instr.Flags.{Flags}
@@ -158,12 +158,12 @@ folded_gives m place c a e = subst (λ (x : Answer). GivesFor m place (Number c)
 
 pub rows : RuleRows
 rows = record {
-  add_zero = λ f w x sig input m place choice ls. (add_stands f w (value_of sig ls x), refl, refl, refl);
-  equal_same = λ reg x sig input m place choice ls. (equal_values m choice reg (value_of sig ls x), refl, refl, refl);
-  select_same = λ c x sig input m place choice ls.
+  add_zero = λ f w x sig input m place choice ls live. (add_stands f w (value_of sig ls x), refl, refl, refl);
+  equal_same = λ reg x sig input m place choice ls live. (equal_values m choice reg (value_of sig ls x), refl, refl, refl);
+  select_same = λ c x sig input m place choice ls live.
       (select_stands (bits_of 1 (value_of sig ls c)) (value_of sig ls x.operand), refl, refl, refl);
-  freeze_poison = λ w reg sig input m place ls. (0, (inr (ap Number (sym (mod-eq_of_lt (pow_pos w)))), refl, refl, refl));
-  folded = λ op f w a b c e sig input m place choice ls. folded_gives m place c _ e;
+  freeze_poison = λ w reg sig input m place ls live. (0, (inr (ap Number (sym (mod-eq_of_lt (pow_pos w)))), refl, refl, refl));
+  folded = λ op f w a b c e sig input m place choice ls live. folded_gives m place c _ e;
   read_back = λ reg s v. back reg s v;
 }
   where

@@ -7,7 +7,7 @@ use Rattle.ir_meaning.specs.Fault.{Undefined}
 use Rattle.ir_meaning.specs.Frame.{Frame, Signature}
 use Rattle.ir_meaning.specs.Memory.{Memory}
 use Rattle.ir_meaning.specs.Near.{Setting, FailsWithin, Fails, Answers, Against, GoesOn, CallsToo, GivesToo, IsAnswered, Near, Replaces, IsBetter}
-use Rattle.ir_meaning.specs.Program.{Program, State, Next, On, Done, Broken, Failure, place_of, Took, back, go_in, advance, step, Leads}
+use Rattle.ir_meaning.specs.Program.{Program, variables, State, Next, On, Done, Broken, Failure, place_of, Took, back, go_in, advance, step, Leads}
 use Rattle.ir_meaning.specs.Relate.{Point, Kept, ValuesAgree}
 use Rattle.ir_meaning.specs.declared.event.Event.{Event}
 use Rattle.ir_meaning.specs.declared.fault.Place.{Place}
@@ -59,7 +59,7 @@ abbrev pub Waits : Setting → ℕ → Point → Point → List Frame → List F
 Waits z n first entry [] rights = (entry ≡ first) × (rights ≡ [])
 Waits z n first entry (waiting ∷ below) rights =
     (entry' : Point) × (waiting' : Frame) × (own : List Frame) × (rest : List Frame) × (rights ≡ waiting' ∷ (own ++ rest)) ×
-    GoesOn (Near z n entry') entry waiting waiting' own × Waits z n first entry' below rest
+    GoesOn (variables z.program) (Near z n entry') entry waiting waiting' own × Waits z n first entry' below rest
 
 pub waits_less : (z : Setting) (m n : ℕ) (first entry : Point) (below rights : List Frame) → m ≤ n →
     Waits z n first entry below rights → Waits z m first entry below rights
@@ -85,17 +85,17 @@ pub record Sim (z : Setting) (n : ℕ) (first : Point) (left right : State) : Ty
   pub waits : Waits z n first entry left.below rest
 
 -- both have returned
-pub record SameEnd (first : Point) (answer answer' : Option Value) (memory memory' : Memory) (place place' : ℕ) : Type 0 where
+pub record SameEnd (g : ℕ) (first : Point) (answer answer' : Option Value) (memory memory' : Memory) (place place' : ℕ) : Type 0 where
   pub point : Point
   pub left : point.left ≡ memory
   pub right : point.right ≡ memory'
   pub place_is : place ≡ place'
-  pub kept : Kept first point
+  pub kept : Kept g first point
   pub agree : ValuesAgree point answer answer'
 
 abbrev pub SameNext : Setting → ℕ → Point → Next → Next → Type 0
 SameNext z n first (On l) (On r) = Sim z n first l r
-SameNext z n first (Done v m place) (Done v' m' place') = SameEnd first v v' m m' place place'
+SameNext z n first (Done v m place) (Done v' m' place') = SameEnd (variables z.program) first v v' m m' place place'
 SameNext z n first _ _ = ⊥
 
 pub record Advances (z : Setting) (n : ℕ) (first : Point) (right : State) (t : Took) : Type 0 where
@@ -216,7 +216,7 @@ both_back z n first entry place own rest answer memory [] t same waits =
         left = t.left;
         right = refl;
         place_is = same;
-        kept = subst (λ (e : Point). Kept e t.point) waits.0 t.kept;
+        kept = subst (λ (e : Point). Kept (variables z.program) e t.point) waits.0 t.kept;
         agree = t.agree;
       };
     })

@@ -7,7 +7,7 @@ use Rattle.ir_meaning.specs.Memory.{MemoryBlock, Memory}
 use Rattle.ir_meaning.specs.Near.{Setting, Fails, Answers, Replaces, IsBetter}
 use Rattle.ir_meaning.specs.Program.{Program, variables, State, Next, On, Done, Broken, Failure, Took, step, After, Leads}
 use Rattle.ir_meaning.specs.Refine.{own_names, SameCell, MayStandFor, AnswerMayStandFor, SameEnding, Matched, RefinesFrom}
-use Rattle.ir_meaning.specs.Relate.{Pairing, Point, Fixes, Related, Kept, SameBase, SameByte, SameBytes, SameBlock, Agrees, AllAgree, ValuesAgree}
+use Rattle.ir_meaning.specs.Relate.{Pairing, Point, Fixes, Related, SameBase, SameByte, SameBytes, SameBlock, Agrees, AllAgree, ValuesAgree}
 use Rattle.ir_meaning.specs.Run.{Ending, Running, Returned, Failed, Ran, run_on, run, start_of}
 use Rattle.ir_meaning.specs.declared.event.Event.{Event}
 use Rattle.ir_meaning.specs.declared.value.Base.{Base}
@@ -18,6 +18,7 @@ use Rattle.ir_meaning.specs.declared.value.Value.{Value}
 use Rattle.ir_meaning.specs.declared.value.Value.TheVariants.{Number, Pointer, Poison}
 use Rattle.ir_better.specs.Formed.{IsInside, ByteIsInside, BytesAreInside, MemoryIsInside, OpensInside}
 use Rattle.ir_better.specs.Laws.{Congruence}
+use Rattle.ir_better.proofs.Alike.Keeping.{kept_fixes}
 use Rattle.ir_better.proofs.Runs.Stacks.{Sim, SameNext, Meets, sim_step}
 use Rattle.ir_better.proofs.Runs.Steps.{leads_trans}
 
@@ -112,12 +113,6 @@ answer_same g q fix rel None None a = tt
 answer_same g q fix rel (Some v) (Some v') a = value_same g q fix rel v v' a
 answer_same g q fix rel None (Some v') a = absurd a
 answer_same g q fix rel (Some v) None a = absurd a
-
-kept_fixes : (g : ℕ) (p q : Point) → Fixes g p → Kept p q → Fixes g q
-kept_fixes g p q f k = record {
-  variables = omega (arith, f.variables, k.grown);
-  stay = λ l lt. k.extends l (omega (arith, f.variables)) ∙ f.stay l lt;
-}
 
 -- the run is answered by steps
 record ByLeads (p : Program) (input : List ℕ) (s : State) (ran : Ran) : Type 0 where
@@ -258,12 +253,12 @@ same_blocks n (x ∷ m) h (suc l) b e = same_blocks n m h.1 l b e
 abbrev opening_point : Program → Point
 opening_point p = record { pairing = λ l. l; left = p.opening; right = p.opening }
 
-opens_fixed : (p : Program) → Fixes (variables p) (opening_point p)
-opens_fixed p = record { variables = omega arith; stay = λ l lt. refl }
+opens_fixed : (p : Program) → OpensInside p → Fixes (variables p) (opening_point p)
+opens_fixed p h = record { variables = omega arith; stay = λ l lt. refl; alive = h.alive }
 
 opens : (p : Program) → OpensInside p → Related (opening_point p)
 opens p h = record {
-  blocks = λ l b e. (b, e, same_blocks (length p.opening) p.opening h l b e);
+  blocks = λ l b e. (b, e, same_blocks (length p.opening) p.opening h.inside l b e);
   one_to_one = λ l m a b e. e;
 }
 
@@ -283,10 +278,10 @@ from_start q p bound inside better arguments (Some f) (Some g) r =
     let e = opening_point p in
     let left : State = record { top = enter f vs; below = []; memory = p.opening; place = 0 } in
     let right : State = record { top = enter g vs; below = []; memory = p.opening; place = 0 } in
-    let near = r input (length choices) e vs vs 0 (opens p inside) (opens_fixed p) (numbers_agree e.pairing (length p.opening) arguments) in
+    let near = r input (length choices) e vs vs 0 (opens p inside) (opens_fixed p inside) (numbers_agree e.pairing (length p.opening) arguments) in
     let s : Sim z (length choices) e left right =
     record { entry = e; own = right; rest = []; is = refl; place = refl; near = near; waits = (refl, refl) } in
-    matched p input right (run q input choices left) (sim_run q z better e (opens_fixed p) choices left right s)
+    matched p input right (run q input choices left) (sim_run q z better e (opens_fixed p inside) choices left right s)
 from_start q p bound inside better arguments None (Some g) r = absurd r
 from_start q p bound inside better arguments (Some f) None r = absurd r
 

@@ -66,13 +66,13 @@ SlotIs entry p v reg (Pointer (Cell r) zero) = (x : MemoryBlock) × (slice_get p
     (length entry.right ≤ r) × (length x.bytes ≡ reg_size reg) × AnswerAgrees p.pairing (length p.left) (Is v) (read reg x.bytes)
 SlotIs entry p v reg _ = ⊥
 
-pub read_later : (p q : Point) → Kept p q → (v : Value) (x : Answer) → AnswerAgrees p.pairing (length p.left) (Is v) x →
+pub read_later : {g : ℕ} (p q : Point) → Kept g p q → (v : Value) (x : Answer) → AnswerAgrees p.pairing (length p.left) (Is v) x →
     AnswerAgrees q.pairing (length q.left) (Is v) x
 read_later p q k v (Is u) a = value_later p q k v u a
 read_later p q k v (Never why) a = tt
 read_later p q k v Unwritten a = tt
 
-pub slot_later : (entry p q : Point) → Kept p q → (v : Value) (reg : Reg) (u : Value) → SlotIs entry p v reg u → SlotIs entry q v reg u
+pub slot_later : {g : ℕ} (entry p q : Point) → Kept g p q → (v : Value) (reg : Reg) (u : Value) → SlotIs entry p v reg u → SlotIs entry q v reg u
 slot_later entry p q k v reg Poison s = tt
 slot_later entry p q k v reg (Pointer (Cell r) zero) s =
     let y = k.private r s.0 s.1 s.2 in

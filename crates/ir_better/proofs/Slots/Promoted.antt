@@ -18,7 +18,7 @@ use Rattle.ir_tree.specs.declared.operand.Operand.{Operand}
 use Rattle.ir_tree.specs.declared.operand.Operand.TheVariants.{Local, Number as Constant, Null, Poison as PoisonOf, Symbol as Named}
 use Rattle.ir_tree.specs.declared.operand.Reg.{Reg}
 use Rattle.ir_meaning.specs.Access.{store_cause, load, reaches, overwritten, store_in, store}
-use Rattle.ir_meaning.specs.Act.{Act, Goes, with_slot, apply, incoming_value, phis_bound, find_block, enters_block, jumps, Exit, Leaves, Leads', Stuck, exit_of, exits, act, params_bound, enter_at, enter, resume}
+use Rattle.ir_meaning.specs.Act.{Act, Goes, apply, incoming_value, phis_bound, find_block, enters_block, jumps, Exit, Leaves, Leads', Stuck, exit_of, exits, act, params_bound, enter_at, enter, resume}
 use Rattle.ir_meaning.specs.Bytes.{reg_size, stored_bytes, read}
 use Rattle.ir_meaning.specs.Execute.{evaluate, execute, stores}
 use Rattle.ir_meaning.specs.Fault.{Undefined}
@@ -39,7 +39,7 @@ use Rattle.ir_better.specs.Formed.{IsFormed}
 use Rattle.ir_better.specs.Laws.{PromotedBetter}
 use Rattle.ir_better.specs.Promote.{chosen_value, Current, Use, Makes, Writes, Fetches, Other, Plan, changed, behind, put, lines_promoted, behind_all, block_promoted, blocks_promoted, promoted, LocalFree, LineRight, LinesRight, AreNew, BlockRight as PlanBlock, BlocksRight as PlanBlocks, ParamsFree, PlanRight}
 use Rattle.ir_better.proofs.Alike.Answering.{near_by, bounded, answered_after, alone, answered_effects, answered_return, answered_go, answered_fails, breaks_at_once, bind_agrees, phis_agree, EndReads, ExitsAgree, exit_agrees, names_of, act_at_line, act_at_end}
-use Rattle.ir_better.proofs.Alike.Effects.{locals_later, evaluate_agrees, reads_agree, SlotAgrees, EffectsAlike, execute_alike, gives_alike}
+use Rattle.ir_better.proofs.Alike.Effects.{locals_later, evaluate_agrees, reads_agree, EffectsAlike, execute_alike, gives_alike}
 use Rattle.ir_better.proofs.Alike.Keeping.{get_set_same, kept_refl, kept_trans, kept_fixes, get_append_new}
 use Rattle.ir_better.proofs.Alike.Values.{LocalsAgree, if_agrees, value_of_agrees, AnswerAgrees}
 use Rattle.ir_better.proofs.Between.Points.{lands}
@@ -47,7 +47,7 @@ use Rattle.ir_better.proofs.Facts.Known.{resume_is, target_in}
 use Rattle.ir_better.proofs.Facts.Phis.{phi_value, phi_none}
 use Rattle.ir_better.proofs.Rules.Rows.{rows}
 use Rattle.ir_better.proofs.Runs.Steps.{one_step, leads_trans}
-use Rattle.ir_better.proofs.Unneeded.Dropped.{kept_right, right_more_kept, right_dead_kept, SlotsKin, kin_later, kin_right, kin_killed, bind_other}
+use Rattle.ir_better.proofs.Unneeded.Dropped.{kept_right, right_more_kept, right_dead_kept, SlotsKin, kin_later, kin_right, kin_killed, kin_more, bind_other}
 use Rattle.ir_better.proofs.Slots.Contents.{stored_length, all_new, unset_read, storable_some, stands_agrees, SlotIs, slot_later, slot_beside, slot_within, slot_load}
 
 -- ---- locals
@@ -146,7 +146,7 @@ module _ (z : Setting) (formed : IsFormed z.program) (f : Function) (t : Plan) (
   Held entry p c ls rs = (x : ℕ) → t.slot x ≡ true → SlotIs entry p (value_of z.program.signature ls (c x)) (t.reg x) (look_up rs x)
 
   record Pro (entry p : Point) (a b : Frame) (c : Current) : Type 0 where
-    kept : Kept entry p
+    kept : Kept (variables z.program) entry p
     fixes : Fixes (variables z.program) entry
     function : a.function ≡ promoted t f
     function' : b.function ≡ f
@@ -194,7 +194,7 @@ module _ (z : Setting) (formed : IsFormed z.program) (f : Function) (t : Plan) (
   -- ---- a step of the program alone
 
   gone : (entry p : Point) (a b : Frame) (c : Current) (m' : Memory) → Pro entry p a b c → (line : Line) (rest : List Line) → b.rest ≡ line ∷ rest → (u : Use) →
-      t.uses line ≡ u → ((l : List Line) → put t.reg u c line l ≡ l) → Kept entry (record { pairing = p.pairing; left = p.left; right = m' }) → (lb : Locals) →
+      t.uses line ≡ u → ((l : List Line) → put t.reg u c line l ≡ l) → Kept (variables z.program) entry (record { pairing = p.pairing; left = p.left; right = m' }) → (lb : Locals) →
       LocalsAgree t.keeps p.pairing (length p.left) a.locals lb → (ss : List ℕ) → SlotsKin entry (record { pairing = p.pairing; left = p.left; right = m' }) a.slots ss →
       Held entry (record { pairing = p.pairing; left = p.left; right = m' }) (behind t.reg u c) a.locals lb → Apart lb →
       Pro entry (record { pairing = p.pairing; left = p.left; right = m' }) a (record b { rest = rest; locals = lb; slots = ss }) (behind t.reg u c)
@@ -294,7 +294,7 @@ module _ (z : Setting) (formed : IsFormed z.program) (f : Function) (t : Plan) (
       (evaluate (value_of sg b.locals) (Alloca r.3 r.4)))) r.1 in
       let one = one_step z.program z.input (alone b p.right place) 0 (record { events = []; next = On (alone b' m' place) })
       (ap (advance z.program (place_of b) [] p.right place) is) in
-      let kp = right_more_kept p k.kept.related new in
+      let kp = right_more_kept {g = variables z.program} p k.kept.related new in
       let longer = length-append p.right (new ∷ []) in
       let unpaired : IsUnpaired q n = λ l lt s. absurd (omega (arith, lands p k.kept.related l lt)) in
       let l = bind_other t.keeps p.pairing (length p.left) (Some x) (Some (Pointer (Cell n) 0)) a.locals b.locals (plan.hidden x r.0) k.locals in
@@ -448,12 +448,12 @@ module _ (z : Setting) (formed : IsFormed z.program) (f : Function) (t : Plan) (
       h x y r sx sy ne (sym (bind_beside (Some w) v rs x (λ i. apart_from t.slot w x free.0 sx (cc i))) ∙ ex)
       (sym (bind_beside (Some w) v rs y (λ i. apart_from t.slot w y free.0 sy (cc i))) ∙ ey)
 
-  held_later : (entry p q : Point) → Kept p q → (c : Current) (ls rs : Locals) → Held entry p c ls rs → Held entry q c ls rs
+  held_later : (entry p q : Point) → Kept (variables z.program) p q → (c : Current) (ls rs : Locals) → Held entry p c ls rs → Held entry q c ls rs
   held_later entry p q k c ls rs h x s = slot_later entry p q k (value_of z.program.signature ls (c x)) (t.reg x) (look_up rs x) (h x s)
 
   -- both sides behind an instruction that stays, later
   after : (entry p q : Point) (a b : Frame) (c : Current) → Pro entry p a b c → (line : Line) (rest : List Line) → b.rest ≡ line ∷ rest → LinesRight t c rest →
-      ((x : ℕ) → behind_all t c rest x ≡ t.ends b.block x) → LocalFree t c line.local → Kept p q → (v v' : Option Value) → LocalsAgree t.keeps q.pairing (length q.left)
+      ((x : ℕ) → behind_all t c rest x ≡ t.ends b.block x) → LocalFree t c line.local → Kept (variables z.program) p q → (v v' : Option Value) → LocalsAgree t.keeps q.pairing (length q.left)
       (bind line.local v a.locals) (bind line.local v' b.locals) → (ls rs : List ℕ) → SlotsKin entry q ls rs → (o o' : Option ℕ) →
       Pro entry q (record a { rest = lines_promoted t c rest; locals = bind line.local v a.locals; slots = ls; awaits = o })
       (record b { rest = rest; locals = bind line.local v' b.locals; slots = rs; awaits = o' }) c
@@ -476,13 +476,6 @@ module _ (z : Setting) (formed : IsFormed z.program) (f : Function) (t : Plan) (
     apart = apart_bound c line.local free v' b.locals k.apart;
   }
 
-  slots_more : (entry q : Point) (slot slot' : Option ℕ) (ls rs : List ℕ) → SlotAgrees q slot slot' → SlotsKin entry q ls rs → SlotsKin entry q (with_slot slot ls)
-      (with_slot slot' rs)
-  slots_more entry q None None ls rs a h = h
-  slots_more entry q (Some l) (Some r) ls rs a h = inl (l, ls, refl, a.0, a.1, h)
-  slots_more entry q None (Some r) ls rs a h = absurd a
-  slots_more entry q (Some l) None ls rs a h = absurd a
-
   -- an instruction that stays, with alike effects
   both_sides : (entry p : Point) (a b : Frame) (place choice choice' : ℕ) (c : Current) → Pro entry p a b c → (line line' : Line) (rest : List Line) →
       line'.local ≡ line.local → a.rest ≡ line' ∷ lines_promoted t c rest → b.rest ≡ line ∷ rest → LinesRight t c rest →
@@ -499,7 +492,7 @@ module _ (z : Setting) (formed : IsFormed z.program) (f : Function) (t : Plan) (
       let r = answered_effects (bounded z 1) (omega arith) (Holds entry) entry p k.kept fix' a' b b' line.local line.local place choice' x (execute sg z.input p.right place
       choice' (evaluate (value_of sg b.locals) line.instr)) (act_at_line sg z.input b p.right place choice' line rest e) alike
       (λ q v v' slot slot' place' kq agree slots'. holds entry q _ _ place' c (after entry p q a b c k line rest e lines ends free kq v v' (bind_agrees t.keeps q line.local
-      v v' a.locals b.locals agree (locals_later p q kq t.keeps a.locals b.locals k.locals)) _ _ (slots_more entry q slot slot' a.slots b.slots slots'
+      v v' a.locals b.locals agree (locals_later p q kq t.keeps a.locals b.locals k.locals)) _ _ (kin_more entry p q k.kept slot slot' a.slots b.slots slots'
       (kin_later entry p q kq a.slots b.slots k.slots)) a.awaits b.awaits))
       (λ q v v' place' kq agree.
       let h = after entry p q a b c k line rest e lines ends free kq v v' (bind_agrees t.keeps q line.local v v' a.locals b.locals agree
@@ -613,7 +606,7 @@ module _ (z : Setting) (formed : IsFormed z.program) (f : Function) (t : Plan) (
       (breaks_at_once (bounded z 1) (omega arith) b p.right place choice _ is) (exits z.program.signature a p.left place x)
   at_exit entry p a b place choice c k e (Leaves v) (Leaves u) q h is =
       let pt : Point = record { pairing = p.pairing; left = kill a.slots p.left; right = kill b.slots p.right } in
-      answered_return (bounded z 1) (omega arith) (Holds entry) entry p pt (kin_killed b.slots a.slots entry p k.kept k.slots) b place choice v u is
+      answered_return (bounded z 1) (omega arith) (Holds entry) entry p pt (kin_killed (variables z.program) b.slots a.slots entry p k.fixes k.kept k.slots) b place choice v u is
       (subst (λ (n : ℕ). AnswersAgree p.pairing n v u) (sym (size a.slots p.left)) h)
     where
       ended_size : (m : Memory) (l : ℕ) (o : Option MemoryBlock) → length (end_life m l o) ≡ length m

@@ -29,7 +29,7 @@ use Rattle.ir_better.specs.Laws.{NeededBetter}
 use Rattle.ir_better.specs.Needed.{is_effect, local_kept, is_needed, needed_lines, needed_phis, needed_block, needed_blocks, needed, LinesClosed, BlockClosed, BlocksClosed}
 use Rattle.ir_better.proofs.Alike.Answering.{near_by, phi_agrees, bounded, answered_after, alone, answered_effects, answered_return, answered_go, answered_fails, breaks_at_once, bind_agrees, PhisKept, EndReads, ExitsAgree, exit_agrees, names_of, act_at_line, act_at_end}
 use Rattle.ir_better.proofs.Alike.Effects.{locals_later, evaluate_agrees, reads_agree, SlotAgrees, execute_alike}
-use Rattle.ir_better.proofs.Alike.Keeping.{get_set_other, get_append_old, marks_same, kept_refl, kept_trans, kept_fixes, updated, update_kept}
+use Rattle.ir_better.proofs.Alike.Keeping.{get_set_other, get_append_old, marks_same, kept_refl, kept_trans, kept_fixes, fixes_right, updated, update_kept}
 use Rattle.ir_better.proofs.Alike.Values.{LocalsAgree, Names, if_agrees}
 use Rattle.ir_better.proofs.Between.Points.{lands, block_of, block_here, Found, inverse}
 use Rattle.ir_better.proofs.Runs.Steps.{one_step, leads_trans}
@@ -37,7 +37,7 @@ use Rattle.ir_better.proofs.Runs.Steps.{one_step, leads_trans}
 -- ---- the program's own blocks
 
 -- no block of the program goes away
-pub kept_right : (p q : Point) → Kept p q → length p.right ≤ length q.right
+pub kept_right : {g : ℕ} (p q : Point) → Kept g p q → length p.right ≤ length q.right
 kept_right p q k = by (length p.right) (λ n lt. last n lt (inverse p.pairing (length p.left) n))
   where
     last : (n : ℕ) → n < length p.right → Found p.pairing (length p.left) n → n < length q.right
@@ -53,8 +53,8 @@ kept_right p q k = by (length p.right) (λ n lt. last n lt (inverse p.pairing (l
     by zero h = omega arith
     by (suc m) h = let x = h m (omega arith) in omega arith
 
-pub right_more_kept : (p : Point) → Related p → (x : MemoryBlock) →
-    Kept p (record { pairing = p.pairing; left = p.left; right = p.right ++ x ∷ [] })
+pub right_more_kept : {g : ℕ} (p : Point) → Related p → (x : MemoryBlock) →
+    Kept g p (record { pairing = p.pairing; left = p.left; right = p.right ++ x ∷ [] })
 right_more_kept p rel x = record {
   related = record {
     blocks = λ l b e. let y = rel.blocks l b e in
@@ -65,12 +65,13 @@ right_more_kept p rel x = record {
   extends = λ l lt. refl;
   marks = λ l b e. (b, e, marks_same b);
   ended = λ r b e d. (b, get_append_old p.right (x ∷ []) r (slice_get_within p.right r b e) ∙ e, d);
+  alive = λ r lt a. (a.0, get_append_old p.right (x ∷ []) r (slice_get_within p.right r a.0 a.1) ∙ a.1, a.2);
   private = λ r b e u. (get_append_old p.right (x ∷ []) r (slice_get_within p.right r b e) ∙ e, u);
 }
 
 -- a block of the program alone, made since the entry, dies
-pub right_dead_kept : (entry p : Point) → Kept entry p → (r : ℕ) → length entry.right ≤ r → IsUnpaired p r → (x : MemoryBlock) →
-    Kept entry (record { pairing = p.pairing; left = p.left; right = slice_set p.right r x })
+pub right_dead_kept : {g : ℕ} (entry p : Point) → Kept g entry p → (r : ℕ) → length entry.right ≤ r → IsUnpaired p r → (x : MemoryBlock) →
+    Kept g entry (record { pairing = p.pairing; left = p.left; right = slice_set p.right r x })
 right_dead_kept entry p k r new u x = record {
   related = record {
     blocks = λ l b e. let y = k.related.blocks l b e in
@@ -85,6 +86,11 @@ right_dead_kept entry p k r new u x = record {
       let y = k.ended i b e d in
       let ne : i ≢ r = omega arith in
       (y.0, get_set_other p.right r i x ne ∙ y.1, y.2);
+  alive = λ i lt a.
+      let li = slice_get_within entry.right i a.0 a.1 in
+      let y = k.alive i lt a in
+      let ne : i ≢ r = omega arith in
+      (y.0, get_set_other p.right r i x ne ∙ y.1, y.2);
   private = λ i b e v.
       let li = slice_get_within entry.right i b e in
       let y = k.private i b e v in
@@ -92,14 +98,15 @@ right_dead_kept entry p k r new u x = record {
       (get_set_other p.right r i x ne ∙ y.0, y.1);
 }
 
--- ---- slots: each of the program's is a counterpart of the next one, or its own and made since the entry
+-- ---- slots: each of the program's was made since the entry, and is a counterpart of the next one or its own
 abbrev pub SlotsKin : Point → Point → List ℕ → List ℕ → Type 0
 SlotsKin entry p ls [] = ls ≡ []
 SlotsKin entry p ls (r ∷ rs) =
-    ((l : ℕ) × (ls' : List ℕ) × (ls ≡ l ∷ ls') × (l < length p.left) × (p.pairing l ≡ r) × SlotsKin entry p ls' rs)
+    ((l : ℕ) × (ls' : List ℕ) × (ls ≡ l ∷ ls') × (l < length p.left) × (p.pairing l ≡ r) ×
+    (length entry.right ≤ r) × SlotsKin entry p ls' rs)
     ⊎ ((length entry.right ≤ r) × (r < length p.right) × IsUnpaired p r × SlotsKin entry p ls rs)
 
-pub kin_later : (entry p q : Point) → Kept p q → (ls rs : List ℕ) → SlotsKin entry p ls rs → SlotsKin entry q ls rs
+pub kin_later : {g : ℕ} (entry p q : Point) → Kept g p q → (ls rs : List ℕ) → SlotsKin entry p ls rs → SlotsKin entry q ls rs
 kin_later entry p q k ls [] s = s
 kin_later entry p q k ls (r ∷ rs) (inl s) = inl (
   s.0,
@@ -108,7 +115,8 @@ kin_later entry p q k ls (r ∷ rs) (inl s) = inl (
   omega (arith, s.3, k.grown),
   k.extends s.0 s.3
       ∙ s.4,
-  kin_later entry p q k s.1 rs s.5,
+  s.5,
+  kin_later entry p q k s.1 rs s.6,
 )
 kin_later entry p q k ls (r ∷ rs) (inr s) =
     let y = k.private r (block_of p.right r) (block_here p.right r s.1) s.2 in
@@ -118,22 +126,22 @@ kin_later entry p q k ls (r ∷ rs) (inr s) =
 pub kin_right : (entry p : Point) (r : ℕ) (x : MemoryBlock) (ls rs : List ℕ) → SlotsKin entry p ls rs →
     SlotsKin entry (record { pairing = p.pairing; left = p.left; right = slice_set p.right r x }) ls rs
 kin_right entry p r x ls [] s = s
-kin_right entry p r x ls (i ∷ rs) (inl s) = inl (s.0, s.1, s.2, s.3, s.4, kin_right entry p r x s.1 rs s.5)
+kin_right entry p r x ls (i ∷ rs) (inl s) = inl (s.0, s.1, s.2, s.3, s.4, s.5, kin_right entry p r x s.1 rs s.6)
 kin_right entry p r x ls (i ∷ rs) (inr s) = inr (s.0, omega (arith, s.1, length-set p.right r x), s.2, kin_right entry p r x ls rs s.3)
 
-pub kin_killed : (rs ls : List ℕ) (entry p : Point) → Kept entry p → SlotsKin entry p ls rs →
-    Kept entry (record { pairing = p.pairing; left = kill ls p.left; right = kill rs p.right })
-kin_killed [] ls entry p k s = subst (λ (xs : List ℕ).
-    Kept entry (record { pairing = p.pairing; left = kill xs p.left; right = p.right })) (sym s) k
-kin_killed (r ∷ rs) ls entry p k (inr s) =
+pub kin_killed : (g : ℕ) (rs ls : List ℕ) (entry p : Point) → Fixes g entry → Kept g entry p → SlotsKin entry p ls rs →
+    Kept g entry (record { pairing = p.pairing; left = kill ls p.left; right = kill rs p.right })
+kin_killed g [] ls entry p fix k s = subst (λ (xs : List ℕ).
+    Kept g entry (record { pairing = p.pairing; left = kill xs p.left; right = p.right })) (sym s) k
+kin_killed g (r ∷ rs) ls entry p fix k (inr s) =
     let at = block_here p.right r s.1 in
     let x = dead (block_of p.right r) in
     let q : Point = record { pairing = p.pairing; left = p.left; right = slice_set p.right r x } in
     let k' = right_dead_kept entry p k r s.0 s.2 x in
-    let rest = kin_killed rs ls entry q k' (kin_right entry p r x ls rs s.3) in
+    let rest = kin_killed g rs ls entry q fix k' (kin_right entry p r x ls rs s.3) in
     let is : end_life p.right r (slice_get p.right r) ≡ q.right = ap (λ (o : Option MemoryBlock). end_life p.right r o) at in
-    subst (λ (m : Memory). Kept entry (record { pairing = p.pairing; left = kill ls p.left; right = kill rs m })) (sym is) rest
-kin_killed (r ∷ rs) ls entry p k (inl s) =
+    subst (λ (m : Memory). Kept g entry (record { pairing = p.pairing; left = kill ls p.left; right = kill rs m })) (sym is) rest
+kin_killed g (r ∷ rs) ls entry p fix k (inl s) =
     let l = s.0 in
     let b = block_of p.left l in
     let at = block_here p.left l s.3 in
@@ -145,20 +153,29 @@ kin_killed (r ∷ rs) ls entry p k (inl s) =
       bytes = y.2.bytes;
     } in
     let q = updated p l (dead b) (dead y.0) in
-    let kq = update_kept p k.related l (dead b) (dead y.0) s.3 same (record { size = refl; align = refl; writable = refl }) (λ d. refl) in
-    let rest = kin_killed rs s.1 entry q (kept_trans entry p q k kq) (kin_later entry p q kq s.1 rs s.5) in
+    let early = fixes_right g entry fix in
+    let kq = update_kept {g = g} p k.related l (dead b) (dead y.0) s.3 same (record { size = refl; align = refl; writable = refl }) (λ d. refl)
+    (λ below a. absurd (omega (arith, s.4, s.5, early))) in
+    let rest = kin_killed g rs s.1 entry q fix (kept_trans entry p q k kq) (kin_later entry p q kq s.1 rs s.6) in
     let left_is : end_life p.left l (slice_get p.left l) ≡ q.left = ap (λ (o : Option MemoryBlock). end_life p.left l o) at in
     let right_is : end_life p.right r (slice_get p.right r) ≡ q.right =
     ap (λ (i : ℕ). end_life p.right i (slice_get p.right i)) (sym s.4)
     ∙ ap (λ (o : Option MemoryBlock). end_life p.right (p.pairing l) o) y.1 in
-    let a = subst (λ (m : Memory). Kept entry (record { pairing = p.pairing; left = kill s.1 m; right = kill rs q.right }))
+    let a = subst (λ (m : Memory). Kept g entry (record { pairing = p.pairing; left = kill s.1 m; right = kill rs q.right }))
     (sym left_is) rest in
-    let a' = subst (λ (m : Memory). Kept entry (record {
+    let a' = subst (λ (m : Memory). Kept g entry (record {
       pairing = p.pairing;
       left = kill (l ∷ s.1) p.left;
       right = kill rs m;
     })) (sym right_is) a in
-    subst (λ (xs : List ℕ). Kept entry (record { pairing = p.pairing; left = kill xs p.left; right = kill (r ∷ rs) p.right })) (sym s.2) a'
+    subst (λ (xs : List ℕ). Kept g entry (record { pairing = p.pairing; left = kill xs p.left; right = kill (r ∷ rs) p.right })) (sym s.2) a'
+
+pub kin_more : {g : ℕ} (entry p q : Point) → Kept g entry p → (slot slot' : Option ℕ) (ls rs : List ℕ) → SlotAgrees p q slot slot' →
+    SlotsKin entry q ls rs → SlotsKin entry q (with_slot slot ls) (with_slot slot' rs)
+kin_more entry p q k None None ls rs a h = h
+kin_more entry p q k (Some l) (Some r) ls rs a h = inl (l, ls, refl, a.0, a.1, omega (arith, kept_right entry p k, a.2), h)
+kin_more entry p q k None (Some r) ls rs a h = absurd a
+kin_more entry p q k (Some l) None ls rs a h = absurd a
 
 -- ---- what is dropped is quiet
 
@@ -247,7 +264,7 @@ found_block keeps k (b ∷ bs) c target = by (b.number == target) (found_block k
 module _ (z : Setting) (formed : IsFormed z.program) (keeps : ℕ → Bool) (k : ℕ) (f : Function)
     (closed : BlocksClosed keeps k f.blocks) (bound : k + 1 ≤ z.bound) where
   record Kin (entry p : Point) (a b : Frame) : Type 0 where
-    kept : Kept entry p
+    kept : Kept (variables z.program) entry p
     fixes : Fixes (variables z.program) entry
     function : a.function ≡ needed keeps f
     function' : b.function ≡ f
@@ -347,7 +364,7 @@ module _ (z : Setting) (formed : IsFormed z.program) (keeps : ℕ → Bool) (k :
       (record b { rest = rest; locals = bind line.local v b.locals; slots = length p.right ∷ b.slots })
   reserved entry p a b line rest v x kin e unneeded =
       let p' : Point = record { pairing = p.pairing; left = p.left; right = p.right ++ x ∷ [] } in
-      let kp = right_more_kept p kin.kept.related x in
+      let kp = right_more_kept {g = variables z.program} p kin.kept.related x in
       let longer = length-append p.right (x ∷ []) in
       record {
         kept = kept_trans entry p p' kin.kept kp;
@@ -473,16 +490,9 @@ module _ (z : Setting) (formed : IsFormed z.program) (keeps : ℕ → Bool) (k :
     short = kin.short;
   }
 
-  slots_more : (entry q : Point) (slot slot' : Option ℕ) (ls rs : List ℕ) → SlotAgrees q slot slot' → SlotsKin entry q ls rs →
-      SlotsKin entry q (with_slot slot ls) (with_slot slot' rs)
-  slots_more entry q None None ls rs a h = h
-  slots_more entry q (Some l) (Some r) ls rs a h = inl (l, ls, refl, a.0, a.1, h)
-  slots_more entry q None (Some r) ls rs a h = absurd a
-  slots_more entry q (Some l) None ls rs a h = absurd a
-
   -- both sides behind a needed instruction, later
   behind : (entry p q : Point) (a b : Frame) (line : Line) (rest : List Line) → Kin entry p a b → b.rest ≡ line ∷ rest →
-      Kept p q → (la lb : Locals) → LocalsAgree keeps q.pairing (length q.left) la lb → (ls rs : List ℕ) →
+      Kept (variables z.program) p q → (la lb : Locals) → LocalsAgree keeps q.pairing (length q.left) la lb → (ls rs : List ℕ) →
       SlotsKin entry q ls rs → (o o' : Option ℕ) → o ≡ o' →
       Kin entry q (record a { rest = needed_lines keeps rest; locals = la; slots = ls; awaits = o })
       (record b { rest = rest; locals = lb; slots = rs; awaits = o' })
@@ -527,7 +537,7 @@ module _ (z : Setting) (formed : IsFormed z.program) (keeps : ℕ → Bool) (k :
       (λ q v v' slot slot' place' k' agree slots'. holds entry q _ _ place'
       (behind entry p q a b line rest kin e k' _ _ (bind_agrees keeps q line.local v v' a.locals b.locals agree
       (locals_later p q k' keeps a.locals b.locals kin.locals)) _ _
-      (slots_more entry q slot slot' a.slots b.slots slots' (kin_later entry p q k' a.slots b.slots kin.slots)) a.awaits
+      (kin_more entry p q kin.kept slot slot' a.slots b.slots slots' (kin_later entry p q k' a.slots b.slots kin.slots)) a.awaits
       b.awaits kin.awaits))
       (λ q v v' place' k' agree. holds entry q _ _ place'
       (resumed q (record a' { awaits = line.local }) (record b' { awaits = line.local }) entry
@@ -585,7 +595,7 @@ module _ (z : Setting) (formed : IsFormed z.program) (keeps : ℕ → Bool) (k :
   at_exit entry p a b place choice kin (Leaves v) (Leaves u) h e =
       let q : Point = record { pairing = p.pairing; left = kill a.slots p.left; right = kill b.slots p.right } in
       answered_return (bounded z 1) (omega arith) (Holds entry) entry p q
-      (kin_killed b.slots a.slots entry p kin.kept kin.slots) b place choice v u e (returned v u h)
+      (kin_killed (variables z.program) b.slots a.slots entry p kin.fixes kin.kept kin.slots) b place choice v u e (returned v u h)
     where
       size : (ls : List ℕ) (m : Memory) → length (kill ls m) ≡ length m
       size [] m = refl
