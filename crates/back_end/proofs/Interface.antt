@@ -15,6 +15,7 @@ use Rattle.block_merge.specs.Merged.{IsMergeOf, Joins, joined_block, joined_bloc
 use Rattle.block_trim.specs.Trimmed.{AreReached, IsTrimOf, block_in, blocks_in}
 use Rattle.branch_simplify.specs.Simplified.{simplified}
 use Rattle.dead_code.specs.Least.{IsNeededOf}
+use Rattle.ir_facts.specs.Settled.{settled, settled_block}
 use Rattle.ir_facts.specs.Steps.{AreRounds, IsApplied, IsRound, IsStep, ends_of}
 use Rattle.slot_promote.specs.Promoted.{blocks_with, end_at, first_at, next_number, promoted_function}
 use Rattle.slot_promote.specs.Slots.{promoted_slots}
@@ -59,8 +60,12 @@ step_interface candidate f g step =
     subst (HasInterfaceOf f) (sym (step.most step.starts step.solution (λ n x v has. has)))
     (in_place f (blocks_replaced candidate step.starts (ends_of candidate step.starts f) f.blocks) (replaced_stay candidate step.starts (ends_of candidate step.starts f) f.blocks))
 
+settled_stay : (bs : List Block) → has_blocks (map settled_block bs) ≡ has_blocks bs
+settled_stay [] = refl
+settled_stay (b ∷ bs) = refl
+
 round_interface : (f g : Function) → IsRound f g → HasInterfaceOf f g
-round_interface f g (h, one, other) = both f h g (step_interface _ f h one) (step_interface _ h g other)
+round_interface f g round = both f (settled f) g (in_place f (map settled_block f.blocks) (settled_stay f.blocks)) (step_interface _ (settled f) g round)
 
 rounds_interface : (n : ℕ) (f g : Function) → AreRounds n f g → HasInterfaceOf f g
 unfolding AreRounds

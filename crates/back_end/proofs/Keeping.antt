@@ -32,6 +32,7 @@ use Rattle.branch_simplify.specs.Simplified.{entries_left, lost_into, phi_left, 
 use Rattle.block_trim.specs.Trimmed.{IsTrimOf, block_in, blocks_in, entries_in, phi_in}
 use Rattle.block_merge.specs.Merged.{IsMergeOf, Joins, behind_entry, entry_named, joined_block, joined_blocks, phi_named, renamed}
 use Rattle.dead_code.specs.Least.{IsNeededOf}
+use Rattle.ir_facts.specs.Settled.{choice_of, frozen_as, settled, settled_block, settled_instr, settled_line}
 use Rattle.ir_facts.specs.Steps.{AreRounds, IsRound, IsStep, candidate_of, end_of, ends_of}
 use Rattle.slot_promote.specs.Promoted.{End, blocks_with, end_at, end_with, entries_of, first_at, new_phis, next_number, phis_from, promoted_function}
 use Rattle.slot_promote.specs.Slots.{promoted_slots}
@@ -291,11 +292,26 @@ module _ (known : List Symbol) where
         subst (λ (x : Function). BlocksKnown known x.blocks) (sym (step.most step.starts step.solution (λ n x v has. has)))
         (replaced_known step.starts (ends_of candidate step.starts f) starts (λ n. end_facts_known step.starts starts (find_block f.blocks n)) f.blocks h)
 
-  round_known : (f g : Function) → IsRound f g → BlocksKnown known f.blocks → BlocksKnown known g.blocks
-  round_known f g (m, one, other) h = step_known (candidate_of false m) (λ x. by_replacement _ x (by_blocks known false m.blocks was)) m g other was
+  settled_instr_known : (i : Instr) → InstrKnown known i → InstrKnown known (settled_instr i)
+  settled_instr_known i h = by (choice_of i)
     where
-      was : BlocksKnown known m.blocks
-      was = step_known (candidate_of true f) (λ x. by_replacement _ x (by_blocks known true f.blocks h)) f m one h
+      by : (o : Option (ℕ × ℕ)) → InstrKnown known (frozen_as o i)
+      by None = h
+      by (Some (w, n)) = ((tt, tt), tt)
+
+  settled_lines_known : (ls : List Line) → LinesKnown known ls → LinesKnown known (map settled_line ls)
+  settled_lines_known [] h = tt
+  settled_lines_known (l ∷ ls) h = (settled_instr_known l.instr h.0, settled_lines_known ls h.1)
+
+  settled_known : (bs : List Block) → BlocksKnown known bs → BlocksKnown known (map settled_block bs)
+  settled_known [] h = tt
+  settled_known (b ∷ bs) h = (record { phis = h.0.phis; lines = settled_lines_known b.lines h.0.lines; end = h.0.end }, settled_known bs h.1)
+
+  round_known : (f g : Function) → IsRound f g → BlocksKnown known f.blocks → BlocksKnown known g.blocks
+  round_known f g round h = step_known (candidate_of (settled f)) (λ x. by_replacement _ x (by_blocks known (settled f).blocks was)) (settled f) g round was
+    where
+      was : BlocksKnown known (settled f).blocks
+      was = settled_known f.blocks h
 
   rounds_known : (n : ℕ) (f g : Function) → AreRounds n f g → BlocksKnown known f.blocks → BlocksKnown known g.blocks
   unfolding AreRounds

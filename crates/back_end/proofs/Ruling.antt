@@ -25,7 +25,7 @@ use Rattle.ir_meaning.specs.Operate.{Answer, Is, Never, Unwritten, binary_bits}
 use Rattle.ir_meaning.specs.Table.{all_zero, any_poison, binary_rule, cast_constant, cast_numbers, compared_addresses, compared_constants, compared_numbers, comparison_rule, constant_answer, constant_indices, equality, first, folded_or, freeze_rule, frozen_number, is_number, is_poison, number_of, poisoned, rule, same, selected_number, symbol_at, truth, unchanged, when, zeroed}
 use Rattle.ir_meaning.specs.declared.value.Value.TheVariants.{Number, Pointer, Poison}
 use Rattle.ir_better.specs.Facts.{Facts, is_local, is_phi_operand}
-use Rattle.ir_facts.specs.Candidates.{block_candidates, blocks_candidates, first_other, line_candidates, line_source, may_settle, of_kind, other_than, paired, phi_candidates, phi_source, phis_candidates, result_candidate, sole_source, takes_only}
+use Rattle.ir_facts.specs.Candidates.{block_candidates, blocks_candidates, first_other, line_candidates, line_source, other_than, paired, phi_candidates, phi_source, result_candidate, sole_source, takes_only}
 use Rattle.back_end.proofs.Naming.{BlocksKnown, EntriesKnown, InstrKnown, LinesKnown, PhisKnown}
 
 module _ (known : List Symbol) where
@@ -247,29 +247,17 @@ module _ (known : List Symbol) where
       by true = tt
       by false = h
 
-  by_kind : (settling : Bool) (i : Instr) (o : Option Operand) → Maybe o → Maybe (of_kind settling i o)
-  by_kind true i o h = by_either (may_settle i) o h
-  by_kind false i o h = by (may_settle i)
-    where
-      by : (b : Bool) → Maybe (if b then None else o)
-      by true = tt
-      by false = h
+  by_result : (l : Option ℕ) (i : Instr) → InstrKnown known i → FactsKnown (result_candidate l i)
+  by_result None i h = tt
+  by_result (Some x) i h = by_paired x (line_source x i) (by_other_than x (rule i) (by_rule i h))
 
-  by_result : (settling : Bool) (l : Option ℕ) (i : Instr) → InstrKnown known i → FactsKnown (result_candidate settling l i)
-  by_result settling None i h = tt
-  by_result settling (Some x) i h = by_paired x (of_kind settling i (line_source x i)) (by_kind settling i (line_source x i) (by_other_than x (rule i) (by_rule i h)))
+  by_lines : (ls : List Line) → LinesKnown known ls → FactsKnown (line_candidates ls)
+  by_lines [] h = tt
+  by_lines (l ∷ ls) h = facts_both (result_candidate l.local l.instr) (line_candidates ls) (by_result l.local l.instr h.0) (by_lines ls h.1)
 
-  by_lines : (settling : Bool) (ls : List Line) → LinesKnown known ls → FactsKnown (line_candidates settling ls)
-  by_lines settling [] h = tt
-  by_lines settling (l ∷ ls) h = facts_both (result_candidate settling l.local l.instr) (line_candidates settling ls) (by_result settling l.local l.instr h.0) (by_lines settling ls h.1)
-
-  by_phis_of : (settling : Bool) (ps : List Phi) → PhisKnown known ps → FactsKnown (phis_candidates settling ps)
-  by_phis_of true ps h = tt
-  by_phis_of false ps h = by_phis ps ps h
-
-  pub by_blocks : (settling : Bool) (bs : List Block) → BlocksKnown known bs → FactsKnown (blocks_candidates settling bs)
+  pub by_blocks : (bs : List Block) → BlocksKnown known bs → FactsKnown (blocks_candidates bs)
   unfolding block_candidates
-  by_blocks settling [] h = tt
-  by_blocks settling (b ∷ bs) h =
-      facts_both (phis_candidates settling b.phis ++ line_candidates settling b.lines) (blocks_candidates settling bs)
-      (facts_both (phis_candidates settling b.phis) (line_candidates settling b.lines) (by_phis_of settling b.phis h.0.phis) (by_lines settling b.lines h.0.lines)) (by_blocks settling bs h.1)
+  by_blocks [] h = tt
+  by_blocks (b ∷ bs) h =
+      facts_both (phi_candidates b.phis b.phis ++ line_candidates b.lines) (blocks_candidates bs)
+      (facts_both (phi_candidates b.phis b.phis) (line_candidates b.lines) (by_phis b.phis b.phis h.0.phis) (by_lines b.lines h.0.lines)) (by_blocks bs h.1)

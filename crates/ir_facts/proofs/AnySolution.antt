@@ -13,19 +13,19 @@ use Rattle.ir_tree.specs.declared.instr.Line.{Line}
 use Rattle.ir_tree.specs.declared.instr.Phi.{Phi}
 use Rattle.ir_tree.specs.declared.operand.Argument.{Argument}
 use Rattle.ir_tree.specs.declared.operand.Operand.{Operand}
+use Rattle.ir_tree.specs.declared.operand.Operand.TheVariants.{Local, Null, Number as Constant, Poison as PoisonOf, Symbol as Named}
 use Rattle.ir_meaning.specs.Near.{BetterThan}
 use Rattle.ir_meaning.specs.Program.{Program}
 use Rattle.ir_better.specs.Facts.{BlockRight, BlocksRight, EdgeFacts, EdgesRead, EntryBare, Facts, IsOther, LineRule, LinesRight, PhisRead, RuleFor, behind_local, blocks_replaced, end_replaced, replaced}
 use Rattle.ir_better.specs.Formed.{IsFormed}
 use Rattle.ir_better.specs.Inline.{with_operands}
-use Rattle.ir_better.specs.Needed.{AllKept, EndReads, Reads}
+use Rattle.ir_better.specs.Needed.{AllKept, EndReads, IsKept, Reads}
 use Rattle.ir_better.proofs.Alike.Itself.{same_better}
 use Rattle.ir_better.proofs.Facts.Known.{known_better}
-use Rattle.ir_better.proofs.Rules.Tabled.{table_right}
 use Rattle.ir_edit.specs.Substituted.{replacement}
 use Rattle.ir_facts.specs.Candidates.{candidates}
+use Rattle.ir_facts.specs.Settled.{IsFirm, IsSettled, LinesFirm}
 use Rattle.ir_facts.specs.Steps.{IsSolution, StepsAreBetter, end_of, ends_of, substituted_by}
-use Rattle.ir_facts.proofs.Better.{all_kept, never_chooses}
 use Rattle.ir_facts.proofs.Blocks.{find_at, found_there}
 use Rattle.ir_facts.proofs.Covering.{covered}
 use Rattle.ir_facts.proofs.RightSources.{AreSources, LineSource, LineSources}
@@ -33,6 +33,13 @@ use Rattle.ir_facts.proofs.Sourcing.{are_sources}
 
 abbrev every : ℕ → Bool
 every x = true
+
+all_kept : (v : Operand) → IsKept every v
+all_kept (Local x) = refl
+all_kept (Constant w n) = tt
+all_kept Null = tt
+all_kept (PoisonOf reg) = tt
+all_kept (Named t i) = tt
 
 each_kept : (as' : List Argument) → AllKept every as'
 each_kept [] = tt
@@ -68,40 +75,40 @@ any_phis ends [] = tt
 any_phis ends (p ∷ ps) = (any_edges ends p.incoming, any_phis ends ps)
 
 module _ (c : ℕ → Option Operand) where
-  line_rule : (o : Option ℕ) (i : Instr) → LineSource false c o i → LineRule c (λ x. false) o i
-  line_rule None i own = tt
-  line_rule (Some y) i own = by (c y) refl
+  line_rule : (o : Option ℕ) (i : Instr) → IsFirm i → LineSource c o i → LineRule c (λ x. false) o i
+  line_rule None i firm own = tt
+  line_rule (Some y) i firm own = by (c y) refl
     where
       by : (o : Option Operand) → c y ≡ o → RuleFor false i (c y) × IsOther y (c y)
       by None q = subst (λ (o : Option Operand). RuleFor false i o × IsOther y o) (sym q) (tt, tt)
       by (Some v) q =
           let row = own v q in
-          subst (λ (o : Option Operand). RuleFor false i o × IsOther y o) (sym q) ((table_right i v row.0).1 (never_chooses i row.2), row.1)
+          subst (λ (o : Option Operand). RuleFor false i o × IsOther y o) (sym q) (firm v row.0, row.1)
 
-  lines_right : (ls : List Line) (fs : Facts) → LineSources false c ls → LinesRight c (λ x. false) fs ls
-  lines_right [] fs own = tt
-  lines_right (l ∷ ls) fs own = (
-    line_rule l.local l.instr own.0,
+  lines_right : (ls : List Line) (fs : Facts) → LinesFirm ls → LineSources c ls → LinesRight c (λ x. false) fs ls
+  lines_right [] fs firm own = tt
+  lines_right (l ∷ ls) fs firm own = (
+    line_rule l.local l.instr firm.0 own.0,
     any_reads (with_operands (replaced fs) l.instr),
-    lines_right ls (behind_local c l.local fs) own.1,
+    lines_right ls (behind_local c l.local fs) firm.1 own.1,
   )
 
-module _ (f : Function) (sound : Sound f) (starts : ℕ → Facts) (solves : IsSolution (replacement (candidates false f)) f starts) where
+module _ (f : Function) (sound : Sound f) (firm : IsSettled f) (starts : ℕ → Facts) (solves : IsSolution (replacement (candidates f)) f starts) where
   abbrev c : ℕ → Option Operand
-  c = replacement (candidates false f)
+  c = replacement (candidates f)
 
   abbrev ends : ℕ → Facts
   ends = ends_of c starts f
 
-  sources : AreSources false c f
-  sources = let found = covered f sound in are_sources found.family f found.held false
+  sources : AreSources c f
+  sources = let found = covered f sound in are_sources found.family f found.held
 
   block_right : (p : ℕ) (b : Block) → slice_get f.blocks p ≡ Some b → BlockRight f c (λ x. false) starts ends b
   block_right p b e =
       let at = find_at f sound.formed.once p b e in
       record {
         phis = any_phis ends b.phis;
-        lines = lines_right c b.lines (starts b.number) (sources.lines p b e);
+        lines = lines_right c b.lines (starts b.number) (firm p b e) (sources.lines p b e);
         ends_are = ap (end_of c starts) at.0;
         end = any_end (end_replaced (ends b.number) b.end);
         targets = λ n x target found.
@@ -127,5 +134,5 @@ module _ (f : Function) (sound : Sound f) (starts : ℕ → Facts) (solves : IsS
       })
 
 pub steps_better : StepsAreBetter
-steps_better f g sound step p formed =
-    subst (λ (h : Function). BetterThan p 1 h f) (sym (step.most step.starts step.solution (λ n x v h. h))) (solution_better f sound step.starts step.solution p formed)
+steps_better f g sound firm step p formed =
+    subst (λ (h : Function). BetterThan p 1 h f) (sym (step.most step.starts step.solution (λ n x v h. h))) (solution_better f sound firm step.starts step.solution p formed)

@@ -342,8 +342,8 @@ module _ (c : ℕ → Option Operand) (f : Function) (once : Distinct (locals f 
 
 -- ---- everywhere and at points
 
-module _ (k : Bool) (c cf : ℕ → Option Operand) (sub : (x : ℕ) (v : Operand) → cf x ≡ Some v → c x ≡ Some v)
-    (r : ℕ → ℕ → Bool) (f : Function) (cov : Covers r f) (src : AreSources k cf f) (safe : AreSafe cf r f)
+module _ (c cf : ℕ → Option Operand) (sub : (x : ℕ) (v : Operand) → cf x ≡ Some v → c x ≡ Some v)
+    (r : ℕ → ℕ → Bool) (f : Function) (cov : Covers r f) (src : AreSources cf f) (safe : AreSafe cf r f)
     (ts : List Fact) (each : EachIsFact f ts) (own : OwnAll c ts)
     (complete : (x : ℕ) (v : Operand) → c x ≡ Some v → cf x ≡ None → Has (pairs ts) x v)
     (apart : (y x : ℕ) (v : Operand) → cf y ≡ Some (Local x) → Has (pairs ts) x v → ⊥) where
@@ -478,12 +478,12 @@ module _ (k : Bool) (c cf : ℕ → Option Operand) (sub : (x : ℕ) (v : Operan
 
   pub made_step : IsStep c f made
   made_step = record {
-    starts = both c f (filled k cf r f cov src safe) (own_facts c f cov.once ts each);
+    starts = both c f (filled cf r f cov src safe) (own_facts c f cov.once ts each);
     solution =
-        both_solve c f (filled k cf r f cov src safe) (own_facts c f cov.once ts each) (more_solve c cf sub f (filled k cf r f cov src safe) (filled_solves k cf r f cov src safe))
+        both_solve c f (filled cf r f cov src safe) (own_facts c f cov.once ts each) (more_solve c cf sub f (filled cf r f cov src safe) (filled_solves cf r f cov src safe))
         (own_solve c f cov.once ts each own);
     most = λ others sol among.
         made_same others sol
-        (λ q b e x v m is. among b.number x v (left_in (filled k cf r f cov src safe b.number) (own_facts c f cov.once ts each b.number) x v (filled_fills k cf r f cov src safe q b e x v m is)))
-        (λ n x v g. among n x v (right_in (filled k cf r f cov src safe n) (own_facts c f cov.once ts each n) x v g));
+        (λ q b e x v m is. among b.number x v (left_in (filled cf r f cov src safe b.number) (own_facts c f cov.once ts each b.number) x v (filled_fills cf r f cov src safe q b e x v m is)))
+        (λ n x v g. among n x v (right_in (filled cf r f cov src safe n) (own_facts c f cov.once ts each n) x v g));
   }

@@ -261,7 +261,7 @@ phi_held x (p ∷ ps) = λ i. turned p.local x i || phi_held x ps i
     turned : (y x : ℕ) → (y == x) ≡ nat_eq x y
     turned y x = elim (cases_eq y x) [ inl e ↦ eq-eqb y x e ∙ sym (eq-eqb x y (sym e)) | inr ne ↦ ne_eqb y x ne ∙ sym (ne_eqb x y (λ e. ne (sym e))) ]
 
-module _ (k : Bool) (c : ℕ → Option Operand) (r : ℕ → ℕ → Bool) (f : Function) (cov : Covers r f) (src : AreSources k c f) (safe : AreSafe c r f) where
+module _ (c : ℕ → Option Operand) (r : ℕ → ℕ → Bool) (f : Function) (cov : Covers r f) (src : AreSources c f) (safe : AreSafe c r f) where
   abbrev there : Option Block → ℕ → ℕ → Bool
   there None p x = false
   there (Some b) p x = opening r p b x
@@ -370,7 +370,7 @@ module _ (k : Bool) (c : ℕ → Option Operand) (r : ℕ → ℕ → Bool) (f :
           by : (t : Bool) → is_phi x b.phis ≡ t → (r q x ≡ true) ⊎ (holds (phi_locals b) x ≡ true) → c x ≡ Some v
               → ((is_phi x b.phis ≡ false) × Has (ends_of c filled f a.number) x v) ⊎ ((is_phi x b.phis ≡ true) × EntryIs (ends_of c filled f a.number) x v (phi_operand x a.number b.phis))
           by true t o is =
-              inr (t, entry_is a.number x v (ends_of c filled f a.number) b.phis b.phis (src.phis q b d) (cov.blocks q b d).phis t is (λ taken. at_end_of x v is (taken_here k c r f cov src p a x e taken)))
+              inr (t, entry_is a.number x v (ends_of c filled f a.number) b.phis b.phis (src.phis q b d) (cov.blocks q b d).phis t is (λ taken. at_end_of x v is (taken_here c r f cov src p a x e taken)))
           by false t (inl g) is = inl (t, at_end_of x v is (from_pred x v is g))
           by false t (inr g) is = absurd (false≢true (sym t ∙ phi_held x b.phis ∙ g))
 

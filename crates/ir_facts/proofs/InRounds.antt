@@ -1,5 +1,5 @@
 -- Rounds of substitution: what they make of sound functions, and that they replace every use where all blocks are reached.
-use Rattle.std.proofs.Common.{◌≡◌, ℕ, zero, suc, ◌-◌, ◌<◌, Bool, true, false, List, [], ◌∷◌, refl, sym, subst, arith, lit≤}
+use Rattle.std.proofs.Common.{◌≡◌, ℕ, zero, suc, ◌-◌, ◌<◌, List, [], ◌∷◌, refl, sym, subst, arith, lit≤}
 use Rattle.std.proofs.lemmas.Option.{slice_get_within}
 use Rattle.std.proofs.lemmas.List.{length-map}
 use Rattle.ir_tree.specs.Flow.{Among, Path}
@@ -14,16 +14,16 @@ use Rattle.ir_better.proofs.Between.InARow.{in_a_row}
 use Rattle.ir_edit.specs.Edited.{edited}
 use Rattle.ir_edit.specs.Substituted.{operand_replaced, replacement}
 use Rattle.ir_facts.specs.Candidates.{candidates}
+use Rattle.ir_facts.specs.Settled.{settled}
 use Rattle.ir_facts.specs.Steps.{AllReached, AreRounds, IsRound, IsStep, RoundsAreAll, RoundsAreBetter, SettledIsBetter, candidate_of, round_of, rounds_of, step_of}
 use Rattle.ir_facts.proofs.AnySolution.{steps_better}
-use Rattle.ir_facts.proofs.Better.{sources_better}
 use Rattle.ir_facts.proofs.Covering.{covered}
-use Rattle.ir_facts.proofs.Covers.{Covers}
 use Rattle.ir_facts.proofs.Editing.{block_by, edges_same}
-use Rattle.ir_facts.proofs.Holding.{AreSafe}
 use Rattle.ir_facts.proofs.Holding.{one_step as all_step}
-use Rattle.ir_facts.proofs.OneFunction.{one_step}
-use Rattle.ir_facts.proofs.Passing.{constants_safe, sources_safe}
+use Rattle.ir_facts.proofs.Passing.{sources_safe}
+use Rattle.ir_facts.proofs.SettledBetter.{settled_better}
+use Rattle.ir_facts.proofs.SettledSound.{settled_sound}
+use Rattle.ir_facts.proofs.Settling.{is_settled, reached_settled}
 use Rattle.ir_facts.proofs.Sourcing.{are_sources}
 use Rattle.ir_facts.proofs.StepsSound.{steps_sound}
 
@@ -39,71 +39,40 @@ module _ (h : Operand → Operand) (f : Function) where
       let way = all b (subst (λ (n : ℕ). b < n) (length-map f.blocks (block_by h)) lt) in
       (way.0, path_stays way.0 b way.1)
 
--- ---- what a step makes, where candidates are safe
+-- ---- one round
 
-abbrev Family : Type 0
-Family = ℕ → ℕ → Bool
-
-record Steps (k : Bool) (f g : Function) : Type 0 where
-  step : IsStep (candidate_of k f) f g
-  better : (p : Program) → IsFormed p → BetterThan p 1 g f
-
-safe_step : (k : Bool) (f : Function) (r : Family) (cov : Covers r f) → AreSafe (replacement (candidates k f)) r f → Steps k f (step_of k f)
-safe_step k f r cov safe =
-    let src = are_sources r f cov k in
-    record {
-      step = all_step k (replacement (candidates k f)) r f cov src safe;
-      better = sources_better k (replacement (candidates k f)) r f cov src safe;
-    }
-
--- ---- one step
-
-settled : (f : Function) → Sound f → Steps true f (step_of true f)
-settled f sound =
+-- where all blocks are reached, a step replaces each use
+everywhere : (f : Function) → Sound f → AllReached f → IsStep (candidate_of f) f (step_of f)
+everywhere f sound all =
     let found = covered f sound in
-    let src = are_sources found.family f found.held true in
-    safe_step true f found.family found.held (constants_safe (replacement (candidates true f)) (src.constant refl) found.family f)
+    let src = are_sources found.family f found.held in
+    all_step (replacement (candidates f)) found.family f found.held src
+    (sources_safe (replacement (candidates f)) found.family f found.held src (λ x z p b is e h. all p (slice_get_within f.blocks p b e)))
 
-forwarded : (f : Function) → Sound f → AllReached f → Steps false f (step_of false f)
-forwarded f sound all =
-    let found = covered f sound in
-    safe_step false f found.family found.held
-    (sources_safe false (replacement (candidates false f)) found.family f found.held (are_sources found.family f found.held false) (λ x z p b is e h. all p (slice_get_within f.blocks p b e)))
-
-pub settled_better : SettledIsBetter
-settled_better f sound = let s = settled f sound in (s.step, s.better)
-
--- ---- rounds
+pub settled_is_better : SettledIsBetter
+settled_is_better f sound = (settled_sound f sound, is_settled f, settled_better f)
 
 rounds_all : (n : ℕ) (f : Function) → Sound f → AllReached f → AreRounds n f (rounds_of n f)
 unfolding AreRounds rounds_of
 rounds_all zero f sound all = refl
 rounds_all (suc n) f sound all =
-    let first = (settled f sound).step in
-    let reached = reached_stays (operand_replaced (replacement (candidates true f))) f all in
-    let settled_sound = steps_sound true f (step_of true f) sound first in
-    let second = (forwarded (step_of true f) settled_sound reached).step in (
+    let reached = reached_settled f all in
+    let round = everywhere (settled f) (settled_sound f sound) reached in (
       round_of f,
-      (step_of true f, first, second),
-      rounds_all n (round_of f) (steps_sound false (step_of true f) (round_of f) settled_sound second)
-          (reached_stays (operand_replaced (replacement (candidates false (step_of true f)))) (step_of true f) reached),
+      round,
+      rounds_all n (round_of f) (steps_sound (settled f) (round_of f) (settled_sound f sound) round)
+          (reached_stays (operand_replaced (replacement (candidates (settled f)))) (settled f) reached),
     )
 
 pub are_all : RoundsAreAll
 are_all n f sound all = rounds_all n f sound all
 
--- what settles free choices is one function
-settling_better : (f g : Function) → Sound f → IsStep (candidate_of true f) f g → (p : Program) → IsFormed p → BetterThan p 1 g f
-settling_better f g sound step p formed =
-    let s = settled f sound in
-    subst (λ (h : Function). BetterThan p 1 h f) (sym (one_step (candidate_of true f) f g (step_of true f) step s.step)) (s.better p formed)
-
 pub round_sound : (f g : Function) → Sound f → IsRound f g → Sound g
-round_sound f g sound (h, first, second) = steps_sound false h g (steps_sound true f h sound first) second
+round_sound f g sound round = steps_sound (settled f) g (settled_sound f sound) round
 
 round_better : (f g : Function) → Sound f → IsRound f g → (p : Program) → IsFormed p → BetterThan p 1 g f
-round_better f g sound (h, first, second) p formed =
-    in_a_row p formed 1 1 (lit≤ tt) g h f (steps_better h g (steps_sound true f h sound first) second p formed) (settling_better f h sound first p formed)
+round_better f g sound round p formed =
+    in_a_row p formed 1 1 (lit≤ tt) g (settled f) f (steps_better (settled f) g (settled_sound f sound) (is_settled f) round p formed) (settled_better f p formed)
 
 pub are_better : RoundsAreBetter
 unfolding AreRounds

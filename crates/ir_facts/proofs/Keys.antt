@@ -16,7 +16,7 @@ use Rattle.ir_edit.specs.Numbered.{later_or}
 use Rattle.ir_edit.specs.Substituted.{replacement}
 use Rattle.ir_edit.proofs.Tally.{tally, tally_both, tally_same}
 use Rattle.ir_facts.specs.Apart.{firm, resting}
-use Rattle.ir_facts.specs.Candidates.{block_candidates, blocks_candidates, candidates, line_candidates, line_source, of_kind, paired, phi_candidates, phi_source, phis_candidates, result_candidate}
+use Rattle.ir_facts.specs.Candidates.{block_candidates, blocks_candidates, candidates, line_candidates, line_source, paired, phi_candidates, phi_source, result_candidate}
 use Rattle.ir_facts.specs.Membership.{is_member}
 use Rattle.ir_facts.specs.Naming.{is_key}
 use Rattle.ir_facts.proofs.Matching.{Once, locals_once, once_right}
@@ -50,36 +50,32 @@ module _ (x : ℕ) where
   fewer_phis all [] = omega arith
   fewer_phis all (p ∷ ps) = fewer_both (paired p.local (phi_source all p)) (phi_candidates all ps) (p.local ∷ []) (map (λ q. q.local) ps) (fewer_paired p.local (phi_source all p)) (fewer_phis all ps)
 
-  fewer_result : (k : Bool) (o : Option ℕ) (i : Instr) → Fewer (result_candidate k o i) (cons_option o [])
-  fewer_result k None i = omega arith
-  fewer_result k (Some y) i = fewer_paired y (of_kind k i (line_source y i))
+  fewer_result : (o : Option ℕ) (i : Instr) → Fewer (result_candidate o i) (cons_option o [])
+  fewer_result None i = omega arith
+  fewer_result (Some y) i = fewer_paired y (line_source y i)
 
   results_cons : (o : Option ℕ) (xs : List ℕ) → cons_option o [] ++ xs ≡ cons_option o xs
   results_cons None xs = refl
   results_cons (Some y) xs = refl
 
-  fewer_lines : (k : Bool) (ls : List Line) → Fewer (line_candidates k ls) (results ls)
-  fewer_lines k [] = omega arith
-  fewer_lines k (l ∷ ls) =
-      subst (λ (xs : List ℕ). Fewer (line_candidates k (l ∷ ls)) xs) (results_cons l.local (results ls))
-      (fewer_both (result_candidate k l.local l.instr) (line_candidates k ls) (cons_option l.local []) (results ls) (fewer_result k l.local l.instr) (fewer_lines k ls))
+  fewer_lines : (ls : List Line) → Fewer (line_candidates ls) (results ls)
+  fewer_lines [] = omega arith
+  fewer_lines (l ∷ ls) =
+      subst (λ (xs : List ℕ). Fewer (line_candidates (l ∷ ls)) xs) (results_cons l.local (results ls))
+      (fewer_both (result_candidate l.local l.instr) (line_candidates ls) (cons_option l.local []) (results ls) (fewer_result l.local l.instr) (fewer_lines ls))
 
-  fewer_kind : (k : Bool) (ps : List Phi) → Fewer (phis_candidates k ps) (map (λ p. p.local) ps)
-  fewer_kind true ps = omega arith
-  fewer_kind false ps = fewer_phis ps ps
-
-  fewer_block : (k : Bool) (b : Block) → Fewer (block_candidates k b) (definitions b)
+  fewer_block : (b : Block) → Fewer (block_candidates b) (definitions b)
   unfolding block_candidates
-  fewer_block k b = fewer_both (phis_candidates k b.phis) (line_candidates k b.lines) (phi_locals b) (results b.lines) (fewer_kind k b.phis) (fewer_lines k b.lines)
+  fewer_block b = fewer_both (phi_candidates b.phis b.phis) (line_candidates b.lines) (phi_locals b) (results b.lines) (fewer_phis b.phis b.phis) (fewer_lines b.lines)
 
-  fewer_blocks : (k : Bool) (bs : List Block) → Fewer (blocks_candidates k bs) (flat_map definitions bs)
-  fewer_blocks k [] = omega arith
-  fewer_blocks k (b ∷ bs) = fewer_both (block_candidates k b) (blocks_candidates k bs) (definitions b) (flat_map definitions bs) (fewer_block k b) (fewer_blocks k bs)
+  fewer_blocks : (bs : List Block) → Fewer (blocks_candidates bs) (flat_map definitions bs)
+  fewer_blocks [] = omega arith
+  fewer_blocks (b ∷ bs) = fewer_both (block_candidates b) (blocks_candidates bs) (definitions b) (flat_map definitions bs) (fewer_block b) (fewer_blocks bs)
 
-pub candidates_once : (f : Function) → Distinct (locals f ++ numbers f) → (k : Bool) → Once (keys (candidates k f))
-candidates_once f once k x =
+pub candidates_once : (f : Function) → Distinct (locals f ++ numbers f) → Once (keys (candidates f))
+candidates_once f once x =
     let one : tally x (flat_map definitions f.blocks) ≤ 1 = once_right (parameters f) (flat_map definitions f.blocks) (locals_once f once) x in
-    let few : tally x (keys (candidates k f)) ≤ tally x (flat_map definitions f.blocks) = fewer_blocks x k f.blocks in
+    let few : tally x (keys (candidates f)) ≤ tally x (flat_map definitions f.blocks) = fewer_blocks x f.blocks in
     omega (arith, one, few)
 
 -- ---- looking up

@@ -2,8 +2,8 @@ pub mod Agreeing
 pub mod AnySolution
 pub mod AtPoints
 pub mod Availability
-pub mod Better
 pub mod Blocks
+pub mod Chosen
 pub mod Covering
 pub mod Covers
 pub mod EditedItems
@@ -28,6 +28,9 @@ pub mod ReplacedSound
 pub mod RightSources
 pub mod RuleReads
 pub mod RuleTypes
+pub mod SettledBetter
+pub mod SettledSound
+pub mod Settling
 pub mod SoleOperands
 pub mod SourceTypes
 pub mod Sourcing

@@ -17,9 +17,8 @@ use Rattle.ir_better.specs.Facts.{Facts, is_local, is_phi_operand}
 use Rattle.ir_edit.specs.Numbered.{later_or}
 use Rattle.ir_edit.specs.Substituted.{replacement}
 use Rattle.ir_edit.proofs.Tally.{tally, tally_both, tally_once}
-use Rattle.ir_facts.specs.Candidates.{block_candidates, blocks_candidates, candidates, first_other, line_candidates, line_source, may_settle, of_kind, other_than, paired, phi_candidates, phi_source, phis_candidates, result_candidate, sole_source, takes_only}
+use Rattle.ir_facts.specs.Candidates.{block_candidates, blocks_candidates, candidates, first_other, line_candidates, line_source, other_than, paired, phi_candidates, phi_source, result_candidate, sole_source, takes_only}
 use Rattle.ir_facts.specs.Laws.{IsPhiSource, PhiSourcesRight}
-use Rattle.ir_facts.proofs.Standing.{phi_sources_right}
 use Rattle.ir_facts.proofs.RightSources.{IsTaken, LineSource, LineSources, PhiSources}
 
 -- ---- lists whose elements are counted
@@ -175,14 +174,6 @@ module _ (right : PhiSourcesRight) (c : ℕ → Option Operand) where
         (agrees_right c (paired p.local (phi_source all p)) (phi_candidates all ps) (p.local ∷ []) (map (λ q. q.local) ps) (keys_paired p.local (phi_source all p)) once agrees),
   )
 
-  -- without candidates of phis
-  phis_none : (all ps : List Phi) → Agrees c (map (λ p. p.local) ps) [] → PhiSources c all ps
-  phis_none all [] agrees = tt
-  phis_none all (p ∷ ps) agrees = (
-    (λ v e. absurd (cc (sym (agrees p.local (or_left (nat_eq p.local p.local) (holds (map (λ q. q.local) ps) p.local) (eq-eqb p.local p.local refl))) ∙ e))),
-    phis_none all ps (λ x h. agrees x (or_right (nat_eq x p.local) (holds (map (λ q. q.local) ps) x) h)),
-  )
-
 -- ---- lines
 
 abbrev result_list : Option ℕ → List ℕ
@@ -192,27 +183,15 @@ pub results_cons : (o : Option ℕ) (xs : List ℕ) → cons_option o xs ≡ res
 results_cons None xs = refl
 results_cons (Some x) xs = refl
 
-keys_result : (k : Bool) (o : Option ℕ) (i : Instr) → KeysIn (result_candidate k o i) (result_list o)
-keys_result k None i = λ x h. refl
-keys_result k (Some y) i = keys_paired y (of_kind k i (line_source y i))
+keys_result : (o : Option ℕ) (i : Instr) → KeysIn (result_candidate o i) (result_list o)
+keys_result None i = λ x h. refl
+keys_result (Some y) i = keys_paired y (line_source y i)
 
-keys_lines : (k : Bool) (ls : List Line) → KeysIn (line_candidates k ls) (results ls)
-keys_lines k [] = λ x h. refl
-keys_lines k (l ∷ ls) =
-    subst (KeysIn (line_candidates k (l ∷ ls))) (sym (results_cons l.local (results ls)))
-    (keys_both (result_candidate k l.local l.instr) (line_candidates k ls) (result_list l.local) (results ls) (keys_result k l.local l.instr) (keys_lines k ls))
-
-kind_is : (k : Bool) (i : Instr) (o : Option Operand) (v : Operand) → of_kind k i o ≡ Some v → (o ≡ Some v) × (may_settle i ≡ k)
-kind_is true i o v e = by (may_settle i) refl e
-  where
-    by : (b : Bool) → may_settle i ≡ b → (if b then o else None) ≡ Some v → (o ≡ Some v) × (may_settle i ≡ true)
-    by true q e' = (e', q)
-    by false q e' = absurd (cc e')
-kind_is false i o v e = by (may_settle i) refl e
-  where
-    by : (b : Bool) → may_settle i ≡ b → (if b then None else o) ≡ Some v → (o ≡ Some v) × (may_settle i ≡ false)
-    by true q e' = absurd (cc e')
-    by false q e' = (e', q)
+keys_lines : (ls : List Line) → KeysIn (line_candidates ls) (results ls)
+keys_lines [] = λ x h. refl
+keys_lines (l ∷ ls) =
+    subst (KeysIn (line_candidates (l ∷ ls))) (sym (results_cons l.local (results ls)))
+    (keys_both (result_candidate l.local l.instr) (line_candidates ls) (result_list l.local) (results ls) (keys_result l.local l.instr) (keys_lines ls))
 
 other_is : (x : ℕ) (o : Option Operand) (v : Operand) → other_than x o ≡ Some v → (o ≡ Some v) × (is_local x v ≡ false)
 other_is x None v e = absurd (cc e)
@@ -222,75 +201,58 @@ other_is x (Some u) v e = by (is_local x u) refl e
     by true q e' = absurd (cc e')
     by false q e' = let is : u ≡ v = cc e' in (e', sym (ap (is_local x) is) ∙ q)
 
-module _ (k : Bool) (c : ℕ → Option Operand) where
-  line_match : (o : Option ℕ) (i : Instr) → Agrees c (result_list o) (result_candidate k o i) → LineSource k c o i
+module _ (c : ℕ → Option Operand) where
+  line_match : (o : Option ℕ) (i : Instr) → Agrees c (result_list o) (result_candidate o i) → LineSource c o i
   line_match None i agrees = tt
   line_match (Some y) i agrees = λ v e. named v e
     where
-      named : (v : Operand) → c y ≡ Some v → (rule i ≡ Some v) × (is_local y v ≡ false) × (may_settle i ≡ k)
-      named v e =
-          let s : of_kind k i (line_source y i) ≡ Some v = sym (one_local c y (of_kind k i (line_source y i)) agrees) ∙ e in
-          let kind = kind_is k i (line_source y i) v s in
-          let other = other_is y (rule i) v kind.0 in
-          (other.0, other.1, kind.1)
+      named : (v : Operand) → c y ≡ Some v → (rule i ≡ Some v) × (is_local y v ≡ false)
+      named v e = other_is y (rule i) v (sym (one_local c y (line_source y i) agrees) ∙ e)
 
-  lines_match : (ls : List Line) → Once (results ls) → Agrees c (results ls) (line_candidates k ls) → LineSources k c ls
+  lines_match : (ls : List Line) → Once (results ls) → Agrees c (results ls) (line_candidates ls) → LineSources c ls
   lines_match [] once agrees = tt
   lines_match (l ∷ ls) once agrees =
       let once' : Once (result_list l.local ++ results ls) = subst Once (results_cons l.local (results ls)) once in
-      let agrees' : Agrees c (result_list l.local ++ results ls) (result_candidate k l.local l.instr ++ line_candidates k ls) =
-      subst (λ (xs : List ℕ). Agrees c xs (result_candidate k l.local l.instr ++ line_candidates k ls)) (results_cons l.local (results ls)) agrees in (
-        line_match l.local l.instr (agrees_left c (result_candidate k l.local l.instr) (line_candidates k ls) (result_list l.local) (results ls) (keys_lines k ls) once' agrees'),
+      let agrees' : Agrees c (result_list l.local ++ results ls) (result_candidate l.local l.instr ++ line_candidates ls) =
+      subst (λ (xs : List ℕ). Agrees c xs (result_candidate l.local l.instr ++ line_candidates ls)) (results_cons l.local (results ls)) agrees in (
+        line_match l.local l.instr (agrees_left c (result_candidate l.local l.instr) (line_candidates ls) (result_list l.local) (results ls) (keys_lines ls) once' agrees'),
         lines_match ls (once_right (result_list l.local) (results ls) once')
-            (agrees_right c (result_candidate k l.local l.instr) (line_candidates k ls) (result_list l.local) (results ls) (keys_result k l.local l.instr) once' agrees'),
+            (agrees_right c (result_candidate l.local l.instr) (line_candidates ls) (result_list l.local) (results ls) (keys_result l.local l.instr) once' agrees'),
       )
 
 -- ---- blocks
 
-keys_of_phis : (k : Bool) (ps : List Phi) → KeysIn (phis_candidates k ps) (map (λ p. p.local) ps)
-keys_of_phis true ps = λ x h. refl
-keys_of_phis false ps = keys_phis ps ps
-
-keys_block : (k : Bool) (b : Block) → KeysIn (block_candidates k b) (definitions b)
+keys_block : (b : Block) → KeysIn (block_candidates b) (definitions b)
 unfolding block_candidates
-keys_block k b = keys_both (phis_candidates k b.phis) (line_candidates k b.lines) (phi_locals b) (results b.lines) (keys_of_phis k b.phis) (keys_lines k b.lines)
+keys_block b = keys_both (phi_candidates b.phis b.phis) (line_candidates b.lines) (phi_locals b) (results b.lines) (keys_phis b.phis b.phis) (keys_lines b.lines)
 
-pub keys_blocks : (k : Bool) (bs : List Block) → KeysIn (blocks_candidates k bs) (flat_map definitions bs)
-keys_blocks k [] = λ x h. refl
-keys_blocks k (b ∷ bs) = keys_both (block_candidates k b) (blocks_candidates k bs) (definitions b) (flat_map definitions bs) (keys_block k b) (keys_blocks k bs)
+pub keys_blocks : (bs : List Block) → KeysIn (blocks_candidates bs) (flat_map definitions bs)
+keys_blocks [] = λ x h. refl
+keys_blocks (b ∷ bs) = keys_both (block_candidates b) (blocks_candidates bs) (definitions b) (flat_map definitions bs) (keys_block b) (keys_blocks bs)
 
-module _ (right : PhiSourcesRight) (k : Bool) (c : ℕ → Option Operand) where
-  phis_of : (k : Bool) (ps : List Phi) → Once (map (λ p. p.local) ps) → Agrees c (map (λ p. p.local) ps) (phis_candidates k ps) → PhiSources c ps ps
-  phis_of true ps once agrees = phis_none right c ps ps agrees
-  phis_of false ps once agrees = phis_match right c ps ps once agrees
-
-  unsettled : (k : Bool) (ps : List Phi) → Agrees c (map (λ p. p.local) ps) (phis_candidates k ps) → k ≡ true → (x : ℕ) → holds (map (λ p. p.local) ps) x ≡ true → c x ≡ None
-  unsettled true ps agrees q x h = agrees x h
-  unsettled false ps agrees q x h = absurd (false≢true q)
-
+module _ (right : PhiSourcesRight) (c : ℕ → Option Operand) where
   abbrev BlockMatches : Block → Type 0
-  BlockMatches b = PhiSources c b.phis b.phis × LineSources k c b.lines × (k ≡ true → (x : ℕ) → holds (phi_locals b) x ≡ true → c x ≡ None)
+  BlockMatches b = PhiSources c b.phis b.phis × LineSources c b.lines
 
-  block_match : (b : Block) → Once (definitions b) → Agrees c (definitions b) (block_candidates k b) → BlockMatches b
+  block_match : (b : Block) → Once (definitions b) → Agrees c (definitions b) (block_candidates b) → BlockMatches b
   unfolding block_candidates
   block_match b once agrees = (
-    phis_of k b.phis (once_left (phi_locals b) (results b.lines) once)
-        (agrees_left c (phis_candidates k b.phis) (line_candidates k b.lines) (phi_locals b) (results b.lines) (keys_lines k b.lines) once agrees),
-    lines_match k c b.lines (once_right (phi_locals b) (results b.lines) once)
-        (agrees_right c (phis_candidates k b.phis) (line_candidates k b.lines) (phi_locals b) (results b.lines) (keys_of_phis k b.phis) once agrees),
-    unsettled k b.phis (agrees_left c (phis_candidates k b.phis) (line_candidates k b.lines) (phi_locals b) (results b.lines) (keys_lines k b.lines) once agrees),
+    phis_match right c b.phis b.phis (once_left (phi_locals b) (results b.lines) once)
+        (agrees_left c (phi_candidates b.phis b.phis) (line_candidates b.lines) (phi_locals b) (results b.lines) (keys_lines b.lines) once agrees),
+    lines_match c b.lines (once_right (phi_locals b) (results b.lines) once)
+        (agrees_right c (phi_candidates b.phis b.phis) (line_candidates b.lines) (phi_locals b) (results b.lines) (keys_phis b.phis b.phis) once agrees),
   )
 
-  pub blocks_match : (bs : List Block) → Once (flat_map definitions bs) → Agrees c (flat_map definitions bs) (blocks_candidates k bs) → (p : ℕ) (b : Block) → slice_get bs p ≡ Some b → BlockMatches b
+  pub blocks_match : (bs : List Block) → Once (flat_map definitions bs) → Agrees c (flat_map definitions bs) (blocks_candidates bs) → (p : ℕ) (b : Block) → slice_get bs p ≡ Some b → BlockMatches b
   blocks_match [] once agrees p b e = absurd (cc e)
   blocks_match (d ∷ bs) once agrees zero b e =
       let is : d ≡ b = cc e in
       subst BlockMatches is
       (block_match d (once_left (definitions d) (flat_map definitions bs) once)
-      (agrees_left c (block_candidates k d) (blocks_candidates k bs) (definitions d) (flat_map definitions bs) (keys_blocks k bs) once agrees))
+      (agrees_left c (block_candidates d) (blocks_candidates bs) (definitions d) (flat_map definitions bs) (keys_blocks bs) once agrees))
   blocks_match (d ∷ bs) once agrees (suc p) b e =
       blocks_match bs (once_right (definitions d) (flat_map definitions bs) once)
-      (agrees_right c (block_candidates k d) (blocks_candidates k bs) (definitions d) (flat_map definitions bs) (keys_block k d) once agrees) p b e
+      (agrees_right c (block_candidates d) (blocks_candidates bs) (definitions d) (flat_map definitions bs) (keys_block d) once agrees) p b e
 
 -- ---- functions
 
@@ -298,28 +260,21 @@ module _ (f : Function) (once : Distinct (locals f ++ numbers f)) where
   pub locals_once : Once (locals f)
   locals_once = once_left (locals f) (numbers f) (λ x. tally_once x (locals f ++ numbers f) once)
 
-  all_matched : PhiSourcesRight → (k : Bool) (p : ℕ) (b : Block) → slice_get f.blocks p ≡ Some b
-      → PhiSources (replacement (candidates k f)) b.phis b.phis × LineSources k (replacement (candidates k f)) b.lines × (k ≡ true → (x : ℕ) → holds (phi_locals b) x ≡ true → replacement (candidates k f) x ≡ None)
-  all_matched right k =
-      blocks_match right k (replacement (candidates k f)) f.blocks (once_right (parameters f) (flat_map definitions f.blocks) locals_once) (λ x h. refl)
-
-  pub matched : PhiSourcesRight → (k : Bool) (p : ℕ) (b : Block) → slice_get f.blocks p ≡ Some b
-      → PhiSources (replacement (candidates k f)) b.phis b.phis × LineSources k (replacement (candidates k f)) b.lines
-  matched right k p b e = let all = all_matched right k p b e in (all.0, all.1)
-
-  pub phis_unsettled : (k : Bool) → k ≡ true → (p : ℕ) (b : Block) → slice_get f.blocks p ≡ Some b → (x : ℕ) → holds (phi_locals b) x ≡ true → replacement (candidates k f) x ≡ None
-  phis_unsettled k q p b e x h = (all_matched phi_sources_right k p b e).2 q x h
+  pub matched : PhiSourcesRight → (p : ℕ) (b : Block) → slice_get f.blocks p ≡ Some b
+      → PhiSources (replacement (candidates f)) b.phis b.phis × LineSources (replacement (candidates f)) b.lines
+  matched right =
+      blocks_match right (replacement (candidates f)) f.blocks (once_right (parameters f) (flat_map definitions f.blocks) locals_once) (λ x h. refl)
 
   some_none : (v : Operand) (o : Option Operand) → o ≡ Some v → o ≡ None → ⊥
   some_none v o e n = absurd (cc (sym n ∙ e))
 
   -- a local that has a candidate is defined in a block, and is no parameter
-  pub has_site : (k : Bool) (x : ℕ) (v : Operand) → replacement (candidates k f) x ≡ Some v → (holds (flat_map definitions f.blocks) x ≡ true) × (holds (parameters f) x ≡ false)
-  has_site k x v e = by (holds (flat_map definitions f.blocks) x) refl
+  pub has_site : (x : ℕ) (v : Operand) → replacement (candidates f) x ≡ Some v → (holds (flat_map definitions f.blocks) x ≡ true) × (holds (parameters f) x ≡ false)
+  has_site x v e = by (holds (flat_map definitions f.blocks) x) refl
     where
       by : (b : Bool) → holds (flat_map definitions f.blocks) x ≡ b → (b ≡ true) × (holds (parameters f) x ≡ false)
       by true h = (refl, apart_left x (parameters f) (flat_map definitions f.blocks) (locals_once x) h)
-      by false h = absurd (some_none v (replacement (candidates k f) x) e (keys_blocks k f.blocks x h))
+      by false h = absurd (some_none v (replacement (candidates f) x) e (keys_blocks f.blocks x h))
 
   -- the block that defines it
   pub site_of : (bs : List Block) (x : ℕ) → holds (flat_map definitions bs) x ≡ true → (p : ℕ) × (b : Block) × (slice_get bs p ≡ Some b) × (holds (definitions b) x ≡ true)

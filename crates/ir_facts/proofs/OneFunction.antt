@@ -8,6 +8,7 @@ use Rattle.ir_tree.specs.declared.instr.Phi.{Phi}
 use Rattle.ir_tree.specs.declared.operand.Operand.{Operand}
 use Rattle.ir_meaning.specs.Act.{find_block}
 use Rattle.ir_better.specs.Facts.{EdgeFacts, EntryIs, Facts, Has, behind_lines, behind_local, is_local, phi_operand, with_fact, without}
+use Rattle.ir_facts.specs.Settled.{settled}
 use Rattle.ir_facts.specs.Steps.{AppliedIsOne, AreRounds, IsRound, IsSolution, IsStep, candidate_of, end_of, ends_of}
 use Rattle.ir_facts.proofs.Holding.{without_had, without_has}
 
@@ -112,9 +113,7 @@ module _ (c : ℕ → Option Operand) (f : Function) where
 -- ---- rounds
 
 one_round : (f g h : Function) → IsRound f g → IsRound f h → g ≡ h
-one_round f g h (k, settled, made) (l, settled', made') =
-    let same = one_step (candidate_of true f) f k l settled settled' in
-    one_step (candidate_of false l) l g h (subst (λ (j : Function). IsStep (candidate_of false j) j g) same made) made'
+one_round f g h first second = one_step (candidate_of (settled f)) (settled f) g h first second
 
 one_chain : (n : ℕ) (f g h : Function) → AreRounds n f g → AreRounds n f h → g ≡ h
 unfolding AreRounds

@@ -12,7 +12,6 @@ use Rattle.ir_tree.specs.declared.instr.Phi.{Phi}
 use Rattle.ir_tree.specs.declared.operand.Operand.{Operand}
 use Rattle.ir_tree.specs.declared.operand.Operand.TheVariants.{Local, Null, Number as Constant, Poison as PoisonOf, Symbol as Named}
 use Rattle.ir_better.specs.Facts.{is_local, is_phi_operand}
-use Rattle.ir_better.specs.Needed.{IsKept}
 use Rattle.ir_flow.specs.Laws.{Passed}
 use Rattle.ir_flow.proofs.Availability.{available-passed}
 use Rattle.ir_flow.proofs.Reaching.{edge-from}
@@ -22,37 +21,6 @@ use Rattle.ir_facts.proofs.Matching.{Once, apart_left, apart_right, locals_once,
 use Rattle.ir_facts.proofs.RuleReads.{rule_kept}
 use Rattle.ir_facts.proofs.RightSources.{AreSources, LineSource, LineSources}
 use Rattle.ir_facts.proofs.Substituting.{at_place, in_blocks, line_sourced, phi_leads, taken_here}
-
--- ---- constants are safe
-
-no_local : (y : ℕ) (v : Operand) → IsKept (λ x. false) v → is_local y v ≡ false
-no_local y (Local x) h = absurd (false≢true h)
-no_local y (Constant w n) h = refl
-no_local y Null h = refl
-no_local y (PoisonOf reg) h = refl
-no_local y (Named s i) h = refl
-
-no_phi : (ps : List Phi) (v : Operand) → IsKept (λ x. false) v → is_phi_operand v ps ≡ false
-no_phi ps (Local x) h = absurd (false≢true h)
-no_phi ps (Constant w n) h = refl
-no_phi ps Null h = refl
-no_phi ps (PoisonOf reg) h = refl
-no_phi ps (Named s i) h = refl
-
-module _ (c : ℕ → Option Operand) (constant : (x : ℕ) (v : Operand) → c x ≡ Some v → IsKept (λ y. false) v) where
-  constants_along : (ls : List Line) (s : ℕ → Bool) → LinesSafe c s ls
-  constants_along [] s = tt
-  constants_along (l ∷ ls) s = (by l.local, constants_along ls (with_named s l.local))
-    where
-      by : (o : Option ℕ) → SafeFrom c s o
-      by None = tt
-      by (Some y) = λ x v h is. no_local y v (constant x v is)
-
-  pub constants_safe : (r : ℕ → ℕ → Bool) (f : Function) → AreSafe c r f
-  constants_safe r f = record {
-    lines = λ p b e. constants_along b.lines (opening r p b);
-    phis = λ p b e x v h is. no_phi b.phis v (constant x v is);
-  }
 
 -- ---- one block defines a local
 
@@ -81,7 +49,7 @@ first_time : (f : Function) (b : ℕ) → ((qs : List ℕ) → Path f qs b → A
 first_time f b all zero ps h w = absurd (omega (arith, h))
 first_time f b all (suc fuel) ps h w = let r = cut f b ps b w (all ps w) in first_time f b all fuel r.0 (omega (arith, r.2, h)) r.1
 
-module _ (k : Bool) (c : ℕ → Option Operand) (r : ℕ → ℕ → Bool) (f : Function) (cov : Covers r f) (src : AreSources k c f) where
+module _ (c : ℕ → Option Operand) (r : ℕ → ℕ → Bool) (f : Function) (cov : Covers r f) (src : AreSources c f) where
   local_once : Once (locals f)
   local_once = locals_once f cov.once
 
@@ -121,9 +89,9 @@ module _ (k : Bool) (c : ℕ → Option Operand) (r : ℕ → ℕ → Bool) (f :
   phi_passed q b (p ∷ ps) x z e path h is ih =
       let at = at_place f.blocks p (edge-from f q p path.0) in
       let cover = cov.blocks q b e in
-      elim (phi_leads k c r f cov src at.0.number x z b.phis b.phis (src.phis q b e) cover.phis (cover.entered p at.0 path.0 at.1) h is) [
-        | inl t ↦ end_passed p z at.0 at.1 (taken_here k c r f cov src p at.0 z at.1 t) ps path.1
-        | inr t ↦ ih (end_passed p x at.0 at.1 (taken_here k c r f cov src p at.0 x at.1 t) ps path.1)
+      elim (phi_leads c r f cov src at.0.number x z b.phis b.phis (src.phis q b e) cover.phis (cover.entered p at.0 path.0 at.1) h is) [
+        | inl t ↦ end_passed p z at.0 at.1 (taken_here c r f cov src p at.0 z at.1 t) ps path.1
+        | inr t ↦ ih (end_passed p x at.0 at.1 (taken_here c r f cov src p at.0 x at.1 t) ps path.1)
       ]
 
   -- a path to the block that defines a local passed its source's definition, or ends with it
@@ -135,7 +103,7 @@ module _ (k : Bool) (c : ℕ → Option Operand) (r : ℕ → ℕ → Bool) (f :
         | inl phi ↦ inr (phi_passed q at.0 qs x z at.1 path phi is ih)
         | inr line ↦
             end_passed q z at.0 at.1
-            (sym (closing_is r q at.0 z) ∙ line_sourced k c at.0.lines (opening r q at.0) x z (cov.blocks q at.0 at.1).lines (src.lines q at.0 at.1) line is) qs path
+            (sym (closing_is r q at.0 z) ∙ line_sourced c at.0.lines (opening r q at.0) x z (cov.blocks q at.0 at.1).lines (src.lines q at.0 at.1) line is) qs path
       ]
 
   -- a path that passed a local's definition passed its source's
@@ -190,7 +158,7 @@ module _ (k : Bool) (c : ℕ → Option Operand) (r : ℕ → ℕ → Bool) (f :
         by false e = (refl, e)
         by true e = absurd (false≢true (sym e))
 
-    lines_safe : (ls : List Line) (s : ℕ → Bool) → Spared s ls → Once (results ls) → LinesCovered s ls → LineSources k c ls → LinesSafe c s ls
+    lines_safe : (ls : List Line) (s : ℕ → Bool) → Spared s ls → Once (results ls) → LinesCovered s ls → LineSources c ls → LinesSafe c s ls
     lines_safe [] s spared once cov' own = tt
     lines_safe (l ∷ ls) s spared once cov' own = (
       safe_from l.local refl,
@@ -218,7 +186,7 @@ module _ (k : Bool) (c : ℕ → Option Operand) (r : ℕ → ℕ → Bool) (f :
             by x (PoisonOf reg) h is' = refl
             by x (Named t i) h is' = refl
 
-        named_source : (o : Option ℕ) → LineSource k c o l.instr → (x z : ℕ) → named o x ≡ true → c x ≡ Some (Local z) → s z ≡ true
+        named_source : (o : Option ℕ) → LineSource c o l.instr → (x z : ℕ) → named o x ≡ true → c x ≡ Some (Local z) → s z ≡ true
         named_source None line x z g is = absurd (false≢true g)
         named_source (Some y) line x z g is = rule_kept s l.instr (Local z) cov'.1 (line (Local z) (ap c (sym (eqb-true x y g)) ∙ is)).0
 

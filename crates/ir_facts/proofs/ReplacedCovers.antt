@@ -47,19 +47,19 @@ module _ (c : ℕ → Option Operand) (s s' : ℕ → Bool) (less : Less s s') (
 
 -- ---- along lines
 
-lines_kept : (k : Bool) (c : ℕ → Option Operand) (ls : List Line) (s s' : ℕ → Bool) (fs : Facts) → Known c fs → Less s s' → Sourced c s s' → LineSources k c ls → LinesCovered s ls
+lines_kept : (c : ℕ → Option Operand) (ls : List Line) (s s' : ℕ → Bool) (fs : Facts) → Known c fs → Less s s' → Sourced c s s' → LineSources c ls → LinesCovered s ls
     → LinesCovered s' (lines_replaced c fs ls)
-lines_kept k c [] s s' fs known less src own cov = tt
-lines_kept k c (l ∷ ls) s s' fs known less src own cov = (
+lines_kept c [] s s' fs known less src own cov = tt
+lines_kept c (l ∷ ls) s s' fs known less src own cov = (
   subst IsNoPhi (sym (instr_is (replaced fs) l.instr)) (no_phi (replaced fs) l.instr cov.0),
   subst (Reads s') (sym (instr_is (replaced fs) l.instr)) (instr_taken s s' (replaced fs) (facts_take c s s' less src fs known) l.instr cov.1),
-  lines_kept k c ls (with_named s l.local) (with_named s' l.local) (behind_local c l.local fs) (known_one c l.local fs known) (named_less s s' l.local less)
-      (named_sourced k c s s' l less src own.0 cov.1) own.1 cov.2,
+  lines_kept c ls (with_named s l.local) (with_named s' l.local) (behind_local c l.local fs) (known_one c l.local fs known) (named_less s s' l.local less)
+      (named_sourced c s s' l less src own.0 cov.1) own.1 cov.2,
 )
 
 -- ---- functions
 
-module _ (k : Bool) (c : ℕ → Option Operand) (r : ℕ → ℕ → Bool) (f : Function) (cov : Covers r f) (src : AreSources k c f)
+module _ (c : ℕ → Option Operand) (r : ℕ → ℕ → Bool) (f : Function) (cov : Covers r f) (src : AreSources c f)
     (starts ends : ℕ → Facts) (known : (n : ℕ) → Known c (starts n)) (at_ends : (n : ℕ) → Known c (ends n)) where
   abbrev wide : ℕ → ℕ → Bool
   wide = wider r c f
@@ -75,7 +75,7 @@ module _ (k : Bool) (c : ℕ → Option Operand) (r : ℕ → ℕ → Bool) (f :
 
   taken_kept : (n : ℕ) (o : Operand) → TakenAt r f n o → TakenAt wide g n (replaced (ends n) o)
   taken_kept n o t =
-      let both = at_ends_of k c r f cov src t.place t.block t.found in
+      let both = at_ends_of c r f cov src t.place t.block t.found in
       record {
         place = t.place;
         block = block_then c starts ends t.block;
@@ -109,12 +109,12 @@ module _ (k : Bool) (c : ℕ → Option Operand) (r : ℕ → ℕ → Bool) (f :
   block_kept : (p : ℕ) (b : Block) → slice_get f.blocks p ≡ Some b → BlockCovered wide g p (block_then c starts ends b)
   block_kept p b e =
       let cover = cov.blocks p b e in
-      let both = at_ends_of k c r f cov src p b e in
+      let both = at_ends_of c r f cov src p b e in
       record {
         phis = phis_kept b.phis cover.phis;
         lines =
             subst (λ (s : ℕ → Bool). LinesCovered s (lines_replaced c (starts b.number) b.lines)) (sym (opening_still p b))
-            (lines_kept k c b.lines (opening r p b) (opening wide p b) (starts b.number) (known b.number) (less_open k c r f cov src p b) (sourced_open k c r f cov src p b e) (src.lines p b e) cover.lines);
+            (lines_kept c b.lines (opening r p b) (opening wide p b) (starts b.number) (known b.number) (less_open c r f cov src p b) (sourced_open c r f cov src p b e) (src.lines p b e) cover.lines);
         end =
             subst (λ (s : ℕ → Bool). EndReads s (end_replaced (ends b.number) b.end)) (sym (closing_still p b))
             (subst (EndReads (closing wide p b)) (sym (end_is (ends b.number) b.end))
@@ -127,7 +127,7 @@ module _ (k : Bool) (c : ℕ → Option Operand) (r : ℕ → ℕ → Bool) (f :
 
   pub covered_then : Covers wide g
   covered_then = record {
-    justified = subst (λ (e : Equations). IsJustified e wide) (sym (availability_still c starts ends f)) (wide_justified k c r f cov src);
+    justified = subst (λ (e : Equations). IsJustified e wide) (sym (availability_still c starts ends f)) (wide_justified c r f cov src);
     blocks = λ p b' found.
         let before = block_was c starts ends f.blocks p b' found in
         subst (BlockCovered wide g p) before.2 (block_kept p before.0 before.1);

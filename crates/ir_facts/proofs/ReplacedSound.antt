@@ -41,13 +41,13 @@ use Rattle.ir_facts.proofs.Substituting.{wider}
 
 -- ---- functions with the same definitions, types and edges
 
-record Alike (f g : Function) : Type 0 where
-  locals_are : locals f ≡ locals g
-  numbers_are : numbers f ≡ numbers g
-  typings_are : typings f ≡ typings g
-  result_is : f.result ≡ g.result
-  places_are : (n : ℕ) → place f.blocks n ≡ place g.blocks n
-  edges_are : (b : ℕ) → edges f b ≡ edges g b
+pub record Alike (f g : Function) : Type 0 where
+  pub locals_are : locals f ≡ locals g
+  pub numbers_are : numbers f ≡ numbers g
+  pub typings_are : typings f ≡ typings g
+  pub result_is : f.result ≡ g.result
+  pub places_are : (n : ℕ) → place f.blocks n ≡ place g.blocks n
+  pub edges_are : (b : ℕ) → edges f b ≡ edges g b
 
 module _ (f g : Function) (like : Alike f g) where
   operand_moved : (o : Operand) → OperandFormed f o → OperandFormed g o
@@ -72,7 +72,7 @@ module _ (f g : Function) (like : Alike f g) where
   kind_moved (line_item b n l) k = k
   kind_moved (end_item b t) k = (k.0, all_then (IsBlock f) (IsBlock g) (targets t) block_moved k.1)
 
-  formed_moved : (item : Item) → ItemFormed f item → ItemFormed g item
+  pub formed_moved : (item : Item) → ItemFormed f item → ItemFormed g item
   formed_moved item k = record {
     operands = all_then (ArgumentFormed f) (ArgumentFormed g) (operands item) (λ a own. (own.0, operand_moved a.operand own.1)) k.operands;
     sources = all_then (λ e. IsBlock f e.from) (λ e. IsBlock g e.from) (entries item) (λ e. block_moved e.from) k.sources;
@@ -91,7 +91,7 @@ module _ (f g : Function) (like : Alike f g) where
   kind_types_moved (line_item b n l) k = k
   kind_types_moved (end_item b t) k = end_types_moved t k
 
-  types_moved : (item : Item) → Keeps f TypeMismatch item → Keeps g TypeMismatch item
+  pub types_moved : (item : Item) → Keeps f TypeMismatch item → Keeps g TypeMismatch item
   types_moved item k = (
     all_then (HasType f) (HasType g) (operands item) (λ a own. sym (type_moved a.operand) ∙ own) k.0,
     kind_types_moved item k.1,
@@ -119,12 +119,12 @@ module _ (f g : Function) (like : Alike f g) where
   line_edges_moved b (kind.Call result callee arguments) k = tt
   line_edges_moved b (kind.Phi reg incoming) k = on_edges_moved b incoming k
 
-  has_edges_moved : (item : Item) → HasEdges f item → HasEdges g item
+  pub has_edges_moved : (item : Item) → HasEdges f item → HasEdges g item
   has_edges_moved (phi_item b phi) k = on_edges_moved b phi.incoming k
   has_edges_moved (line_item b n l) k = line_edges_moved b l.instr k
   has_edges_moved (end_item b t) k = tt
 
-  leaves_moved : (item : Item) → LeavesEntry f item → LeavesEntry g item
+  pub leaves_moved : (item : Item) → LeavesEntry f item → LeavesEntry g item
   leaves_moved (phi_item b phi) k = tt
   leaves_moved (line_item b n l) k = tt
   leaves_moved (end_item b t) k =
@@ -353,26 +353,26 @@ module _ (c : ℕ → Option Operand) (f : Function) (takes : (fs : Facts) → K
 
 -- ---- of candidates
 
-module _ (k : Bool) (f : Function) (sound : Sound f) where
-  local_typed : (fs : Facts) (x : ℕ) (t : Reg) → Known (replacement (candidates k f)) fs → Typed f t (Local x) → Typed f t (replaced_local fs x)
+module _ (f : Function) (sound : Sound f) where
+  local_typed : (fs : Facts) (x : ℕ) (t : Reg) → Known (replacement (candidates f)) fs → Typed f t (Local x) → Typed f t (replaced_local fs x)
   local_typed [] x t known h = h
   local_typed ((y, u) ∷ fs) x t known h = by (y == x) refl (local_typed fs x t (λ z v has. known z v (inr has)) h)
     where
       by : (b : Bool) → (y == x) ≡ b → Typed f t (replaced_local fs x) → Typed f t (if b then u else replaced_local fs x)
-      by true q rest = source_typed f sound k x u t (known x u (inl (eqb-true y x q, refl))) h.0
+      by true q rest = source_typed f sound x u t (known x u (inl (eqb-true y x q, refl))) h.0
       by false q rest = rest
 
-  fact_typed : (fs : Facts) → Known (replacement (candidates k f)) fs → (o : Operand) (t : Reg) → Typed f t o → Typed f t (replaced fs o)
+  fact_typed : (fs : Facts) → Known (replacement (candidates f)) fs → (o : Operand) (t : Reg) → Typed f t o → Typed f t (replaced fs o)
   fact_typed fs known (Local x) t h = local_typed fs x t known h
   fact_typed fs known (Constant w n) t h = h
   fact_typed fs known Null t h = h
   fact_typed fs known (PoisonOf reg) t h = h
   fact_typed fs known (Named s i) t h = h
 
-  pub replaced_sound : (starts ends : ℕ → Facts) → ((n : ℕ) → Known (replacement (candidates k f)) (starts n)) → ((n : ℕ) → Known (replacement (candidates k f)) (ends n))
-      → Sound (function_replaced (replacement (candidates k f)) starts ends f)
+  pub replaced_sound : (starts ends : ℕ → Facts) → ((n : ℕ) → Known (replacement (candidates f)) (starts n)) → ((n : ℕ) → Known (replacement (candidates f)) (ends n))
+      → Sound (function_replaced (replacement (candidates f)) starts ends f)
   replaced_sound starts ends known at_ends =
       let found = covered f sound in
-      let cov = covered_then k (replacement (candidates k f)) found.family f found.held (are_sources found.family f found.held k) starts ends known at_ends in
-      sound_then (replacement (candidates k f)) f fact_typed starts ends known at_ends sound
-      (all_there (wider found.family (replacement (candidates k f)) f) (function_replaced (replacement (candidates k f)) starts ends f) cov)
+      let cov = covered_then (replacement (candidates f)) found.family f found.held (are_sources found.family f found.held) starts ends known at_ends in
+      sound_then (replacement (candidates f)) f fact_typed starts ends known at_ends sound
+      (all_there (wider found.family (replacement (candidates f)) f) (function_replaced (replacement (candidates f)) starts ends f) cov)

@@ -1,5 +1,5 @@
 -- What may stand for locals, line by line and phi by phi.
-use Rattle.std.proofs.Common.{◌≡◌, ℕ, ◌<◌, Bool, true, false, List, [], ◌∷◌, Option, Some, None, ◌⊎◌}
+use Rattle.std.proofs.Common.{◌≡◌, ℕ, ◌<◌, false, List, [], ◌∷◌, Option, Some, None, ◌⊎◌}
 use Rattle.std.specs.Prelude.{slice_get}
 use Rattle.ir_tree.specs.Flow.{holds, locals, parameters, room}
 use Rattle.ir_tree.specs.declared.block.Block.{Block}
@@ -12,31 +12,27 @@ use Rattle.ir_tree.specs.declared.operand.Operand.{Operand}
 use Rattle.ir_tree.specs.declared.operand.Operand.TheVariants.{Local}
 use Rattle.ir_meaning.specs.Table.{rule}
 use Rattle.ir_better.specs.Facts.{is_local}
-use Rattle.ir_better.specs.Needed.{IsKept}
-use Rattle.ir_facts.specs.Candidates.{may_settle}
 use Rattle.ir_facts.specs.Laws.{IsPhiSource}
 
 abbrev pub IsTaken : Operand → List Incoming → Type 0
 IsTaken v [] = ⊥
 IsTaken v (e ∷ es) = (e.value ≡ v) ⊎ IsTaken v es
 
--- what stands for an instruction's local is its row's operand; of freezes and comparisons of pointers, or of the others
-abbrev pub LineSource : Bool → (ℕ → Option Operand) → Option ℕ → Instr → Type 0
-LineSource k c None i = Unit {0}
-LineSource k c (Some y) i = (v : Operand) → c y ≡ Some v → (rule i ≡ Some v) × (is_local y v ≡ false) × (may_settle i ≡ k)
+-- what stands for an instruction's local is its row's operand
+abbrev pub LineSource : (ℕ → Option Operand) → Option ℕ → Instr → Type 0
+LineSource c None i = Unit {0}
+LineSource c (Some y) i = (v : Operand) → c y ≡ Some v → (rule i ≡ Some v) × (is_local y v ≡ false)
 
-abbrev pub LineSources : Bool → (ℕ → Option Operand) → List Line → Type 0
-LineSources k c [] = Unit {0}
-LineSources k c (l ∷ ls) = LineSource k c l.local l.instr × LineSources k c ls
+abbrev pub LineSources : (ℕ → Option Operand) → List Line → Type 0
+LineSources c [] = Unit {0}
+LineSources c (l ∷ ls) = LineSource c l.local l.instr × LineSources c ls
 
 abbrev pub PhiSources : (ℕ → Option Operand) → List Phi → List Phi → Type 0
 PhiSources c all [] = Unit {0}
 PhiSources c all (p ∷ ps) = ((v : Operand) → c p.local ≡ Some v → IsPhiSource all p v × IsTaken v p.incoming) × PhiSources c all ps
 
-pub record AreSources (k : Bool) (c : ℕ → Option Operand) (f : Function) : Type 0 where
-  pub lines : (p : ℕ) (b : Block) → slice_get f.blocks p ≡ Some b → LineSources k c b.lines
+pub record AreSources (c : ℕ → Option Operand) (f : Function) : Type 0 where
+  pub lines : (p : ℕ) (b : Block) → slice_get f.blocks p ≡ Some b → LineSources c b.lines
   pub phis : (p : ℕ) (b : Block) → slice_get f.blocks p ≡ Some b → PhiSources c b.phis b.phis
   pub params : (x : ℕ) (v : Operand) → c x ≡ Some v → holds (parameters f) x ≡ false
-  -- a settled choice is a constant
-  pub constant : k ≡ true → (x : ℕ) (v : Operand) → c x ≡ Some v → IsKept (λ y. false) v
   pub within : (x z : ℕ) → c x ≡ Some (Local z) → z < room (locals f)

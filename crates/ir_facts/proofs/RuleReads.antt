@@ -1,5 +1,5 @@
 -- The operand of a row is one that the instruction reads, or no local.
-use Rattle.std.proofs.Common.{◌≡◌, ℕ, zero, suc, ◌-◌, ◌^◌, Bool, true, false, ◌&&◌, ◌||◌, not, ◌==◌, if◌then◌else◌, List, Option, Some, None, subst}
+use Rattle.std.proofs.Common.{◌≡◌, ℕ, zero, suc, ◌-◌, ◌^◌, Bool, true, false, ◌&&◌, ◌||◌, not, ◌==◌, if◌then◌else◌, List, Option, Some, None, refl, subst}
 use Rattle.std.specs.Prelude.{ℤ}
 use Rattle.ir_tree.specs.Forms.{Form}
 use Rattle.ir_tree.specs.declared.instr.BinaryOp.{BinaryOp}
@@ -21,7 +21,6 @@ use Rattle.ir_meaning.specs.Wrapping.{compare, is_division}
 use Rattle.ir_meaning.specs.declared.value.Value.TheVariants.{Number, Pointer, Poison}
 use Rattle.ir_meaning.specs.Table.{address_rule, all_zero, any_poison, binary_rule, cast_constant, cast_numbers, cast_rule, compared_addresses, compared_constants, compared_numbers, comparison_rule, constant_answer, constant_indices, equality, first, folded_or, freeze_rule, frozen_number, is_number, is_poison, is_reflexive, number_of, poisoned, rule, same, select_rule, selected_number, symbol_at, truth, unchanged, when, zeroed}
 use Rattle.ir_better.specs.Needed.{IsKept, Reads}
-use Rattle.ir_facts.specs.Candidates.{may_settle}
 
 -- an operand of which this holds, if there is one
 abbrev pub Of : (Operand → Type 0) → Option Operand → Type 0
@@ -40,6 +39,10 @@ module _ (P : Operand → Type 0) where
   pub when_of : (t : Bool) (v : Operand) → P v → Of P (when t v)
   when_of true v h = h
   when_of false v h = tt
+
+  pub when_if : (t : Bool) (v : Operand) → (t ≡ true → P v) → Of P (when t v)
+  when_if true v h = h refl
+  when_if false v h = tt
 
 module _ (P : Operand → Type 0) where
   unchanged_of : (op : BinaryOp) (w : ℕ) (l r : Operand) → P l → P r → Of P (unchanged op w l r)
@@ -132,12 +135,12 @@ module _ (P : Operand → Type 0) where
   addresses_of t p Ptr (Named s zero) (Named u j) = chosen_of (symbol_eq s u) (equality p (0 == j)) (equality_of t p (0 == j))
   addresses_of t p Ptr (Named s (suc i)) (Named u j) = chosen_of (symbol_eq s u) (equality p (suc i == j)) (equality_of t p (suc i == j))
 
-  pub comparison_of : ((b : Bool) → P (truth b)) → P (PoisonOf (Int 1)) → (p : Predicate) (reg : Reg) (l r : Operand) → Of P (comparison_rule p reg l r)
-  comparison_of t q p reg l r =
+  pub comparison_of : ((b : Bool) → P (truth b)) → (p : Predicate) (reg : Reg) (l r : Operand) → ((is_poison l || is_poison r) ≡ true → P (PoisonOf (Int 1))) → Of P (comparison_rule p reg l r)
+  comparison_of t p reg l r q =
       first_of P (compared_constants p reg l r) (first (when (is_poison l || is_poison r) (PoisonOf (Int 1))) (first (when (same l r) (truth (is_reflexive p))) (compared_addresses p reg l r)))
       (constants_of t p reg l r)
       (first_of P (when (is_poison l || is_poison r) (PoisonOf (Int 1))) (first (when (same l r) (truth (is_reflexive p))) (compared_addresses p reg l r))
-      (when_of P (is_poison l || is_poison r) (PoisonOf (Int 1)) q)
+      (when_if P (is_poison l || is_poison r) (PoisonOf (Int 1)) q)
       (first_of P (when (same l r) (truth (is_reflexive p))) (compared_addresses p reg l r)
       (when_of P (same l r) (truth (is_reflexive p)) (t (is_reflexive p))) (addresses_of t p reg l r)))
 
@@ -193,12 +196,12 @@ module _ (keeps : ℕ → Bool) where
   frozen_kept w (Some a) = tt
   frozen_kept w None = tt
 
-  pub freeze_kept : (reg : Reg) (o : Operand) → Of (IsKept keeps) (freeze_rule reg o)
+  freeze_kept : (reg : Reg) (o : Operand) → Of (IsKept keeps) (freeze_rule reg o)
   freeze_kept (Int w) o = freeze_of (IsKept keeps) w o (frozen_kept w (number_of w o)) tt
   freeze_kept Ptr o = tt
 
-  pub comparison_kept : (p : Predicate) (reg : Reg) (l r : Operand) → Of (IsKept keeps) (comparison_rule p reg l r)
-  comparison_kept p reg l r = comparison_of (IsKept keeps) (λ b. tt) tt p reg l r
+  comparison_kept : (p : Predicate) (reg : Reg) (l r : Operand) → Of (IsKept keeps) (comparison_rule p reg l r)
+  comparison_kept p reg l r = comparison_of (IsKept keeps) (λ b. tt) p reg l r (λ q. tt)
 
   symbol_kept : (shape : Form) (base : Operand) (is : Option (List ℤ)) → Of (IsKept keeps) (symbol_at shape base is)
   symbol_kept shape (Named s offset) (Some is) = tt
@@ -223,19 +226,3 @@ module _ (keeps : ℕ → Bool) where
 
   pub rule_kept : (i : Instr) (v : Operand) → Reads keeps i → rule i ≡ Some v → IsKept keeps v
   rule_kept i v h e = of_some (IsKept keeps) (rule i) v e (row_kept i h)
-
--- ---- constants
-
--- the rows of freezes and of comparisons give constants
-pub rule_constant : (i : Instr) (v : Operand) → may_settle i ≡ true → rule i ≡ Some v → IsKept (λ y. false) v
-rule_constant (Freeze reg o) v s e = of_some (IsKept (λ y. false)) (freeze_rule reg o) v e (freeze_kept (λ y. false) reg o)
-rule_constant (Icmp p reg l r) v s e = of_some (IsKept (λ y. false)) (comparison_rule p reg l r) v e (comparison_kept (λ y. false) p reg l r)
-rule_constant (Binary op f w l r) v s e = absurd (cc s)
-rule_constant (Cast op from o to) v s e = absurd (cc s)
-rule_constant (Select t a b) v s e = absurd (cc s)
-rule_constant (Alloca shape align) v s e = absurd (cc s)
-rule_constant (Load reg o align) v s e = absurd (cc s)
-rule_constant (Store reg o d align) v s e = absurd (cc s)
-rule_constant (Address inbounds shape o is) v s e = absurd (cc s)
-rule_constant (Call result o args) v s e = absurd (cc s)
-rule_constant (StrayPhi reg es) v s e = absurd (cc s)

@@ -27,6 +27,24 @@ use Rattle.ir_meaning.specs.Table.{cast_constant, cast_numbers, constant_answer,
 use Rattle.ir_facts.proofs.RuleReads.{Of, address_of, binary_of, cast_of, comparison_of, freeze_of, of_some, select_of}
 use Rattle.ir_facts.proofs.Words.{Small, arithmetic_small, extended_small, sign_extended_small, truncated_small}
 
+number_small : (w : ℕ) (o : Operand) (n : ℕ) → number_of w o ≡ Some n → n < 2 ^ w
+number_small w (Local x) n e = absurd (cc e)
+number_small w Null n e = absurd (cc e)
+number_small w (PoisonOf reg) n e = absurd (cc e)
+number_small w (Named s i) n e = absurd (cc e)
+number_small w (Constant v a) n e = by (nat_lt a (2 ^ w)) refl e
+  where
+    by : (b : Bool) → nat_lt a (2 ^ w) ≡ b → (if b then Some a else None) ≡ Some n → n < 2 ^ w
+    by true q e' = let is : a ≡ n = cc e' in subst (λ (m : ℕ). m < 2 ^ w) is (ltb-true a (2 ^ w) q)
+    by false q e' = absurd (cc e')
+
+pub small_of : (w : ℕ) (o : Operand) → Small w (number_of w o)
+small_of w o = by (number_of w o) refl
+  where
+    by : (n : Option ℕ) → number_of w o ≡ n → Small w n
+    by None e = tt
+    by (Some n) e = number_small w o n e
+
 module _ (f : Function) where
   -- an operand of this type, as it may stand in the function
   abbrev pub Typed : Reg → Operand → Type 0
@@ -49,17 +67,6 @@ module _ (f : Function) where
   truth_typed true = (refl, ((lit≤ tt, lit≤ tt), lit< tt))
   truth_typed false = (refl, ((lit≤ tt, lit≤ tt), lit< tt))
 
-  number_small : (w : ℕ) (o : Operand) (n : ℕ) → number_of w o ≡ Some n → n < 2 ^ w
-  number_small w (Local x) n e = absurd (cc e)
-  number_small w Null n e = absurd (cc e)
-  number_small w (PoisonOf reg) n e = absurd (cc e)
-  number_small w (Named s i) n e = absurd (cc e)
-  number_small w (Constant v a) n e = by (nat_lt a (2 ^ w)) refl e
-    where
-      by : (b : Bool) → nat_lt a (2 ^ w) ≡ b → (if b then Some a else None) ≡ Some n → n < 2 ^ w
-      by true q e' = let is : a ≡ n = cc e' in subst (λ (m : ℕ). m < 2 ^ w) is (ltb-true a (2 ^ w) q)
-      by false q e' = absurd (cc e')
-
   answer_typed : (w : ℕ) → IsWidth w → (o : Option ℕ) → Small w o → IsTyped (Int w) (constant_answer w (Is (number_or_poison o)))
   answer_typed w width None h = poison_typed (Int w) width
   answer_typed w width (Some n) h = constant_typed w n width h
@@ -76,13 +83,6 @@ module _ (f : Function) where
   folded_typed op fl w (Some a) (Some b) width p q = binary_typed op fl w a b width p q
   folded_typed op fl w (Some a) None width p q = tt
   folded_typed op fl w None r width p q = tt
-
-  small_of : (w : ℕ) (o : Operand) → Small w (number_of w o)
-  small_of w o = by (number_of w o) refl
-    where
-      by : (n : Option ℕ) → number_of w o ≡ n → Small w n
-      by None e = tt
-      by (Some n) e = number_small w o n e
 
   cast_small : (op : CastOp) (from to a : ℕ) → CastFits op (Int from) (Int to) → a < 2 ^ from → cast_number op from to a < 2 ^ to
   cast_small Zext from to a fits p = extended_small from to a p (pow-lt fits)
@@ -140,7 +140,7 @@ module _ (f : Function) where
   row_typed local (Icmp p reg l r) h v e t q =
       let is : Int 1 ≡ t = cc q in
       subst (λ (s : Reg). Typed s v) is
-      (of_some (Typed (Int 1)) (rule (Icmp p reg l r)) v e (comparison_of (Typed (Int 1)) truth_typed (poison_typed (Int 1) (lit≤ tt, lit≤ tt)) p reg l r))
+      (of_some (Typed (Int 1)) (rule (Icmp p reg l r)) v e (comparison_of (Typed (Int 1)) truth_typed p reg l r (λ q. poison_typed (Int 1) (lit≤ tt, lit≤ tt))))
   row_typed local (Cast op from o to) h v e t q =
       let is : to ≡ t = cc q in
       subst (λ (s : Reg). Typed s v) is

@@ -1,5 +1,5 @@
 -- What takes a local's place has the local's type.
-use Rattle.std.proofs.Common.{◌≡◌, ℕ, suc, ◌+◌, nat_eq, inl, inr, Bool, true, List, [], ◌∷◌, ◌++◌, Option, Some, None, map, refl, sym, ◌∙◌, ap, subst, arith}
+use Rattle.std.proofs.Common.{◌≡◌, ℕ, suc, ◌+◌, nat_eq, inl, inr, true, List, [], ◌∷◌, ◌++◌, Option, Some, None, map, refl, sym, ◌∙◌, ap, subst, arith}
 use Rattle.std.specs.Prelude.{All}
 use Rattle.std.specs.List.{cons_option}
 use Rattle.std.proofs.lemmas.Bool.{eqb-true, false≢true, or_cases}
@@ -35,11 +35,11 @@ module _ (f : Function) where
   abbrev has : ℕ → Option Reg
   has x = typing (typings f) x
 
-  line_source_typed : (k : Bool) (c : ℕ → Option Operand) (n j : ℕ) (ls : List Line) → All IsTypedItem (lines_from n j ls) → LineSources k c ls → LinesTyped has ls
+  line_source_typed : (c : ℕ → Option Operand) (n j : ℕ) (ls : List Line) → All IsTypedItem (lines_from n j ls) → LineSources c ls → LinesTyped has ls
       → (x : ℕ) (v : Operand) (t : Reg) → holds (results ls) x ≡ true → c x ≡ Some v → has x ≡ Some t → Typed f t v
-  line_source_typed k c n j [] all own types x v t h is q = absurd (false≢true h)
-  line_source_typed k c n j (l ∷ ls) all own types x v t h is q =
-      by l.local refl own.0 types.0 h (λ g. line_source_typed k c n (suc j) ls (All-tail IsTypedItem (line_item n j l) (lines_from n (suc j) ls) all) own.1 types.1 x v t g is q)
+  line_source_typed c n j [] all own types x v t h is q = absurd (false≢true h)
+  line_source_typed c n j (l ∷ ls) all own types x v t h is q =
+      by l.local refl own.0 types.0 h (λ g. line_source_typed c n (suc j) ls (All-tail IsTypedItem (line_item n j l) (lines_from n (suc j) ls) all) own.1 types.1 x v t g is q)
     where
       item : IsTypedItem (line_item n j l)
       item = All-head IsTypedItem (line_item n j l) (lines_from n (suc j) ls) all
@@ -47,7 +47,7 @@ module _ (f : Function) where
       right : IsSoundInstr f l.local l.instr
       right = record { types = item.types.0; formed = item.formed.operands; kind = item.formed.kind.0; arms = item.types.1; casts = item.casts }
 
-      by : (o : Option ℕ) → l.local ≡ o → LineSource k c o l.instr → LineTyped has o l.instr → holds (cons_option o (results ls)) x ≡ true → (holds (results ls) x ≡ true → Typed f t v) → Typed f t v
+      by : (o : Option ℕ) → l.local ≡ o → LineSource c o l.instr → LineTyped has o l.instr → holds (cons_option o (results ls)) x ≡ true → (holds (results ls) x ≡ true → Typed f t v) → Typed f t v
       by None e line type' g later = later g
       by (Some y) e line type' g later =
           elim (or_cases (nat_eq x y) (holds (results ls) x) g) [
@@ -81,31 +81,31 @@ module _ (f : Function) where
           let reg : p.reg ≡ t = cc one in
           subst (λ (r : Reg). Typed f r v) reg (taken_typed p.reg p.incoming v (own.0 v (ap c (sym same) ∙ is)).1 item.types.0 item.formed.operands)
 
-  module _ (sound : Sound f) (k : Bool) where
+  module _ (sound : Sound f) where
     each_typed : All IsTypedItem (items f)
     each_typed = λ i d lt. record { formed = sound.formed.items i d lt; types = sound.rules TypeMismatch i d lt; casts = sound.rules CastRule i d lt }
 
-    pub source_typed : (x : ℕ) (v : Operand) (t : Reg) → replacement (candidates k f) x ≡ Some v → has x ≡ Some t → Typed f t v
+    pub source_typed : (x : ℕ) (v : Operand) (t : Reg) → replacement (candidates f) x ≡ Some v → has x ≡ Some t → Typed f t v
     source_typed x v t is q =
-        let site = site_of f sound.formed.once f.blocks x (has_site f sound.formed.once k x v is).0 in
+        let site = site_of f sound.formed.once f.blocks x (has_site f sound.formed.once x v is).0 in
         let b = site.1 in
         let here : 0 + site.0 ≡ site.0 = omega arith in
         let all = subst (λ (n : ℕ). All IsTypedItem (block_items n b)) here (blocks_items f IsTypedItem 0 f.blocks each_typed site.0 b site.2) in
         let rest = all_back IsTypedItem (map (phi_item site.0) b.phis) (lines_from site.0 0 b.lines ++ end_item site.0 b.end ∷ []) all in
-        let own = matched f sound.formed.once phi_sources_right k site.0 b site.2 in
+        let own = matched f sound.formed.once phi_sources_right site.0 b site.2 in
         let types = types_of_block f sound.formed.once site.0 b site.2 in
         elim (or_cases (holds (phi_locals b) x) (holds (results b.lines) x) (sym (list_any-append (nat_eq x) (phi_locals b) (results b.lines)) ∙ site.3)) [
           | inl phi ↦
-              phi_source_typed (replacement (candidates k f)) site.0 b.phis b.phis (all_front IsTypedItem (map (phi_item site.0) b.phis) (lines_from site.0 0 b.lines ++ end_item site.0 b.end ∷ []) all) own.0 types.0 x v t phi is q
+              phi_source_typed (replacement (candidates f)) site.0 b.phis b.phis (all_front IsTypedItem (map (phi_item site.0) b.phis) (lines_from site.0 0 b.lines ++ end_item site.0 b.end ∷ []) all) own.0 types.0 x v t phi is q
           | inr line ↦
-              line_source_typed k (replacement (candidates k f)) site.0 0 b.lines (all_front IsTypedItem (lines_from site.0 0 b.lines) (end_item site.0 b.end ∷ []) rest) own.1 types.1 x v t line is q
+              line_source_typed (replacement (candidates f)) site.0 0 b.lines (all_front IsTypedItem (lines_from site.0 0 b.lines) (end_item site.0 b.end ∷ []) rest) own.1 types.1 x v t line is q
         ]
 
     -- each operand, after its replacement
-    pub operand_typed : (o : Operand) (t : Reg) → Typed f t o → Typed f t (operand_replaced (replacement (candidates k f)) o)
-    operand_typed (Local x) t h = by (replacement (candidates k f) x) refl
+    pub operand_typed : (o : Operand) (t : Reg) → Typed f t o → Typed f t (operand_replaced (replacement (candidates f)) o)
+    operand_typed (Local x) t h = by (replacement (candidates f) x) refl
       where
-        by : (o : Option Operand) → replacement (candidates k f) x ≡ o → Typed f t (or_local o x)
+        by : (o : Option Operand) → replacement (candidates f) x ≡ o → Typed f t (or_local o x)
         by None q = h
         by (Some v) q = source_typed x v t q h.0
     operand_typed (Constant w n) t h = h

@@ -1,39 +1,22 @@
 -- The candidates of a covered function may stand for its locals.
-use Rattle.std.proofs.Common.{◌≡◌, ℕ, ◌<◌, nat_eq, ◌⊎◌, inl, inr, Bool, true, false, List, [], ◌∷◌, Option, Some, None, map, sym, ◌∙◌, ap, subst}
+use Rattle.std.proofs.Common.{◌≡◌, ℕ, ◌<◌, nat_eq, ◌⊎◌, inl, inr, Bool, true, List, [], ◌∷◌, Option, Some, map, sym, ◌∙◌, ap, subst}
 use Rattle.std.specs.Prelude.{slice_get}
-use Rattle.std.specs.List.{cons_option}
 use Rattle.std.proofs.lemmas.Bool.{eqb-true, false≢true, or_cases}
 use Rattle.std.proofs.lemmas.List.Folds.{list_any-append}
 use Rattle.ir_tree.specs.Flow.{definitions, holds, locals, phi_locals, results, room}
 use Rattle.ir_tree.specs.declared.block.Block.{Block}
 use Rattle.ir_tree.specs.declared.function.Function.{Function}
 use Rattle.ir_tree.specs.declared.instr.Incoming.{Incoming}
-use Rattle.ir_tree.specs.declared.instr.Line.{Line}
 use Rattle.ir_tree.specs.declared.instr.Phi.{Phi}
 use Rattle.ir_tree.specs.declared.operand.Operand.{Operand}
 use Rattle.ir_tree.specs.declared.operand.Operand.TheVariants.{Local}
-use Rattle.ir_better.specs.Needed.{IsKept}
 use Rattle.ir_edit.specs.Substituted.{replacement}
 use Rattle.ir_facts.specs.Candidates.{candidates}
 use Rattle.ir_facts.proofs.Covers.{Covers, EdgesCovered, PhisCovered, TakenAt, closing, closing_is, opening}
-use Rattle.ir_facts.proofs.Matching.{has_site, matched, phis_unsettled, site_of}
-use Rattle.ir_facts.proofs.RightSources.{AreSources, IsTaken, LineSource, LineSources, PhiSources}
-use Rattle.ir_facts.proofs.RuleReads.{rule_constant}
+use Rattle.ir_facts.proofs.Matching.{has_site, matched, site_of}
+use Rattle.ir_facts.proofs.RightSources.{AreSources, IsTaken, LineSources, PhiSources}
 use Rattle.ir_facts.proofs.Standing.{phi_sources_right}
 use Rattle.ir_facts.proofs.Substituting.{defined_room, line_sourced}
-
--- the row that gives a local its candidate, among lines that define it
-settled_line : (k : Bool) (c : ℕ → Option Operand) (ls : List Line) (x : ℕ) (v : Operand) → LineSources k c ls → holds (results ls) x ≡ true → c x ≡ Some v → k ≡ true → IsKept (λ y. false) v
-settled_line k c [] x v own h is q = absurd (false≢true h)
-settled_line k c (l ∷ ls) x v own h is q = by (λ g. settled_line k c ls x v own.1 g is q) l.local own.0 h
-  where
-    by : (holds (results ls) x ≡ true → IsKept (λ y. false) v) → (o : Option ℕ) → LineSource k c o l.instr → holds (cons_option o (results ls)) x ≡ true → IsKept (λ y. false) v
-    by later None line g = later g
-    by later (Some y) line g =
-        elim (or_cases (nat_eq x y) (holds (results ls) x) g) [
-          | inl e ↦ (let row = line v (ap c (sym (eqb-true x y e)) ∙ is) in rule_constant l.instr v (row.2 ∙ q) row.0)
-          | inr more ↦ later more
-        ]
 
 module _ (r : ℕ → ℕ → Bool) (f : Function) (cov : Covers r f) where
   closing_room : (p : ℕ) (b : Block) (z : ℕ) → slice_get f.blocks p ≡ Some b → closing r p b z ≡ true → z < room (locals f)
@@ -58,42 +41,30 @@ module _ (r : ℕ → ℕ → Bool) (f : Function) (cov : Covers r f) where
         | inr more ↦ phi_room c all ps x z own.1 t.1 more is
       ]
 
-  pub are_sources : (k : Bool) → AreSources k (replacement (candidates k f)) f
-  are_sources k = record {
+  pub are_sources : AreSources (replacement (candidates f)) f
+  are_sources = record {
     lines = λ p b e. (match p b e).1;
     phis = λ p b e. (match p b e).0;
-    params = λ x v e. (has_site f cov.once k x v e).1;
-    constant = λ q x v e. constant q x v e;
+    params = λ x v e. (has_site f cov.once x v e).1;
     within = within;
   }
     where
       c : ℕ → Option Operand
-      c = replacement (candidates k f)
+      c = replacement (candidates f)
 
-      match : (p : ℕ) (b : Block) → slice_get f.blocks p ≡ Some b → PhiSources (replacement (candidates k f)) b.phis b.phis × LineSources k (replacement (candidates k f)) b.lines
-      match = matched f cov.once phi_sources_right k
+      match : (p : ℕ) (b : Block) → slice_get f.blocks p ≡ Some b → PhiSources (replacement (candidates f)) b.phis b.phis × LineSources (replacement (candidates f)) b.lines
+      match = matched f cov.once phi_sources_right
 
       parts : (b : Block) (x : ℕ) → holds (definitions b) x ≡ true → (holds (phi_locals b) x ≡ true) ⊎ (holds (results b.lines) x ≡ true)
       parts b x h = or_cases (holds (phi_locals b) x) (holds (results b.lines) x) (sym (list_any-append (nat_eq x) (phi_locals b) (results b.lines)) ∙ h)
 
-      some_none : (v : Operand) (o : Option Operand) → o ≡ Some v → o ≡ None → ⊥
-      some_none v o e n = absurd (cc (sym n ∙ e))
-
-      constant : k ≡ true → (x : ℕ) (v : Operand) → replacement (candidates k f) x ≡ Some v → IsKept (λ y. false) v
-      constant q x v e =
-          let site = site_of f cov.once f.blocks x (has_site f cov.once k x v e).0 in
-          elim (parts site.1 x site.3) [
-            | inl phi ↦ absurd (some_none v (replacement (candidates k f) x) e (phis_unsettled f cov.once k q site.0 site.1 site.2 x phi))
-            | inr line ↦ settled_line k (replacement (candidates k f)) site.1.lines x v (match site.0 site.1 site.2).1 line e q
-          ]
-
-      within : (x z : ℕ) → replacement (candidates k f) x ≡ Some (Local z) → z < room (locals f)
+      within : (x z : ℕ) → replacement (candidates f) x ≡ Some (Local z) → z < room (locals f)
       within x z e =
-          let site = site_of f cov.once f.blocks x (has_site f cov.once k x (Local z) e).0 in
+          let site = site_of f cov.once f.blocks x (has_site f cov.once x (Local z) e).0 in
           let cover = cov.blocks site.0 site.1 site.2 in
           elim (parts site.1 x site.3) [
-            | inl phi ↦ phi_room (replacement (candidates k f)) site.1.phis site.1.phis x z (match site.0 site.1 site.2).0 cover.phis phi e
+            | inl phi ↦ phi_room (replacement (candidates f)) site.1.phis site.1.phis x z (match site.0 site.1 site.2).0 cover.phis phi e
             | inr line ↦
                 closing_room site.0 site.1 z site.2
-                (sym (closing_is r site.0 site.1 z) ∙ line_sourced k (replacement (candidates k f)) site.1.lines (opening r site.0 site.1) x z cover.lines (match site.0 site.1 site.2).1 line e)
+                (sym (closing_is r site.0 site.1 z) ∙ line_sourced (replacement (candidates f)) site.1.lines (opening r site.0 site.1) x z cover.lines (match site.0 site.1 site.2).1 line e)
           ]

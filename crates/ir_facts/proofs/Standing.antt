@@ -16,7 +16,7 @@ use Rattle.ir_meaning.specs.Table.{rule, same}
 use Rattle.ir_better.specs.Facts.{Facts, is_local, is_phi, is_phi_operand, edge_operand}
 use Rattle.ir_tree.proofs.Symbols.{symbol_true}
 use Rattle.ir_better.proofs.Rules.Tabled.{table_right}
-use Rattle.ir_facts.specs.Candidates.{any_candidate, any_line_candidates, first_other, line_candidates, other_than, paired, phi_candidates, phi_source, result_candidate, sole_source, takes_only}
+use Rattle.ir_facts.specs.Candidates.{first_other, line_candidates, other_than, paired, phi_candidates, phi_source, result_candidate, sole_source, takes_only}
 use Rattle.ir_facts.specs.Membership.{is_member, sole_beside, source_beside}
 use Rattle.ir_facts.specs.Laws.{IsLineSource, IsPhiSource, LineSourcesRight, PhiSourcesRight}
 
@@ -145,20 +145,12 @@ pushed all rest more p old new s e es er =
 -- ---- instructions
 
 -- one more line
-pub line_pushed : (k : Bool) (rest more : List Line) (l : Line) (old new : Facts) → new ≡ old ++ result_candidate k l.local l.instr → more ≡ l ∷ rest →
-    new ++ line_candidates k rest ≡ old ++ line_candidates k more
-line_pushed k rest more l old new e er =
-    ap (λ (fs : Facts). fs ++ line_candidates k rest) e
-    ∙ append_assoc old (result_candidate k l.local l.instr) (line_candidates k rest)
-    ∙ ap (λ (ls : List Line). old ++ line_candidates k ls) (sym er)
-
--- and of either kind
-pub any_line_pushed : (rest more : List Line) (l : Line) (old new : Facts) → new ≡ old ++ any_candidate l.local l.instr → more ≡ l ∷ rest →
-    new ++ any_line_candidates rest ≡ old ++ any_line_candidates more
-any_line_pushed rest more l old new e er =
-    ap (λ (fs : Facts). fs ++ any_line_candidates rest) e
-    ∙ append_assoc old (any_candidate l.local l.instr) (any_line_candidates rest)
-    ∙ ap (λ (ls : List Line). old ++ any_line_candidates ls) (sym er)
+pub line_pushed : (rest more : List Line) (l : Line) (old new : Facts) → new ≡ old ++ result_candidate l.local l.instr → more ≡ l ∷ rest →
+    new ++ line_candidates rest ≡ old ++ line_candidates more
+line_pushed rest more l old new e er =
+    ap (λ (fs : Facts). fs ++ line_candidates rest) e
+    ∙ append_assoc old (result_candidate l.local l.instr) (line_candidates rest)
+    ∙ ap (λ (ls : List Line). old ++ line_candidates ls) (sym er)
 
 pub line_sources_right : LineSourcesRight
 line_sources_right x i v e = by (rule i) refl e

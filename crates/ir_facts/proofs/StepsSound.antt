@@ -20,7 +20,7 @@ ends_known c f starts known n = by (find_block f.blocks n)
     by (Some b) = known_lines c b.lines (starts b.number) (known b.number)
 
 pub steps_sound : StepsAreSound
-steps_sound k f g sound step =
-    let known : (n : ℕ) → Known (replacement (candidates k f)) (step.starts n) = λ n x v h. step.solution.known n x v h in
+steps_sound f g sound step =
+    let known : (n : ℕ) → Known (replacement (candidates f)) (step.starts n) = λ n x v h. step.solution.known n x v h in
     subst Sound (sym (step.most step.starts step.solution (λ n x v h. h)))
-    (replaced_sound k f sound step.starts (ends_of (replacement (candidates k f)) step.starts f) known (ends_known (replacement (candidates k f)) f step.starts known))
+    (replaced_sound f sound step.starts (ends_of (replacement (candidates f)) step.starts f) known (ends_known (replacement (candidates f)) f step.starts known))

@@ -11,8 +11,10 @@ use Rattle.ir_better.specs.Facts.{Facts, behind_local, block_replaced, blocks_re
 use Rattle.ir_edit.specs.Numbered.{line_numbers, local_number, phi_numbers}
 use Rattle.ir_flow.specs.OfFunction.{IsReach}
 use Rattle.ir_facts.specs.Apart.{IsApart, given_apart, given_where, is_listed}
+use Rattle.ir_facts.specs.Settled.{settled}
 use Rattle.ir_facts.specs.Steps.{IsRound, IsStep, candidate_of, ends_of}
 use Rattle.ir_facts.proofs.Replaced.{edges_still, length_still}
+use Rattle.ir_facts.proofs.Settling.{apart_settled}
 
 module _ (c : ℕ → Option Operand) (starts ends : ℕ → Facts) where
   phis_still : (ps : List Phi) → phi_numbers (phis_replaced ends ps) ≡ phi_numbers ps
@@ -65,4 +67,4 @@ step_apart among c f g step a =
     subst (λ (h : Function). IsApart h among) (sym (step.most step.starts step.solution (λ n x v h. h))) (still_apart c step.starts (ends_of c step.starts f) f among a)
 
 pub round_apart : (among : ℕ → Bool) (f g : Function) → IsRound f g → IsApart f among → IsApart g among
-round_apart among f g (h, first, second) a = step_apart among (candidate_of false h) h g second (step_apart among (candidate_of true f) f h first a)
+round_apart among f g round a = step_apart among (candidate_of (settled f)) (settled f) g round (apart_settled f among a)

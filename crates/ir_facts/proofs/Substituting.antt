@@ -103,34 +103,34 @@ named_less s s' o less x h =
       | inr b ↦ or_right (s' x) (named o x) b
     ]
 
-pub named_sourced : (k : Bool) (c : ℕ → Option Operand) (s s' : ℕ → Bool) (l : Line) → Less s s' → Sourced c s s' → LineSource k c l.local l.instr → Reads s l.instr → Sourced c (with_named s l.local) (with_named s' l.local)
-named_sourced k c s s' l less src line reads x z h e =
+pub named_sourced : (c : ℕ → Option Operand) (s s' : ℕ → Bool) (l : Line) → Less s s' → Sourced c s s' → LineSource c l.local l.instr → Reads s l.instr → Sourced c (with_named s l.local) (with_named s' l.local)
+named_sourced c s s' l less src line reads x z h e =
     elim (or_cases (s x) (named l.local x) h) [
       | inl a ↦ or_left (s' z) (named l.local z) (src x z a e)
       | inr b ↦ or_left (s' z) (named l.local z) (less z (by l.local line b))
     ]
   where
-    by : (o : Option ℕ) → LineSource k c o l.instr → named o x ≡ true → s z ≡ true
+    by : (o : Option ℕ) → LineSource c o l.instr → named o x ≡ true → s z ≡ true
     by None own b = absurd (false≢true b)
     by (Some y) own b =
         let same : x ≡ y = eqb-true x y b in
         let row = own (Local z) (ap c (sym same) ∙ e) in
         rule_kept s l.instr (Local z) reads row.0
 
-pub lines_end : (k : Bool) (c : ℕ → Option Operand) (ls : List Line) (s s' : ℕ → Bool) → Less s s' → Sourced c s s' → LineSources k c ls → LinesCovered s ls → Less (behind s ls) (behind s' ls) × Sourced c (behind s ls) (behind s' ls)
-lines_end k c [] s s' less src own cov = (less, src)
-lines_end k c (l ∷ ls) s s' less src own cov =
-    lines_end k c ls (with_named s l.local) (with_named s' l.local) (named_less s s' l.local less) (named_sourced k c s s' l less src own.0 cov.1) own.1 cov.2
+pub lines_end : (c : ℕ → Option Operand) (ls : List Line) (s s' : ℕ → Bool) → Less s s' → Sourced c s s' → LineSources c ls → LinesCovered s ls → Less (behind s ls) (behind s' ls) × Sourced c (behind s ls) (behind s' ls)
+lines_end c [] s s' less src own cov = (less, src)
+lines_end c (l ∷ ls) s s' less src own cov =
+    lines_end c ls (with_named s l.local) (with_named s' l.local) (named_less s s' l.local less) (named_sourced c s s' l less src own.0 cov.1) own.1 cov.2
 
 -- a line's source is there before the line
-pub line_sourced : (k : Bool) (c : ℕ → Option Operand) (ls : List Line) (s : ℕ → Bool) (x z : ℕ) → LinesCovered s ls → LineSources k c ls → holds (results ls) x ≡ true → c x ≡ Some (Local z) → behind s ls z ≡ true
-line_sourced k c [] s x z cov own h is = absurd (false≢true h)
-line_sourced k c (l ∷ ls) s x z cov own h is = by (λ g. line_sourced k c ls (with_named s l.local) x z cov.2 own.1 g is) l.local refl own.0 h
+pub line_sourced : (c : ℕ → Option Operand) (ls : List Line) (s : ℕ → Bool) (x z : ℕ) → LinesCovered s ls → LineSources c ls → holds (results ls) x ≡ true → c x ≡ Some (Local z) → behind s ls z ≡ true
+line_sourced c [] s x z cov own h is = absurd (false≢true h)
+line_sourced c (l ∷ ls) s x z cov own h is = by (λ g. line_sourced c ls (with_named s l.local) x z cov.2 own.1 g is) l.local refl own.0 h
   where
     here : s z ≡ true → behind (with_named s l.local) ls z ≡ true
     here g = behind_is (with_named s l.local) ls z ∙ or_left (with_named s l.local z) (holds (results ls) z) (or_left (s z) (named l.local z) g)
 
-    by : (holds (results ls) x ≡ true → behind (with_named s l.local) ls z ≡ true) → (o : Option ℕ) → l.local ≡ o → LineSource k c o l.instr → holds (cons_option o (results ls)) x ≡ true
+    by : (holds (results ls) x ≡ true → behind (with_named s l.local) ls z ≡ true) → (o : Option ℕ) → l.local ≡ o → LineSource c o l.instr → holds (cons_option o (results ls)) x ≡ true
         → behind (with_named s l.local) ls z ≡ true
     by later None q line g = later g
     by later (Some y) q line g =
@@ -238,7 +238,7 @@ edge_taken r f n (d ∷ es) o cov e = by (d.from == n) refl e (λ e'. edge_taken
         subst (λ (m : ℕ). TakenAt r f m o) from (subst (λ (v : Operand). TakenAt r f d.from v) value cov.0)
     by false q e' more = more e'
 
-module _ (k : Bool) (c : ℕ → Option Operand) (r : ℕ → ℕ → Bool) (f : Function) (cov : Covers r f) (src : AreSources k c f) where
+module _ (c : ℕ → Option Operand) (r : ℕ → ℕ → Bool) (f : Function) (cov : Covers r f) (src : AreSources c f) where
   abbrev wide : ℕ → ℕ → Bool
   wide = wider r c f
 
@@ -268,7 +268,7 @@ module _ (k : Bool) (c : ℕ → Option Operand) (r : ℕ → ℕ → Bool) (f :
 
   pub at_ends_of : (p : ℕ) (b : Block) → slice_get f.blocks p ≡ Some b → Less (closing r p b) (closing wide p b) × Sourced c (closing r p b) (closing wide p b)
   at_ends_of p b e =
-      let both = lines_end k c b.lines (opening r p b) (opening wide p b) (less_open p b) (sourced_open p b e) (src.lines p b e) (cov.blocks p b e).lines in (
+      let both = lines_end c b.lines (opening r p b) (opening wide p b) (less_open p b) (sourced_open p b e) (src.lines p b e) (cov.blocks p b e).lines in (
         (λ x h. sym (closing_is wide p b x) ∙ both.0 x (closing_is r p b x ∙ h)),
         (λ x z h is. sym (closing_is wide p b z) ∙ both.1 x z (closing_is r p b x ∙ h) is),
       )

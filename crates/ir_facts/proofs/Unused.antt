@@ -89,8 +89,8 @@ module _ (among : ℕ → Bool) (c : ℕ → Option Operand) (out : (x : ℕ) �
         };
   }
 
-pub unused_step : (k : Bool) (f : Function) (found : Facts) → found ≡ candidates k f → blocks_name (λ x. is_key x found) f.blocks ≡ false → IsStep (candidate_of k f) f f
-unused_step k f found e h = stays (λ x. is_key x found) (replacement (candidates k f)) (λ x out. no_key (candidates k f) x (ap (is_key x) (sym e) ∙ out)) f h
+pub unused_step : (f : Function) (found : Facts) → found ≡ candidates f → blocks_name (λ x. is_key x found) f.blocks ≡ false → IsStep (candidate_of f) f f
+unused_step f found e h = stays (λ x. is_key x found) (replacement (candidates f)) (λ x out. no_key (candidates f) x (ap (is_key x) (sym e) ∙ out)) f h
 
 -- ---- of no locals
 

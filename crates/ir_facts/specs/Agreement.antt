@@ -1,5 +1,5 @@
 -- The two ways to say where facts hold, lists of facts at blocks and marks of one fact at blocks, agree.
-use Rattle.std.specs.Prelude.{◌≡◌, ◌↔◌, ℕ, Bool, slice_get, List, [], map, Option, Some, None}
+use Rattle.std.specs.Prelude.{◌≡◌, ◌↔◌, ℕ, Bool, slice_get, List, [], Option, Some, None}
 use Rattle.ir_tree.specs.Formed.{Formed}
 use Rattle.ir_tree.specs.Rules.{Sound}
 use Rattle.ir_tree.specs.declared.block.Block.{Block}
@@ -7,9 +7,8 @@ use Rattle.ir_tree.specs.declared.function.Function.{Function}
 use Rattle.ir_tree.specs.declared.operand.Operand.{Operand}
 use Rattle.ir_better.specs.Facts.{Facts, Has}
 use Rattle.ir_facts.specs.AtPoints.{function_at}
-use Rattle.ir_facts.specs.Candidates.{candidates}
 use Rattle.ir_facts.specs.Naming.{is_key}
-use Rattle.ir_facts.specs.Points.{EachIsFact, IsFactFlow}
+use Rattle.ir_facts.specs.Points.{AreFacts, IsFactFlow}
 use Rattle.ir_facts.specs.Steps.{IsSolution, IsStep, candidate_of}
 use Rattle.ir_facts.specs.declared.points.Fact.{Fact}
 
@@ -29,8 +28,6 @@ SolutionsAgree =
     → ((n x : ℕ) (v : Operand) → Has (starts n) x v → candidate x ≡ Some v)
     → IsSolution candidate f starts ↔ ((x : ℕ) (v : Operand) → candidate x ≡ Some v → IsFactFlow f x v (marks_of starts f x))
 
--- what a step makes is each use replaced where its fact by itself holds
+-- what a step makes of a sound function is each use replaced where its fact, as `facts` has it, holds
 abbrev pub FactsMakeSteps : Type 0
-FactsMakeSteps =
-    (settling : Bool) (f : Function) (ts : List Fact) → Sound f → map (λ t. (t.local, t.value)) ts ≡ candidates settling f → EachIsFact f ts
-    → IsStep (candidate_of settling f) f (function_at ts f)
+FactsMakeSteps = (f : Function) (ts : List Fact) → Sound f → AreFacts f ts → IsStep (candidate_of f) f (function_at ts f)

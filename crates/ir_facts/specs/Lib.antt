@@ -9,4 +9,5 @@ pub mod Laws
 pub mod Membership
 pub mod Naming
 pub mod Points
+pub mod Settled
 pub mod Steps

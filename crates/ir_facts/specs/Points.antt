@@ -9,7 +9,7 @@ use Rattle.ir_tree.specs.declared.instr.Line.{Line}
 use Rattle.ir_tree.specs.declared.operand.Operand.{Operand}
 use Rattle.ir_meaning.specs.Table.{same}
 use Rattle.ir_better.specs.Facts.{is_local, is_phi, is_phi_operand, phi_operand}
-use Rattle.ir_facts.specs.Candidates.{all_candidates}
+use Rattle.ir_facts.specs.Candidates.{candidates}
 use Rattle.ir_facts.specs.declared.points.Fact.{Fact}
 
 -- behind an instruction that gives a local its value: there is the fact of that local, and the others that don't rest on it
@@ -62,7 +62,7 @@ EachIsFact f (t ∷ ts) = IsFact f t × EachIsFact f ts
 
 -- one fact for each local that has a candidate, in the order of the text
 pub record AreFacts (f : Function) (ts : List Fact) : Type 0 where
-  pub listed : map (λ t. (t.local, t.value)) ts ≡ all_candidates f
+  pub listed : map (λ t. (t.local, t.value)) ts ≡ candidates f
   pub each : EachIsFact f ts
 
 -- there is one such list

@@ -1,5 +1,5 @@
 -- Facts at the points of a function, and substitution by them in rounds (Kildall 1973, "A unified approach to global program optimization").
-use Rattle.std.specs.Prelude.{◌≡◌, ℕ, zero, suc, ◌<◌, length, [], Bool, true, false, slice_get, Option, Some, None}
+use Rattle.std.specs.Prelude.{◌≡◌, ℕ, zero, suc, ◌<◌, length, [], false, slice_get, Option, Some, None}
 use Rattle.ir_tree.specs.declared.block.Block.{Block}
 use Rattle.ir_tree.specs.declared.function.Function.{Function}
 use Rattle.ir_tree.specs.declared.operand.Operand.{Operand}
@@ -12,6 +12,7 @@ use Rattle.ir_better.specs.Facts.{EdgeFacts, Facts, Has, IsTarget, behind_lines,
 use Rattle.ir_better.specs.Formed.{IsFormed}
 use Rattle.ir_edit.specs.Substituted.{replacement, substituted}
 use Rattle.ir_facts.specs.Candidates.{candidates}
+use Rattle.ir_facts.specs.Settled.{IsSettled, settled}
 
 -- ---- facts at points
 
@@ -48,13 +49,14 @@ pub record IsStep (candidate : ℕ → Option Operand) (f g : Function) : Type 0
 
 -- ---- rounds
 
--- what may stand for a local: of a freeze or a comparison of pointers, or of a phi or another instruction
-abbrev pub candidate_of : Bool → Function → ℕ → Option Operand
-candidate_of settling f x = replacement (candidates settling f) x
+-- what may stand for a local
+abbrev pub candidate_of : Function → ℕ → Option Operand
+candidate_of f x = replacement (candidates f) x
 
--- Free choices are settled first, each local's uses all by one constant; then the other candidates of what is made take their places.
+-- In one round free choices are settled in their places, and at once each use is replaced whose fact holds there: by one constant
+-- each use of a local whose choice is settled.
 abbrev pub IsRound : Function → Function → Type 0
-IsRound f g = (h : Function) × IsStep (candidate_of true f) f h × IsStep (candidate_of false h) h g
+IsRound f g = IsStep (candidate_of (settled f)) (settled f) g
 
 -- behind a round that changes nothing no other changes anything
 unfoldable pub AreRounds : ℕ → Function → Function → Type 0
@@ -75,11 +77,11 @@ abbrev pub AllReached : Function → Type 0
 AllReached f = (b : ℕ) → b < length f.blocks → Reachable f b
 
 -- each use replaced, wherever it stands
-abbrev pub step_of : Bool → Function → Function
-step_of settling f = substituted (candidates settling f) f
+abbrev pub step_of : Function → Function
+step_of f = substituted (candidates f) f
 
 abbrev pub round_of : Function → Function
-round_of f = step_of false (step_of true f)
+round_of f = step_of (settled f)
 
 unfoldable pub rounds_of : ℕ → Function → Function
 rounds_of zero f = f
@@ -99,14 +101,14 @@ RoundsAreAll = (n : ℕ) (f : Function) → Sound f → AllReached f → AreRoun
 abbrev pub RoundsAreBetter : Type 0
 RoundsAreBetter = (n : ℕ) (f g : Function) → Sound f → AreRounds n f g → Sound g × ((p : Program) → IsFormed p → BetterThan p 1 g f)
 
--- settling free choices is better, reached or not
+-- settling free choices keeps a function sound, leaves none open, and is better
 abbrev pub SettledIsBetter : Type 0
-SettledIsBetter = (f : Function) → Sound f → IsStep (candidate_of true f) f (step_of true f) × ((p : Program) → IsFormed p → BetterThan p 1 (step_of true f) f)
+SettledIsBetter = (f : Function) → Sound f → Sound (settled f) × IsSettled (settled f) × ((p : Program) → IsFormed p → BetterThan p 1 (settled f) f)
 
--- what a step makes of a sound function with its other candidates is better, whether its blocks are reached or not
+-- what a step makes of a sound function is better, whether its blocks are reached or not, where no candidate rests on a free choice
 abbrev pub StepsAreBetter : Type 0
-StepsAreBetter = (f g : Function) → Sound f → IsStep (candidate_of false f) f g → (p : Program) → IsFormed p → BetterThan p 1 g f
+StepsAreBetter = (f g : Function) → Sound f → IsSettled f → IsStep (candidate_of f) f g → (p : Program) → IsFormed p → BetterThan p 1 g f
 
--- and a step of either kind keeps it sound
+-- and a step of any sound function keeps it sound
 abbrev pub StepsAreSound : Type 0
-StepsAreSound = (settling : Bool) (f g : Function) → Sound f → IsStep (candidate_of settling f) f g → Sound g
+StepsAreSound = (f g : Function) → Sound f → IsStep (candidate_of f) f g → Sound g

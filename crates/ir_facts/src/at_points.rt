@@ -9,7 +9,8 @@ ghost use Rattle.ir_facts.specs.AtPoints.{block_at, blocks_at, edges_at, end_at,
 use crate::points::Fact;
 use crate::sources::is_local;
 use ir_tree::{
-    Argument, Block, Duplicate, Function, Incoming, Instr, Line, Operand, Phi, Rows, Terminator,
+    Argument, BinaryOp, Block, CastOp, Duplicate, Flags, Function, Incoming, Instr, Line, Operand,
+    Phi, Predicate, Reg, Rows, Shape, Terminator,
 };
 use std::alloc::{AllocError, Global};
 use std::collections::BTreeMap;
@@ -140,6 +141,205 @@ fn entries_at(
 
 // ---- instructions
 
+// Each kind by itself: what stands for its operands at the point.
+
+fn binary_at(
+    alloc: Global,
+    facts: &[Fact],
+    point: u32,
+    op: BinaryOp,
+    flags: Flags,
+    width: u8,
+    left: &Operand,
+    right: &Operand,
+) -> Result<Instr, AllocError>
+    ensures { IfOk result (λ i. i ≡ Instr.Binary op flags width (standing facts.now point left.now) (standing facts.now point right.now)) }
+{
+    let left = operand_at(alloc, facts, point, left)?;
+    let right = operand_at(alloc, facts, point, right)?;
+    Ok(Instr::Binary {
+        op,
+        flags,
+        width,
+        left,
+        right,
+    })
+}
+
+fn icmp_at(
+    alloc: Global,
+    facts: &[Fact],
+    point: u32,
+    predicate: Predicate,
+    reg: Reg,
+    left: &Operand,
+    right: &Operand,
+) -> Result<Instr, AllocError>
+    ensures { IfOk result (λ i. i ≡ Instr.Icmp predicate reg (standing facts.now point left.now) (standing facts.now point right.now)) }
+{
+    let left = operand_at(alloc, facts, point, left)?;
+    let right = operand_at(alloc, facts, point, right)?;
+    Ok(Instr::Icmp {
+        predicate,
+        reg,
+        left,
+        right,
+    })
+}
+
+fn cast_at(
+    alloc: Global,
+    facts: &[Fact],
+    point: u32,
+    op: CastOp,
+    from: Reg,
+    value: &Operand,
+    to: Reg,
+) -> Result<Instr, AllocError>
+    ensures { IfOk result (λ i. i ≡ Instr.Cast op from (standing facts.now point value.now) to) }
+{
+    let value = operand_at(alloc, facts, point, value)?;
+    Ok(Instr::Cast {
+        op,
+        from,
+        value,
+        to,
+    })
+}
+
+fn select_at(
+    alloc: Global,
+    facts: &[Fact],
+    point: u32,
+    condition: &Operand,
+    if_true: &Argument,
+    if_false: &Argument,
+) -> Result<Instr, AllocError>
+    ensures { IfOk result (λ i. i ≡ Instr.Select (standing facts.now point condition.now) (argument_edited (standing facts.now point) if_true.now) (argument_edited (standing facts.now point) if_false.now)) }
+{
+    let condition = operand_at(alloc, facts, point, condition)?;
+    let if_true = argument_at(alloc, facts, point, if_true)?;
+    let if_false = argument_at(alloc, facts, point, if_false)?;
+    Ok(Instr::Select {
+        condition,
+        if_true,
+        if_false,
+    })
+}
+
+fn freeze_at(
+    alloc: Global,
+    facts: &[Fact],
+    point: u32,
+    reg: Reg,
+    value: &Operand,
+) -> Result<Instr, AllocError>
+    ensures { IfOk result (λ i. i ≡ Instr.Freeze reg (standing facts.now point value.now)) }
+{
+    let value = operand_at(alloc, facts, point, value)?;
+    Ok(Instr::Freeze { reg, value })
+}
+
+fn alloca_at(alloc: Global, shape: &Shape, align: u64) -> Result<Instr, AllocError>
+    ensures { IfOk result (λ i. i ≡ Instr.Alloca shape.now align) }
+{
+    let shape = shape.duplicate(alloc)?;
+    Ok(Instr::Alloca { shape, align })
+}
+
+fn load_at(
+    alloc: Global,
+    facts: &[Fact],
+    point: u32,
+    reg: Reg,
+    address: &Operand,
+    align: u64,
+) -> Result<Instr, AllocError>
+    ensures { IfOk result (λ i. i ≡ Instr.Load reg (standing facts.now point address.now) align) }
+{
+    let address = operand_at(alloc, facts, point, address)?;
+    Ok(Instr::Load {
+        reg,
+        address,
+        align,
+    })
+}
+
+fn store_at(
+    alloc: Global,
+    facts: &[Fact],
+    point: u32,
+    reg: Reg,
+    value: &Operand,
+    address: &Operand,
+    align: u64,
+) -> Result<Instr, AllocError>
+    ensures { IfOk result (λ i. i ≡ Instr.Store reg (standing facts.now point value.now) (standing facts.now point address.now) align) }
+{
+    let value = operand_at(alloc, facts, point, value)?;
+    let address = operand_at(alloc, facts, point, address)?;
+    Ok(Instr::Store {
+        reg,
+        value,
+        address,
+        align,
+    })
+}
+
+fn address_at(
+    alloc: Global,
+    facts: &[Fact],
+    point: u32,
+    inbounds: bool,
+    shape: &Shape,
+    base: &Operand,
+    indices: &[Argument],
+) -> Result<Instr, AllocError>
+    ensures { IfOk result (λ i. i ≡ Instr.Address inbounds shape.now (standing facts.now point base.now) (map (argument_edited (standing facts.now point)) indices.now)) }
+{
+    let shape = shape.duplicate(alloc)?;
+    let base = operand_at(alloc, facts, point, base)?;
+    let indices = arguments_at(alloc, facts, point, indices)?;
+    Ok(Instr::Address {
+        inbounds,
+        shape,
+        base,
+        indices,
+    })
+}
+
+fn call_at(
+    alloc: Global,
+    facts: &[Fact],
+    point: u32,
+    answer: Option<Reg>,
+    callee: &Operand,
+    arguments: &[Argument],
+) -> Result<Instr, AllocError>
+    ensures { IfOk result (λ i. i ≡ Instr.Call answer (standing facts.now point callee.now) (map (argument_edited (standing facts.now point)) arguments.now)) }
+{
+    let callee = operand_at(alloc, facts, point, callee)?;
+    let arguments = arguments_at(alloc, facts, point, arguments)?;
+    Ok(Instr::Call {
+        result: answer,
+        callee,
+        arguments,
+    })
+}
+
+fn phi_at(
+    alloc: Global,
+    facts: &[Fact],
+    point: u32,
+    reg: Reg,
+    incoming: &[Incoming],
+) -> Result<Instr, AllocError>
+    ensures { IfOk result (λ i. i ≡ Instr.Phi reg (map (incoming_edited (λ x. x) (standing facts.now point)) incoming.now)) }
+{
+    let incoming = entries_at(alloc, facts, point, incoming)?;
+    Ok(Instr::Phi { reg, incoming })
+}
+
 fn instr_at(alloc: Global, facts: &[Fact], point: u32, instr: &Instr) -> Result<Instr, AllocError>
     ensures { IfOk result (λ i. i ≡ instr_edited (λ x. x) (standing facts.now point) instr.now) }
 {
@@ -150,134 +350,57 @@ fn instr_at(alloc: Global, facts: &[Fact], point: u32, instr: &Instr) -> Result<
             width,
             left,
             right,
-        } => {
-            let left = operand_at(alloc, facts, point, left)?;
-            let right = operand_at(alloc, facts, point, right)?;
-            Ok(Instr::Binary {
-                op: *op,
-                flags: *flags,
-                width: *width,
-                left,
-                right,
-            })
-        }
+        } => binary_at(alloc, facts, point, *op, *flags, *width, left, right),
         Instr::Icmp {
             predicate,
             reg,
             left,
             right,
-        } => {
-            let left = operand_at(alloc, facts, point, left)?;
-            let right = operand_at(alloc, facts, point, right)?;
-            Ok(Instr::Icmp {
-                predicate: *predicate,
-                reg: *reg,
-                left,
-                right,
-            })
-        }
+        } => icmp_at(alloc, facts, point, *predicate, *reg, left, right),
         Instr::Cast {
             op,
             from,
             value,
             to,
-        } => {
-            let value = operand_at(alloc, facts, point, value)?;
-            Ok(Instr::Cast {
-                op: *op,
-                from: *from,
-                value,
-                to: *to,
-            })
-        }
+        } => cast_at(alloc, facts, point, *op, *from, value, *to),
         Instr::Select {
             condition,
             if_true,
             if_false,
-        } => {
-            let condition = operand_at(alloc, facts, point, condition)?;
-            let if_true = argument_at(alloc, facts, point, if_true)?;
-            let if_false = argument_at(alloc, facts, point, if_false)?;
-            Ok(Instr::Select {
-                condition,
-                if_true,
-                if_false,
-            })
-        }
-        Instr::Freeze { reg, value } => {
-            let value = operand_at(alloc, facts, point, value)?;
-            Ok(Instr::Freeze { reg: *reg, value })
-        }
-        Instr::Alloca { shape, align } => {
-            let shape = shape.duplicate(alloc)?;
-            Ok(Instr::Alloca {
-                shape,
-                align: *align,
-            })
-        }
+        } => select_at(alloc, facts, point, condition, if_true, if_false),
+        Instr::Freeze { reg, value } => freeze_at(alloc, facts, point, *reg, value),
+        Instr::Alloca { shape, align } => alloca_at(alloc, shape, *align),
         Instr::Load {
             reg,
             address,
             align,
-        } => {
-            let address = operand_at(alloc, facts, point, address)?;
-            Ok(Instr::Load {
-                reg: *reg,
-                address,
-                align: *align,
-            })
-        }
+        } => load_at(alloc, facts, point, *reg, address, *align),
         Instr::Store {
             reg,
             value,
             address,
             align,
-        } => {
-            let value = operand_at(alloc, facts, point, value)?;
-            let address = operand_at(alloc, facts, point, address)?;
-            Ok(Instr::Store {
-                reg: *reg,
-                value,
-                address,
-                align: *align,
-            })
-        }
+        } => store_at(alloc, facts, point, *reg, value, address, *align),
         Instr::Address {
             inbounds,
             shape,
             base,
             indices,
-        } => {
-            let shape = shape.duplicate(alloc)?;
-            let base = operand_at(alloc, facts, point, base)?;
-            let indices = arguments_at(alloc, facts, point, indices.as_slice())?;
-            Ok(Instr::Address {
-                inbounds: *inbounds,
-                shape,
-                base,
-                indices,
-            })
-        }
+        } => address_at(
+            alloc,
+            facts,
+            point,
+            *inbounds,
+            shape,
+            base,
+            indices.as_slice(),
+        ),
         Instr::Call {
             result,
             callee,
             arguments,
-        } => {
-            let callee = operand_at(alloc, facts, point, callee)?;
-            let given = arguments_at(alloc, facts, point, arguments.as_slice())?;
-            Ok(Instr::Call {
-                result: *result,
-                callee,
-                arguments: given,
-            })
-        }
-        Instr::Phi { reg, incoming } => {
-            let incoming = entries_at(alloc, facts, point, incoming.as_slice())?;
-            Ok(Instr::Phi {
-                reg: *reg,
-                incoming,
-            })
-        }
+        } => call_at(alloc, facts, point, *result, callee, arguments.as_slice()),
+        Instr::Phi { reg, incoming } => phi_at(alloc, facts, point, *reg, incoming.as_slice()),
     }
 }
 

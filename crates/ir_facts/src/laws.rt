@@ -43,14 +43,13 @@ pub fn rounds_are_better()
     ensures { RoundsAreBetter }
 {}
 
-/// A sound function with the uses of freezes and comparisons of pointers replaced by the constants of their rows is
-/// that of the greatest solution, and better, whether its blocks are reached or not.
+/// A sound function with its free choices settled is sound and better, and none of its rows rests on a free choice.
 pub fn settled_is_better()
     ensures { SettledIsBetter }
 {}
 
-/// What a step makes of a sound function with the candidates of phis and of the other instructions is better, whether its
-/// blocks are reached or not: so is what any solution makes.
+/// What a step makes of a sound function none of whose rows rests on a free choice is better, whether its blocks are
+/// reached or not: so is what any solution makes.
 pub fn steps_are_better()
     ensures { StepsAreBetter }
 {}

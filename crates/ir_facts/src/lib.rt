@@ -7,8 +7,9 @@
 //! ([`phi_sources_right`]), and that the candidate of an instruction may stand for what it gives
 //! ([`line_sources_right`]), by the law of the rule table.
 //!
-//! [`apply`] puts candidates in the place of locals, in rounds. The definition (`specs/Steps.antt`) is by facts at
-//! points, the greatest solution of equations over the edges. In a sound function a fact whose operand no unreached
+//! [`apply`] puts candidates in the place of locals, in rounds. In a round an instruction whose operand rests on a free
+//! choice first becomes a freeze of that constant (`specs/Settled.antt`), so that it is one value wherever it stands. The
+//! definition (`specs/Steps.antt`) is by facts at points, the greatest solution of equations over the edges. In a sound function a fact whose operand no unreached
 //! block defines holds wherever its local is used (of functions all whose blocks are reached: [`facts_hold_at_uses`]),
 //! so no sets at points are kept of it; the others are solved and looked up at points (`specs/AtPoints.antt`). What is
 //! made is one function ([`applied_is_one`]), sound, and better in every program ([`rounds_are_better`]).
@@ -19,7 +20,7 @@
 //! The two definitions of where facts hold agree ([`facts_at_points_agree`]).
 //!
 //! Below this crate stand `ir_tree`, `ir_flow`, `lto_sets`, `ir_edit`, `fold_rules`, and `ir_meaning` and `ir_better`
-//! for what is proved. Each of a round's two steps goes through the function for candidates, once more where there are
+//! for what is proved. A round goes through the function for free choices, for candidates, once more where there are
 //! any, to see whether one is used, and once or twice to replace uses; rounds end behind one that changes nothing. Each
 //! entry of a phi is compared once, whether an operand is a phi of the same block is looked up in a set that is made
 //! once for a block, and each use is looked up in a tree of the candidates. `facts` solves the equations of each fact
@@ -28,6 +29,7 @@
 
 mod apart;
 mod at_points;
+mod choices;
 mod flow;
 mod laws;
 mod naming;

@@ -8,7 +8,7 @@ ghost use Rattle.ir_facts.specs.Points.{AreFacts, EachIsFact, IsFact, line_point
 ghost use Rattle.lto_sets.specs.Sets.{contains};
 
 use crate::flow::{FactFlow, held_behind, opened, phi_of, put};
-use crate::sources::all_candidates;
+use crate::sources::candidates;
 use ir_flow::{Edges, greatest, preds};
 use ir_tree::{Block, Duplicate, Function, Line, Operand};
 use lto_sets::Bits;
@@ -142,7 +142,7 @@ pub fn facts(alloc: Global, f: &Function) -> Result<Vec<Fact>, AllocError>
     requires formed { Formed f.now }
     ensures { IfOk result (λ found. AreFacts f.now found.items) }
 {
-    let found = all_candidates(alloc, f)?;
+    let found = candidates(alloc, f)?;
     let facts = facts_of(alloc, f, found.as_slice())?;
     Ok(facts)
 }

@@ -10,6 +10,7 @@ ghost use Rattle.ir_facts.specs.Steps.{AreRounds, IsApplied, IsRound, IsStep, ca
 
 use crate::apart::{apart, firm, resting};
 use crate::at_points::function_at;
+use crate::choices::settled;
 use crate::naming::are_used;
 use crate::points::facts_of;
 use crate::sources::candidates;
@@ -20,21 +21,6 @@ use std::collections::HashSet;
 
 /// At most so many rounds are made.
 const ROUNDS: u32 = 16;
-
-/// Free choices settled: each use of a freeze or of a comparison of pointers replaced by its constant; none where no
-/// such local that has one is used.
-fn settled(alloc: Global, f: &Function) -> Result<Option<Function>, AllocError>
-    requires sound { Sound f.now }
-    ensures { IfOk result (λ g. IsStep (candidate_of true f.now) f.now (or_same f.now g)) }
-{
-    let found = candidates(alloc, f, true)?;
-    let used = are_used(alloc, found.as_slice(), f)?;
-    if !used {
-        return Ok(None);
-    }
-    let g = substitute(alloc, f, found.as_slice())?;
-    Ok(Some(g))
-}
 
 /// Each use of a local replaced where its fact holds at the use; none where no local that is used has a candidate.
 ///
@@ -47,9 +33,9 @@ fn forwarded(
 ) -> Result<Option<Function>, AllocError>
     requires sound { Sound f.now }
     requires apart { IsApart f.now (contains nat_eq outside.now) }
-    ensures { IfOk result (λ g. IsStep (candidate_of false f.now) f.now (or_same f.now g)) }
+    ensures { IfOk result (λ g. IsStep (candidate_of f.now) f.now (or_same f.now g)) }
 {
-    let found = candidates(alloc, f, false)?;
+    let found = candidates(alloc, f)?;
     let used = are_used(alloc, found.as_slice(), f)?;
     if !used {
         return Ok(None);
@@ -67,7 +53,7 @@ fn forwarded(
     Ok(Some(g))
 }
 
-/// Free choices settled, and then the other candidates put in place; none where neither changes anything.
+/// Free choices settled in their places, and each use replaced whose fact holds there; none where that changes nothing.
 fn round(
     alloc: Global,
     f: &Function,
@@ -120,7 +106,8 @@ fn rounds(
 /// A sound function with uses of locals replaced by what has their value: the one operand that a phi takes, and
 /// the operand of the rule table, wherever the fact that it has this value holds at the use; sixteen rounds, but none
 /// behind one that changes nothing, which would change nothing either.
-/// In each round free choices are settled first, all uses of such a local by one constant.
+/// In each round an instruction whose operand rests on a free choice becomes a freeze of it, in its place and under its
+/// number, and all its uses take that one constant.
 ///
 /// What is made is sound, and better in every program.
 ///

@@ -5,12 +5,12 @@ ghost use Rattle.ir_better.specs.Facts.{is_local, is_phi};
 ghost use Rattle.fold_rules.specs.Folding.{row_of};
 ghost use Rattle.fold_rules.specs.Widths.{HasWidths};
 ghost use Rattle.ir_facts.specs.Askable.{BlocksHaveWidths, LinesHaveWidths};
-ghost use Rattle.ir_facts.specs.Candidates.{all_candidates, any_block_candidates, any_blocks_candidates, any_candidate, any_line_candidates, block_candidates, blocks_candidates, candidates, first_other, line_candidates, line_source, may_settle, of_kind, paired, phi_candidates, phis_candidates, result_candidate, takes_only};
+ghost use Rattle.ir_facts.specs.Candidates.{block_candidates, blocks_candidates, candidates, first_other, line_candidates, line_source, paired, phi_candidates, result_candidate, takes_only};
 ghost use Rattle.ir_facts.specs.Membership.{source_beside};
 
 use crate::naming::is_among;
 use fold_rules::{Folded, is_same, rule};
-use ir_tree::{Block, Duplicate, Function, Incoming, Instr, Line, Operand, Phi, Reg};
+use ir_tree::{Block, Duplicate, Function, Incoming, Instr, Line, Operand, Phi};
 use std::alloc::{AllocError, Global};
 use std::collections::HashSet;
 
@@ -101,42 +101,14 @@ fn line_source<'a>(local: u32, instr: &'a Instr) -> Option<Folded<'a>>
     Some(folded)
 }
 
-/// Whether an instruction is a freeze or a comparison of pointers, whose row may rest on a free choice.
-fn may_settle(instr: &Instr) -> bool
-    ensures { result ≡ may_settle instr.now }
-{
-    match instr {
-        Instr::Freeze { .. } => true,
-        Instr::Icmp { reg, .. } => matches!(reg, Reg::Ptr),
-        _ => false,
-    }
-}
-
-/// The operand of the rule table, of instructions of this kind alone.
-fn source_of_kind<'a>(settling: bool, local: u32, instr: &'a Instr) -> Option<Folded<'a>>
-    requires sized { HasWidths instr.now }
-    ensures { row_of result ≡ of_kind settling instr.now (line_source local instr.now) }
-{
-    if may_settle(instr) == settling {
-        line_source(local, instr)
-    } else {
-        None
-    }
-}
-
-fn push_line(
-    alloc: Global,
-    found: &mut Vec<(u32, Operand)>,
-    settling: bool,
-    line: &Line,
-) -> Result<(), AllocError>
+fn push_line(alloc: Global, found: &mut Vec<(u32, Operand)>, line: &Line) -> Result<(), AllocError>
     requires sized { HasWidths line.now.instr }
-    ensures { OnOk result (found.new.items ≡ found.old.items ++ result_candidate settling line.now.local line.now.instr) }
+    ensures { OnOk result (found.new.items ≡ found.old.items ++ result_candidate line.now.local line.now.instr) }
 {
     let Some(local) = line.local else {
         return Ok(());
     };
-    if let Some(folded) = source_of_kind(settling, local, &line.instr) {
+    if let Some(folded) = line_source(local, &line.instr) {
         let value = folded.operand(alloc)?;
         found.push((local, value))?;
     }
@@ -153,32 +125,16 @@ fn push_phis(alloc: Global, found: &mut Vec<(u32, Operand)>, phis: &[Phi]) -> Re
     Ok(())
 }
 
-/// No phi settles a free choice.
-fn push_phis_of_kind(
-    alloc: Global,
-    found: &mut Vec<(u32, Operand)>,
-    settling: bool,
-    phis: &[Phi],
-) -> Result<(), AllocError>
-    ensures { OnOk result (found.new.items ≡ found.old.items ++ phis_candidates settling phis.now) }
-{
-    if settling {
-        return Ok(());
-    }
-    push_phis(alloc, found, phis)
-}
-
 fn push_lines(
     alloc: Global,
     found: &mut Vec<(u32, Operand)>,
-    settling: bool,
     lines: &[Line],
 ) -> Result<(), AllocError>
     requires sized { LinesHaveWidths lines.now }
-    ensures { OnOk result (found.new.items ≡ found.old.items ++ line_candidates settling lines.now) }
+    ensures { OnOk result (found.new.items ≡ found.old.items ++ line_candidates lines.now) }
 {
     for line in lines {
-        push_line(alloc, found, settling, line)?;
+        push_line(alloc, found, line)?;
     }
     Ok(())
 }
@@ -187,115 +143,39 @@ fn push_lines(
 fn push_block(
     alloc: Global,
     found: &mut Vec<(u32, Operand)>,
-    settling: bool,
     block: &Block,
 ) -> Result<(), AllocError>
     requires sized { LinesHaveWidths block.now.lines }
-    ensures { OnOk result (found.new.items ≡ found.old.items ++ block_candidates settling block.now) }
+    ensures { OnOk result (found.new.items ≡ found.old.items ++ block_candidates block.now) }
 {
-    push_phis_of_kind(alloc, found, settling, block.phis.as_slice())?;
-    push_lines(alloc, found, settling, block.lines.as_slice())
+    push_phis(alloc, found, block.phis.as_slice())?;
+    push_lines(alloc, found, block.lines.as_slice())
 }
 
 fn push_blocks(
     alloc: Global,
     found: &mut Vec<(u32, Operand)>,
-    settling: bool,
     blocks: &[Block],
 ) -> Result<(), AllocError>
     requires sized { BlocksHaveWidths blocks.now }
-    ensures { OnOk result (found.new.items ≡ found.old.items ++ blocks_candidates settling blocks.now) }
+    ensures { OnOk result (found.new.items ≡ found.old.items ++ blocks_candidates blocks.now) }
 {
     for block in blocks {
-        push_block(alloc, found, settling, block)?;
+        push_block(alloc, found, block)?;
     }
     Ok(())
 }
 
-/// The locals for whose values another operand may stand, with that operand, in the order of the text: where a
-/// free choice may be settled, of freezes and comparisons of pointers the constant of the rule table, and else
-/// of a phi the one operand that it takes beside its own value, and of any other instruction that of the table.
+/// The locals for whose values another operand may stand, with that operand, in the order of the text: of a phi the one
+/// operand that it takes beside its own value, of an instruction that of the rule table.
 ///
 /// The widths of instructions are 1 to 64 and their shapes have sizes, as in each formed function
 /// ([`formed_functions_have_widths`]).
-pub fn candidates(
-    alloc: Global,
-    f: &Function,
-    settling: bool,
-) -> Result<Vec<(u32, Operand)>, AllocError>
+pub fn candidates(alloc: Global, f: &Function) -> Result<Vec<(u32, Operand)>, AllocError>
     requires sized { BlocksHaveWidths f.now.blocks }
-    ensures { IfOk result (λ found. found.items ≡ candidates settling f.now) }
+    ensures { IfOk result (λ found. found.items ≡ candidates f.now) }
 {
     let mut found = Vec::new(alloc);
-    push_blocks(alloc, &mut found, settling, f.blocks.as_slice())?;
-    Ok(found)
-}
-
-fn push_any_line(
-    alloc: Global,
-    found: &mut Vec<(u32, Operand)>,
-    line: &Line,
-) -> Result<(), AllocError>
-    requires sized { HasWidths line.now.instr }
-    ensures { OnOk result (found.new.items ≡ found.old.items ++ any_candidate line.now.local line.now.instr) }
-{
-    let Some(local) = line.local else {
-        return Ok(());
-    };
-    if let Some(folded) = line_source(local, &line.instr) {
-        let source = folded.operand(alloc)?;
-        found.push((local, source))?;
-    }
-    Ok(())
-}
-
-fn push_any_lines(
-    alloc: Global,
-    found: &mut Vec<(u32, Operand)>,
-    lines: &[Line],
-) -> Result<(), AllocError>
-    requires sized { LinesHaveWidths lines.now }
-    ensures { OnOk result (found.new.items ≡ found.old.items ++ any_line_candidates lines.now) }
-{
-    for line in lines {
-        push_any_line(alloc, found, line)?;
-    }
-    Ok(())
-}
-
-#[tactic(auto, unfolding(crate::specs::Candidates::any_block_candidates))]
-fn push_any_block(
-    alloc: Global,
-    found: &mut Vec<(u32, Operand)>,
-    block: &Block,
-) -> Result<(), AllocError>
-    requires sized { LinesHaveWidths block.now.lines }
-    ensures { OnOk result (found.new.items ≡ found.old.items ++ any_block_candidates block.now) }
-{
-    push_phis(alloc, found, block.phis.as_slice())?;
-    push_any_lines(alloc, found, block.lines.as_slice())
-}
-
-fn push_any_blocks(
-    alloc: Global,
-    found: &mut Vec<(u32, Operand)>,
-    blocks: &[Block],
-) -> Result<(), AllocError>
-    requires sized { BlocksHaveWidths blocks.now }
-    ensures { OnOk result (found.new.items ≡ found.old.items ++ any_blocks_candidates blocks.now) }
-{
-    for block in blocks {
-        push_any_block(alloc, found, block)?;
-    }
-    Ok(())
-}
-
-/// All locals that have a candidate, of either kind, in the order of the text.
-pub(crate) fn all_candidates(alloc: Global, f: &Function) -> Result<Vec<(u32, Operand)>, AllocError>
-    requires sized { BlocksHaveWidths f.now.blocks }
-    ensures { IfOk result (λ found. found.items ≡ all_candidates f.now) }
-{
-    let mut found = Vec::new(alloc);
-    push_any_blocks(alloc, &mut found, f.blocks.as_slice())?;
+    push_blocks(alloc, &mut found, f.blocks.as_slice())?;
     Ok(found)
 }

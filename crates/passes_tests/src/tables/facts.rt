@@ -2,7 +2,7 @@
 use crate::rows::{Pass, Row, failing};
 use std::alloc::AllocError;
 
-const FACTS: [Row; 11] = [
+const FACTS: [Row; 13] = [
     (
         "a sum of constants",
         Pass::Optimised,
@@ -200,6 +200,89 @@ o:
 ",
         b"define i32 @f(i32 %0) {
   %2 = add i32 17, 1
+  ret i32 %2
+}
+",
+    ),
+    // Beside its constant a choice that is settled has no other value, in whichever order its uses are replaced.
+    (
+        "a free choice is settled in its place",
+        Pass::Facts,
+        b"define i32 @f() {
+  %1 = freeze i32 poison
+  %2 = select i1 true, i32 %1, i32 %1
+  %3 = add i32 %1, %2
+  ret i32 %3
+}
+",
+        b"define i32 @f() {
+  %1 = freeze i32 0
+  %2 = select i1 true, i32 0, i32 0
+  %3 = add i32 0, 0
+  ret i32 0
+}
+",
+    ),
+    (
+        "a chain loses one instruction a round, in three turns of sixteen rounds",
+        Pass::Made(40),
+        b"define i32 @f() {
+  %1 = add i32 1, 1
+  %2 = freeze i32 %1
+  %3 = add i32 %2, 1
+  %4 = freeze i32 %3
+  %5 = add i32 %4, 1
+  %6 = freeze i32 %5
+  %7 = add i32 %6, 1
+  %8 = freeze i32 %7
+  %9 = add i32 %8, 1
+  %10 = freeze i32 %9
+  %11 = add i32 %10, 1
+  %12 = freeze i32 %11
+  %13 = add i32 %12, 1
+  %14 = freeze i32 %13
+  %15 = add i32 %14, 1
+  %16 = freeze i32 %15
+  %17 = add i32 %16, 1
+  %18 = freeze i32 %17
+  %19 = add i32 %18, 1
+  %20 = freeze i32 %19
+  %21 = add i32 %20, 1
+  %22 = freeze i32 %21
+  %23 = add i32 %22, 1
+  %24 = freeze i32 %23
+  %25 = add i32 %24, 1
+  %26 = freeze i32 %25
+  %27 = add i32 %26, 1
+  %28 = freeze i32 %27
+  %29 = add i32 %28, 1
+  %30 = freeze i32 %29
+  %31 = add i32 %30, 1
+  %32 = freeze i32 %31
+  %33 = add i32 %32, 1
+  %34 = freeze i32 %33
+  %35 = add i32 %34, 1
+  %36 = freeze i32 %35
+  %37 = add i32 %36, 1
+  %38 = freeze i32 %37
+  %39 = add i32 %38, 1
+  %40 = freeze i32 %39
+  %41 = add i32 %40, 1
+  %42 = freeze i32 %41
+  %43 = add i32 %42, 1
+  %44 = freeze i32 %43
+  %45 = add i32 %44, 1
+  %46 = freeze i32 %45
+  %47 = add i32 %46, 1
+  %48 = freeze i32 %47
+  %49 = add i32 %48, 1
+  %50 = freeze i32 %49
+  ret i32 %50
+}
+",
+        b"define i32 @f() {
+  %1 = add i32 25, 1
+  %2 = freeze i32 %1
   ret i32 %2
 }
 ",

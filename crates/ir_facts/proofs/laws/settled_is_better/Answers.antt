@@ -1,5 +1,5 @@
-use Rattle.ir_facts.proofs.InRounds.{settled_better}
+use Rattle.ir_facts.proofs.InRounds.{settled_is_better}
 use Rattle.ir_facts.proofs.laws.settled_is_better.Goals as goal
 
 pub returns : goal.returns
-returns c = settled_better
+returns c = settled_is_better

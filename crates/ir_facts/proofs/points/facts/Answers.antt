@@ -2,8 +2,8 @@ use Rattle.std.proofs.Common.{◌∙◌}
 use Rattle.ir_facts.proofs.Widths.{formed_wide}
 use Rattle.ir_facts.proofs.points.facts.Goals as goal
 
-pub all_candidates-requires : goal.all_candidates-requires
-all_candidates-requires c = record { sized = formed_wide c.args.f.now c.requires.formed }
+pub candidates-requires : goal.candidates-requires
+candidates-requires c = record { sized = formed_wide c.args.f.now c.requires.formed }
 
 pub returns : goal.returns
 returns c = record {

@@ -1,4 +1,4 @@
-use Rattle.std.proofs.Common.{ℕ, nat_eq, false, List, sym, ◌∙◌, ap, subst}
+use Rattle.std.proofs.Common.{ℕ, nat_eq, List, sym, ◌∙◌, ap, subst}
 use Rattle.std.specs.HashSet.{contains}
 use Rattle.ir_tree.specs.declared.operand.Operand.{Operand}
 use Rattle.ir_edit.specs.Substituted.{substituted}
@@ -17,14 +17,14 @@ pub facts_of-requires : goal.facts_of-requires
 facts_of-requires c = record { formed = c.requires.sound.formed }
 
 pub returns-then-not-used : goal.returns-then-not-used
-returns-then-not-used c = unused_step false c.args.f.now c.as_slice.result.now (c.as_slice.ensures.value ∙ c.in_ok-found.ensures) (sym c.in_ok-used.ensures ∙ c.if-not-used.true)
+returns-then-not-used c = unused_step c.args.f.now c.as_slice.result.now (c.as_slice.ensures.value ∙ c.in_ok-found.ensures) (sym c.in_ok-used.ensures ∙ c.if-not-used.true)
 
 pub returns-then-count-eq0 : goal.returns-then-count-eq0
 returns-then-count-eq0 c =
     let f = c.args.f.now in
     let among = contains nat_eq c.args.outside.now in
     let some = c.in_ok-some.ensures ∙ ap (resting among) (c.as_slice-2.ensures.value ∙ c.in_ok-found.ensures) in
-    subst (IsStep (candidate_of false f) f)
+    subst (IsStep (candidate_of f) f)
     (sym (c.in_ok-g.ensures ∙ ap (λ (rs : List (ℕ × Operand)). substituted rs f) (c.as_slice-then-count-eq0.ensures.value ∙ c.in_ok-found.ensures)))
     (step_everywhere f c.requires.sound among c.requires.apart (sym some ∙ empty_list c.in_ok-some.some.items (sym c.in_ok-some.some.ok.0 ∙ sym c.len-count.ensures ∙ c.if-count-eq0.true)))
 
@@ -35,6 +35,6 @@ returns c =
     let some = c.in_ok-some.ensures ∙ ap (resting among) (c.as_slice-2.ensures.value ∙ c.in_ok-found.ensures) in
     let others = c.as_slice-5.ensures.value ∙ c.in_ok-others.ensures ∙ ap (firm among) (c.as_slice-3.ensures.value ∙ c.in_ok-found.ensures) in
     let half = c.in_ok-h.ensures ∙ ap (λ (rs : List (ℕ × Operand)). substituted rs f) others in
-    subst (IsStep (candidate_of false f) f)
+    subst (IsStep (candidate_of f) f)
     (sym (c.in_ok-g-2.ensures ∙ (λ i. function_at (c.as_slice-6.ensures.value i) (half i))))
     (step_at f c.requires.sound among c.requires.apart c.in_ok-facts.facts.items (c.in_ok-facts.ensures.listed ∙ c.as_slice-4.ensures.value ∙ some) c.in_ok-facts.ensures.each)

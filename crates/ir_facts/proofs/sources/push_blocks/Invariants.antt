@@ -6,5 +6,5 @@ use Rattle.ir_facts.proofs.sources.push_blocks.Given as goal
 abbrev pub invariant-loop-block : goal.invariant-loop-block
 invariant-loop-block l = record {
   sized : BlocksHaveWidths (drop l.block-index l.blocks);
-  found : l.found.items ++ blocks_candidates l.settling (drop l.block-index l.blocks) ≡ l.initial.found.items ++ blocks_candidates l.settling l.blocks;
+  found : l.found.items ++ blocks_candidates (drop l.block-index l.blocks) ≡ l.initial.found.items ++ blocks_candidates l.blocks;
 }

@@ -15,6 +15,6 @@ loop-line-preserved c =
     let parts = subst (λ (ls : List Line). LinesHaveWidths ls) more c.loop-line.invariant.sized in
     record {
       sized = parts.1;
-      found = line_pushed c.args.settling (drop (i + 1) lines) (drop i lines) line c.loop-line.found.items c.push_line.new.found.items
+      found = line_pushed (drop (i + 1) lines) (drop i lines) line c.loop-line.found.items c.push_line.new.found.items
           c.in_ok-push_line.ensures more ∙ c.loop-line.invariant.found;
     }

@@ -6,5 +6,5 @@ use Rattle.ir_facts.proofs.sources.push_lines.Given as goal
 abbrev pub invariant-loop-line : goal.invariant-loop-line
 invariant-loop-line l = record {
   sized : LinesHaveWidths (drop l.line-index l.lines);
-  found : l.found.items ++ line_candidates l.settling (drop l.line-index l.lines) ≡ l.initial.found.items ++ line_candidates l.settling l.lines;
+  found : l.found.items ++ line_candidates (drop l.line-index l.lines) ≡ l.initial.found.items ++ line_candidates l.lines;
 }
