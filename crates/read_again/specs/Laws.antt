@@ -11,7 +11,9 @@ use Rattle.ir_tree.specs.declared.module.Module.{Module}
 use Rattle.printed_modules.specs.ModulesReadable.{ModuleReadable}
 use Rattle.printed_resolves.specs.Sorts.{IsNumbered}
 use Rattle.read_again.specs.Known.{ModuleKnown}
-use Rattle.read_again.specs.Numbered.{ModuleNumbered}
+use Rattle.std.specs.List.{AllByRecursion as Each}
+use Rattle.read_again.specs.Anew.{numbered_anew}
+use Rattle.read_again.specs.Numbered.{ModuleNumbered, StringsAreBytes}
 use Rattle.read_again.specs.Typed.{ModuleTyped}
 use Rattle.read_again.specs.Within.{ModuleWithin}
 
@@ -54,3 +56,7 @@ VerifiedIsRead = (m : Module) → IsVerified m → ModuleNumbered m → ModuleWi
 -- numbering a formed function in the order of its text numbers it along its text
 abbrev pub TextOrderIsNumbered : Type 0
 TextOrderIsNumbered = (f : Function) → Formed f → IsNumbered (in_text_order f)
+
+-- so a verified module within the limits, however its locals are numbered, is printed under new numbers as a text that is read as that
+abbrev pub NumberedAnewIsRead : Type 0
+NumberedAnewIsRead = (m : Module) → IsVerified m → Each StringsAreBytes m.globals → AllBytes m.triple → ModuleWithin m → IsReadAgain (numbered_anew m)

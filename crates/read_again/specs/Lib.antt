@@ -1,6 +1,8 @@
 pub mod Known
 pub mod Within
 pub mod Typed
+pub mod Refusals
 pub mod Numbered
+pub mod Anew
 pub mod Laws
 pub mod Trips

@@ -1,14 +1,21 @@
 //! Laws of modules that are printed, of those that were read, and of those that were verified, as functions whose contracts
 //! state them.
 
-ghost use Rattle.read_again.specs.Laws.{ReadIsKnown, ReadIsNumbered, ReadIsReadAgain, ReadIsTyped, ReadIsWithin, ReadableIsRead, TextOrderIsNumbered, VerifiedIsRead};
+ghost use Rattle.read_again.specs.Refusals.{StuckFits};
+ghost use Rattle.read_again.specs.Laws.{NumberedAnewIsRead, ReadIsKnown, ReadIsNumbered, ReadIsReadAgain, ReadIsTyped, ReadIsWithin, ReadableIsRead, TextOrderIsNumbered, VerifiedIsRead};
 
-use ir_edit::text_order_counts;
+use ir_edit::{text_order_counts, text_order_is_sound};
 use ir_parse::read_is_parsed;
 use printed_modules::modules_are_read;
 use resolved_forms::shapes_are_within;
 use spelled_forms::{items_are_written, tokens_are_sized, types_are_written};
 use spelled_within::{contents_are_bytes, items_are_within, tokens_are_cut};
+
+/// The kind of a fault fits the token at which the grammar stops: which tokens are told to be left out of the language, where a
+/// number is out of range, and that a limit is told only where it is one (LangRef, "Identifiers", "Type System").
+pub fn kinds_fit_tokens()
+    ensures { StuckFits }
+{}
 
 /// The text that is printed of a module that is readable, and whose names are known, is read as that
 /// module (LangRef, "Module Structure").
@@ -84,4 +91,14 @@ pub fn verified_modules_are_read()
     ensures { VerifiedIsRead }
 {
     readable_modules_are_read();
+}
+
+/// However the locals of a verified module within the grammar's limits are numbered, the text that is printed of it under
+/// new numbers, in the order of its text, is read as the module under these numbers (LangRef, "Identifiers").
+pub fn modules_numbered_anew_are_read()
+    ensures { NumberedAnewIsRead }
+{
+    text_order_is_sound();
+    text_order_is_numbered();
+    verified_modules_are_read();
 }

@@ -9,19 +9,27 @@
 //! module whose locals are numbered along its text, as a link prints it, where it is within the limits
 //! ([`verified_modules_are_read`]).
 //!
+//! However the locals of a verified module are numbered, it is printed under new numbers as a text that is read as that
+//! ([`modules_numbered_anew_are_read`]).
+//!
+//! [`kinds_fit_tokens`] is of bytes that are read as no module: what the kind of a fault of the grammar says of the token
+//! at which it stands (`specs/Refusals.antt`).
+//!
 //! [`read_twice`] does so with the real calls: it reads, prints and reads again, and its promise is that the second
 //! reading gives the module of the first and refuses nothing.
 //!
 //! **Cost.** That of two readings and a print; the laws don't run. **Not shown**: that a linked module is within the
-//! limits, which inlining may pass.
+//! limits, which inlining may pass; in which places the classes that are refused in some are told so; and that a limit is
+//! told wherever one is passed.
 #![tactic(auto)]
 
 mod laws;
 mod trip;
 
 pub use laws::{
-    read_modules_are_known, read_modules_are_numbered, read_modules_are_read,
-    read_modules_are_typed, read_modules_are_within, readable_modules_are_read,
-    text_order_is_numbered, verified_modules_are_read,
+    kinds_fit_tokens, modules_numbered_anew_are_read, read_modules_are_known,
+    read_modules_are_numbered, read_modules_are_read, read_modules_are_typed,
+    read_modules_are_within, readable_modules_are_read, text_order_is_numbered,
+    verified_modules_are_read,
 };
 pub use trip::{Trip, TripError, read_twice};
