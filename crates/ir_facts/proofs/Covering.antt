@@ -46,7 +46,7 @@ kept_more s t more Null h = tt
 kept_more s t more (PoisonOf reg) h = tt
 kept_more s t more (Named i o) h = tt
 
-or_mono : (a b d : Bool) → (a ≡ true → d ≡ true) → (a || b) ≡ true → (d || b) ≡ true
+pub or_mono : (a b d : Bool) → (a ≡ true → d ≡ true) → (a || b) ≡ true → (d || b) ≡ true
 or_mono a b d f h = elim (or_cases a b h) [ inl e ↦ or_left d b (f e) | inr e ↦ or_right d b e ]
 
 -- ---- families of one function

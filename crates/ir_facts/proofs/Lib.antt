@@ -2,8 +2,10 @@ pub mod Agreeing
 pub mod AnySolution
 pub mod AtPoints
 pub mod Availability
+pub mod Beside
 pub mod Blocks
 pub mod Chosen
+pub mod Clearing
 pub mod Covering
 pub mod Covers
 pub mod EditedItems
@@ -11,6 +13,7 @@ pub mod Editing
 pub mod FactSolutions
 pub mod Holding
 pub mod InRounds
+pub mod Inner
 pub mod Keys
 pub mod Lookups
 pub mod Marks
@@ -22,6 +25,7 @@ pub mod Parting
 pub mod Passing
 pub mod Places
 pub mod Pointwise
+pub mod Reading
 pub mod Replaced
 pub mod ReplacedCovers
 pub mod ReplacedSound
@@ -39,6 +43,7 @@ pub mod StepSound
 pub mod StepsSound
 pub mod StillApart
 pub mod Substituting
+pub mod Thinning
 pub mod Unnamed
 pub mod Unused
 pub mod Walking

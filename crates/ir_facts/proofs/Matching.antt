@@ -65,7 +65,7 @@ once_right xs ys once x = let all : tally x (xs ++ ys) ≡ tally x xs + tally x 
 
 -- ---- candidates of parts
 
-abbrev KeysIn : Facts → List ℕ → Type 0
+abbrev pub KeysIn : Facts → List ℕ → Type 0
 KeysIn fs xs = (x : ℕ) → holds xs x ≡ false → replacement fs x ≡ None
 
 -- for the locals of a part, c has what the part's candidates have
@@ -137,7 +137,7 @@ one_local c y s all = all y (or_left (nat_eq y y) false (eq-eqb y y refl)) ∙ p
 
 -- ---- phis
 
-keys_phis : (all ps : List Phi) → KeysIn (phi_candidates all ps) (map (λ p. p.local) ps)
+pub keys_phis : (all ps : List Phi) → KeysIn (phi_candidates all ps) (map (λ p. p.local) ps)
 keys_phis all [] = λ x h. refl
 keys_phis all (p ∷ ps) = keys_both (paired p.local (phi_source all p)) (phi_candidates all ps) (p.local ∷ []) (map (λ q. q.local) ps) (keys_paired p.local (phi_source all p)) (keys_phis all ps)
 
@@ -187,7 +187,7 @@ keys_result : (o : Option ℕ) (i : Instr) → KeysIn (result_candidate o i) (re
 keys_result None i = λ x h. refl
 keys_result (Some y) i = keys_paired y (line_source y i)
 
-keys_lines : (ls : List Line) → KeysIn (line_candidates ls) (results ls)
+pub keys_lines : (ls : List Line) → KeysIn (line_candidates ls) (results ls)
 keys_lines [] = λ x h. refl
 keys_lines (l ∷ ls) =
     subst (KeysIn (line_candidates (l ∷ ls))) (sym (results_cons l.local (results ls)))
@@ -222,7 +222,7 @@ module _ (c : ℕ → Option Operand) where
 
 -- ---- blocks
 
-keys_block : (b : Block) → KeysIn (block_candidates b) (definitions b)
+pub keys_block : (b : Block) → KeysIn (block_candidates b) (definitions b)
 unfolding block_candidates
 keys_block b = keys_both (phi_candidates b.phis b.phis) (line_candidates b.lines) (phi_locals b) (results b.lines) (keys_phis b.phis b.phis) (keys_lines b.lines)
 

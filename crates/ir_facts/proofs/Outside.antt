@@ -34,7 +34,7 @@ lines_are (l ∷ ls) = by l.local (lines_are ls)
     by None more = more
     by (Some x) more = ap (λ (xs : List ℕ). x ∷ xs) more
 
-given_is : (b : Block) → given_where false b ≡ definitions b
+pub given_is : (b : Block) → given_where false b ≡ definitions b
 unfolding given_where
 given_is b = λ i. phis_are b.phis i ++ lines_are b.lines i
 
@@ -45,18 +45,18 @@ none_given b = refl
 turned : (y x : ℕ) → (y == x) ≡ nat_eq x y
 turned y x = elim (cases_eq y x) [ inl e ↦ eq-eqb y x e ∙ sym (eq-eqb x y (sym e)) | inr ne ↦ ne_eqb y x ne ∙ sym (ne_eqb x y (λ e. ne (sym e))) ]
 
-listed_is : (x : ℕ) (xs : List ℕ) → is_listed x xs ≡ holds xs x
+pub listed_is : (x : ℕ) (xs : List ℕ) → is_listed x xs ≡ holds xs x
 listed_is x [] = refl
 listed_is x (y ∷ ys) = λ i. turned y x i || listed_is x ys i
 
-listed_left : (x : ℕ) (xs ys : List ℕ) → is_listed x xs ≡ true → is_listed x (xs ++ ys) ≡ true
+pub listed_left : (x : ℕ) (xs ys : List ℕ) → is_listed x xs ≡ true → is_listed x (xs ++ ys) ≡ true
 listed_left x [] ys h = absurd (false≢true h)
 listed_left x (z ∷ xs) ys h = elim (or_cases (z == x) (is_listed x xs) h) [
   | inl e ↦ or_left (z == x) (is_listed x (xs ++ ys)) e
   | inr more ↦ or_right (z == x) (is_listed x (xs ++ ys)) (listed_left x xs ys more)
 ]
 
-listed_right : (x : ℕ) (xs ys : List ℕ) → is_listed x ys ≡ true → is_listed x (xs ++ ys) ≡ true
+pub listed_right : (x : ℕ) (xs ys : List ℕ) → is_listed x ys ≡ true → is_listed x (xs ++ ys) ≡ true
 listed_right x [] ys h = h
 listed_right x (z ∷ xs) ys h = or_right (z == x) (is_listed x (xs ++ ys)) (listed_right x xs ys h)
 

@@ -1,9 +1,9 @@
 -- Facts that rest on what unreached blocks give, and the others: the others hold wherever they are used.
 use Rattle.std.proofs.Common.{◌≡◌, ℕ, ◌+◌, inl, inr, Bool, true, false, List, [], ◌∷◌, Option, Some, None, refl, sym, ◌∙◌, ap, subst, arith}
 use Rattle.std.specs.Prelude.{slice_get}
-use Rattle.std.proofs.lemmas.Bool.{false≢true}
+use Rattle.std.proofs.lemmas.Bool.{false≢true, or_cases}
 use Rattle.lto_sets.specs.Sets.{contains}
-use Rattle.ir_tree.specs.Flow.{Reachable, defined_in, definitions, holds}
+use Rattle.ir_tree.specs.Flow.{Reachable, defined_in, definitions, holds, phi_locals, results}
 use Rattle.ir_tree.specs.Rules.{Sound}
 use Rattle.ir_tree.specs.declared.block.Block.{Block}
 use Rattle.ir_tree.specs.declared.function.Function.{Function}
@@ -14,23 +14,28 @@ use Rattle.ir_tree.specs.declared.operand.Operand.{Operand}
 use Rattle.ir_tree.specs.declared.operand.Operand.TheVariants.{Local, Null, Number as Constant, Poison as PoisonOf, Symbol as Named}
 use Rattle.ir_better.specs.Facts.{Facts, Has}
 use Rattle.ir_edit.specs.Substituted.{replacement, substituted}
-use Rattle.ir_facts.specs.Apart.{IsApart, firm, resting}
+use Rattle.ir_facts.specs.Apart.{IsApart, firm, is_listed, resting}
 use Rattle.ir_facts.specs.AtPoints.{function_at}
-use Rattle.ir_facts.specs.Candidates.{candidates}
+use Rattle.ir_facts.specs.Candidates.{block_candidates, candidates, line_candidates, phi_candidates}
+use Rattle.ir_facts.specs.Clear.{all_inner, defined, is_clear}
 use Rattle.ir_facts.specs.Membership.{is_member}
 use Rattle.ir_facts.specs.Points.{EachIsFact}
 use Rattle.ir_facts.specs.Steps.{IsStep, candidate_of, step_of}
 use Rattle.ir_facts.specs.declared.points.Fact.{Fact}
 use Rattle.ir_facts.proofs.AtPoints.{OwnAll, made_step, pairs}
-use Rattle.ir_facts.proofs.Covering.{covered}
-use Rattle.ir_facts.proofs.Covers.{Covers}
+use Rattle.ir_facts.proofs.Covering.{covered, or_mono}
+use Rattle.ir_facts.proofs.Covers.{Covers, opening}
 use Rattle.ir_facts.proofs.Holding.{one_step}
+use Rattle.ir_facts.proofs.Inner.{CandidateAt, candidate_at, holds_key, inner_or_near, none_among}
 use Rattle.ir_facts.proofs.Keys.{candidates_once, firm_found, firm_sub, found_has, has_found, has_resting, keys, resting_has}
-use Rattle.ir_facts.proofs.Matching.{Once, has_site, site_of}
+use Rattle.ir_facts.proofs.Matching.{Once, apart_right, has_site, keys_block, keys_lines, site_of}
+use Rattle.ir_facts.proofs.OneFunction.{one_of}
 use Rattle.ir_facts.proofs.Outside.{apart_from, apart_to}
-use Rattle.ir_facts.proofs.Passing.{source_reached, sources_safe}
+use Rattle.ir_facts.proofs.Passing.{apart_safe, block_once, given_once, one_definer, open_out, source_reached, sources_safe}
 use Rattle.ir_facts.proofs.RightSources.{AreSources, LineSource, LineSources, PhiSources}
 use Rattle.ir_facts.proofs.Sourcing.{are_sources}
+use Rattle.ir_facts.proofs.Substituting.{holds_left}
+use Rattle.ir_facts.proofs.Thinning.{clear_at, covers_thin, thin, thin_parts}
 
 -- ---- fewer candidates are sources
 
@@ -139,3 +144,91 @@ module _ (f : Function) (sound : Sound f) (among : ℕ → Bool) (a : IsApart f 
           by : (t : Bool) → among z ≡ t → t ≡ false
           by false m = refl
           by true m = absurd (subst (λ (fs : Facts). Has fs x (Local z)) none (has_resting among (candidates f) x (Local z) (found_has (candidates f) x (Local z) own) m))
+
+  -- where blocks are clear of what rests on what unreached blocks give, each use is replaced too
+  module _ (clear : is_clear among f ≡ true) (r : ℕ → ℕ → Bool) (cov : Covers r f) where
+    abbrev inner : ℕ → Bool
+    inner x = is_listed x (all_inner among f.blocks)
+
+    abbrev less : ℕ → ℕ → Bool
+    less = thin inner r f cov clear
+
+    same_block : (p q : ℕ) (b d : Block) → p ≡ q → slice_get f.blocks p ≡ Some b → slice_get f.blocks q ≡ Some d → b ≡ d
+    same_block p q b d same e g = cc (sym e, ap (slice_get f.blocks) same, g)
+
+    one_place_of : (p q x : ℕ) (b d : Block) → slice_get f.blocks p ≡ Some b → slice_get f.blocks q ≡ Some d → holds (definitions b) x ≡ true → holds (definitions d) x ≡ true → b ≡ d
+    one_place_of p q x b d e g h k = same_block p q b d (one_definer f.blocks (given_once (replacement (candidates f)) r f cov (are_sources r f cov)) p q x b d e g h k) e g
+
+    -- the candidate of a phi that rests, its block doesn't define
+    phi_out : (p : ℕ) (b : Block) (x z : ℕ) → slice_get f.blocks p ≡ Some b → holds (phi_locals b) x ≡ true → Has (block_candidates b) x (Local z) → holds (definitions b) z ≡ false
+    unfolding block_candidates
+    phi_out p b x z e h has =
+        elim (one_of (phi_candidates b.phis b.phis) (line_candidates b.lines) x (Local z) has) [
+          | inl a ↦ none_among (defined b) (phi_candidates b.phis b.phis) x (Local z) (clear_at inner r f cov clear p b e).sources a
+          | inr a ↦
+              absurd (false≢true (
+              sym (apart_right x (phi_locals b) (results b.lines) (block_once (replacement (candidates f)) r f cov (are_sources r f cov) p b e x) h)
+              ∙ holds_key (line_candidates b.lines) (results b.lines) (keys_lines b.lines) x (Local z) a
+              ))
+        ]
+
+    resting_out : (p : ℕ) (b : Block) (x z : ℕ) → slice_get f.blocks p ≡ Some b → opening less p b x ≡ true → replacement (candidates f) x ≡ Some (Local z) → among z ≡ true → holds (definitions b) z ≡ false
+    resting_out p b x z e h is m = by (holds (definitions b) z) refl
+      where
+        site : CandidateAt f.blocks x (Local z)
+        site = candidate_at f.blocks x (Local z) (found_has (candidates f) x (Local z) is)
+
+        here : holds (definitions site.block) x ≡ true
+        here = holds_key (block_candidates site.block) (definitions site.block) (keys_block site.block) x (Local z) site.has
+
+        at_start : holds (definitions b) z ≡ true → less p x ≡ true → ⊥
+        at_start d g =
+            let parts = thin_parts inner r f cov clear p x g in
+            elim (inner_or_near among f.blocks site.at site.block x z site.found site.has m) [
+              | inl i ↦ false≢true (sym parts.free ∙ i)
+              | inr near ↦
+                  false≢true (
+                  sym parts.apart
+                  ∙ ap (λ (o : Option Block). defined_in o x) e
+                  ∙ ap (λ (k : Block). holds (definitions k) x) (one_place_of p site.at z b site.block e site.found d near)
+                  ∙ here
+                  )
+            ]
+
+        as_phi : holds (phi_locals b) x ≡ true → holds (definitions b) z ≡ false
+        as_phi g =
+            let same = one_place_of site.at p x site.block b site.found e here (holds_left (phi_locals b) (results b.lines) x g) in
+            phi_out p b x z e g (subst (λ (k : Block). Has (block_candidates k) x (Local z)) same site.has)
+
+        by : (t : Bool) → holds (definitions b) z ≡ t → t ≡ false
+        by false q = refl
+        by true q =
+            elim (or_cases (less p x) (holds (phi_locals b) x) h) [
+              | inl g ↦ absurd (at_start q g)
+              | inr g ↦ sym q ∙ as_phi g
+            ]
+
+    source_out : (p : ℕ) (b : Block) (x z : ℕ) → slice_get f.blocks p ≡ Some b → opening less p b x ≡ true → replacement (candidates f) x ≡ Some (Local z) → holds (definitions b) z ≡ false
+    source_out p b x z e h is = by (among z) refl
+      where
+        wide : opening r p b x ≡ true
+        wide = or_mono (less p x) (holds (phi_locals b) x) (r p x) (λ g. (thin_parts inner r f cov clear p x g).there) h
+
+        by : (t : Bool) → among z ≡ t → holds (definitions b) z ≡ false
+        by true m = resting_out p b x z e h is m
+        by false m =
+            open_out (replacement (firm among (candidates f))) r f cov
+            (sources_less (replacement (candidates f)) (replacement (firm among (candidates f))) fewer f (are_sources r f cov))
+            (λ y w q d own g k. reached_block w q d (firm_of y (Local w) own).1 g k) p b x z e wide
+            (firm_found among (candidates f) once x (Local z) is m)
+
+    step_less : IsStep (candidate_of f) f (step_of f)
+    step_less =
+        let src = are_sources r f cov in
+        let cov' = covers_thin inner r f cov clear in
+        one_step (replacement (candidates f)) less f cov' src
+        (apart_safe (replacement (candidates f)) less f cov' src source_out
+        (λ p b x z e is g. ap (λ (o : Option Block). defined_in o z) (sym e) ∙ (thin_parts inner r f cov clear p z g).apart))
+
+  pub step_clear : is_clear among f ≡ true → IsStep (candidate_of f) f (step_of f)
+  step_clear clear = let all = covered f sound in step_less clear all.family all.held

@@ -24,7 +24,7 @@ use Rattle.ir_facts.proofs.Substituting.{at_place, in_blocks, line_sourced, phi_
 
 -- ---- one block defines a local
 
-one_definer : (bs : List Block) → Once (flat_map definitions bs) → (p q x : ℕ) (a b : Block) → slice_get bs p ≡ Some a → slice_get bs q ≡ Some b → holds (definitions a) x ≡ true → holds (definitions b) x ≡ true → p ≡ q
+pub one_definer : (bs : List Block) → Once (flat_map definitions bs) → (p q x : ℕ) (a b : Block) → slice_get bs p ≡ Some a → slice_get bs q ≡ Some b → holds (definitions a) x ≡ true → holds (definitions b) x ≡ true → p ≡ q
 one_definer [] once p q x a b e d h g = absurd (cc e)
 one_definer (z ∷ bs) once zero zero x a b e d h g = refl
 one_definer (z ∷ bs) once zero (suc q) x a b e d h g =
@@ -53,7 +53,7 @@ module _ (c : ℕ → Option Operand) (r : ℕ → ℕ → Bool) (f : Function) 
   local_once : Once (locals f)
   local_once = locals_once f cov.once
 
-  given_once : Once (flat_map definitions f.blocks)
+  pub given_once : Once (flat_map definitions f.blocks)
   given_once = once_right (parameters f) (flat_map definitions f.blocks) local_once
 
   defined_block : (p x : ℕ) → defined_in (slice_get f.blocks p) x ≡ true → (b : Block) × (slice_get f.blocks p ≡ Some b) × (holds (definitions b) x ≡ true)
@@ -128,6 +128,98 @@ module _ (c : ℕ → Option Operand) (r : ℕ → ℕ → Bool) (f : Function) 
         | inr phi ↦ phi_passed p b ps x z e path phi is (source_passed ps p path x z is)
       ]
 
+  parts_false : (b : Block) (z : ℕ) → holds (definitions b) z ≡ false → (holds (phi_locals b) z ≡ false) × (holds (results b.lines) z ≡ false)
+  parts_false b z h = by (holds (phi_locals b) z) (holds (results b.lines) z) (sym (list_any-append (nat_eq z) (phi_locals b) (results b.lines)) ∙ h)
+    where
+      by : (s t : Bool) → (s || t) ≡ false → (s ≡ false) × (t ≡ false)
+      by false t e = (refl, e)
+      by true t e = absurd (false≢true (sym e))
+
+  -- none of the lines gives a value to what is there, or to its source
+  abbrev Spared : (ℕ → Bool) → List Line → Type 0
+  Spared s ls = ((x z : ℕ) → s x ≡ true → c x ≡ Some (Local z) → holds (results ls) z ≡ false) × ((x z : ℕ) → c x ≡ Some (Local z) → s z ≡ true → holds (results ls) z ≡ false)
+
+  cons_false : (o : Option ℕ) (xs : List ℕ) (z : ℕ) → holds (cons_option o xs) z ≡ false → (named o z ≡ false) × (holds xs z ≡ false)
+  cons_false None xs z h = (refl, h)
+  cons_false (Some y) xs z h = by (nat_eq z y) h
+    where
+      by : (t : Bool) → (t || holds xs z) ≡ false → (t ≡ false) × (holds xs z ≡ false)
+      by false e = (refl, e)
+      by true e = absurd (false≢true (sym e))
+
+  lines_safe : (ls : List Line) (s : ℕ → Bool) → Spared s ls → Once (results ls) → LinesCovered s ls → LineSources c ls → LinesSafe c s ls
+  lines_safe [] s spared once cov' own = tt
+  lines_safe (l ∷ ls) s spared once cov' own = (
+    safe_from l.local refl,
+    lines_safe ls (with_named s l.local) (
+      (λ x z h is. elim (or_cases (s x) (named l.local x) h) [
+        | inl g ↦ (cons_false l.local (results ls) z (spared.0 x z g is)).1
+        | inr g ↦ (cons_false l.local (results ls) z (spared.1 x z is (named_source l.local own.0 x z g is))).1
+      ]),
+      (λ x z is h. elim (or_cases (s z) (named l.local z) h) [
+        | inl g ↦ (cons_false l.local (results ls) z (spared.1 x z is g)).1
+        | inr g ↦ named_once l.local once z g
+      ]),
+    )
+        (rest_once l.local once) cov'.2 own.1,
+  )
+    where
+      safe_from : (o : Option ℕ) → l.local ≡ o → SafeFrom c s o
+      safe_from None q = tt
+      safe_from (Some y) q = by
+        where
+          by : (x : ℕ) (v : Operand) → s x ≡ true → c x ≡ Some v → is_local y v ≡ false
+          by x (Local z) h is' = ne_eqb z y (λ e. false≢true (sym (cons_false (Some y) (results ls) z (ap (λ (o : Option ℕ). holds (cons_option o (results ls)) z) (sym q) ∙ spared.0 x z h is')).0 ∙ eq-eqb z y e))
+          by x (Constant w n) h is' = refl
+          by x Null h is' = refl
+          by x (PoisonOf reg) h is' = refl
+          by x (Named t i) h is' = refl
+
+      named_source : (o : Option ℕ) → LineSource c o l.instr → (x z : ℕ) → named o x ≡ true → c x ≡ Some (Local z) → s z ≡ true
+      named_source None line x z g is = absurd (false≢true g)
+      named_source (Some y) line x z g is = rule_kept s l.instr (Local z) cov'.1 (line (Local z) (ap c (sym (eqb-true x y g)) ∙ is)).0
+
+      named_once : (o : Option ℕ) → Once (cons_option o (results ls)) → (z : ℕ) → named o z ≡ true → holds (results ls) z ≡ false
+      named_once None once' z g = absurd (false≢true g)
+      named_once (Some y) once' z g = apart_right z (y ∷ []) (results ls) (once' z) (or_left (nat_eq z y) false g)
+
+      rest_once : (o : Option ℕ) → Once (cons_option o (results ls)) → Once (results ls)
+      rest_once None once' = once'
+      rest_once (Some y) once' = once_right (y ∷ []) (results ls) once'
+
+  pub block_once : (p : ℕ) (b : Block) → slice_get f.blocks p ≡ Some b → Once (definitions b)
+  block_once p b e = from f.blocks given_once p e
+    where
+      from : (bs : List Block) → Once (flat_map definitions bs) → (i : ℕ) → slice_get bs i ≡ Some b → Once (definitions b)
+      from [] once i d = absurd (cc d)
+      from (z ∷ bs) once zero d = let is : z ≡ b = cc d in subst (λ (y : Block). Once (definitions y)) is (once_left (definitions z) (flat_map definitions bs) once)
+      from (z ∷ bs) once (suc i) d = from bs (once_right (definitions z) (flat_map definitions bs) once) i d
+
+  -- where no block defines the source of what is there behind its phis, and none a source that is there at its start
+  module _ (out : (p : ℕ) (b : Block) (x z : ℕ) → slice_get f.blocks p ≡ Some b → opening r p b x ≡ true → c x ≡ Some (Local z) → holds (definitions b) z ≡ false)
+      (alone : (p : ℕ) (b : Block) (x z : ℕ) → slice_get f.blocks p ≡ Some b → c x ≡ Some (Local z) → r p z ≡ true → holds (definitions b) z ≡ false) where
+    spared_open : (p : ℕ) (b : Block) → slice_get f.blocks p ≡ Some b → Spared (opening r p b) b.lines
+    spared_open p b e = (
+      (λ x z h is. (parts_false b z (out p b x z e h is)).1),
+      (λ x z is h. elim (or_cases (r p z) (holds (phi_locals b) z) h) [
+        | inl g ↦ (parts_false b z (alone p b x z e is g)).1
+        | inr g ↦ apart_right z (phi_locals b) (results b.lines) (block_once p b e z) g
+      ]),
+    )
+
+    pub apart_safe : AreSafe c r f
+    apart_safe = record {
+      lines = λ p b e. lines_safe b.lines (opening r p b) (spared_open p b e) (once_right (phi_locals b) (results b.lines) (block_once p b e)) (cov.blocks p b e).lines (src.lines p b e);
+      phis = λ p b e x v h is. by p b e x v h is;
+    }
+      where
+        by : (p : ℕ) (b : Block) → slice_get f.blocks p ≡ Some b → (x : ℕ) (v : Operand) → opening r p b x ≡ true → c x ≡ Some v → is_phi_operand v b.phis ≡ false
+        by p b e x (Local z) h is = phi_held z b.phis ∙ (parts_false b z (out p b x z e h is)).0
+        by p b e x (Constant w n) h is = refl
+        by p b e x Null h is = refl
+        by p b e x (PoisonOf reg) h is = refl
+        by p b e x (Named s i) h is = refl
+
   module _ (reached : (x z p : ℕ) (b : Block) → c x ≡ Some (Local z) → slice_get f.blocks p ≡ Some b → holds (definitions b) z ≡ true → Reachable f p) where
     -- the source of a local that every path to a block passed, the block doesn't define
     not_defined : (p x z : ℕ) (b : Block) → slice_get f.blocks p ≡ Some b → c x ≡ Some (Local z) → ((ps : List ℕ) → Path f ps p → Passed f z ps) → holds (definitions b) z ≡ false
@@ -139,94 +231,8 @@ module _ (c : ℕ → Option Operand) (r : ℕ → ℕ → Bool) (f : Function) 
             let path = reached x z p b is e q in
             absurd (first_time f p (λ qs w. passed_here p z b e q qs (all qs w)) (suc (length path.0)) path.0 (omega arith) path.1)
 
-    parts_false : (b : Block) (z : ℕ) → holds (definitions b) z ≡ false → (holds (phi_locals b) z ≡ false) × (holds (results b.lines) z ≡ false)
-    parts_false b z h = by (holds (phi_locals b) z) (holds (results b.lines) z) (sym (list_any-append (nat_eq z) (phi_locals b) (results b.lines)) ∙ h)
-      where
-        by : (s t : Bool) → (s || t) ≡ false → (s ≡ false) × (t ≡ false)
-        by false t e = (refl, e)
-        by true t e = absurd (false≢true (sym e))
-
-    -- none of the lines gives a value to what is there, or to its source
-    abbrev Spared : (ℕ → Bool) → List Line → Type 0
-    Spared s ls = ((x z : ℕ) → s x ≡ true → c x ≡ Some (Local z) → holds (results ls) z ≡ false) × ((x z : ℕ) → c x ≡ Some (Local z) → s z ≡ true → holds (results ls) z ≡ false)
-
-    cons_false : (o : Option ℕ) (xs : List ℕ) (z : ℕ) → holds (cons_option o xs) z ≡ false → (named o z ≡ false) × (holds xs z ≡ false)
-    cons_false None xs z h = (refl, h)
-    cons_false (Some y) xs z h = by (nat_eq z y) h
-      where
-        by : (t : Bool) → (t || holds xs z) ≡ false → (t ≡ false) × (holds xs z ≡ false)
-        by false e = (refl, e)
-        by true e = absurd (false≢true (sym e))
-
-    lines_safe : (ls : List Line) (s : ℕ → Bool) → Spared s ls → Once (results ls) → LinesCovered s ls → LineSources c ls → LinesSafe c s ls
-    lines_safe [] s spared once cov' own = tt
-    lines_safe (l ∷ ls) s spared once cov' own = (
-      safe_from l.local refl,
-      lines_safe ls (with_named s l.local) (
-        (λ x z h is. elim (or_cases (s x) (named l.local x) h) [
-          | inl g ↦ (cons_false l.local (results ls) z (spared.0 x z g is)).1
-          | inr g ↦ (cons_false l.local (results ls) z (spared.1 x z is (named_source l.local own.0 x z g is))).1
-        ]),
-        (λ x z is h. elim (or_cases (s z) (named l.local z) h) [
-          | inl g ↦ (cons_false l.local (results ls) z (spared.1 x z is g)).1
-          | inr g ↦ named_once l.local once z g
-        ]),
-      )
-          (rest_once l.local once) cov'.2 own.1,
-    )
-      where
-        safe_from : (o : Option ℕ) → l.local ≡ o → SafeFrom c s o
-        safe_from None q = tt
-        safe_from (Some y) q = by
-          where
-            by : (x : ℕ) (v : Operand) → s x ≡ true → c x ≡ Some v → is_local y v ≡ false
-            by x (Local z) h is' = ne_eqb z y (λ e. false≢true (sym (cons_false (Some y) (results ls) z (ap (λ (o : Option ℕ). holds (cons_option o (results ls)) z) (sym q) ∙ spared.0 x z h is')).0 ∙ eq-eqb z y e))
-            by x (Constant w n) h is' = refl
-            by x Null h is' = refl
-            by x (PoisonOf reg) h is' = refl
-            by x (Named t i) h is' = refl
-
-        named_source : (o : Option ℕ) → LineSource c o l.instr → (x z : ℕ) → named o x ≡ true → c x ≡ Some (Local z) → s z ≡ true
-        named_source None line x z g is = absurd (false≢true g)
-        named_source (Some y) line x z g is = rule_kept s l.instr (Local z) cov'.1 (line (Local z) (ap c (sym (eqb-true x y g)) ∙ is)).0
-
-        named_once : (o : Option ℕ) → Once (cons_option o (results ls)) → (z : ℕ) → named o z ≡ true → holds (results ls) z ≡ false
-        named_once None once' z g = absurd (false≢true g)
-        named_once (Some y) once' z g = apart_right z (y ∷ []) (results ls) (once' z) (or_left (nat_eq z y) false g)
-
-        rest_once : (o : Option ℕ) → Once (cons_option o (results ls)) → Once (results ls)
-        rest_once None once' = once'
-        rest_once (Some y) once' = once_right (y ∷ []) (results ls) once'
-
-    block_once : (p : ℕ) (b : Block) → slice_get f.blocks p ≡ Some b → Once (definitions b)
-    block_once p b e = from f.blocks given_once p e
-      where
-        from : (bs : List Block) → Once (flat_map definitions bs) → (i : ℕ) → slice_get bs i ≡ Some b → Once (definitions b)
-        from [] once i d = absurd (cc d)
-        from (z ∷ bs) once zero d = let is : z ≡ b = cc d in subst (λ (y : Block). Once (definitions y)) is (once_left (definitions z) (flat_map definitions bs) once)
-        from (z ∷ bs) once (suc i) d = from bs (once_right (definitions z) (flat_map definitions bs) once) i d
-
-    open_out : (p : ℕ) (b : Block) (x z : ℕ) → slice_get f.blocks p ≡ Some b → opening r p b x ≡ true → c x ≡ Some (Local z) → holds (definitions b) z ≡ false
+    pub open_out : (p : ℕ) (b : Block) (x z : ℕ) → slice_get f.blocks p ≡ Some b → opening r p b x ≡ true → c x ≡ Some (Local z) → holds (definitions b) z ≡ false
     open_out p b x z e h is = not_defined p x z b e is (λ ps w. open_passed p b x z e h is ps w)
 
-    spared_open : (p : ℕ) (b : Block) → slice_get f.blocks p ≡ Some b → Spared (opening r p b) b.lines
-    spared_open p b e = (
-      (λ x z h is. (parts_false b z (open_out p b x z e h is)).1),
-      (λ x z is h. elim (or_cases (r p z) (holds (phi_locals b) z) h) [
-        | inl g ↦ (parts_false b z (not_defined p x z b e is (λ ps w. there_passed p z g ps w))).1
-        | inr g ↦ apart_right z (phi_locals b) (results b.lines) (block_once p b e z) g
-      ]),
-    )
-
     pub sources_safe : AreSafe c r f
-    sources_safe = record {
-      lines = λ p b e. lines_safe b.lines (opening r p b) (spared_open p b e) (once_right (phi_locals b) (results b.lines) (block_once p b e)) (cov.blocks p b e).lines (src.lines p b e);
-      phis = λ p b e x v h is. by p b e x v h is;
-    }
-      where
-        by : (p : ℕ) (b : Block) → slice_get f.blocks p ≡ Some b → (x : ℕ) (v : Operand) → opening r p b x ≡ true → c x ≡ Some v → is_phi_operand v b.phis ≡ false
-        by p b e x (Local z) h is = phi_held z b.phis ∙ (parts_false b z (open_out p b x z e h is)).0
-        by p b e x (Constant w n) h is = refl
-        by p b e x Null h is = refl
-        by p b e x (PoisonOf reg) h is = refl
-        by p b e x (Named s i) h is = refl
+    sources_safe = apart_safe open_out (λ p b x z e is g. not_defined p x z b e is (λ ps w. there_passed p z g ps w))

@@ -3,6 +3,7 @@ pub mod Apart
 pub mod Askable
 pub mod AtPoints
 pub mod Candidates
+pub mod Clear
 pub mod FactFlow
 pub mod FlowLaws
 pub mod Laws

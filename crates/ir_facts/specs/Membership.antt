@@ -10,6 +10,10 @@ abbrev pub is_member : (ℕ → Bool) → Operand → Bool
 is_member among (Local x) = among x
 is_member among o = false
 
+-- those of the first set that the second lacks
+abbrev pub beside : (ℕ → Bool) → (ℕ → Bool) → ℕ → Bool
+beside among but x = among x && not (but x)
+
 abbrev pub sole_beside : (ℕ → Bool) → ℕ → List Incoming → Option Operand → Option Operand
 sole_beside among x es None = None
 sole_beside among x es (Some v) = if takes_only x v es && not (is_member among v) then Some v else None

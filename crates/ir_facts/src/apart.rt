@@ -3,6 +3,7 @@ ghost use Rattle.std.specs.Prelude.{◌≡◌, ◌++◌, ℕ, length, nat_eq, If
 ghost use Rattle.std.specs.HashSet as hash;
 ghost use Rattle.lto_sets.specs.Sets.{contains};
 ghost use Rattle.ir_edit.specs.Numbered.{line_numbers, phi_numbers};
+ghost use Rattle.ir_facts.specs.Clear.{defined};
 ghost use Rattle.ir_facts.specs.Apart.{IsApart, firm, given_apart, given_where, is_listed, resting};
 
 use crate::naming::is_among;
@@ -54,13 +55,24 @@ fn push_apart(locals: &mut Vec<u32>, inside: &Bits, blocks: &[Block]) -> Result<
     Ok(())
 }
 
-fn set_of(alloc: Global, locals: &[u32]) -> Result<HashSet<u32>, AllocError>
+/// The locals of a list.
+pub(crate) fn set_of(alloc: Global, locals: &[u32]) -> Result<HashSet<u32>, AllocError>
     ensures { IfOk result (λ set. (x : ℕ) → hash.contains nat_eq set x ≡ is_listed x locals.now) }
 {
     let mut set = HashSet::new(alloc);
     for local in locals {
         set.insert(*local)?;
     }
+    Ok(set)
+}
+
+/// What a block defines.
+pub(crate) fn defined(alloc: Global, block: &Block) -> Result<HashSet<u32>, AllocError>
+    ensures { IfOk result (λ set. (x : ℕ) → hash.contains nat_eq set x ≡ defined block.now x) }
+{
+    let mut locals = Vec::new(alloc);
+    push_block(&mut locals, false, block)?;
+    let set = set_of(alloc, &locals)?;
     Ok(set)
 }
 

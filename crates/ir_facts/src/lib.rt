@@ -30,6 +30,7 @@
 mod apart;
 mod at_points;
 mod choices;
+mod clear;
 mod flow;
 mod laws;
 mod naming;

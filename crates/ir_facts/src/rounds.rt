@@ -11,6 +11,7 @@ ghost use Rattle.ir_facts.specs.Steps.{AreRounds, IsApplied, IsRound, IsStep, ca
 use crate::apart::{apart, firm, resting};
 use crate::at_points::function_at;
 use crate::choices::settled;
+use crate::clear::is_clear;
 use crate::naming::are_used;
 use crate::points::facts_of;
 use crate::sources::candidates;
@@ -43,6 +44,11 @@ fn forwarded(
     let some = resting(alloc, found.as_slice(), outside)?;
     let count = some.len();
     if count == 0 {
+        let g = substitute(alloc, f, found.as_slice())?;
+        return Ok(Some(g));
+    }
+    let clear = is_clear(alloc, outside, f)?;
+    if clear {
         let g = substitute(alloc, f, found.as_slice())?;
         return Ok(Some(g));
     }

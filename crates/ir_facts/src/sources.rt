@@ -49,7 +49,7 @@ fn takes_only(local: u32, value: &Operand, incoming: &[Incoming]) -> bool
 }
 
 /// The locals that phis give values.
-fn phi_locals(alloc: Global, phis: &[Phi]) -> Result<HashSet<u32>, AllocError>
+pub(crate) fn phi_locals(alloc: Global, phis: &[Phi]) -> Result<HashSet<u32>, AllocError>
     ensures { IfOk result (λ set. (x : ℕ) → contains nat_eq set x ≡ is_phi x phis.now) }
 {
     let mut set = HashSet::new(alloc);
@@ -115,7 +115,11 @@ fn push_line(alloc: Global, found: &mut Vec<(u32, Operand)>, line: &Line) -> Res
     Ok(())
 }
 
-fn push_phis(alloc: Global, found: &mut Vec<(u32, Operand)>, phis: &[Phi]) -> Result<(), AllocError>
+pub(crate) fn push_phis(
+    alloc: Global,
+    found: &mut Vec<(u32, Operand)>,
+    phis: &[Phi],
+) -> Result<(), AllocError>
     ensures { OnOk result (found.new.items ≡ found.old.items ++ phi_candidates phis.now phis.now) }
 {
     let among = phi_locals(alloc, phis)?;
@@ -140,7 +144,7 @@ fn push_lines(
 }
 
 #[tactic(auto, unfolding(crate::specs::Candidates::block_candidates))]
-fn push_block(
+pub(crate) fn push_block(
     alloc: Global,
     found: &mut Vec<(u32, Operand)>,
     block: &Block,
