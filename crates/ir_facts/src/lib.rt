@@ -11,7 +11,8 @@
 //! choice first becomes a freeze of that constant (`specs/Settled.antt`), so that it is one value wherever it stands. The
 //! definition (`specs/Steps.antt`) is by facts at points, the greatest solution of equations over the edges. In a sound function a fact whose operand no unreached
 //! block defines holds wherever its local is used (of functions all whose blocks are reached: [`facts_hold_at_uses`]),
-//! so no sets at points are kept of it; the others are solved and looked up at points (`specs/AtPoints.antt`). What is
+//! so no sets at points are kept of it, nor of the others where blocks are clear of them, as two walks tell
+//! (`specs/Clear.antt`); else the others are solved and looked up at points (`specs/AtPoints.antt`). What is
 //! made is one function ([`applied_is_one`]), sound, and better in every program ([`rounds_are_better`]).
 //!
 //! [`facts`] gives the facts themselves, each with the points where it holds, of any function that the grammar
@@ -24,7 +25,8 @@
 //! any, to see whether one is used, and once or twice to replace uses; rounds end behind one that changes nothing. Each
 //! entry of a phi is compared once, whether an operand is a phi of the same block is looked up in a set that is made
 //! once for a block, and each use is looked up in a tree of the candidates. `facts` solves the equations of each fact
-//! by itself, and so does a round with each fact whose operand is a local that an unreached block defines.
+//! by itself, and so does a round with each fact whose operand is a local that an unreached block defines, in functions
+//! whose blocks aren't clear of these.
 #![tactic(auto)]
 
 mod apart;

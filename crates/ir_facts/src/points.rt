@@ -137,7 +137,7 @@ pub(crate) fn facts_of(
 /// Beside want of memory, a function of `2^32` blocks or points or more is refused as too large for it. For each
 /// fact the equations are solved over the blocks and their phis and instructions, and there is a bit for each point:
 /// use it to look at facts. [`apply`](crate::apply) asks for points of those facts alone whose operand is a local that
-/// an unreached block defines.
+/// an unreached block defines, and of these only where blocks aren't clear of them (`specs/Clear.antt`).
 pub fn facts(alloc: Global, f: &Function) -> Result<Vec<Fact>, AllocError>
     requires formed { Formed f.now }
     ensures { IfOk result (λ found. AreFacts f.now found.items) }

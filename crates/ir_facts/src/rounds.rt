@@ -25,8 +25,9 @@ const ROUNDS: u32 = 16;
 
 /// Each use of a local replaced where its fact holds at the use; none where no local that is used has a candidate.
 ///
-/// A fact whose candidate no unreached block gives a value holds wherever its local is used. Of the others it is looked
-/// up at each point; `outside` has the locals to which unreached blocks give values.
+/// A fact whose candidate no unreached block gives a value holds wherever its local is used, and so does each fact where
+/// blocks are clear of the others. Else it is looked up of the others at each point; `outside` has the locals to which
+/// unreached blocks give values.
 fn forwarded(
     alloc: Global,
     f: &Function,
@@ -117,8 +118,9 @@ fn rounds(
 ///
 /// What is made is sound, and better in every program.
 ///
-/// Beside want of memory, a function is refused as too large where it has `2^32` points or more and a candidate is a
-/// local to which a block that isn't reached gives a value.
+/// Beside want of memory, a function is refused as too large where it has `2^32` points or more, a candidate is a
+/// local to which a block that isn't reached gives a value, and blocks aren't clear of such candidates
+/// (`specs/Clear.antt`).
 pub fn apply(alloc: Global, f: &Function) -> Result<Function, AllocError>
     requires sound { Sound f.now }
     ensures made { IfOk result (λ g. IsApplied f.now g) }
