@@ -2,8 +2,8 @@
 use crate::parts::read;
 use ir_edit::{renumber, shift_numbers, substitute};
 use ir_print::print_function;
-use ir_tree::Operand;
-use std::alloc::AllocError;
+use ir_tree::{Function, Operand};
+use std::alloc::{AllocError, Global};
 
 const COUNTING: &[u8] = b"define i32 @count(i32 %0) {
   br label %2
@@ -43,18 +43,52 @@ const SWAPPED: &[u8] = b"define i32 @count(i32 %0) {
 }
 ";
 
+/// Whether a function is printed so.
+fn shows(alloc: Global, f: &Function, text: &[u8]) -> Result<bool, AllocError> {
+    Ok(print_function(alloc, f)?.equals(text))
+}
+
+fn renumbered_shows(alloc: Global, f: &Function, text: &[u8]) -> Result<bool, AllocError> {
+    let renumbered = renumber(alloc, f)?;
+    shows(alloc, &renumbered, text)
+}
+
+/// Whether greater numbers are printed so, and those in the order of the text so.
+fn shifted_shows(
+    alloc: Global,
+    f: &Function,
+    text: &[u8],
+    again: &[u8],
+) -> Result<bool, AllocError> {
+    let shifted = shift_numbers(alloc, f, 7)?;
+    let shown = shows(alloc, &shifted, text)?;
+    let back = renumbered_shows(alloc, &shifted, again)?;
+    Ok(shown && back)
+}
+
+fn swapped_shows(alloc: Global, f: &Function, text: &[u8]) -> Result<bool, AllocError> {
+    let others = [(3, Operand::Local(4)), (4, Operand::Local(3))];
+    let swapped = substitute(alloc, f, &others)?;
+    shows(alloc, &swapped, text)
+}
+
+/// Whether no number is left for one that is greater by so much.
+fn is_too_much(alloc: Global, f: &Function, by: u32) -> bool {
+    shift_numbers(alloc, f, by).is_err()
+}
+
+/// Whether each edit of a function is printed as it should be.
+fn edits_show(alloc: Global, f: &Function) -> Result<bool, AllocError> {
+    let shifted = shifted_shows(alloc, f, SHIFTED, COUNTING)?;
+    let swapped = swapped_shows(alloc, f, SWAPPED)?;
+    Ok(shifted && swapped && is_too_much(alloc, f, u32::MAX))
+}
+
 #[test]
 fn numbers_and_uses_change(rt: HostRuntime) -> Result<(), AllocError> {
     let alloc = rt.alloc();
     let parsed = read(alloc, COUNTING).expect(&rt, "a module");
     let f = parsed.module().function(b"count").expect(&rt, "a function");
-    let shifted = shift_numbers(alloc, f, 7)?;
-    assert!(rt; print_function(alloc, &shifted)?.equals(SHIFTED));
-    assert!(rt; shift_numbers(alloc, f, u32::MAX).is_err());
-    let again = renumber(alloc, &shifted)?;
-    assert!(rt; print_function(alloc, &again)?.equals(COUNTING));
-    let others = [(3, Operand::Local(4)), (4, Operand::Local(3))];
-    let swapped = substitute(alloc, f, &others)?;
-    assert!(rt; print_function(alloc, &swapped)?.equals(SWAPPED));
+    assert!(rt; edits_show(alloc, f)?);
     Ok(())
 }
