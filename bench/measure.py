@@ -44,11 +44,12 @@ def write(name, lines):
 
 
 class Used:
-    """The least seconds and the least peak of memory, in MiB, of the runs of a command."""
+    """The least seconds, the least peak of memory, in MiB, and the least seconds of a processor of the runs of a command."""
 
-    def __init__(self, seconds, mib):
+    def __init__(self, seconds, mib, processor):
         self.seconds = seconds
         self.mib = mib
+        self.processor = processor
 
 
 def once(command, status=0):
@@ -62,12 +63,12 @@ def once(command, status=0):
             notes.seek(0)
             words = " ".join(command)
             sys.exit(f"bench: {words[:300]}: status {child.returncode}: {notes.read().decode()[:300]}")
-    return Used(seconds, used.ru_maxrss / 1024)
+    return Used(seconds, used.ru_maxrss / 1024, used.ru_utime + used.ru_stime)
 
 
 def least(command, runs=3, status=0):
     done = [once(command, status) for _ in range(runs)]
-    return Used(min(run.seconds for run in done), min(run.mib for run in done))
+    return Used(*(min(getattr(run, what) for run in done) for what in ["seconds", "mib", "processor"]))
 
 
 def takes(command):
