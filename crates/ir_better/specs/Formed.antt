@@ -1,4 +1,4 @@
--- What a program is asked for: its variables' pointers lead to variables, and its symbols name variables that are there.
+-- What a program is asked for: its variables live and their pointers lead to variables, and its symbols name variables that are there.
 use Rattle.std.specs.Prelude.{◌≡◌, ℕ, ◌<◌, List, [], ◌∷◌}
 use Rattle.ir_tree.specs.declared.operand.Symbol.{Symbol}
 use Rattle.ir_meaning.specs.Frame.{AVariable}

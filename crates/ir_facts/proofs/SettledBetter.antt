@@ -28,7 +28,7 @@ use Rattle.ir_better.proofs.Alike.Itself.{every, reads_all, phis_all, end_all, s
 use Rattle.ir_better.proofs.Alike.Keeping.{kept_refl, kept_trans, kept_fixes, SlotsPaired, kill_kept}
 use Rattle.ir_better.proofs.Alike.Values.{LocalsAgree, Names, if_agrees}
 use Rattle.ir_better.proofs.Facts.Standing.{stands_agree}
-use Rattle.ir_better.proofs.Facts.Known.{resume_is}
+use Rattle.ir_better.proofs.Facts.Known.{resume_is, variables_live}
 use Rattle.ir_better.proofs.Rules.Tabled.{table_right}
 use Rattle.ir_facts.specs.Settled.{settled, settled_block, settled_instr, settled_line}
 use Rattle.ir_facts.proofs.Chosen.{settled_by}
@@ -133,7 +133,7 @@ module _ (z : Setting) (one : 1 ≤ z.bound) (formed : IsFormed z.program) (f : 
       let sig = z.program.signature in
       let fix' = kept_fixes (variables z.program) entry p h.fixes h.kept in
       let names = names_of z.program formed p fix' in
-      let x = instr_alike sig z.input p h.kept.related (λ s n e'. fix'.alive n (formed s n e')) names a.locals b.locals h.locals place choice line.instr in
+      let x = instr_alike sig z.input p h.kept.related (variables_live z.program formed p fix') names a.locals b.locals h.locals place choice line.instr in
       let ea : a.rest ≡ settled_line line ∷ map settled_line rest = h.rest ∙ ap (map settled_line) e in
       let a' : Frame = record a { rest = map settled_line rest } in
       let b' : Frame = record b { rest = rest } in

@@ -159,7 +159,7 @@ target_in value (Switch w o d cs) n q = by (bits_of w (value o)) q
 target_in value Unreachable n q = absurd (cc q)
 
 -- where the program's variables stand for themselves, they live
-variables_live : (p : Program) → IsFormed p → (q : Point) → Fixes (variables p) q → VariablesLive p.signature q.right
+pub variables_live : (p : Program) → IsFormed p → (q : Point) → Fixes (variables p) q → VariablesLive p.signature q.right
 variables_live p formed q fix s n e = fix.alive n (formed s n e)
 
 -- one instruction on each side, with alike effects, and what the right one was
