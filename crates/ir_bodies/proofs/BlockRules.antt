@@ -15,7 +15,7 @@ use Rattle.lto_forms.specs.Rules.{Rule, Opens, IsWithin}
 use Rattle.lto_forms.proofs.Composed.{same_form, widened}
 use Rattle.lto_forms.proofs.Rules as rules
 use Rattle.lto_forms.proofs.Rules.{apart_from, contains-append}
-use Rattle.ir_read.specs.Addressing.{slots_fit, any_slots}
+use Rattle.ir_read.specs.Addressing.{any_slots}
 use Rattle.ir_read.specs.Classes.{tokens, NUMERALS, refusal, the, itself}
 use Rattle.ir_read.specs.declared.function_heads.Role.TheVariants as roles
 use Rattle.ir_read.specs.Operands.{named}

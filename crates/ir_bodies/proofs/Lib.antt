@@ -1,5 +1,7 @@
+mod Additions
 pub mod BlockRules
 pub mod CallRules
+mod Grouping
 pub mod FirstWords
 pub mod LineRules
 pub mod Loops

@@ -43,9 +43,9 @@ any_local = one_of LOCAL itself
 
 -- ---- blocks
 
-abbrev pub keep : List Line → Option Line → List Line
+abbrev pub keep : {A : Type 0} → List A → Option A → List A
 keep front None = front
-keep front (Some l) = front ++ l ∷ []
+keep front (Some x) = front ++ x ∷ []
 
 -- {[Local =] instr {att}}, so many at most: those that are kept, and how many more there may be behind them
 unfoldable pub lines : ℕ → Form Tok (List Line × ℕ)

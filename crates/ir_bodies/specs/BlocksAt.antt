@@ -5,7 +5,7 @@ use Rattle.ir_lex.specs.declared.head.Head.TheVariants as heads
 use Rattle.ir_lex.specs.Heads.{number}
 use Rattle.ir_lex.specs.Tok.{Tok}
 use Rattle.lto_forms.specs.Alphabet.{among}
-use Rattle.lto_forms.specs.Readers.{Reader, ◌>>=◌, done, pick, many_at, token_at}
+use Rattle.lto_forms.specs.Readers.{Reader, ◌>>=◌, done, pick, many_at, optional_at, token_at}
 use Rattle.lto_forms.specs.Rules.{is_valued}
 use Rattle.ir_read.specs.AttributesAt.{definition_attributes_at}
 use Rattle.ir_read.specs.Classes.{tokens, refusal, the_at}
@@ -19,6 +19,7 @@ use Rattle.ir_read.specs.FunctionHeadsAt.{head_at}
 use Rattle.ir_read.specs.Operands.{named}
 use Rattle.ir_read.specs.Terminators.{ENDS}
 use Rattle.ir_read.specs.TerminatorsAt.{terminator_at}
+use Rattle.ir_bodies.specs.Adding.{joined_at}
 use Rattle.ir_bodies.specs.Blocks.{LABEL, keep, block_of, FURTHER_BLOCKS, INSTRUCTIONS, with_kept}
 use Rattle.ir_bodies.specs.LinesAt.{LINE, line_at}
 use Rattle.ir_bodies.specs.Successive.{successive_at}
@@ -29,6 +30,10 @@ BLOCK = LABEL ++ (LINE ++ ENDS)
 
 abbrev pub label_at : Reader Tok Tok
 label_at = token_at (is_valued tokens refusal LABEL named)
+
+-- a label, where there is one
+abbrev pub maybe_label_at : Reader Tok (Option Tok)
+maybe_label_at = optional_at (among tokens LABEL) label_at
 
 abbrev pub all_lines_at : ℕ → Reader Tok (List (Option Line))
 all_lines_at = many_at (among tokens LINE) line_at
@@ -55,6 +60,10 @@ block_at room = pick (among tokens LABEL)
 abbrev pub further_blocks_at : ℕ → ℕ → Reader Tok (List Block)
 further_blocks_at = successive_at (among tokens BLOCK) block_at
 
+-- those behind some that were read before
+abbrev pub blocks_from_at : ℕ → ℕ → List Block → Reader Tok (List Block)
+blocks_from_at further instructions front = joined_at front (further_blocks_at further instructions)
+
 -- those behind a first one
 unfoldable pub blocks_behind_at : ℕ → ℕ → Block → Reader Tok (List Block)
 blocks_behind_at further instructions first = do
@@ -69,6 +78,22 @@ blocks_at further instructions = do
 -- what a definition begins with
 abbrev pub DEFINE : List ℕ
 DEFINE = number heads.Define ∷ []
+
+-- what stands before the braces
+abbrev pub heading_at : ℕ → Reader Tok Head
+heading_at room = do
+  _ ← the_at heads.Define
+  h ← head_at roles.Definition room
+  k ← definition_attributes_at
+  done (with_kept h k)
+
+-- the blocks in their braces
+abbrev pub braced_at : Reader Tok (List Block)
+braced_at = do
+  _ ← the_at heads.OpenBrace
+  bs ← blocks_at FURTHER_BLOCKS INSTRUCTIONS
+  _ ← the_at heads.CloseBrace
+  done bs
 
 -- behind the attributes of a head
 abbrev pub defined_at : Head → Reader Tok Item

@@ -1,6 +1,6 @@
 //! Reads basic blocks (LangRef, "Functions").
 
-ghost use Rattle.std.specs.Prelude.{◌≡◌, OnOk};
+ghost use Rattle.std.specs.Prelude.{◌≡◌};
 ghost use Rattle.ir_lex.specs.Heads.{number};
 ghost use Rattle.ir_lex.specs.Tok.{tok};
 ghost use Rattle.lto_forms.specs.Alphabet.{among, contains};
@@ -9,28 +9,23 @@ ghost use Rattle.lto_forms.specs.Rules.{is_valued};
 ghost use Rattle.ir_read.specs.Classes.{tokens, refusal};
 ghost use Rattle.ir_read.specs.Operands.{named};
 ghost use Rattle.ir_read.specs.Terminators.{ENDS};
-ghost use Rattle.ir_bodies.specs.Blocks.{LABEL, keep};
-ghost use Rattle.ir_bodies.specs.BlocksAt.{BLOCK, label_at, lines_at, block_behind_at, block_at, blocks_behind_at, blocks_at};
+ghost use Rattle.ir_bodies.specs.Blocks.{LABEL, block_of};
+ghost use Rattle.ir_bodies.specs.Adding.{added_at};
+ghost use Rattle.ir_bodies.specs.BlocksAt.{BLOCK, label_at, maybe_label_at, lines_at, block_behind_at, block_at, blocks_from_at, blocks_at};
 ghost use Rattle.ir_bodies.specs.LinesAt.{LINE};
 
-use crate::lines::line_at;
+use crate::adding::push;
+use crate::lines::line_into;
 use ir_lex::{Head, Token};
-use ir_read::{Block, Line, Name, Tokens, named, refusal, terminator_at};
+use ir_read::{Block, Ended, Line, Name, Tokens, named, refusal, terminator_at};
 use ir_tree::Rows;
 use lto_forms::{Fault, FaultKind, ReadError};
-use std::alloc::{AllocFailed, Global};
+use std::alloc::Global;
 
 /// The lines of a block, and how many instructions the function may still have.
 #[derive(Drop)]
 struct Lines<'a> {
     lines: Vec<Line<'a>>,
-    left: usize,
-}
-
-/// A block, and how many instructions the function may still have.
-#[derive(Drop)]
-struct Measured<'a> {
-    block: Block<'a>,
     left: usize,
 }
 
@@ -138,16 +133,6 @@ fn comes_block(rest: &Tokens) -> bool
     }
 }
 
-/// Adds a line, where there is one.
-fn keep<'a>(lines: &mut Vec<Line<'a>>, kept: Option<Line<'a>>) -> Result<(), AllocFailed<Line<'a>>>
-    ensures { OnOk result (lines.new.items ≡ keep lines.old.items kept.entry) }
-{
-    match kept {
-        None => Ok(()),
-        Some(line) => lines.push(line),
-    }
-}
-
 /// Reads the lines of a block, of which there may be `room`.
 #[tactic(auto, unfolding(crate::specs::BlocksAt::lines_at))]
 fn lines_at<'a>(
@@ -166,67 +151,78 @@ fn lines_at<'a>(
                 kind: FaultKind::Limit,
             }));
         }
-        let line = line_at(alloc, tokens)?;
-        keep(&mut lines, line)?;
+        line_into(alloc, &mut lines, tokens)?;
         left -= 1;
     }
     Ok(Lines { lines, left })
 }
 
-/// Reads a block behind its label.
-#[tactic(auto, unfolding(crate::specs::BlocksAt::block_behind_at))]
-fn block_behind_at<'a>(
-    alloc: Global,
-    room: usize,
-    label: Option<Name<'a>>,
-    tokens: &mut Tokens<'_, 'a>,
-) -> Result<Measured<'a>, ReadError>
-    ensures { Gives (λ x. ((x.block, x.left), tokens.new)) result (block_behind_at room label.entry tokens.old) }
+/// A block of these parts.
+fn block_of<'a>(label: Option<Name<'a>>, lines: Vec<Line<'a>>, ended: Ended<'a>) -> Block<'a>
+    ensures { result ≡ block_of label.entry lines.entry.items ended.entry }
 {
-    let found = lines_at(alloc, room, tokens)?;
-    let ended = terminator_at(alloc, tokens)?;
-    Ok(Measured {
-        block: Block {
-            label,
-            lines: Rows::of(found.lines),
-            end: ended.terminator,
-            end_line: ended.line,
-        },
-        left: found.left,
-    })
-}
-
-/// Reads a block, of which the function may have `room` instructions yet.
-#[tactic(auto, unfolding(crate::specs::BlocksAt::block_at))]
-fn block_at<'a>(
-    alloc: Global,
-    room: usize,
-    tokens: &mut Tokens<'_, 'a>,
-) -> Result<Measured<'a>, ReadError>
-    ensures { Gives (λ x. ((x.block, x.left), tokens.new)) result (block_at room tokens.old) }
-{
-    if tokens.comes(Head::Label) {
-        let label = label_at(tokens)?;
-        block_behind_at(alloc, room, Some(label), tokens)
-    } else {
-        block_behind_at(alloc, room, None, tokens)
+    Block {
+        label,
+        lines: Rows::of(lines),
+        end: ended.terminator,
+        end_line: ended.line,
     }
 }
 
-/// Reads the blocks behind a first one, of which there may be `further` with `instructions` in all, and
-/// adds that in front.
-#[tactic(auto, unfolding(crate::specs::BlocksAt::blocks_behind_at))]
-fn blocks_behind_at<'a>(
+/// Reads a block behind its label, and adds it. Gives how many instructions the function may still
+/// have.
+#[tactic(auto, unfolding(crate::specs::BlocksAt::block_behind_at))]
+fn block_behind_into<'a>(
+    alloc: Global,
+    room: usize,
+    label: Option<Name<'a>>,
+    blocks: &mut Vec<Block<'a>>,
+    tokens: &mut Tokens<'_, 'a>,
+) -> Result<usize, ReadError>
+    ensures { Gives (λ left. ((blocks.new.items, left), tokens.new)) result (added_at blocks.old.items (block_behind_at room label.entry) tokens.old) }
+{
+    let Lines { lines, left } = lines_at(alloc, room, tokens)?;
+    let ended = terminator_at(alloc, tokens)?;
+    push(blocks, block_of(label, lines, ended))?;
+    Ok(left)
+}
+
+/// Reads the label of a block, where it has one.
+fn maybe_label_at<'a>(tokens: &mut Tokens<'_, 'a>) -> Result<Option<Name<'a>>, ReadError>
+    ensures { Gives (λ x. (x, tokens.new)) result (maybe_label_at tokens.old) }
+{
+    if tokens.comes(Head::Label) {
+        let label = label_at(tokens)?;
+        Ok(Some(label))
+    } else {
+        Ok(None)
+    }
+}
+
+/// Reads a block, of which the function may have `room` instructions yet, and adds it. Gives how many
+/// are left.
+fn block_into<'a>(
+    alloc: Global,
+    room: usize,
+    blocks: &mut Vec<Block<'a>>,
+    tokens: &mut Tokens<'_, 'a>,
+) -> Result<usize, ReadError>
+    ensures { Gives (λ left. ((blocks.new.items, left), tokens.new)) result (added_at blocks.old.items (block_at room) tokens.old) }
+{
+    let label = maybe_label_at(tokens)?;
+    block_behind_into(alloc, room, label, blocks, tokens)
+}
+
+/// Adds the blocks that follow, of which there may be `further` with `instructions` in all.
+fn further_blocks_into<'a>(
     alloc: Global,
     further: usize,
     instructions: usize,
-    first: Block<'a>,
+    blocks: &mut Vec<Block<'a>>,
     tokens: &mut Tokens<'_, 'a>,
-) -> Result<Vec<Block<'a>>, ReadError>
-    ensures { Gives (λ x. (x.items, tokens.new)) result (blocks_behind_at further instructions first.entry tokens.old) }
+) -> Result<(), ReadError>
+    ensures { Gives (λ _. (blocks.new.items, tokens.new)) result (blocks_from_at further instructions blocks.old.items tokens.old) }
 {
-    let mut blocks = Vec::new(alloc);
-    blocks.push(first)?;
     let mut room = further;
     let mut left = instructions;
     'each: while comes_block(tokens) {
@@ -236,19 +232,16 @@ fn blocks_behind_at<'a>(
                 kind: FaultKind::Limit,
             }));
         }
-        let found = block_at(alloc, left, tokens)?;
-        left = found.left;
-        blocks.push(found.block)?;
+        left = block_into(alloc, left, blocks, tokens)?;
         room -= 1;
     }
-    Ok(blocks)
+    Ok(())
 }
 
 /// Reads blocks, at least one: behind the first so many `further` ones at most, and so many
 /// `instructions` in all of them, phis and dropped calls among them and terminators not.
 ///
 /// The block too many is a fault at its first token, and the instruction too many at its own.
-#[tactic(auto, unfolding(crate::specs::BlocksAt::blocks_at))]
 pub fn blocks_at<'a>(
     alloc: Global,
     further: usize,
@@ -257,6 +250,8 @@ pub fn blocks_at<'a>(
 ) -> Result<Vec<Block<'a>>, ReadError>
     ensures { Gives (λ x. (x.items, tokens.new)) result (blocks_at further instructions tokens.old) }
 {
-    let first = block_at(alloc, instructions, tokens)?;
-    blocks_behind_at(alloc, further, first.left, first.block, tokens)
+    let mut blocks = Vec::new(alloc);
+    let left = block_into(alloc, instructions, &mut blocks, tokens)?;
+    further_blocks_into(alloc, further, left, &mut blocks, tokens)?;
+    Ok(blocks)
 }

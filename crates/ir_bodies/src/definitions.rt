@@ -3,11 +3,11 @@
 ghost use Rattle.std.specs.Prelude.{◌≡◌};
 ghost use Rattle.lto_forms.specs.Readers.{Gives};
 ghost use Rattle.ir_bodies.specs.Blocks.{FURTHER_BLOCKS, INSTRUCTIONS, with_kept};
-ghost use Rattle.ir_bodies.specs.BlocksAt.{defined_at, definition_at};
+ghost use Rattle.ir_bodies.specs.BlocksAt.{heading_at, braced_at, definition_at};
 
 use crate::blocks::blocks_at;
 use ir_lex::Head;
-use ir_read::{Item, Kept, Role, Tokens, definition_attributes_at, expect, head_at};
+use ir_read::{Block, Item, Kept, Role, Tokens, definition_attributes_at, expect, head_at};
 use ir_tree::Rows;
 use lto_forms::ReadError;
 use std::alloc::Global;
@@ -43,24 +43,33 @@ fn with_kept<'a>(head: ir_read::Head<'a>, kept: Kept<'a>) -> ir_read::Head<'a>
     }
 }
 
-/// Reads the blocks of a function, in their braces.
-fn defined_at<'a>(
+/// Reads what stands before the braces of a definition.
+fn heading_at<'a>(
     alloc: Global,
-    head: ir_read::Head<'a>,
+    room: usize,
     tokens: &mut Tokens<'_, 'a>,
-) -> Result<Item<'a>, ReadError>
-    ensures { Gives (λ x. (x, tokens.new)) result (defined_at head.entry tokens.old) }
+) -> Result<ir_read::Head<'a>, ReadError>
+    ensures { Gives (λ x. (x, tokens.new)) result (heading_at room tokens.old) }
+{
+    expect(Head::Define, tokens)?;
+    let head = head_at(alloc, Role::Definition, room, tokens)?;
+    let kept = definition_attributes_at(alloc, tokens)?;
+    Ok(with_kept(head, kept))
+}
+
+/// Reads the blocks of a function, in their braces.
+fn braced_at<'a>(alloc: Global, tokens: &mut Tokens<'_, 'a>) -> Result<Vec<Block<'a>>, ReadError>
+    ensures { Gives (λ x. (x.items, tokens.new)) result (braced_at tokens.old) }
 {
     expect(Head::OpenBrace, tokens)?;
     let blocks = blocks_at(alloc, further_blocks(), instructions(), tokens)?;
     expect(Head::CloseBrace, tokens)?;
-    Ok(Item::Definition(head, Rows::of(blocks)))
+    Ok(blocks)
 }
 
 /// Reads a definition of a function, `define i32 @f(i32 %x) { .. }`. Behind the first parameter `room`
 /// others may stand; there may be 65,535 blocks, and 200,000 instructions, phis and dropped calls among
 /// them and terminators not.
-#[tactic(auto, unfolding(crate::specs::BlocksAt::definition_at))]
 pub fn definition_at<'a>(
     alloc: Global,
     room: usize,
@@ -68,8 +77,7 @@ pub fn definition_at<'a>(
 ) -> Result<Item<'a>, ReadError>
     ensures { Gives (λ x. (x, tokens.new)) result (definition_at room tokens.old) }
 {
-    expect(Head::Define, tokens)?;
-    let head = head_at(alloc, Role::Definition, room, tokens)?;
-    let kept = definition_attributes_at(alloc, tokens)?;
-    defined_at(alloc, with_kept(head, kept), tokens)
+    let head = heading_at(alloc, room, tokens)?;
+    let blocks = braced_at(alloc, tokens)?;
+    Ok(Item::Definition(head, Rows::of(blocks)))
 }

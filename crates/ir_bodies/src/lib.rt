@@ -6,6 +6,7 @@
 //! at the first token at which no reading goes on. Reading is linear in the tokens.
 #![tactic(auto)]
 
+mod adding;
 mod blocks;
 mod calls;
 mod definitions;
@@ -13,8 +14,6 @@ mod laws;
 mod lines;
 mod opcodes;
 
-pub use blocks::blocks_at;
 pub use definitions::definition_at;
 pub use laws::definition_rule;
-pub use lines::line_at;
 pub use opcodes::{Begun, Opcode, Operation};

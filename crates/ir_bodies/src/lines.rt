@@ -1,10 +1,14 @@
 //! Reads instructions with the names of their results (LangRef, "Instruction Reference").
 
-ghost use Rattle.std.specs.Prelude.{◌≡◌};
+ghost use Rattle.std.specs.Prelude.{◌≡◌, IfErr, OnOk};
+ghost use Rattle.lto_forms.specs.declared.fault.ReadError.TheVariants.{NoMemory};
 ghost use Rattle.lto_forms.specs.Readers.{Gives};
+ghost use Rattle.ir_bodies.specs.Adding.{kept_at};
+ghost use Rattle.ir_bodies.specs.Blocks.{keep};
 ghost use Rattle.ir_bodies.specs.Lines.{lined};
 ghost use Rattle.ir_bodies.specs.LinesAt.{operation_at, attended_at, behind_at, line_behind_at, named_line_at, plain_line_at, line_at};
 
+use crate::adding::{kept, push};
 use crate::calls::{calling_at, tail_calling_at};
 use crate::opcodes::{Opcode, Operation, begun_at, giving_at};
 use ir_lex::Head;
@@ -73,77 +77,87 @@ fn behind_at<'a>(
 {
     match opcode {
         Opcode::Value(operation) => attended_at(alloc, operation, tokens),
-        Opcode::Phi => Ok(Some(phi_at(alloc, tokens)?)),
-        Opcode::Alloca => Ok(Some(reserving_at(alloc, tokens)?)),
-        Opcode::Load => Ok(Some(loading_at(alloc, tokens)?)),
-        Opcode::GetElementPtr => Ok(Some(addressing_at(alloc, tokens)?)),
-        Opcode::Store => Ok(Some(storing_at(alloc, tokens)?)),
+        Opcode::Phi => kept(phi_at(alloc, tokens)),
+        Opcode::Alloca => kept(reserving_at(alloc, tokens)),
+        Opcode::Load => kept(loading_at(alloc, tokens)),
+        Opcode::GetElementPtr => kept(addressing_at(alloc, tokens)),
+        Opcode::Store => kept(storing_at(alloc, tokens)),
         Opcode::Tail => tail_calling_at(alloc, named, tokens),
         Opcode::Call => calling_at(alloc, named, tokens),
     }
 }
 
-/// A line, unless its call is dropped.
-fn lined<'a>(name: Option<Name<'a>>, line: u32, instr: Option<Instr<'a>>) -> Option<Line<'a>>
-    ensures { result ≡ lined name.entry line instr.entry }
+/// Adds a line, unless its call is dropped.
+fn push_line<'a>(
+    lines: &mut Vec<Line<'a>>,
+    name: Option<Name<'a>>,
+    line: u32,
+    instr: Option<Instr<'a>>,
+) -> Result<(), ReadError>
+    ensures kept { OnOk result (lines.new.items ≡ keep lines.old.items (lined name.entry line instr.entry)) }
+    ensures memory { IfErr result (λ e. e ≡ NoMemory) }
 {
     match instr {
-        None => None,
-        Some(instr) => Some(Line { name, instr, line }),
+        None => Ok(()),
+        Some(instr) => push(lines, Line { name, instr, line }),
     }
 }
 
-/// Reads `= instr` behind the name of a result.
+/// Reads `= instr` behind the name of a result, and adds the line.
 #[tactic(auto, unfolding(crate::specs::LinesAt::line_behind_at))]
-fn line_behind_at<'a>(
+fn line_behind_into<'a>(
     alloc: Global,
     name: Name<'a>,
+    lines: &mut Vec<Line<'a>>,
     tokens: &mut Tokens<'_, 'a>,
-) -> Result<Option<Line<'a>>, ReadError>
-    ensures { Gives (λ x. (x, tokens.new)) result (line_behind_at name.entry tokens.old) }
+) -> Result<(), ReadError>
+    ensures { Gives (λ _. (lines.new.items, tokens.new)) result (kept_at lines.old.items (line_behind_at name.entry) tokens.old) }
 {
     let line = name.line();
     expect(Head::Equals, tokens)?;
     let opcode = giving_at(tokens)?;
     let instr = behind_at(alloc, true, opcode, tokens)?;
-    Ok(lined(Some(name), line, instr))
+    push_line(lines, Some(name), line, instr)
 }
 
 #[tactic(auto, unfolding(crate::specs::LinesAt::named_line_at))]
-fn named_line_at<'a>(
+fn named_line_into<'a>(
     alloc: Global,
+    lines: &mut Vec<Line<'a>>,
     tokens: &mut Tokens<'_, 'a>,
-) -> Result<Option<Line<'a>>, ReadError>
-    ensures { Gives (λ x. (x, tokens.new)) result (named_line_at tokens.old) }
+) -> Result<(), ReadError>
+    ensures { Gives (λ _. (lines.new.items, tokens.new)) result (kept_at lines.old.items named_line_at tokens.old) }
 {
     let name = local_at(tokens)?;
-    line_behind_at(alloc, name, tokens)
+    line_behind_into(alloc, name, lines, tokens)
 }
 
 #[tactic(auto, unfolding(crate::specs::LinesAt::plain_line_at))]
-fn plain_line_at<'a>(
+fn plain_line_into<'a>(
     alloc: Global,
+    lines: &mut Vec<Line<'a>>,
     tokens: &mut Tokens<'_, 'a>,
-) -> Result<Option<Line<'a>>, ReadError>
-    ensures { Gives (λ x. (x, tokens.new)) result (plain_line_at tokens.old) }
+) -> Result<(), ReadError>
+    ensures { Gives (λ _. (lines.new.items, tokens.new)) result (kept_at lines.old.items plain_line_at tokens.old) }
 {
     let begun = begun_at(tokens)?;
     let instr = behind_at(alloc, false, begun.opcode, tokens)?;
-    Ok(lined(None, begun.line, instr))
+    push_line(lines, None, begun.line, instr)
 }
 
-/// Reads an instruction with the name of its result, where it has one, and its attachments: `None`
-/// for a call that is dropped.
+/// Reads an instruction with the name of its result, where it has one, and its attachments, and adds
+/// the line, unless its call is dropped.
 #[tactic(auto, unfolding(crate::specs::LinesAt::line_at))]
-pub fn line_at<'a>(
+pub fn line_into<'a>(
     alloc: Global,
+    lines: &mut Vec<Line<'a>>,
     tokens: &mut Tokens<'_, 'a>,
-) -> Result<Option<Line<'a>>, ReadError>
-    ensures { Gives (λ x. (x, tokens.new)) result (line_at tokens.old) }
+) -> Result<(), ReadError>
+    ensures { Gives (λ _. (lines.new.items, tokens.new)) result (kept_at lines.old.items line_at tokens.old) }
 {
     if tokens.comes(Head::Local) {
-        named_line_at(alloc, tokens)
+        named_line_into(alloc, lines, tokens)
     } else {
-        plain_line_at(alloc, tokens)
+        plain_line_into(alloc, lines, tokens)
     }
 }

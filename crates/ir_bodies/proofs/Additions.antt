@@ -1,0 +1,75 @@
+-- What is read, put behind what was read before.
+use Rattle.std.proofs.Common.{◌≡◌, Bool, true, false, cond, Option, Some, None, List, [], ◌∷◌, ◌++◌, Result, Ok, Err, refl, sym, ap}
+use Rattle.ir_lex.specs.Tok.{Tok}
+use Rattle.lto_forms.specs.declared.fault.Fault.{Fault}
+use Rattle.lto_forms.specs.declared.fault.ReadError.{ReadError}
+use Rattle.lto_forms.specs.declared.fault.ReadError.TheVariants as errors
+use Rattle.lto_forms.specs.Readers.{Reader, Fails, Gives, done, follow, ◌>>=◌, optional_at, pick}
+use Rattle.lto_forms.proofs.Composed.{reads_is}
+use Rattle.lto_forms.proofs.Loops.{with_front}
+use Rattle.ir_bodies.specs.Adding.{IsKept}
+use Rattle.ir_bodies.specs.Blocks.{keep}
+
+-- ---- what is kept
+
+pub kept_gives : {A : Type 0} (rest : List Tok) (read : Result A ReadError) (result : Result (Option A) ReadError) (r : Result (A × List Tok) Fault) → Gives (λ x. (x, rest)) read r → IsKept read result → Gives (λ x. (x, rest)) result (follow r (λ a. done (Some a)))
+kept_gives rest (Ok a) (Ok o) r g k = let e : o ≡ Some a = cc in rw (g, e) refl
+kept_gives rest (Ok a) (Err e) r g k = absurd cc
+kept_gives rest (Err e) (Ok o) r g k = absurd cc
+kept_gives rest (Err errors.NoMemory) (Err errors.NoMemory) r g k = tt
+kept_gives rest (Err errors.NoMemory) (Err (errors.Fault f)) r g k = absurd cc
+kept_gives rest (Err (errors.Fault d)) (Err errors.NoMemory) r g k = tt
+kept_gives rest (Err (errors.Fault d)) (Err (errors.Fault f)) r g k = rw g cc
+
+-- where more was put behind what stood there, it was read
+pub kept_read : {A : Type 0} (front new : List A) (rest : List Tok) (r : Result (Option A × List Tok) Fault) → follow r (λ x. done (keep front x)) ≡ Ok (new, rest) → (x : Option A) × (r ≡ Ok (x, rest)) × (new ≡ keep front x)
+kept_read front new rest (Ok y) e =
+    let p = reads_is (keep front y.0) new y.1 rest e in
+    (y.0, ap (λ (us : List Tok). Ok (y.0, us)) p.1, sym p.0)
+kept_read front new rest (Err d) e = absurd cc
+
+pub kept_fails : {A : Type 0} (front : List A) (e : ReadError) (r : Result (Option A × List Tok) Fault) → Fails e (follow r (λ x. done (keep front x))) → Fails e r
+kept_fails front errors.NoMemory r h = tt
+kept_fails front (errors.Fault f) (Ok y) h = absurd cc
+kept_fails front (errors.Fault f) (Err d) h = cc
+
+abbrev pub added_to : {A S : Type 0} → List A → A × S → Reader Tok (List A × S)
+added_to front x = done (front ++ x.0 ∷ [], x.1)
+
+pub added_read : {A S : Type 0} (front new : List A) (s : S) (rest : List Tok) (r : Result ((A × S) × List Tok) Fault) → follow r (added_to front) ≡ Ok ((new, s), rest) → (x : A × S) × (r ≡ Ok (x, rest)) × (new ≡ front ++ x.0 ∷ []) × (s ≡ x.1)
+added_read {A} {S} front new s rest (Ok y) e =
+    let z : List A × S = (front ++ y.0.0 ∷ [], y.0.1) in
+    let w : List A × S = (new, s) in
+    let p = reads_is z w y.1 rest e in
+    (y.0, ap (λ (us : List Tok). Ok (y.0, us)) p.1, sym (ap (λ (x : List A × S). x.0) p.0), sym (ap (λ (x : List A × S). x.1) p.0))
+added_read front new s rest (Err d) e = absurd cc
+
+pub added_fails : {A S : Type 0} (front : List A) (e : ReadError) (r : Result ((A × S) × List Tok) Fault) → Fails e (follow r (added_to front)) → Fails e r
+added_fails front errors.NoMemory r h = tt
+added_fails front (errors.Fault f) (Ok y) h = absurd cc
+added_fails front (errors.Fault f) (Err d) h = cc
+
+-- what fails first fails
+pub first_fails : {A B : Type 0} (e : ReadError) (r : Result (A × List Tok) Fault) (h : A → Reader Tok B) → Fails e r → Fails e (follow r h)
+first_fails errors.NoMemory r h p = tt
+first_fails (errors.Fault f) r h p = rw p refl
+
+-- ---- all that is read, behind some that were read before
+
+pub front_joined : {A : Type 0} (front : List A) (r : Result (List A × List Tok) Fault) → with_front front r ≡ follow r (λ more. done (front ++ more))
+front_joined front (Ok x) = refl
+front_joined front (Err e) = refl
+
+-- ---- what may stand before something, and what stands there
+
+pub optional_then : {A B : Type 0} (begins : Tok → Bool) (f : Reader Tok A) (h : Option A → Reader Tok B) (ts : List Tok) → (optional_at begins f >>= h) ts ≡ pick begins (f >>= λ a. h (Some a)) (h None) ts
+optional_then begins f h [] = refl
+optional_then {A} {B} begins f h (t ∷ ts) = by_test (begins t)
+  where
+    by_read : (r : Result (A × List Tok) Fault) → follow (follow r (λ a. done (Some a))) h ≡ follow r (λ a. h (Some a))
+    by_read (Ok x) = refl
+    by_read (Err e) = refl
+
+    by_test : (b : Bool) → follow (cond b ((f >>= λ a. done (Some a)) (t ∷ ts)) (done None (t ∷ ts))) h ≡ cond b ((f >>= λ a. h (Some a)) (t ∷ ts)) (h None (t ∷ ts))
+    by_test true = by_read (f (t ∷ ts))
+    by_test false = refl

@@ -1,0 +1,72 @@
+-- Blocks and definitions, read as calls read them.
+use Rattle.std.proofs.Common.{◌≡◌, ℕ, List, [], ◌∷◌, ◌++◌, Result, Ok, Err, refl, sym}
+use Rattle.ir_lex.specs.declared.head.Head.TheVariants as heads
+use Rattle.ir_lex.specs.Tok.{Tok}
+use Rattle.lto_forms.specs.Alphabet.{among}
+use Rattle.lto_forms.specs.declared.fault.Fault.{Fault}
+use Rattle.lto_forms.specs.Readers.{Reader, done, follow, ◌>>=◌}
+use Rattle.ir_read.specs.AttributesAt.{definition_attributes_at}
+use Rattle.ir_read.specs.Classes.{tokens, the_at}
+use Rattle.ir_read.specs.declared.attributes.Kept.{Kept}
+use Rattle.ir_read.specs.declared.function_heads.Role.TheVariants as roles
+use Rattle.ir_read.specs.declared.raw.Block.{Block}
+use Rattle.ir_read.specs.declared.raw.Head.{Head}
+use Rattle.ir_read.specs.declared.raw.Item.{Item}
+use Rattle.ir_read.specs.declared.raw.Item.TheVariants.{Definition}
+use Rattle.ir_read.specs.FunctionHeadsAt.{head_at}
+use Rattle.ir_bodies.specs.Adding.{added_at, joined_at}
+use Rattle.ir_bodies.specs.Blocks.{LABEL, FURTHER_BLOCKS, INSTRUCTIONS, with_kept}
+use Rattle.ir_bodies.specs.BlocksAt.{block_at, block_behind_at, blocks_at, blocks_behind_at, braced_at, defined_at, definition_at, further_blocks_at, heading_at, label_at, maybe_label_at}
+use Rattle.ir_bodies.proofs.Additions.{optional_then}
+
+pub block_is : (room : ℕ) (ts : List Tok) → block_at room ts ≡ (maybe_label_at >>= block_behind_at room) ts
+unfolding block_at
+block_is room ts = sym (optional_then (among tokens LABEL) label_at (block_behind_at room) ts)
+
+abbrev pub behind_first : ℕ → List Block × ℕ → Reader Tok (List Block)
+behind_first further x = joined_at x.0 (further_blocks_at further x.1)
+
+pub blocks_is : (further instructions : ℕ) (ts : List Tok) → blocks_at further instructions ts ≡ follow (added_at [] (block_at instructions) ts) (behind_first further)
+unfolding blocks_at blocks_behind_at
+blocks_is further instructions ts = by_read (block_at instructions ts)
+  where
+    by_read : (r : Result ((Block × ℕ) × List Tok) Fault)
+        → follow r (λ first. further_blocks_at further first.1 >>= λ more. done (first.0 ∷ more)) ≡ follow {B = List Block} (follow {B = List Block × ℕ} r (λ x. done ([] ++ x.0 ∷ [], x.1))) (behind_first further)
+    by_read (Ok x) = refl
+    by_read (Err e) = refl
+
+abbrev pub defined_by : Head → Reader Tok Item
+defined_by h = braced_at >>= λ bs. done (Definition h bs)
+
+defined_is : (h : Head) (ts : List Tok) → defined_at h ts ≡ defined_by h ts
+defined_is h ts = by_open (the_at heads.OpenBrace ts)
+  where
+    by_close : (bs : List Block) (r : Result (Unit {0} × List Tok) Fault) → follow r (λ _. done (Definition h bs)) ≡ follow (follow r (λ _. done bs)) (λ bs. done (Definition h bs))
+    by_close bs (Ok x) = refl
+    by_close bs (Err e) = refl
+
+    by_blocks : (r : Result (List Block × List Tok) Fault) → follow r (λ bs. the_at heads.CloseBrace >>= λ _. done (Definition h bs)) ≡ follow (follow r (λ bs. the_at heads.CloseBrace >>= λ _. done bs)) (λ bs. done (Definition h bs))
+    by_blocks (Ok x) = by_close x.0 (the_at heads.CloseBrace x.1)
+    by_blocks (Err e) = refl
+
+    by_open : (r : Result (Unit {0} × List Tok) Fault)
+        → follow r (λ _. blocks_at FURTHER_BLOCKS INSTRUCTIONS >>= λ bs. the_at heads.CloseBrace >>= λ _. done (Definition h bs)) ≡ follow (follow r (λ _. blocks_at FURTHER_BLOCKS INSTRUCTIONS >>= λ bs. the_at heads.CloseBrace >>= λ _. done bs)) (λ bs. done (Definition h bs))
+    by_open (Ok x) = by_blocks (blocks_at FURTHER_BLOCKS INSTRUCTIONS x.1)
+    by_open (Err e) = refl
+
+pub definition_is : (room : ℕ) (ts : List Tok) → definition_at room ts ≡ follow (heading_at room ts) defined_by
+unfolding definition_at
+definition_is room ts = by_define (the_at heads.Define ts)
+  where
+    by_kept : (h : Head) (r : Result (Kept × List Tok) Fault) → follow r (λ k. defined_at (with_kept h k)) ≡ follow (follow r (λ k. done (with_kept h k))) defined_by
+    by_kept h (Ok x) = defined_is (with_kept h x.0) x.1
+    by_kept h (Err e) = refl
+
+    by_head : (r : Result (Head × List Tok) Fault) → follow r (λ h. definition_attributes_at >>= λ k. defined_at (with_kept h k)) ≡ follow (follow r (λ h. definition_attributes_at >>= λ k. done (with_kept h k))) defined_by
+    by_head (Ok x) = by_kept x.0 (definition_attributes_at x.1)
+    by_head (Err e) = refl
+
+    by_define : (r : Result (Unit {0} × List Tok) Fault)
+        → follow r (λ _. head_at roles.Definition room >>= λ h. definition_attributes_at >>= λ k. defined_at (with_kept h k)) ≡ follow (follow r (λ _. head_at roles.Definition room >>= λ h. definition_attributes_at >>= λ k. done (with_kept h k))) defined_by
+    by_define (Ok x) = by_head (head_at roles.Definition room x.1)
+    by_define (Err e) = refl

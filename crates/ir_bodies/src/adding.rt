@@ -1,0 +1,27 @@
+//! Lists that what is read is added to.
+//!
+//! The type of what is added is a parameter, so that what is proved of a list isn't proved of each
+//! field of an instruction.
+
+ghost use Rattle.std.specs.Prelude.{◌≡◌, ◌++◌, ◌∷◌, [], IfErr, OnOk};
+ghost use Rattle.lto_forms.specs.declared.fault.ReadError.TheVariants.{NoMemory};
+ghost use Rattle.ir_bodies.specs.Adding.{IsKept};
+
+use lto_forms::ReadError;
+
+/// Adds a value, or says that memory ran out.
+pub fn push<T: Drop>(list: &mut Vec<T>, value: T) -> Result<(), ReadError>
+    ensures pushed { OnOk result (list.new.items ≡ list.old.items ++ value ∷ []) }
+    ensures memory { IfErr result (λ e. e ≡ NoMemory) }
+{
+    list.push(value)?;
+    Ok(())
+}
+
+/// What was read, as something that isn't dropped.
+pub fn kept<T: Drop>(read: Result<T, ReadError>) -> Result<Option<T>, ReadError>
+    ensures { IsKept read result }
+{
+    let value = read?;
+    Ok(Some(value))
+}
