@@ -8,7 +8,7 @@ use Rattle.ir_meaning.specs.Memory.{Memory as MeantMemory}
 use Rattle.ir_meaning.specs.declared.value.Value.{Value as MeantValue}
 use Rattle.ir_machine.specs.Memories.{KeepsHandles}
 use Rattle.ir_machine.specs.declared.memory.Memory.{Memory}
-use Rattle.ir_frames.specs.Locals.{AreLocals, IsMemory, register_at}
+use Rattle.ir_frames.specs.Locals.{AreLocals, IsMemory}
 use Rattle.ir_frames.specs.declared.registers.Registers.{Registers}
 use Rattle.ir_frames.specs.declared.run.Ran.{Ran}
 use Rattle.ir_frames.specs.declared.run.Ran.TheVariants.{Undefined, Uninit, Went}
@@ -16,10 +16,6 @@ use Rattle.ir_frames.specs.declared.run.Ran.TheVariants.{Undefined, Uninit, Went
 abbrev pub HasRoom : Registers → Option ℕ → Type 0
 HasRoom r None = Unit {0}
 HasRoom r (Some x) = x < length r.cells.items
-
--- registers and memory hold what they held
-abbrev pub StaysAs : Memory → Registers → Memory → Registers → Type 0
-StaysAs m r m' r' = (m'.blocks.items ≡ m.blocks.items) × (m'.made ≡ m.made) × ((x : ℕ) → register_at r' x ≡ register_at r x)
 
 -- registers and memory stand for these locals and this memory, and handles still hold
 pub record StandFor (names : List Symbol) (m : Memory) (memory : MeantMemory) (m' : Memory) (r' : Registers) (memory' : MeantMemory) (locals' : Locals) : Type 0 where

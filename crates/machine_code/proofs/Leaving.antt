@@ -15,10 +15,10 @@ use Rattle.ir_meaning.specs.Frame.{Locals, Signature, value_of}
 use Rattle.ir_meaning.specs.Operate.{bits_of}
 use Rattle.ir_meaning.specs.declared.value.Value.{Value as MeantValue}
 use Rattle.ir_frames.specs.declared.source.Source.{Source}
-use Rattle.ir_calls.specs.Exits.{case_target}
-use Rattle.ir_calls.specs.declared.exit.Case.{Case}
-use Rattle.ir_calls.specs.declared.exit.Exit.{Exit}
-use Rattle.ir_calls.specs.declared.exit.Exit.TheVariants as exit
+use Rattle.ir_frames.specs.Exits.{case_target}
+use Rattle.ir_frames.specs.declared.exit.Case.{Case}
+use Rattle.ir_frames.specs.declared.exit.Exit.{Exit}
+use Rattle.ir_frames.specs.declared.exit.Exit.TheVariants as exit
 use Rattle.machine_steps.specs.Code.{at_positions, position}
 use Rattle.machine_code.specs.Blocks.{ArePositions, IsCase, IsExit, position_in}
 use Rattle.machine_code.specs.Sources.{StandsFor}

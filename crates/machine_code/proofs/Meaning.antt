@@ -17,8 +17,8 @@ use Rattle.ir_frames.specs.Phis.{AreEdgesKnown, ArePhisKnown, edge_meant, phis_m
 use Rattle.ir_frames.specs.Tasks.{CanRun, IsTaskKnown}
 use Rattle.ir_frames.specs.declared.phis.Edge.{Edge}
 use Rattle.ir_frames.specs.declared.phis.Phi.{Phi}
-use Rattle.ir_lines.specs.Lines.{IsLine}
-use Rattle.ir_lines.specs.declared.line.Line.{Line}
+use Rattle.ir_frames.specs.Lines.{IsLine}
+use Rattle.ir_frames.specs.declared.line.Line.{Line}
 use Rattle.machine_steps.specs.Code.{IsBlock, IsBlockKnown, counted_before}
 use Rattle.machine_steps.specs.declared.code.Block.{Block}
 use Rattle.machine_steps.specs.declared.code.Function.{Function}

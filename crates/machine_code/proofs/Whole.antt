@@ -20,9 +20,9 @@ use Rattle.ir_machine.specs.declared.memory.Memory.{Memory}
 use Rattle.ir_machine.specs.declared.scalar.Base.{Base}
 use Rattle.ir_frames.specs.Locals.{IsValid}
 use Rattle.ir_frames.specs.Tasks.{CanRun}
-use Rattle.ir_calls.specs.Calls.{AreKinds, IsKind}
-use Rattle.ir_calls.specs.declared.call.Entity.{Entity}
-use Rattle.ir_lines.specs.declared.line.Line.{Line}
+use Rattle.ir_frames.specs.Calls.{AreKinds, IsKind}
+use Rattle.ir_frames.specs.declared.call.Entity.{Entity}
+use Rattle.ir_frames.specs.declared.line.Line.{Line}
 use Rattle.ir_program.specs.Programs.{body_of, code_of, defined, defined_blocks, defined_init, kind_of, program_of, regs_of, signature_of, storage_of, symbol_of}
 use Rattle.ir_program.specs.Runnable.{AreRunnable, IsRunnableGlobal}
 use Rattle.ir_program.proofs.Counted.{own_blocks}

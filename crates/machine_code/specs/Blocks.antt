@@ -17,10 +17,10 @@ use Rattle.ir_meaning.specs.Memory.{Memory as MeantMemory}
 use Rattle.ir_machine.specs.declared.memory.Memory.{Memory}
 use Rattle.ir_frames.specs.declared.phis.Edge.{Edge}
 use Rattle.ir_frames.specs.declared.phis.Phi.{Phi}
-use Rattle.ir_calls.specs.Exits.{IsExitKnown, exit_meant}
-use Rattle.ir_calls.specs.declared.exit.Case.{Case}
-use Rattle.ir_calls.specs.declared.exit.Exit.{Exit}
-use Rattle.ir_lines.specs.declared.line.Line.{Line}
+use Rattle.ir_frames.specs.Exits.{IsExitKnown, exit_meant}
+use Rattle.ir_frames.specs.declared.exit.Case.{Case}
+use Rattle.ir_frames.specs.declared.exit.Exit.{Exit}
+use Rattle.ir_frames.specs.declared.line.Line.{Line}
 use Rattle.machine_steps.specs.Code.{at_positions, counted_before, locals_of, position}
 use Rattle.machine_steps.specs.declared.code.Block.{Block}
 use Rattle.machine_steps.specs.declared.code.Function.{Function}

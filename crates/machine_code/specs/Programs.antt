@@ -5,9 +5,9 @@ use Rattle.ir_tree.specs.declared.function.Function.{Function as MeantFunction}
 use Rattle.ir_tree.specs.declared.module.GlobalValue.{GlobalValue}
 use Rattle.ir_tree.specs.declared.module.GlobalValue.TheVariants as global
 use Rattle.ir_meaning.specs.Frame.{AHost, Kind, Missing}
-use Rattle.ir_calls.specs.Calls.{IsKind, host_meant}
-use Rattle.ir_calls.specs.declared.call.Entity.{Entity}
-use Rattle.ir_calls.specs.declared.host.Host.{Host}
+use Rattle.ir_frames.specs.Calls.{IsKind, host_meant}
+use Rattle.ir_frames.specs.declared.call.Entity.{Entity}
+use Rattle.ir_frames.specs.declared.host.Host.{Host}
 use Rattle.ir_program.specs.Programs.{defined_blocks}
 use Rattle.machine_steps.specs.declared.code.Function.{Function as CodeFunction}
 use Rattle.machine_memory.specs.Tables.{kind_at}

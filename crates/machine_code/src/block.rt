@@ -8,7 +8,7 @@ ghost use Rattle.machine_code.specs.Tasks.{IsSoundInstr};
 
 use crate::addresses::Addresses;
 use crate::positions::Positions;
-use ir_lines::Line;
+use ir_frames::Line;
 use ir_tree::Param;
 use machine_steps::{Block, Function};
 use std::alloc::{AllocError, Global};

@@ -9,8 +9,8 @@
 //! part that it means the same as the part of the tree, whatever the locals, and of the whole that it is code of the program
 //! that the global values mean (`IsLowered`).
 //!
-//! Below this crate stand `ir_tree`, `ir_meaning`, `ir_better`, `ir_program`, `ir_machine`, `ir_frames`, `ir_calls`,
-//! `ir_lines`, `machine_steps` and `machine_memory`. Its promise: the code is the program's, its lines can run, and what is known
+//! Below this crate stand `ir_tree`, `ir_meaning`, `ir_better`, `ir_program`, `ir_machine`, `ir_frames`, `machine_steps`
+//! and `machine_memory`. Its promise: the code is the program's, its lines can run, and what is known
 //! before the run is valid over each memory that has the program's variables at the positions of their numbers, as the one that
 //! `machine_memory::opening` makes over this table (`IsMadeOf`). Nothing is asked of the symbols that are read: one that isn't
 //! there is poison, as in the program.

@@ -9,7 +9,7 @@ ghost use Rattle.machine_code.specs.Lowered.{IsMadeOf};
 ghost use Rattle.machine_code.specs.Roots.{IsRoot, are_integers, index_in, integers_of, only_integers};
 
 use crate::code::Lowered;
-use ir_calls::Entity;
+use ir_frames::Entity;
 use ir_machine::Base;
 use ir_tree::Reg;
 use machine_memory::Key;

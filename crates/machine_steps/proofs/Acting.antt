@@ -17,10 +17,10 @@ use Rattle.ir_frames.specs.Runs.{Goes, HasEffect, StandFor, new_slot}
 use Rattle.ir_frames.specs.Tasks.{task_meant}
 use Rattle.ir_frames.specs.declared.registers.Registers.{Registers}
 use Rattle.ir_frames.specs.declared.run.Ran.TheVariants.{Went}
-use Rattle.ir_calls.specs.Slots.{AreLast}
-use Rattle.ir_lines.specs.declared.line.Line.{Line}
+use Rattle.ir_frames.specs.Slots.{AreLast}
+use Rattle.ir_frames.specs.declared.line.Line.{Line}
 use Rattle.machine_steps.specs.Frames.{IsStanding, Stacks}
-use Rattle.machine_steps.specs.Lines.{HasRanNumbers}
+use Rattle.ir_frames.specs.Lines.{HasRanNumbers}
 use Rattle.machine_steps.specs.Scenes.{Fails, GoesOn, HasDone, IsNext, Plays, Scene, Silent, Works}
 use Rattle.machine_steps.specs.declared.code.Code.{Code}
 use Rattle.machine_steps.specs.declared.frame.Did.TheVariants as did

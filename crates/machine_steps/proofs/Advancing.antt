@@ -22,7 +22,7 @@ use Rattle.ir_machine.specs.Names.{AreDistinct}
 use Rattle.ir_machine.specs.declared.memory.Memory.{Memory}
 use Rattle.ir_machine.specs.declared.scalar.Scalar.{Scalar}
 use Rattle.ir_frames.specs.Locals.{IsMemory}
-use Rattle.ir_calls.specs.Slots.{AreLast}
+use Rattle.ir_frames.specs.Slots.{AreLast}
 use Rattle.machine_steps.specs.Code.{IsCode, Knows}
 use Rattle.machine_steps.specs.Frames.{IsFrame, IsOpened, IsStanding, Stacks, Wait}
 use Rattle.machine_steps.specs.Scenes.{Acts, Asks, Enters, Fails, GoesOn, Plays, Returns, Scene, Shown, Silent, StaysAt, IsQuiet, answer_meant, behind, events_of}

@@ -7,7 +7,7 @@ use Rattle.ir_meaning.specs.declared.value.Value.TheVariants as value
 use Rattle.ir_machine.specs.declared.memory.Memory.{Memory}
 use Rattle.ir_machine.specs.declared.scalar.Scalar.{Scalar}
 use Rattle.ir_machine.specs.declared.scalar.Scalar.TheVariants.{Number}
-use Rattle.ir_calls.specs.Calls.{AreValid, all_meant}
+use Rattle.ir_frames.specs.Calls.{AreValid, all_meant}
 use Rattle.machine_steps.specs.Steps.{numbers_meant}
 
 abbrev pub numbers : List ℕ → List Scalar

@@ -11,9 +11,9 @@ use Rattle.ir_machine.specs.declared.memory.Memory.{Memory}
 use Rattle.ir_machine.specs.declared.scalar.Scalar.{Scalar}
 use Rattle.ir_frames.specs.Locals.{IsMemory}
 use Rattle.ir_frames.proofs.Keeping.{keep_valid}
-use Rattle.ir_calls.specs.Exits.{IsExitKnown, IsLeft, exit_meant, left_meant}
-use Rattle.ir_calls.specs.declared.exit.Left.{Left}
-use Rattle.ir_calls.specs.declared.exit.Left.TheVariants as left
+use Rattle.ir_frames.specs.Exits.{IsExitKnown, IsLeft, exit_meant, left_meant}
+use Rattle.ir_frames.specs.declared.exit.Left.{Left}
+use Rattle.ir_frames.specs.declared.exit.Left.TheVariants as left
 use Rattle.machine_steps.specs.Code.{at_positions, block_of, position}
 use Rattle.machine_steps.specs.Scenes.{HasDone, HasJumped, IsValidAnswer, Plays, Scene, Silent, answer_meant}
 use Rattle.machine_steps.specs.declared.code.Block.{Block}

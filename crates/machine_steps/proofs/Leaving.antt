@@ -13,9 +13,9 @@ use Rattle.ir_meaning.specs.declared.fault.Cause.{Cause}
 use Rattle.ir_machine.specs.Memories.{numbers_of}
 use Rattle.ir_machine.specs.declared.block.Block.{Block as MemoryBlock}
 use Rattle.ir_machine.specs.declared.memory.Memory.{Memory}
-use Rattle.ir_calls.specs.Exits.{exit_meant, left_meant}
-use Rattle.ir_calls.specs.Slots.{AreLast}
-use Rattle.ir_calls.specs.declared.exit.Left.{Left}
+use Rattle.ir_frames.specs.Exits.{exit_meant, left_meant}
+use Rattle.ir_frames.specs.Slots.{AreLast}
+use Rattle.ir_frames.specs.declared.exit.Left.{Left}
 use Rattle.machine_steps.specs.Code.{IsBlock, at_positions, block_of}
 use Rattle.machine_steps.specs.Scenes.{Fails, Plays, Scene}
 use Rattle.machine_steps.specs.declared.code.Block.{Block}

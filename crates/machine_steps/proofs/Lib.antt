@@ -1,7 +1,6 @@
 mod Positions
 mod Blocks
 mod Keeping
-mod Standing
 mod Acting
 mod Jumping
 mod Leaving

@@ -2,7 +2,7 @@
 use Rattle.std.proofs.Common.{◌≡◌, suc, List, [], drop, slice_get, Some, None, sym, ◌∙◌, arith}
 use Rattle.ir_tree.specs.declared.instr.Line.{Line as MeantLine}
 use Rattle.ir_machine.specs.declared.memory.Memory.{Memory}
-use Rattle.ir_lines.specs.declared.line.Line.{Line}
+use Rattle.ir_frames.specs.declared.line.Line.{Line}
 use Rattle.machine_steps.specs.Code.{block_of}
 use Rattle.machine_steps.specs.Scenes.{IsNext, Plays, Scene}
 use Rattle.machine_steps.specs.declared.code.Block.{Block}

@@ -14,8 +14,8 @@ use Rattle.ir_machine.specs.declared.memory.Memory.{Memory}
 use Rattle.ir_machine.specs.declared.scalar.Scalar.{Scalar}
 use Rattle.ir_frames.specs.Locals.{AreLocals}
 use Rattle.ir_frames.specs.declared.registers.Registers.{Registers}
-use Rattle.ir_calls.specs.Calls.{all_meant}
-use Rattle.ir_calls.specs.Entering.{params_meant}
+use Rattle.ir_frames.specs.Calls.{all_meant}
+use Rattle.ir_frames.specs.Entering.{params_meant}
 use Rattle.machine_steps.specs.Code.{IsCode, function_of, locals_of, position}
 use Rattle.machine_steps.specs.Frames.{IsFrame, IsOpened}
 use Rattle.machine_steps.specs.declared.code.Code.{Code}

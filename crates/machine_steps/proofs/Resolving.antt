@@ -17,12 +17,12 @@ use Rattle.ir_frames.specs.declared.registers.Registers.{Registers}
 use Rattle.ir_frames.specs.declared.source.Source.{Source}
 use Rattle.ir_frames.specs.declared.source.Typed.{Typed}
 use Rattle.ir_frames.specs.declared.task.Task.{Task}
-use Rattle.ir_calls.specs.Calls.{AreKinds, call_effect}
-use Rattle.ir_calls.specs.declared.call.Entity.{Entity}
-use Rattle.ir_calls.specs.declared.call.Resolved.{Resolved}
-use Rattle.ir_calls.specs.declared.call.Resolved.TheVariants as resolved
-use Rattle.ir_calls.specs.declared.host.Host.TheVariants as host
-use Rattle.ir_lines.specs.declared.line.Line.{Line}
+use Rattle.ir_frames.specs.Calls.{AreKinds, call_effect}
+use Rattle.ir_frames.specs.declared.call.Entity.{Entity}
+use Rattle.ir_frames.specs.declared.call.Resolved.{Resolved}
+use Rattle.ir_frames.specs.declared.call.Resolved.TheVariants as resolved
+use Rattle.ir_frames.specs.declared.host.Host.TheVariants as host
+use Rattle.ir_frames.specs.declared.line.Line.{Line}
 use Rattle.machine_steps.specs.Scenes.{Hears, IsNext, Plays, Scene, TakesSo, Works}
 use Rattle.machine_steps.specs.declared.code.Code.{Code}
 use Rattle.machine_steps.specs.declared.frame.Frame.{Frame}

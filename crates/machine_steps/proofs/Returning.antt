@@ -9,7 +9,7 @@ use Rattle.ir_meaning.specs.declared.value.Value.{Value as MeantValue}
 use Rattle.ir_machine.specs.declared.memory.Memory.{Memory}
 use Rattle.ir_machine.specs.declared.scalar.Scalar.{Scalar}
 use Rattle.ir_frames.specs.Runs.{HasRoom}
-use Rattle.ir_calls.specs.Slots.{AreLast}
+use Rattle.ir_frames.specs.Slots.{AreLast}
 use Rattle.machine_steps.specs.Frames.{IsFrame, IsWaiting, Wait}
 use Rattle.machine_steps.specs.Scenes.{answer_meant}
 use Rattle.machine_steps.specs.Steps.{Resumed}

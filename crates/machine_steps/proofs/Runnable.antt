@@ -3,7 +3,7 @@ use Rattle.std.proofs.Common.{◌≡◌, ℕ, zero, suc, List, [], ◌∷◌, sl
 use Rattle.std.specs.Prelude.{All}
 use Rattle.std.proofs.lemmas.List.Elements.{All-cons, All-head, All-nil, All-tail}
 use Rattle.ir_frames.specs.Tasks.{CanRun}
-use Rattle.ir_lines.specs.declared.line.Line.{Line}
+use Rattle.ir_frames.specs.declared.line.Line.{Line}
 use Rattle.machine_steps.specs.Code.{IsRunnable, block_in, function_in, function_of}
 use Rattle.machine_steps.specs.Sound.{AreSound, IsBodySound}
 use Rattle.machine_steps.specs.Steps.{CanBegin}

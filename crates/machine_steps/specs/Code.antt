@@ -16,10 +16,10 @@ use Rattle.ir_machine.specs.Memories.{KeepsHandles}
 use Rattle.ir_machine.specs.declared.memory.Memory.{Memory}
 use Rattle.ir_frames.specs.Phis.{ArePhisKnown, phis_meant}
 use Rattle.ir_frames.specs.Tasks.{CanRun, IsTaskKnown}
-use Rattle.ir_calls.specs.Calls.{AreKinds}
-use Rattle.ir_calls.specs.Exits.{IsExitKnown, exit_meant}
-use Rattle.ir_lines.specs.Lines.{IsLine}
-use Rattle.ir_lines.specs.declared.line.Line.{Line}
+use Rattle.ir_frames.specs.Calls.{AreKinds}
+use Rattle.ir_frames.specs.Exits.{IsExitKnown, exit_meant}
+use Rattle.ir_frames.specs.Lines.{IsLine}
+use Rattle.ir_frames.specs.declared.line.Line.{Line}
 use Rattle.machine_steps.specs.declared.code.Block.{Block}
 use Rattle.machine_steps.specs.declared.code.Code.{Code}
 use Rattle.machine_steps.specs.declared.code.Function.{Function}

@@ -12,7 +12,7 @@ use Rattle.ir_machine.specs.Meant.{symbol_at}
 use Rattle.ir_machine.specs.declared.memory.Memory.{Memory}
 use Rattle.ir_frames.specs.Locals.{AreLocals}
 use Rattle.ir_frames.specs.Runs.{HasRoom}
-use Rattle.ir_calls.specs.Slots.{AreLast}
+use Rattle.ir_frames.specs.Slots.{AreLast}
 use Rattle.machine_steps.specs.Code.{position}
 use Rattle.machine_steps.specs.declared.frame.Frame.{Frame}
 

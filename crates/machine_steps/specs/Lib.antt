@@ -1,4 +1,3 @@
-pub mod Lines
 pub mod Code
 pub mod Sound
 pub mod Frames

@@ -26,8 +26,8 @@ use Rattle.ir_machine.specs.declared.scalar.Scalar.{Scalar}
 use Rattle.ir_frames.specs.Locals.{IsMemory, IsValid}
 use Rattle.ir_frames.specs.Runs.{HasRoom}
 use Rattle.ir_frames.specs.Tasks.{IsTaskKnown}
-use Rattle.ir_lines.specs.Lines.{IsLine}
-use Rattle.ir_lines.specs.declared.line.Line.{Line}
+use Rattle.ir_frames.specs.Lines.{IsLine}
+use Rattle.ir_frames.specs.declared.line.Line.{Line}
 use Rattle.machine_steps.specs.Code.{IsCode, Knows}
 use Rattle.machine_steps.specs.Frames.{IsFrame, Stacks}
 use Rattle.machine_steps.specs.declared.code.Code.{Code}

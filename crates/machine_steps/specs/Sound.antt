@@ -1,7 +1,7 @@
 -- Code whose lines can run, list by list.
 use Rattle.std.specs.Prelude.{All, List, Option, Some, None}
 use Rattle.ir_frames.specs.Tasks.{CanRun}
-use Rattle.ir_lines.specs.declared.line.Line.{Line}
+use Rattle.ir_frames.specs.declared.line.Line.{Line}
 use Rattle.machine_steps.specs.declared.code.Block.{Block}
 use Rattle.machine_steps.specs.declared.code.Function.{Function}
 

@@ -6,16 +6,14 @@ ghost use Rattle.ir_machine.specs.Meant.{symbol_at};
 ghost use Rattle.ir_machine.specs.declared.memory.Memory.{Memory};
 ghost use Rattle.ir_frames.specs.Locals.{AreKnown};
 ghost use Rattle.ir_frames.specs.Tasks.{values_meant};
-ghost use Rattle.ir_lines.specs.Lines.{IsCall};
+ghost use Rattle.ir_frames.specs.Lines.{IsCall};
 ghost use Rattle.machine_steps.specs.Scenes.{GoesOn, HasDone, Hears, IsNext, Plays, Scene, TakesSo, Works, with_result};
 ghost use Rattle.machine_steps.specs.declared.code.Code.{Code};
 
 use crate::code::Code;
 use crate::frame::{Did, Frame};
 use crate::open::open;
-use ir_calls::{Host, Resolved, arguments, put_char, resolve};
-use ir_frames::{Task, Typed};
-use ir_lines::Line;
+use ir_frames::{Host, Line, Resolved, Task, Typed, arguments, put_char, resolve};
 use ir_machine::{Memory, Scalar};
 use ir_meaning::Cause;
 use std::alloc::{AllocError, Global};

@@ -1,9 +1,7 @@
 //! Programs as the machine runs them.
 ghost use Rattle.std.specs.Prelude.{◌≡◌, option_copied};
 
-use ir_calls::{Entity, Exit};
-use ir_frames::Phi;
-use ir_lines::Line;
+use ir_frames::{Entity, Exit, Line, Phi};
 
 /// A basic block: its number in the function, how many phis, instructions and terminators of the
 /// function stand before its first line, and then its parts over sources.

@@ -6,7 +6,7 @@ ghost use Rattle.machine_steps.specs.Scenes.{GoesOn, HasDone, HasJumped, Plays, 
 
 use crate::code::{Block, Code};
 use crate::frame::{Did, Frame};
-use ir_calls::{Left, end_slots, leave};
+use ir_frames::{Left, end_slots, leave};
 use ir_machine::{Memory, Scalar};
 use ir_meaning::Cause;
 use std::alloc::AllocError;

@@ -7,12 +7,11 @@
 //! choice and what the input has next are given to it. Contracts say in which state of which program a
 //! machine is (`IsAt`), and what a step does to that state (`IsStepped`).
 //!
-//! Below this crate stand `ir_tree`, `ir_meaning`, `ir_machine`, `ir_frames`, `ir_calls` and `ir_lines`.
-//! Its promise: a step is the definition's, for every program that the code is of; where memory is
-//! refused, the machine is in the state in which it was. A step takes the time of its instruction, a jump
-//! that of the phis of the block that it leads to, a call and a return that of arguments and stack blocks:
-//! none grows with the number of blocks, frames, variables or past steps. Memory is in proportion to the
-//! frames and the blocks that live.
+//! Below this crate stand `ir_tree`, `ir_meaning`, `ir_machine` and `ir_frames`. Its promise: a step is the
+//! definition's, for every program that the code is of; where memory is refused, the machine is in the state
+//! in which it was. A step takes the time of its instruction, a jump that of the phis of the block that it
+//! leads to, a call and a return that of arguments and stack blocks: none grows with the number of blocks,
+//! frames, variables or past steps. Memory is in proportion to the frames and the blocks that live.
 #![tactic(auto)]
 
 mod act;
@@ -22,7 +21,6 @@ mod end;
 mod extent;
 mod frame;
 mod jump;
-mod line;
 mod machine;
 mod open;
 mod sound;

@@ -4,13 +4,13 @@ ghost use Rattle.ir_tree.specs.declared.operand.Symbol.{Symbol};
 ghost use Rattle.ir_meaning.specs.Memory.{Memory as MeantMemory};
 ghost use Rattle.ir_meaning.specs.Program.{Program};
 ghost use Rattle.ir_machine.specs.declared.memory.Memory.{Memory};
-ghost use Rattle.ir_calls.specs.Calls.{AreValid, all_meant};
+ghost use Rattle.ir_frames.specs.Calls.{AreValid, all_meant};
 ghost use Rattle.machine_steps.specs.Code.{IsCode};
 ghost use Rattle.machine_steps.specs.Frames.{IsOpened};
 
 use crate::code::Code;
 use crate::frame::Frame;
-use ir_calls::enter;
+use ir_frames::enter;
 use ir_machine::Scalar;
 use std::alloc::{AllocError, Global};
 

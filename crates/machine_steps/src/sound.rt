@@ -9,8 +9,7 @@ ghost use Rattle.machine_steps.specs.Steps.{CanBegin};
 
 use crate::code::{Block, Code, Function};
 use crate::extent::is_laid_out;
-use ir_frames::{Compute, Task, Typed};
-use ir_lines::Line;
+use ir_frames::{Compute, Line, Task, Typed};
 use ir_tree::{CastOp, Reg};
 
 /// Whether an integer has 1 to 64 bits.

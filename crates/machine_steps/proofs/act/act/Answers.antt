@@ -1,5 +1,5 @@
 use Rattle.std.proofs.Common.{◌≡◌, List, slice_get, Some, None, option_copied, sym, ap, subst, ◌∙◌}
-use Rattle.ir_lines.specs.declared.line.Line.{Line}
+use Rattle.ir_frames.specs.declared.line.Line.{Line}
 use Rattle.machine_steps.proofs.Nexting.{next_line, no_line}
 use Rattle.machine_steps.proofs.Positions.{got_none, got_some}
 use Rattle.machine_steps.proofs.Telling.{then_err, then_ok}

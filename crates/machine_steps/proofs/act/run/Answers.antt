@@ -1,13 +1,12 @@
 use Rattle.std.proofs.Common.{◌+◌, refl, sym, subst}
 use Rattle.ir_meaning.specs.Fault as fault
-use Rattle.ir_lines.specs.Lines.{IsReached}
-use Rattle.ir_lines.specs.declared.line.Reached.{Reached}
-use Rattle.ir_lines.specs.declared.line.Reached.TheVariants as reached
+use Rattle.ir_frames.specs.Lines.{HasNumbers, IsReached}
+use Rattle.ir_frames.specs.declared.line.Reached.{Reached}
+use Rattle.ir_frames.specs.declared.line.Reached.TheVariants as reached
 use Rattle.ir_frames.specs.declared.run.Ran.{Ran}
 use Rattle.ir_machine.proofs.Holding.{on_err}
 use Rattle.ir_machine.specs.declared.memory.Memory.{Memory}
 use Rattle.ir_frames.specs.declared.registers.Registers.{Registers}
-use Rattle.machine_steps.specs.Lines.{HasNumbers}
 use Rattle.machine_steps.specs.Scenes.{GoesOn, HasDone, IsNext, Plays}
 use Rattle.machine_steps.proofs.Acting.{line_broke, line_went, still_there}
 use Rattle.machine_steps.proofs.Telling.{then_err, then_ok}

@@ -2,7 +2,7 @@ use Rattle.std.proofs.Common.{◌+◌, refl}
 use Rattle.ir_frames.proofs.Reading.{same_locals}
 use Rattle.ir_machine.proofs.Holding.{on_err}
 use Rattle.machine_steps.proofs.Acting.{still_there}
-use Rattle.machine_steps.proofs.Standing.{untouched}
+use Rattle.ir_frames.proofs.Standing.{untouched}
 use Rattle.machine_steps.proofs.Waiting.{number_bound}
 use Rattle.machine_steps.proofs.call.bind_number.Goals as goal
 

@@ -4,14 +4,14 @@ use Rattle.ir_meaning.specs.declared.value.Value.{Value as MeantValue}
 use Rattle.ir_machine.specs.Meant.{symbol_at}
 use Rattle.ir_machine.proofs.Holding.{on_err}
 use Rattle.ir_frames.proofs.Reading.{same_locals}
-use Rattle.ir_calls.specs.Calls.{all_meant}
+use Rattle.ir_frames.specs.Calls.{all_meant}
 use Rattle.machine_steps.specs.Frames.{IsOpened}
 use Rattle.machine_steps.specs.Scenes.{Works}
 use Rattle.machine_steps.specs.declared.frame.Frame.{Frame}
 use Rattle.machine_steps.proofs.Acting.{stays_there, still_there}
 use Rattle.machine_steps.proofs.Calling.{meant_long}
 use Rattle.machine_steps.proofs.Leaving.{block_count}
-use Rattle.machine_steps.proofs.Standing.{untouched}
+use Rattle.ir_frames.proofs.Standing.{untouched}
 use Rattle.machine_steps.proofs.Waiting.{call_entered, call_missing}
 use Rattle.machine_steps.proofs.call.call_function.Goals as goal
 

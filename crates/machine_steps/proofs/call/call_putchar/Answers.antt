@@ -6,7 +6,7 @@ use Rattle.ir_meaning.specs.Memory.{Memory as MeantMemory}
 use Rattle.ir_meaning.specs.declared.fault.Cause.TheVariants.{PoisonArgument}
 use Rattle.ir_meaning.specs.declared.value.Value.{Value as MeantValue}
 use Rattle.ir_machine.proofs.Holding.{on_err}
-use Rattle.ir_calls.specs.Calls.{all_meant, put_effect}
+use Rattle.ir_frames.specs.Calls.{all_meant, put_effect}
 use Rattle.machine_steps.specs.Scenes.{GoesOn, with_result}
 use Rattle.machine_steps.proofs.Acting.{stays_there, work_fails}
 use Rattle.machine_steps.proofs.call.call_putchar.Goals as goal

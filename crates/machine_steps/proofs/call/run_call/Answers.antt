@@ -5,12 +5,12 @@ use Rattle.ir_machine.specs.Meant.{symbol_at}
 use Rattle.ir_frames.specs.Locals.{AreKnown}
 use Rattle.ir_frames.specs.Tasks.{values_meant}
 use Rattle.ir_frames.specs.declared.source.Typed.{Typed}
-use Rattle.ir_calls.specs.Calls.{IsAmong}
-use Rattle.ir_calls.specs.declared.call.Entity.{Entity}
-use Rattle.ir_calls.specs.declared.call.Resolved.{Resolved}
-use Rattle.ir_calls.specs.declared.call.Resolved.TheVariants as resolved
-use Rattle.ir_calls.specs.declared.host.Host.{Host}
-use Rattle.ir_calls.specs.declared.host.Host.TheVariants as host
+use Rattle.ir_frames.specs.Calls.{IsAmong}
+use Rattle.ir_frames.specs.declared.call.Entity.{Entity}
+use Rattle.ir_frames.specs.declared.call.Resolved.{Resolved}
+use Rattle.ir_frames.specs.declared.call.Resolved.TheVariants as resolved
+use Rattle.ir_frames.specs.declared.host.Host.{Host}
+use Rattle.ir_frames.specs.declared.host.Host.TheVariants as host
 use Rattle.machine_steps.specs.Scenes.{TakesSo, Works}
 use Rattle.machine_steps.proofs.Acting.{work_fails}
 use Rattle.machine_steps.proofs.Resolving.{IsAnswer, call_known, call_works, hears_so, takes_so, works_so}

@@ -7,7 +7,7 @@ use Rattle.ir_frames.specs.Phis.{ArePhisKnown, phis_meant}
 use Rattle.ir_frames.specs.declared.phis.Phi.{Phi}
 use Rattle.machine_steps.proofs.Acting.{still_there}
 use Rattle.machine_steps.proofs.Jumping.{jumped, no_jump}
-use Rattle.machine_steps.proofs.Standing.{untouched}
+use Rattle.ir_frames.proofs.Standing.{untouched}
 use Rattle.machine_steps.proofs.jump.jump.Goals as goal
 
 pub returns-in_ok-enter-in-Some-clause-ok : goal.returns-in_ok-enter-in-Some-clause-ok

@@ -1,6 +1,6 @@
 use Rattle.std.proofs.Common.{ℕ, List, option_copied, sym, ap, subst, ◌∙◌, arith}
-use Rattle.ir_calls.specs.Calls.{all_meant}
-use Rattle.ir_calls.specs.Entering.{params_meant}
+use Rattle.ir_frames.specs.Calls.{all_meant}
+use Rattle.ir_frames.specs.Entering.{params_meant}
 use Rattle.ir_frames.specs.Locals.{AreLocals}
 use Rattle.machine_steps.proofs.Opening.{opened, opened_otherwise}
 use Rattle.machine_steps.proofs.open.open.Goals as goal

@@ -1,7 +1,7 @@
 use Rattle.std.proofs.Common.{◌≡◌, List, [], ◌∷◌, ◌++◌, Option, get_or, refl, sym, ap, subst, ◌∙◌, arith}
 use Rattle.ir_machine.specs.declared.scalar.Scalar.{Scalar}
 use Rattle.ir_machine.specs.declared.scalar.Scalar.TheVariants.{Number}
-use Rattle.ir_calls.specs.Calls.{AreValid, all_meant}
+use Rattle.ir_frames.specs.Calls.{AreValid, all_meant}
 use Rattle.machine_steps.specs.Frames.{IsOpened}
 use Rattle.machine_steps.specs.declared.frame.Frame.{Frame}
 use Rattle.machine_steps.proofs.Advancing.{begun}

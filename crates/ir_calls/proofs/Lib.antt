@@ -1,4 +1,0 @@
-mod Passing
-mod Entering
-mod Lives
-pub mod Widths

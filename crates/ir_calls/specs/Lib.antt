@@ -1,4 +1,0 @@
-pub mod Calls
-pub mod Exits
-pub mod Entering
-pub mod Slots
