@@ -1,5 +1,5 @@
 -- The terminators over sources and positions.
-use Rattle.std.proofs.Common.{◌≡◌, ℕ, zero, suc, Bool, true, false, nat_eq, if◌then◌else◌, List, [], ◌∷◌, Option, Some, None, refl, sym, ap, ap₂, subst, ◌∙◌}
+use Rattle.std.proofs.Common.{◌≡◌, ℕ, zero, suc, Bool, true, false, nat_eq, if◌then◌else◌, List, [], ◌∷◌, Option, Some, None, refl, sym, ap, subst, ◌∙◌}
 use Rattle.std.specs.Global.{Global}
 use Rattle.std.specs.Prelude.{Vec}
 use Rattle.std.specs.List.{AllZip}
@@ -11,7 +11,7 @@ use Rattle.ir_tree.specs.declared.operand.Argument.{Argument}
 use Rattle.ir_tree.specs.declared.operand.Operand.{Operand}
 use Rattle.ir_meaning.specs.Act as act
 use Rattle.ir_meaning.specs.Act.{Leads', Leaves, by_bits, by_value, side}
-use Rattle.ir_meaning.specs.Frame.{Locals, Signature, value_of}
+use Rattle.ir_meaning.specs.Frame.{value_of}
 use Rattle.ir_meaning.specs.Operate.{bits_of}
 use Rattle.ir_meaning.specs.declared.value.Value.{Value as MeantValue}
 use Rattle.ir_frames.specs.declared.source.Source.{Source}
@@ -20,10 +20,9 @@ use Rattle.ir_frames.specs.declared.exit.Case.{Case}
 use Rattle.ir_frames.specs.declared.exit.Exit.{Exit}
 use Rattle.ir_frames.specs.declared.exit.Exit.TheVariants as exit
 use Rattle.machine_steps.specs.Code.{at_positions, position}
-use Rattle.machine_code.specs.Blocks.{ArePositions, IsCase, IsExit, position_in}
+use Rattle.machine_code.specs.Blocks.{IsCase, IsExit}
 use Rattle.machine_code.specs.Sources.{StandsFor}
 use Rattle.machine_code.specs.declared.addresses.Addresses.{Addresses}
-use Rattle.machine_code.specs.declared.positions.Positions.{Positions}
 
 -- by what a terminator is
 pub by_end : (t : Addresses) (blocks : List Block) (e d : Terminator) (x : Exit) → e ≡ d → IsExit t blocks d x → IsExit t blocks e x

@@ -1,8 +1,7 @@
 -- What was made of a function is code of it: it means the same by position, what is known before the run is valid, and its lines can run.
-use Rattle.std.proofs.Common.{◌≡◌, ℕ, zero, suc, ◌+◌, ◌<◌, Bool, true, false, nat_eq, if◌then◌else◌, List, [], ◌∷◌, length, slice_get, Option, Some, None, refl, sym, ap, ap₂, subst, ◌∙◌}
+use Rattle.std.proofs.Common.{◌≡◌, ℕ, ◌+◌, Bool, true, false, nat_eq, if◌then◌else◌, List, [], ◌∷◌, length, slice_get, Some, refl, sym, ap, ap₂, ◌∙◌}
 use Rattle.std.specs.List.{AllZip}
 use Rattle.ir_tree.specs.declared.block.Block.{Block as MeantBlock}
-use Rattle.ir_tree.specs.declared.function.Function.{Function as MeantFunction}
 use Rattle.ir_tree.specs.declared.instr.Incoming.{Incoming}
 use Rattle.ir_tree.specs.declared.instr.Line.{Line as MeantLine}
 use Rattle.ir_tree.specs.declared.instr.Phi.{Phi as MeantPhi}
@@ -14,16 +13,15 @@ use Rattle.ir_meaning.specs.declared.value.Value.{Value as MeantValue}
 use Rattle.ir_machine.specs.declared.memory.Memory.{Memory}
 use Rattle.ir_frames.specs.Locals.{source_meant}
 use Rattle.ir_frames.specs.Phis.{AreEdgesKnown, ArePhisKnown, edge_meant, phis_meant}
-use Rattle.ir_frames.specs.Tasks.{CanRun, IsTaskKnown}
+use Rattle.ir_frames.specs.Tasks.{CanRun}
 use Rattle.ir_frames.specs.declared.phis.Edge.{Edge}
 use Rattle.ir_frames.specs.declared.phis.Phi.{Phi}
 use Rattle.ir_frames.specs.Lines.{IsLine}
 use Rattle.ir_frames.specs.declared.line.Line.{Line}
 use Rattle.machine_steps.specs.Code.{IsBlock, IsBlockKnown, counted_before}
 use Rattle.machine_steps.specs.declared.code.Block.{Block}
-use Rattle.machine_steps.specs.declared.code.Function.{Function}
 use Rattle.machine_code.specs.Addresses.{AreValid, HasAddresses}
-use Rattle.machine_code.specs.Blocks.{IsBlockFor, IsEdge, IsFunctionFor, IsLineFor, IsPhi}
+use Rattle.machine_code.specs.Blocks.{IsBlockFor, IsEdge, IsLineFor, IsPhi}
 use Rattle.machine_code.specs.declared.addresses.Addresses.{Addresses}
 use Rattle.machine_code.proofs.Zips.{zip_got, zip_long, zip_other}
 

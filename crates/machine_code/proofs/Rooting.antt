@@ -1,5 +1,5 @@
 -- What is found under a name is a root of the program, and each root is found.
-use Rattle.std.proofs.Common.{◌≡◌, ◌⊎◌, inl, inr, ℕ, ◌<◌, Bool, true, false, if◌then◌else◌, List, [], ◌∷◌, length, slice_get, Option, Some, None, refl, sym, ap, subst, ◌∙◌, arith}
+use Rattle.std.proofs.Common.{◌≡◌, inl, inr, ℕ, ◌<◌, Bool, true, false, if◌then◌else◌, List, [], ◌∷◌, length, slice_get, Option, Some, None, refl, sym, ap, subst, ◌∙◌, arith}
 use Rattle.std.specs.Prelude.{All}
 use Rattle.std.proofs.lemmas.List.Elements.{All-cons, All-head, All-nil, All-tail}
 use Rattle.ir_tree.specs.Rules.{IsInteger}
@@ -20,7 +20,6 @@ use Rattle.ir_frames.specs.declared.call.Entity.TheVariants as entity
 use Rattle.ir_program.specs.Programs.{body_of, defined_blocks, kind_of, regs_of, shared, symbol_of}
 use Rattle.machine_steps.specs.Code.{function_in, locals_of}
 use Rattle.machine_steps.specs.Steps.{CanBegin}
-use Rattle.machine_steps.specs.declared.code.Code.{Code}
 use Rattle.machine_steps.specs.declared.code.Function.{Function}
 use Rattle.machine_code.specs.Addresses.{base_in}
 use Rattle.machine_code.specs.Blocks.{IsFunctionFor}

@@ -17,9 +17,8 @@ use Rattle.ir_machine.specs.declared.memory.Memory.{Memory}
 use Rattle.ir_machine.specs.declared.scalar.Base.TheVariants as base
 use Rattle.ir_machine.specs.declared.scalar.Scalar.{Scalar}
 use Rattle.ir_machine.specs.declared.scalar.Scalar.TheVariants as scalar
-use Rattle.ir_frames.specs.Locals.{AreKnown, IsValid, source_meant}
+use Rattle.ir_frames.specs.Locals.{AreKnown, IsValid}
 use Rattle.ir_frames.specs.Tasks as tasks
-use Rattle.ir_frames.specs.declared.source.Source.{Source}
 use Rattle.ir_frames.specs.declared.source.Source.TheVariants.{Known, Register}
 use Rattle.ir_frames.specs.declared.source.Typed.{Typed}
 use Rattle.machine_memory.specs.Addresses.{address_at}

@@ -15,15 +15,11 @@ use Rattle.ir_tree.specs.declared.operand.Reg.{Reg}
 use Rattle.ir_tree.specs.declared.operand.Symbol.{Symbol}
 use Rattle.ir_meaning.specs.Frame.{AFunction, Kind, Signature}
 use Rattle.ir_meaning.specs.Memory.{Memory as MeantMemory}
-use Rattle.ir_machine.specs.Memories.{KeepsHandles}
 use Rattle.ir_machine.specs.declared.memory.Memory.{Memory}
 use Rattle.ir_machine.specs.declared.scalar.Base.{Base}
 use Rattle.ir_frames.specs.Locals.{IsValid}
-use Rattle.ir_frames.specs.Tasks.{CanRun}
 use Rattle.ir_frames.specs.Calls.{AreKinds, IsKind}
-use Rattle.ir_frames.specs.declared.call.Entity.{Entity}
-use Rattle.ir_frames.specs.declared.line.Line.{Line}
-use Rattle.ir_program.specs.Programs.{body_of, code_of, defined, defined_blocks, defined_init, kind_of, program_of, regs_of, signature_of, storage_of, symbol_of}
+use Rattle.ir_program.specs.Programs.{body_of, code_of, defined, defined_blocks, defined_init, kind_of, program_of, regs_of, signature_of, storage_of}
 use Rattle.ir_program.specs.Runnable.{AreRunnable, IsRunnableGlobal}
 use Rattle.ir_program.proofs.Counted.{own_blocks}
 use Rattle.machine_steps.specs.Code.{IsBody, IsCode, IsFunction, IsRunnable, Knows, block_in, block_of, counted_before, function_in, function_of}
@@ -32,7 +28,7 @@ use Rattle.machine_steps.specs.declared.code.Code.{Code}
 use Rattle.machine_steps.specs.declared.code.Function.{Function}
 use Rattle.machine_memory.specs.Addresses.{address_at}
 use Rattle.machine_memory.specs.Openings.{HoldsVariables}
-use Rattle.machine_memory.specs.Tables.{IsTable, bytes_of, kind_at, number_at}
+use Rattle.machine_memory.specs.Tables.{IsTable, bytes_of, number_at}
 use Rattle.machine_memory.proofs.Addressing.{base_valid, has_addresses}
 use Rattle.machine_memory.proofs.Lists.{there}
 use Rattle.machine_memory.proofs.Naming.{code_is, distinct_symbols, global_there, kind_is, symbol_is}

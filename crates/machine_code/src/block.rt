@@ -37,26 +37,11 @@ fn first_line(before: u64, phis: usize, lines: usize) -> Result<u64, AllocError>
     }
 }
 
-/// The number of phis, instructions and terminators up to the end of a block, before which so many stand.
-fn behind_block(before: u64, phis: usize, lines: usize) -> Result<u64, AllocError>
-    ensures { IfOk result (λ next. next ≡ before + (phis + lines + 1)) }
-{
-    let first = counted(before, phis)?;
-    let behind = counted(first, lines)?;
-    counted(behind, 1)
-}
-
-/// How many registers there is to be room for, of a function of so many parameters: one for each of them, and for each phi,
-/// instruction and terminator.
-fn room(params: usize, blocks: &[ir_tree::Block]) -> Result<usize, AllocError>
-    ensures { IfOk result (λ all. all ≡ params + counted_before blocks.now (length blocks.now)) }
-{
-    let mut all = params as u64;
-    for block in blocks {
-        let next = behind_block(all, block.phis.len(), block.lines.len())?;
-        all = next;
-    }
-    Ok(all as usize)
+/// The blocks of a function, and how many phis, instructions and terminators stand in them.
+#[derive(Drop)]
+struct MadeBlocks<'i> {
+    blocks: Vec<Block<'i>>,
+    count: u64,
 }
 
 /// The registers of parameters.
@@ -124,29 +109,45 @@ impl<'a> Addresses<'a> {
         })
     }
 
-    /// The blocks of a function, in the order of the text, by one pass.
+    /// The blocks of a function that stand at these positions, in the order of the text, by one pass.
+    fn blocks_at<'i>(
+        &self,
+        alloc: Global,
+        positions: &Positions,
+        blocks: &'i [ir_tree::Block],
+    ) -> Result<MadeBlocks<'i>, AllocError>
+        requires sound { All IsSoundBlock blocks.now }
+        requires placed { ArePositions blocks.now positions.now }
+        ensures long { IfOk result (λ made. length made.blocks.items ≡ length blocks.entry.now) }
+        ensures each { IfOk result (λ made. AreBlocksFor self.now blocks.entry.now made.blocks.items) }
+        ensures count { IfOk result (λ made. made.count ≡ counted_before blocks.entry.now (length blocks.entry.now)) }
+    {
+        let mut all = Vec::with_capacity(alloc, blocks.len())?;
+        let mut count: u64 = 0;
+        for block in blocks {
+            let made = self.block(alloc, positions, count, block)?;
+            count = made.before + block.lines.len() as u64 + 1;
+            all.push(made)?;
+        }
+        Ok(MadeBlocks { blocks: all, count })
+    }
+
+    /// The blocks of a function.
     fn blocks<'i>(
         &self,
         alloc: Global,
         blocks: &'i [ir_tree::Block],
-    ) -> Result<Vec<Block<'i>>, AllocError>
+    ) -> Result<MadeBlocks<'i>, AllocError>
         requires { All IsSoundBlock blocks.now }
-        ensures long { IfOk result (λ all. length all.items ≡ length blocks.entry.now) }
-        ensures each { IfOk result (λ all. AreBlocksFor self.now blocks.entry.now all.items) }
+        ensures long { IfOk result (λ made. length made.blocks.items ≡ length blocks.entry.now) }
+        ensures each { IfOk result (λ made. AreBlocksFor self.now blocks.entry.now made.blocks.items) }
+        ensures count { IfOk result (λ made. made.count ≡ counted_before blocks.entry.now (length blocks.entry.now)) }
     {
         let positions = Positions::of(alloc, blocks)?;
-        let mut all = Vec::with_capacity(alloc, blocks.len())?;
-        let mut before: u64 = 0;
-        for block in blocks {
-            let next = behind_block(before, block.phis.len(), block.lines.len())?;
-            let made = self.block(alloc, &positions, before, block)?;
-            all.push(made)?;
-            before = next;
-        }
-        Ok(all)
+        self.blocks_at(alloc, &positions, blocks)
     }
 
-    /// A function.
+    /// A function. There is to be room for a register of each parameter, and of each phi, instruction and terminator.
     pub(crate) fn function<'i>(
         &self,
         alloc: Global,
@@ -157,11 +158,11 @@ impl<'a> Addresses<'a> {
     {
         let params = param_registers(alloc, function.params.as_slice())?;
         let tree = function.blocks.as_slice();
-        let blocks = self.blocks(alloc, tree)?;
-        let registers = room(function.params.len(), tree)?;
+        let MadeBlocks { blocks, count } = self.blocks(alloc, tree)?;
+        let registers = counted(count, function.params.len())?;
         Ok(Function {
             params,
-            registers,
+            registers: registers as usize,
             blocks,
         })
     }
