@@ -13,12 +13,13 @@ use Rattle.lto_words.specs.declared.request.Command.TheVariants.{Link, Batch, In
 use Rattle.lto_words.specs.declared.request.LinkOptions.{LinkOptions}
 use Rattle.thinlto_main.specs.Answers.{Says, causes, causes_of, obeyed, reporting}
 use Rattle.thinlto_main.specs.Asking.{Asked, is_offered, is_offered_link}
-use Rattle.thinlto_main.specs.Causes.{Causes, Comes, always}
+use Rattle.run_program.specs.Causes.{Causes, Comes, always}
 use Rattle.thinlto_main.specs.Linking.{linking}
 use Rattle.thinlto_main.specs.Running.{running}
-use Rattle.thinlto_main.specs.Seen.{InputSeen, Notes, Seen, Untouched, streams_of}
+use Rattle.thinlto_main.specs.Seen.{InputSeen, Seen, Untouched, streams_of}
+use Rattle.run_program.specs.Streams.{Notes}
 use Rattle.thinlto_main.specs.Telling.{told, told_of}
-use Rattle.thinlto_main.proofs.Causes.{Implies}
+use Rattle.run_program.proofs.Causes.{Implies}
 use Rattle.thinlto_main.proofs.Completing.{telling}
 use Rattle.thinlto_main.proofs.Reading.{fetched_no_put, no_put_fetches}
 

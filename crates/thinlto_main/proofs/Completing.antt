@@ -19,15 +19,17 @@ use Rattle.lto_words.specs.declared.request.Command.{Command}
 use Rattle.lto_words.specs.declared.request.Command.TheVariants.{Link, Batch, Index, Run, Gen}
 use Rattle.thin_link.specs.Laws.{RefusalIsOne, ReportedIsNotRefused}
 use Rattle.thin_link.specs.Refusing.{IsRefused}
-use Rattle.thinlto_main.specs.Causes.{Causes, never}
+use Rattle.run_program.specs.Causes.{Causes, never}
 use Rattle.merge_meaning.specs.Merged.{merged}
-use Rattle.thinlto_main.specs.Running.{OfModules, file_of}
-use Rattle.thinlto_main.specs.Runs.{CannotSend, CannotTake, DidReturn, EndedOtherwise, EndsSo, IsUnfit, RunEnds}
+use Rattle.thinlto_main.specs.Running.{OfModules}
+use Rattle.run_program.specs.Merged.{file_of}
+use Rattle.run_program.specs.Runs.{CannotSend, CannotTake, DidReturn, EndedOtherwise, EndsSo, IsUnfit, RunEnds}
 use Rattle.run_parts.specs.Said.{ending_refusal}
-use Rattle.thinlto_main.specs.Seen.{InputSeen, Seen, Streams, streams_of}
+use Rattle.thinlto_main.specs.Seen.{InputSeen, Seen, streams_of}
+use Rattle.run_program.specs.Streams.{Streams}
 use Rattle.run_parts.specs.Starting.{beginning}
 use Rattle.thinlto_main.specs.Telling.{CanBeDone, CanDo, CanLink, EndsOver, Held, HoldFirstBad, HoldModules, HoldReport, HoldUnlinkable, HoldUnlinked, HoldsModule, IsTold, LinkHeld, MustNotBegin, MustNotLink, MustNotReturn, MustRefuse, RunComesTo, RunIsTold, told}
-use Rattle.thinlto_main.proofs.Causes.{Implies}
+use Rattle.run_program.proofs.Causes.{Implies}
 use Rattle.thinlto_main.proofs.Held.{hold_modules, none_bad, one_first_bad, one_inputs, one_list}
 use Rattle.lto_words.specs.declared.request.LinkOptions.{LinkOptions}
 

@@ -12,11 +12,11 @@ use Rattle.lto_words.specs.declared.request.Command.{Command}
 use Rattle.thin_link.specs.Laws.{RefusalIsOne, ReportIsOne, ReportedIsNotRefused}
 use Rattle.thinlto_main.specs.Answers.{IsRefusal, IsUnfitted, IsUnlinked, IsUnreturned, Succeeds, causes, causes_of}
 use Rattle.thinlto_main.specs.Asking.{AskNothing, Asked}
-use Rattle.thinlto_main.specs.Causes.{Causes, Comes, OnNoMemory, OnReadFault, OnRefused, OnUnfit, OnUnlinked, OnUnreturned, OnUnused, OnUnwritten, OnUsage, OnWriteFault}
+use Rattle.run_program.specs.Causes.{Causes, Comes, OnNoMemory, OnReadFault, OnRefused, OnUnfit, OnUnlinked, OnUnreturned, OnUnused, OnUnwritten, OnUsage, OnWriteFault}
 use Rattle.thinlto_main.specs.Seen.{InputSeen, Seen, Untouched}
 use Rattle.thinlto_main.specs.Telling.{CanDo, MustNotBegin, MustNotLink, MustNotReturn, MustRefuse, told, told_of}
 use Rattle.thinlto_main.proofs.Asking.{asked_refused, asked_unfit, asked_unlinked, calm_before, of_command, told_so}
-use Rattle.thinlto_main.proofs.Causes.{Implies, both_imply, comes_map, on_done, on_no_memory, on_read_fault, on_refused, on_unfit, on_unlinked, on_unreturned, on_unused, on_unwritten_map, on_usage, on_write_fault}
+use Rattle.run_program.proofs.Causes.{Implies, both_imply, comes_map, on_done, on_no_memory, on_read_fault, on_refused, on_unfit, on_unlinked, on_unreturned, on_unused, on_unwritten_map, on_usage, on_write_fault}
 use Rattle.thinlto_main.proofs.Completing.{begins_none, clashes, completes, refuses, returns_none, telling}
 use Rattle.thinlto_main.proofs.Held.{follows_same}
 use Rattle.thinlto_main.proofs.Telling.{tell}

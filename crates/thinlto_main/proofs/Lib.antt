@@ -1,13 +1,9 @@
-mod Mapping
-mod Causes
 mod Reading
 mod Unlinked
 mod Renumbered
 mod Rereading
 mod Linking
 mod Reporting
-mod Rooting
-mod Interpreting
 mod Merging
 mod Held
 mod Telling

@@ -13,10 +13,10 @@ use Rattle.lto_outside.specs.Seen.{FilesSeen}
 use Rattle.lto_words.specs.declared.request.LinkOptions.{LinkOptions}
 use Rattle.combined_index.specs.Combined.{Combined}
 use Rattle.thin_link.specs.Linking.{IsThinLink}
-use Rattle.thinlto_main.specs.Causes.{never}
+use Rattle.run_program.specs.Causes.{never}
 use Rattle.thinlto_main.specs.Linking.{DidLink, HasThinLink, linking, suffixes_of}
 use Rattle.thinlto_main.specs.Modules.{AreFetched, IsRead, bytes_of, reading}
-use Rattle.thinlto_main.proofs.Causes.{Implies}
+use Rattle.run_program.proofs.Causes.{Implies}
 use Rattle.thinlto_main.proofs.Reading.{fetched_no_put}
 use Rattle.thinlto_main.proofs.Rereading.{ReadingLaws, linked_reads}
 

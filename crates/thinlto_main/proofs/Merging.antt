@@ -8,14 +8,15 @@ use Rattle.lto_notes.specs.declared.returned.Returned as line
 use Rattle.lto_outside.specs.Seen.{FilesSeen}
 use Rattle.lto_words.specs.declared.list.Decimal.{Decimal}
 use Rattle.thin_link.specs.Refusing.{IsRefused}
-use Rattle.thinlto_main.specs.Causes.{never}
+use Rattle.run_program.specs.Causes.{never}
 use Rattle.merge_meaning.specs.Merged.{merged}
 use Rattle.thinlto_main.specs.Linking.{HasThinLink}
 use Rattle.thinlto_main.specs.Modules.{AreRead, reading}
-use Rattle.thinlto_main.specs.Running.{OfModules, SaysReturned, merged_causes, running}
-use Rattle.thinlto_main.specs.Runs.{ReturnsSo, Said}
-use Rattle.thinlto_main.specs.Seen.{Notes, Streams}
-use Rattle.thinlto_main.proofs.Causes.{Implies}
+use Rattle.thinlto_main.specs.Running.{OfModules, SaysReturned, running}
+use Rattle.run_program.specs.Merged.{merged_causes}
+use Rattle.run_program.specs.Runs.{ReturnsSo, Said}
+use Rattle.run_program.specs.Streams.{Notes, Streams}
+use Rattle.run_program.proofs.Causes.{Implies}
 use Rattle.thinlto_main.proofs.Reading.{fetched_no_put}
 use Rattle.thinlto_main.proofs.Unlinked.{thin_is_not_refused}
 

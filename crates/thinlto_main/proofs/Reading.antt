@@ -13,9 +13,9 @@ use Rattle.lto_fetch.specs.declared.fetching.FetchError.TheVariants as error
 use Rattle.lto_outside.specs.Cause.{Rose}
 use Rattle.lto_outside.specs.Calls.{Call, DidNoPut, NoPut}
 use Rattle.lto_outside.specs.Seen.{FilesSeen}
-use Rattle.thinlto_main.specs.Causes.{Because, never}
+use Rattle.run_program.specs.Causes.{Because, never}
 use Rattle.thinlto_main.specs.Modules.{AreFetched, AreRead, FirstBad, IsBad, IsRead, reading, unfetched}
-use Rattle.thinlto_main.proofs.Causes.{because_map}
+use Rattle.run_program.proofs.Causes.{because_map}
 
 -- fetches put nothing
 pub no_put_fetches : (names : List (List ℕ)) (given : List (Option (List ℕ))) → NoPut (fetch_calls names given)

@@ -7,11 +7,11 @@ use Rattle.thin_link.specs.Laws.{ReportIsOne}
 use Rattle.thin_link.specs.Linking.{IsIndexReport}
 use Rattle.thin_link.specs.Refusing.{IsRefused}
 use Rattle.thinlto_main.specs.Answers.{reporting}
-use Rattle.thinlto_main.specs.Causes.{never}
+use Rattle.run_program.specs.Causes.{never}
 use Rattle.thinlto_main.specs.Modules.{AreRead, reading}
 use Rattle.thinlto_main.specs.Reporting.{DidReport}
 use Rattle.thinlto_main.specs.Seen.{Seen}
-use Rattle.thinlto_main.proofs.Causes.{Implies}
+use Rattle.run_program.proofs.Causes.{Implies}
 use Rattle.thinlto_main.proofs.Reading.{fetched_no_put, one_reading}
 
 -- why modules aren't read is why there is no report

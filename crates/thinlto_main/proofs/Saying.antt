@@ -4,7 +4,7 @@ use Rattle.lto_fault.specs.Texts.{refusal_text}
 use Rattle.lto_fault.specs.declared.refusal.Refusal.{Refusal}
 use Rattle.lto_notes.specs.Pushing.{Hears, note_of}
 use Rattle.lto_outside.specs.Seen.{stream_seen}
-use Rattle.thinlto_main.specs.Seen.{Notes, notes_seen}
+use Rattle.run_program.specs.Streams.{Notes, notes_seen}
 
 module _ {N : Type 0} (sent : N → Option (List ℕ)) (faults : N → ℕ) (old mid new : N) where
   -- of a command that was refused, its note alone

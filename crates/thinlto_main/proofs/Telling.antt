@@ -17,17 +17,19 @@ use Rattle.lto_words.specs.declared.request.Command.TheVariants.{Link, Batch, In
 use Rattle.thin_link.specs.Laws.{ReportIsOne}
 use Rattle.thin_link.specs.Linking.{IsIndexReport}
 use Rattle.thinlto_main.specs.Answers.{causes}
-use Rattle.thinlto_main.specs.Causes.{Causes}
+use Rattle.run_program.specs.Causes.{Causes}
 use Rattle.thinlto_main.specs.Linking.{CannotBeLinked, DidLink}
 use Rattle.thinlto_main.specs.Modules.{AreFetched, AreRead, CannotLink, CannotRead, bytes_of}
 use Rattle.thinlto_main.specs.Reporting.{DidReport}
-use Rattle.thinlto_main.specs.Running.{OfModules, merged_causes, running, running_by}
-use Rattle.thinlto_main.specs.Seen.{InputSeen, Seen, Streams, streams_of}
+use Rattle.thinlto_main.specs.Running.{OfModules, running, running_by}
+use Rattle.run_program.specs.Merged.{merged_causes}
+use Rattle.thinlto_main.specs.Seen.{InputSeen, Seen, streams_of}
+use Rattle.run_program.specs.Streams.{Streams}
 use Rattle.thinlto_main.specs.Telling.{Held, HoldFirstBad, HoldLink, HoldReport, HoldUnlinkable, HoldUnlinked, LinkHeld, told, told_files}
-use Rattle.thinlto_main.proofs.Causes.{Implies}
+use Rattle.run_program.proofs.Causes.{Implies}
 use Rattle.thinlto_main.proofs.Held.{Gives, fetches_give, fetches_then, follows_same, held_first_bad, held_inputs, held_modules, one_list}
 use Rattle.thinlto_main.proofs.Linking.{accepted_bytes}
-use Rattle.thinlto_main.proofs.Mapping.{if_some_map}
+use Rattle.run_program.proofs.Mapping.{if_some_map}
 use Rattle.thinlto_main.proofs.Reading.{no_put_fetches}
 use Rattle.lto_words.specs.declared.request.LinkOptions.{LinkOptions}
 

@@ -11,7 +11,7 @@ use Rattle.symbol_resolve.specs.declared.clash.Clash.TheVariants as clash
 use Rattle.link_one.specs.Refusing.{IsUnlinked}
 use Rattle.thin_link.specs.Refusing.{IsRefused, clash_refusal, lack_refusal}
 use Rattle.thin_link.proofs.Apart.{decided_not_refused}
-use Rattle.thinlto_main.specs.Causes.{Because, Causes}
+use Rattle.run_program.specs.Causes.{Because, Causes}
 use Rattle.thinlto_main.specs.Linking.{HasThinLink}
 
 -- it is one of those that tell why modules have no thin link

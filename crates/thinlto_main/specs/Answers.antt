@@ -5,12 +5,13 @@ use Rattle.lto_fault.specs.declared.refusal.Refusal.{Refusal}
 use Rattle.lto_words.specs.declared.request.Command.{Command}
 use Rattle.lto_words.specs.declared.request.Command.TheVariants.{Link, Batch, Index, Run, Gen}
 use Rattle.thinlto_main.specs.Asking.{AskNothing, Asked, is_offered}
-use Rattle.thinlto_main.specs.Causes.{Causes, Comes, never}
+use Rattle.run_program.specs.Causes.{Causes, Comes, never}
 use Rattle.thinlto_main.specs.Linking.{linking}
 use Rattle.thinlto_main.specs.Modules.{AreRead, deciding}
 use Rattle.thinlto_main.specs.Reporting.{DidReport, ReportCannotWrite}
 use Rattle.thinlto_main.specs.Running.{SaysReturned, running}
-use Rattle.thinlto_main.specs.Seen.{InputSeen, Notes, Seen, Untouched, streams_of}
+use Rattle.thinlto_main.specs.Seen.{InputSeen, Seen, Untouched, streams_of}
+use Rattle.run_program.specs.Streams.{Notes}
 
 -- beside the fact of each answer this one
 abbrev pub with_fact : Type 0 → Causes → Causes

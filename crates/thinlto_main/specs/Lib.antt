@@ -1,14 +1,10 @@
 pub mod Exit
 pub mod Honest
-pub mod Causes
 pub mod Seen
 pub mod Modules
 pub mod Linking
 pub mod Reporting
-pub mod Roots
-pub mod Runs
 pub mod Running
-pub mod Endings
 pub mod Asking
 pub mod Answers
 pub mod Telling

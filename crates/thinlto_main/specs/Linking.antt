@@ -16,7 +16,7 @@ use Rattle.link_one.specs.Linking.{IsLinkOf, IsOnlyLinkOf}
 use Rattle.link_one.specs.Refusing.{IsUnlinked}
 use Rattle.promote_rename.specs.Suffixes.{suffix_of}
 use Rattle.thin_link.specs.Linking.{IsThinLink}
-use Rattle.thinlto_main.specs.Causes.{Causes}
+use Rattle.run_program.specs.Causes.{Causes}
 use Rattle.thinlto_main.specs.Modules.{AreRead, IsRead, bytes_of, reading}
 
 -- modules have a thin link

@@ -14,7 +14,7 @@ use Rattle.lto_outside.specs.Seen.{FilesSeen}
 use Rattle.lto_fetch.specs.Fetching.{FetchFailed, fetch_calls}
 use Rattle.link_one.specs.Accepted.{Accepts, Refuses}
 use Rattle.thin_link.specs.Refusing.{IsRefused}
-use Rattle.thinlto_main.specs.Causes.{Causes, never}
+use Rattle.run_program.specs.Causes.{Causes, never}
 
 -- ---- one file, of which its bytes were given, or that they are too many
 

@@ -5,7 +5,8 @@ use Rattle.ir_tree.specs.declared.module.Module.{Module}
 use Rattle.lto_notes.specs.Pushing.{Pushes}
 use Rattle.thin_link.specs.Linking.{IsIndexReport}
 use Rattle.thinlto_main.specs.Modules.{AreFetched, IsRead}
-use Rattle.thinlto_main.specs.Seen.{OUTPUT, Seen}
+use Rattle.run_program.specs.Streams.{OUTPUT}
+use Rattle.thinlto_main.specs.Seen.{Seen}
 
 -- the report of the thin link of what these bytes are read as
 pub record IsReportOf (exports names : List (List ℕ)) (limit : ℕ) (given : List (Option (List ℕ))) (text : List ℕ) : Type 0 where

@@ -1,30 +1,16 @@
 -- A run of modules.
 use Rattle.std.specs.Prelude.{◌⊎◌, ℕ, List, [], ◌∷◌}
 use Rattle.ir_tree.specs.declared.module.Module.{Module}
-use Rattle.ir_tree.specs.declared.operand.Symbol.{Symbol}
 use Rattle.lto_fault.specs.declared.refusal.Refusal.{Refusal}
 use Rattle.lto_outside.specs.Seen.{FilesSeen}
 use Rattle.lto_words.specs.declared.list.Decimal.{Decimal}
 use Rattle.merge_meaning.specs.Merged.{merged}
-use Rattle.run_parts.specs.Files.{file_in}
-use Rattle.symbol_resolve.specs.Resolved.{symbols}
 use Rattle.thin_link.specs.Refusing.{IsRefused}
-use Rattle.thinlto_main.specs.Causes.{Causes}
+use Rattle.run_program.specs.Causes.{Causes}
 use Rattle.thinlto_main.specs.Modules.{AreRead, deciding}
-use Rattle.thinlto_main.specs.Runs.{Said, run_causes}
-use Rattle.thinlto_main.specs.Seen.{Notes, Streams}
-
--- ---- a run of what modules mean together
-
--- the file of the module that defines a symbol
-abbrev pub file_of : List (List ℕ) → List Module → Symbol → List ℕ
-file_of names ms = file_in names (symbols ms)
-
--- what a run of the merged modules answers
-abbrev pub merged_causes : List ℕ → List Decimal → ℕ → List (List ℕ) → Streams → List Module → Causes
-merged_causes root args steps names t ms = run_causes (merged ms) root args (file_of names ms) steps t
-
--- ---- a run of the modules of files
+use Rattle.run_program.specs.Merged.{merged_causes}
+use Rattle.run_program.specs.Runs.{Said}
+use Rattle.run_program.specs.Streams.{Notes, Streams}
 
 -- the files are read as modules, which are linked with the root as their export; and this holds of them
 pub record OfModules (read : List Module → Type 0) (root : List ℕ) (names : List (List ℕ)) (P : List Module → Type 0) : Type 0 where

@@ -1,8 +1,9 @@
 -- What is seen of the outside over a command.
-use Rattle.std.specs.Prelude.{◌≡◌, ℕ, List, [], Option, codes}
+use Rattle.std.specs.Prelude.{◌≡◌, ℕ, List, [], Option}
 use Rattle.lto_outside.specs.Calls.{Call}
 use Rattle.lto_outside.specs.Seen.{FilesSeen, StreamSeen, files_seen, stream_seen}
 use Rattle.lto_outside.specs.Store.{Store}
+use Rattle.run_program.specs.Streams.{Streams}
 
 -- the files, the output, and that the output is as it was
 pub record Seen : Type 1 where
@@ -17,15 +18,11 @@ seen did held faults sent failures files files_now out out_now = record {
   unprinted = out_now ≡ out;
 }
 
--- the output as it is named in a refusal
-abbrev pub OUTPUT : List ℕ
-OUTPUT = codes "output"
-
 -- no call was made
 abbrev pub Untouched : Seen → Type 0
 Untouched s = s.files.did [] × s.unprinted
 
--- ---- the streams of a run
+-- ---- the streams of a run, as a command sees them
 
 -- the input, and that nothing was taken from it
 pub record InputSeen : Type 1 where
@@ -38,29 +35,5 @@ input_seen left failures input input_now = record {
   untaken = input_now ≡ input;
 }
 
--- the input and the output, and that both are as they were
-pub record Streams : Type 1 where
-  pub input : StreamSeen
-  pub out : StreamSeen
-  pub unused : Type 0
-
-abbrev pub streams_seen : {I O : Type 0} → (I → Option (List ℕ)) → (I → ℕ) → (O → Option (List ℕ)) → (O → ℕ) → I → I → O → O → Streams
-streams_seen left lacks sent failures input input_now out out_now = record {
-  input = stream_seen left lacks input input_now;
-  out = stream_seen sent failures out out_now;
-  unused = (input_now ≡ input) × (out_now ≡ out);
-}
-
 abbrev pub streams_of : Seen → InputSeen → Streams
 streams_of s i = record { input = i.stream; out = s.out; unused = i.untaken × s.unprinted }
-
--- the notes, and that they are as they were
-pub record Notes : Type 1 where
-  pub stream : StreamSeen
-  pub silent : Type 0
-
-abbrev pub notes_seen : {N : Type 0} → (N → Option (List ℕ)) → (N → ℕ) → N → N → Notes
-notes_seen sent failures notes notes_now = record {
-  stream = stream_seen sent failures notes notes_now;
-  silent = notes_now ≡ notes;
-}

@@ -22,9 +22,10 @@ use Rattle.promote_rename.specs.Suffixes.{suffix_of}
 use Rattle.thin_link.specs.Linking.{IsIndexReport}
 use Rattle.thin_link.specs.Refusing.{IsRefused}
 use Rattle.thinlto_main.specs.Asking.{Asked}
-use Rattle.thinlto_main.specs.Causes.{Causes, free, never}
+use Rattle.run_program.specs.Causes.{Causes, free, never}
 use Rattle.merge_meaning.specs.Merged.{merged}
-use Rattle.thinlto_main.specs.Running.{OfModules, file_of, merged_causes, running_by}
+use Rattle.thinlto_main.specs.Running.{OfModules, running_by}
+use Rattle.run_program.specs.Merged.{file_of, merged_causes}
 use Rattle.run_parts.specs.Said.{ending_refusal}
 use Rattle.thinlto_main.specs.Seen.{InputSeen, Seen, streams_of}
 use Rattle.run_parts.specs.Starting.{beginning}

@@ -2,17 +2,18 @@
 ghost use Rattle.std.specs.Prelude.{◌≡◌, ◌≤◌, OnErr, OnOk, map, string_bytes};
 ghost use Rattle.thinlto_main.specs.Answers.{Says, causes_of, obeyed};
 ghost use Rattle.thinlto_main.specs.Asking.{Asked, is_offered_link};
-ghost use Rattle.thinlto_main.specs.Causes.{Comes};
-ghost use Rattle.thinlto_main.specs.Seen.{input_seen, notes_seen, seen};
+ghost use Rattle.run_program.specs.Causes.{Comes};
+ghost use Rattle.thinlto_main.specs.Seen.{input_seen, seen};
+ghost use Rattle.run_program.specs.Streams.{notes_seen};
 
 use crate::index::index;
 use crate::link::link;
-use crate::root::RunOptions;
 use crate::run::run;
 use crate::status::Status;
 use lto_fault::Refusal;
 use lto_outside::{ByteIn, ByteOut, Files};
 use lto_words::{Command, LinkOptions, WordsError, command, one_command};
+use run_program::RunOptions;
 use std::alloc::Global;
 use std::thread::Threads;
 

@@ -9,9 +9,10 @@ ghost use Rattle.lto_outside.specs.Seen.{stream_seen};
 ghost use Rattle.lto_outside.specs.Store.{Stays};
 ghost use Rattle.thinlto_main.specs.Answers.{IsRefusal, IsUnfitted, IsUnlinked, IsUnreturned, Says, Succeeds, causes};
 ghost use Rattle.thinlto_main.specs.Asking.{AskNothing, Asked};
-ghost use Rattle.thinlto_main.specs.Causes.{OnNoMemory, OnReadFault, OnRefused, OnUnfit, OnUnlinked, OnUnreturned, OnUnused, OnUnwritten, OnUsage, OnWriteFault};
+ghost use Rattle.run_program.specs.Causes.{OnNoMemory, OnReadFault, OnRefused, OnUnfit, OnUnlinked, OnUnreturned, OnUnused, OnUnwritten, OnUsage, OnWriteFault};
 ghost use Rattle.thinlto_main.specs.Honest.{HonestEntry};
-ghost use Rattle.thinlto_main.specs.Seen.{Untouched, input_seen, notes_seen, seen};
+ghost use Rattle.thinlto_main.specs.Seen.{Untouched, input_seen, seen};
+ghost use Rattle.run_program.specs.Streams.{notes_seen};
 ghost use Rattle.thinlto_main.specs.Telling.{CanDo, MustNotBegin, MustNotLink, MustNotReturn, MustRefuse, told};
 
 use crate::command::do_command;

@@ -3,8 +3,7 @@ ghost use Rattle.std.specs.Prelude.{◌≡◌, ◌≤◌, IfOk, IfErr, length};
 ghost use Rattle.thin_link.specs.Linking.{IsIndexReport};
 ghost use Rattle.thin_link.specs.Refusing.{IsRefused};
 ghost use Rattle.thinlto_main.specs.Answers.{reporting};
-ghost use Rattle.thinlto_main.specs.Causes.{Because, Comes, never};
-ghost use Rattle.thinlto_main.specs.Seen.{OUTPUT};
+ghost use Rattle.run_program.specs.Causes.{Because, Comes, never};
 ghost use Rattle.thinlto_main.specs.Seen.{seen};
 
 use crate::modules::{modules, texts};
@@ -14,7 +13,8 @@ use lto_fault::Refusal;
 use lto_notes::push_all;
 use lto_outside::{ByteOut, Files};
 use lto_words::FileName;
-use std::alloc::{AllocError, Global};
+use run_program::output;
+use std::alloc::Global;
 use thin_link::one_answer;
 
 /// The report of these modules, or why they have no thin link.
@@ -33,13 +33,6 @@ fn report(
         return Err(Refusal::NoMemory);
     };
     thin_link::index(alloc, files.as_slice(), modules, exports, import_limit)
-}
-
-/// The output as it is named in a refusal.
-pub(crate) fn output(alloc: Global) -> Result<Text, AllocError>
-    ensures { IfOk result (λ name. name ≡ OUTPUT) }
-{
-    Text::copied(alloc, b"output")
 }
 
 /// Does an index.

@@ -5,7 +5,7 @@ ghost use Rattle.link_one.specs.Linking.{IsLinkOf, IsOnlyLinkOf};
 ghost use Rattle.link_one.specs.Refusing.{IsUnlinked};
 ghost use Rattle.lto_outside.specs.Seen.{files_seen};
 ghost use Rattle.thin_link.specs.Refusing.{IsRefused};
-ghost use Rattle.thinlto_main.specs.Causes.{Because, Comes, never};
+ghost use Rattle.run_program.specs.Causes.{Because, Comes, never};
 ghost use Rattle.thinlto_main.specs.Linking.{HasThinLink, linking, suffixes_of};
 ghost use Rattle.thinlto_main.specs.Modules.{IsRead, bytes_of};
 

@@ -20,16 +20,12 @@
 
 mod cache;
 mod command;
-mod ending;
 mod entry;
 mod index;
 mod link;
 mod modules;
-mod program;
-mod root;
 mod run;
 mod status;
-mod streams;
 #[cfg(test)]
 mod tests;
 

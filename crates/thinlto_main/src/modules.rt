@@ -4,7 +4,7 @@ ghost use Rattle.std.specs.List.{AllZip};
 ghost use Rattle.lto_fault.specs.declared.refusal.Refusal.{Refusal};
 ghost use Rattle.lto_fetch.specs.Fetching.{IsShort};
 ghost use Rattle.lto_outside.specs.Seen.{files_seen};
-ghost use Rattle.thinlto_main.specs.Causes.{Because, never};
+ghost use Rattle.run_program.specs.Causes.{Because, never};
 ghost use Rattle.thinlto_main.specs.Linking.{suffixes_of};
 ghost use Rattle.thinlto_main.specs.Modules.{AreFetched, AreRead, FirstBad, IsBad, IsRead, bytes_of, reading, unfetched};
 

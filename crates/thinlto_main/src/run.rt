@@ -3,26 +3,21 @@
 ghost use Rattle.std.specs.Prelude.{◌≡◌, ◌≤◌, [], ◌∷◌, IfErr, IfOk, OnErr, OnOk, length};
 ghost use Rattle.lto_fault.specs.declared.refusal.Refusal.{Refusal};
 ghost use Rattle.lto_outside.specs.Seen.{files_seen};
-ghost use Rattle.merge_meaning.specs.Merged.{merged};
 ghost use Rattle.thin_link.specs.Refusing.{IsRefused};
-ghost use Rattle.thinlto_main.specs.Causes.{Because, Comes, never};
+ghost use Rattle.run_program.specs.Causes.{Because, Comes, never};
 ghost use Rattle.thinlto_main.specs.Modules.{AreRead};
-ghost use Rattle.thinlto_main.specs.Running.{SaysReturned, merged_causes, running};
-ghost use Rattle.thinlto_main.specs.Runs.{ReturnsSo};
-ghost use Rattle.thinlto_main.specs.Seen.{notes_seen, streams_seen};
+ghost use Rattle.thinlto_main.specs.Running.{SaysReturned, running};
+ghost use Rattle.run_program.specs.Streams.{notes_seen, streams_seen};
 
 use crate::link::decided;
 use crate::modules::modules;
-use crate::program::run_globals;
-use crate::root::RunOptions;
 use ir_tree::{Rows, Text, Verified};
 use lto_fault::Refusal;
-use lto_notes::{Returned, say_returned};
+use lto_notes::say_returned;
 use lto_outside::{ByteIn, ByteOut, Files};
 use lto_words::FileName;
-use merge_meaning::program;
+use run_program::{RunOptions, run_merged};
 use std::alloc::{AllocError, Global};
-use symbol_resolve::resolve;
 
 /// The import limit where none is given; no run is changed by it.
 const IMPORT_LIMIT: u32 = 100;
@@ -53,36 +48,6 @@ fn linkable(
     };
     let roots = exports.as_slice();
     decided(alloc, names, modules, roots, IMPORT_LIMIT)
-}
-
-/// Runs the modules of these files together.
-fn run_merged<I: ByteIn, O: ByteOut>(
-    alloc: Global,
-    names: &[FileName],
-    modules: &[Verified],
-    options: &RunOptions,
-    input: &mut I,
-    out: &mut O,
-) -> Result<Returned, Refusal>
-    ensures answer { Comes (merged_causes options.now.root options.now.args options.now.steps names.now (streams_seen I.left I.faults O.sent O.faults input.old input.new out.old out.new) modules.now) result }
-    ensures returned { IfOk result (ReturnsSo (merged modules.now) options.now.root options.now.args options.now.steps (streams_seen I.left I.faults O.sent O.faults input.old input.new out.old out.new)) }
-{
-    // Modules that clash were refused before.
-    let Ok(resolution) = resolve(alloc, modules) else {
-        return Err(Refusal::NoMemory);
-    };
-    let Ok(globals) = program(alloc, modules, &resolution) else {
-        return Err(Refusal::NoMemory);
-    };
-    run_globals(
-        alloc,
-        globals.as_slice(),
-        names,
-        &resolution,
-        options,
-        input,
-        out,
-    )
 }
 
 /// Does a run. Where it returned, the notes get the line of what it returned, or a front of it.

@@ -1,8 +1,9 @@
 use Rattle.std.proofs.Common.{inl, map, refl}
 use Rattle.std.specs.Prelude.{string_bytes}
-use Rattle.thinlto_main.specs.Seen.{input_seen, notes_seen, seen}
+use Rattle.thinlto_main.specs.Seen.{input_seen, seen}
+use Rattle.run_program.specs.Streams.{notes_seen}
 use Rattle.thinlto_main.proofs.Asking.{asked_for, said_for}
-use Rattle.thinlto_main.proofs.Causes.{comes_map}
+use Rattle.run_program.proofs.Causes.{comes_map}
 use Rattle.thinlto_main.proofs.command.do_command.Goals as goal
 
 pub returns-in-Ok-clause-answer : goal.returns-in-Ok-clause-answer

@@ -4,13 +4,14 @@ use Rattle.lto_outside.specs.Seen.{files_seen}
 use Rattle.lto_words.specs.declared.request.Command.{Command}
 use Rattle.thinlto_main.specs.Answers.{Says, obeyed, reporting}
 use Rattle.thinlto_main.specs.Asking.{is_offered, is_offered_link}
-use Rattle.thinlto_main.specs.Causes.{Comes}
+use Rattle.run_program.specs.Causes.{Comes}
 use Rattle.thinlto_main.specs.Linking.{linking}
 use Rattle.thinlto_main.specs.Modules.{AreRead}
 use Rattle.thinlto_main.specs.Running.{SaysReturned, running}
-use Rattle.thinlto_main.specs.Seen.{input_seen, notes_seen, seen, streams_seen}
+use Rattle.thinlto_main.specs.Seen.{input_seen, seen}
+use Rattle.run_program.specs.Streams.{notes_seen, streams_seen}
 use Rattle.thinlto_main.proofs.Asking.{index_obeyed, link_obeyed, on_each, run_obeyed}
-use Rattle.thinlto_main.proofs.Causes.{comes_map}
+use Rattle.run_program.proofs.Causes.{comes_map}
 use Rattle.thinlto_main.proofs.command.obey.Goals as goal
 
 pub returns-then-not-is_offered_link-clause-answer : goal.returns-then-not-is_offered_link-clause-answer

@@ -5,7 +5,7 @@ use Rattle.lto_outside.specs.Calls.{Call}
 use Rattle.lto_outside.specs.Seen.{stream_seen}
 use Rattle.thinlto_main.specs.Modules.{AreRead}
 use Rattle.thinlto_main.specs.Seen.{seen}
-use Rattle.thinlto_main.proofs.Causes.{because_map}
+use Rattle.run_program.proofs.Causes.{because_map}
 use Rattle.thinlto_main.proofs.Reading.{as_many, fetched_no_put}
 use Rattle.thinlto_main.proofs.Reporting.{did_report, reading_reports, unlinked_reports}
 use Rattle.thinlto_main.proofs.index.index.Goals as goal

@@ -3,7 +3,7 @@ use Rattle.std.specs.Prelude.{IfErr, IfOk}
 use Rattle.lto_fault.specs.declared.refusal.Refusal.TheVariants.{NoMemory}
 use Rattle.thin_link.specs.Linking.{IsIndexReport}
 use Rattle.thin_link.specs.Refusing.{IsRefused}
-use Rattle.thinlto_main.specs.Causes.{never}
+use Rattle.run_program.specs.Causes.{never}
 use Rattle.thinlto_main.proofs.Unlinked.{by_refusal, if_unlinked_because}
 use Rattle.thinlto_main.proofs.index.report.Goals as goal
 

@@ -1,7 +1,7 @@
 use Rattle.std.proofs.Common.{◌≢◌, ◌∙◌, ℕ, List, subst}
 use Rattle.lto_fault.specs.declared.refusal.Refusal.TheVariants.{NoMemory}
 use Rattle.thin_link.specs.Refusing.{IsRefused}
-use Rattle.thinlto_main.specs.Causes.{never}
+use Rattle.run_program.specs.Causes.{never}
 use Rattle.thinlto_main.proofs.Linking.{has_thin_link}
 use Rattle.thinlto_main.proofs.Unlinked.{by_refusal, unlinked_because}
 use Rattle.thinlto_main.proofs.link.decided.Goals as goal

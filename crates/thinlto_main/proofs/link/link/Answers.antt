@@ -1,7 +1,7 @@
 use Rattle.std.proofs.Common.{arith, sym, true, false}
 use Rattle.lto_outside.specs.Cause.{Rose}
 use Rattle.lto_outside.specs.Seen.{files_seen}
-use Rattle.thinlto_main.proofs.Causes.{because_map}
+use Rattle.run_program.proofs.Causes.{because_map}
 use Rattle.thinlto_main.proofs.Linking.{did_link, reading_links, unlinked_links}
 use Rattle.thinlto_main.proofs.link.link.Goals as goal
 

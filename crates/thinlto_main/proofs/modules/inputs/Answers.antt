@@ -3,7 +3,7 @@ use Rattle.std.specs.List.{AllZip}
 use Rattle.lto_outside.specs.Calls.{Call}
 use Rattle.lto_outside.specs.Seen.{files_seen}
 use Rattle.lto_fault.specs.declared.refusal.Refusal.{Refusal}
-use Rattle.thinlto_main.specs.Causes.{Because}
+use Rattle.run_program.specs.Causes.{Because}
 use Rattle.thinlto_main.specs.Modules.{AreFetched, IsRead, reading}
 use Rattle.thinlto_main.proofs.Reading.{read_because, unfetched_because}
 use Rattle.thinlto_main.proofs.modules.inputs.Goals as goal

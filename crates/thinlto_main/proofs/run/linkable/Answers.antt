@@ -1,7 +1,7 @@
 use Rattle.std.proofs.Common.{◌≡◌, ◌∙◌, ℕ, List, [], ◌∷◌, IfErr, OnOk, subst}
 use Rattle.lto_fault.specs.declared.refusal.Refusal.{Refusal}
 use Rattle.thin_link.specs.Refusing.{IsRefused}
-use Rattle.thinlto_main.specs.Causes.{Because, never}
+use Rattle.run_program.specs.Causes.{Because, never}
 use Rattle.thinlto_main.proofs.Merging.{thin_links}
 use Rattle.thinlto_main.proofs.run.linkable.Goals as goal
 

@@ -4,9 +4,9 @@ use Rattle.lto_outside.specs.Calls.{Call}
 use Rattle.lto_outside.specs.Seen.{files_seen}
 use Rattle.merge_meaning.specs.Merged.{merged}
 use Rattle.thinlto_main.specs.Modules.{AreRead}
-use Rattle.thinlto_main.specs.Runs.{DidReturn}
-use Rattle.thinlto_main.specs.Seen.{notes_seen, streams_seen}
-use Rattle.thinlto_main.proofs.Causes.{because_map}
+use Rattle.run_program.specs.Runs.{DidReturn}
+use Rattle.run_program.specs.Streams.{notes_seen, streams_seen}
+use Rattle.run_program.proofs.Causes.{because_map}
 use Rattle.thinlto_main.proofs.Reading.{as_many}
 use Rattle.thinlto_main.proofs.Merging.{merged_runs, merged_says, of_modules, reading_runs, unlinked_runs}
 use Rattle.thinlto_main.proofs.run.run.Goals as goal

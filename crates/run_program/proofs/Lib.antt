@@ -1,0 +1,4 @@
+pub mod Mapping
+pub mod Causes
+mod Rooting
+mod Interpreting
