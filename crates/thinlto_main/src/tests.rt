@@ -141,7 +141,7 @@ const SUM: &[u8] = b"define i32 @main() {\n  %x = add i32 2, 3\n  ret i32 %x\n}\
 const FIVE: &[u8] = b"define i32 @main() {\n  ret i32 5\n}\n";
 
 /// The name of a row, a text, and what it links to.
-const LINKED: [(&str, &[u8], &[u8]); 10] = [
+static LINKED: [(&str, &[u8], &[u8]); 10] = [
     ("a sum of constants", SUM, FIVE),
     (
         "comments, blanks, names in quotes and by number",
@@ -191,7 +191,7 @@ const LINKED: [(&str, &[u8], &[u8]); 10] = [
 ];
 
 /// A text, the call of the files that fails, the status, and the line that is told.
-const REFUSED: [(&[u8], u64, u8, &str); 13] = [
+static REFUSED: [(&[u8], u64, u8, &str); 13] = [
     (b"define", NONE, 3, "thinlto: a.ll:1: syntax\n"),
     (
         b"define i32 @main() {\n  ret i32 0\n",
@@ -253,7 +253,7 @@ const REFUSED: [(&[u8], u64, u8, &str); 13] = [
 #[test]
 fn a_link_puts_its_text(rt: HostRuntime) -> Result<(), AllocError> {
     let alloc = rt.alloc();
-    for (name, text, linked) in LINKED {
+    for &(name, text, linked) in &LINKED {
         let outside = (text, NOTHING, NONE, NONE);
         let end = (0_u8, linked, NOTHING, NOTHING);
         assert!(rt; ends_so(&rt, alloc, LINK, outside, EMPTY, end)?, "{name}");
@@ -264,7 +264,7 @@ fn a_link_puts_its_text(rt: HostRuntime) -> Result<(), AllocError> {
 #[test]
 fn a_link_tells_why_not(rt: HostRuntime) -> Result<(), AllocError> {
     let alloc = rt.alloc();
-    for (text, failing, status, line) in REFUSED {
+    for &(text, failing, status, line) in &REFUSED {
         let outside = (text, NOTHING, failing, NONE);
         let end = (status, BEFORE, NOTHING, line.as_bytes());
         assert!(rt; ends_so(&rt, alloc, LINK, outside, EMPTY, end)?, "{line:?}");
@@ -272,8 +272,11 @@ fn a_link_tells_why_not(rt: HostRuntime) -> Result<(), AllocError> {
     Ok(())
 }
 
+/// How many parts of a link may be compiled at a time.
+static JOBS: [&str; 3] = ["1", "2", "64"];
+
 /// What `a.ll` and `b.ll` hold under the name of the row, and the status, what `o` holds and what is told of their link.
-const LINKED_TOGETHER: [(&str, &[u8], &[u8], u8, &[u8], &[u8]); 11] = [
+static LINKED_TOGETHER: [(&str, &[u8], &[u8], u8, &[u8], &[u8]); 11] = [
     (
         "a body is imported and inlined, and the local that it calls is promoted",
         b"define i32 @main() {\n  %r = call i32 @f(i32 4)\n  ret i32 %r\n}\ndeclare i32 @f(i32)\n",
@@ -367,9 +370,9 @@ const LINKED_TOGETHER: [(&str, &[u8], &[u8], u8, &[u8], &[u8]); 11] = [
 #[test]
 fn modules_are_linked_together(rt: HostRuntime) -> Result<(), AllocError> {
     let alloc = rt.alloc();
-    for jobs in ["1", "2", "64"] {
+    for &jobs in &JOBS {
         let words = ["link", "-o", "o", "--jobs", jobs, "a.ll", "b.ll"];
-        for (name, first, second, status, held, noted) in LINKED_TOGETHER {
+        for &(name, first, second, status, held, noted) in &LINKED_TOGETHER {
             let outside = (first, second, NONE, NONE);
             let end = (status, held, NOTHING, noted);
             assert!(rt;
@@ -384,7 +387,7 @@ fn modules_are_linked_together(rt: HostRuntime) -> Result<(), AllocError> {
 const USAGE: &[u8] = b"thinlto: usage\n";
 
 /// The words of a run over a sum, its status, what `o` then holds, and what is told.
-const WORDS: [(&[&str], u8, &[u8], &[u8]); 12] = [
+static WORDS: [(&[&str], u8, &[u8], &[u8]); 12] = [
     (&["link", "-o", "o", "a.ll", "b.ll"], 0, FIVE, NOTHING),
     (&["link", "-o", "o"], 1, BEFORE, USAGE),
     (&["link", "-o", "-x", "a.ll"], 1, BEFORE, USAGE),
@@ -432,7 +435,7 @@ const WORDS: [(&[&str], u8, &[u8], &[u8]); 12] = [
 #[test]
 fn words_are_a_link_or_usage(rt: HostRuntime) -> Result<(), AllocError> {
     let alloc = rt.alloc();
-    for (words, status, held, noted) in WORDS {
+    for &(words, status, held, noted) in &WORDS {
         let outside = (SUM, NOTHING, NONE, NONE);
         let end = (status, held, NOTHING, noted);
         assert!(rt;
@@ -447,7 +450,7 @@ const CALLED: &[u8] =
     b"define i32 @main() {\n  %r = call i32 @h()\n  ret i32 %r\n}\ndefine internal i32 @h() {\n  ret i32 7\n}\n";
 
 /// What is made of a call of a body of one item, by the greatest count that is inlined.
-const INLINED: [(&str, &[u8]); 2] = [
+static INLINED: [(&str, &[u8]); 2] = [
     (
         "--inline-limit=0",
         b"define internal i32 @h.llvm.12302329681860578219() {\n  ret i32 7\n}\ndefine i32 @main() {\n  %1 = call i32 @h.llvm.12302329681860578219()\n  ret i32 %1\n}\n",
@@ -461,7 +464,7 @@ const INLINED: [(&str, &[u8]); 2] = [
 #[test]
 fn bodies_up_to_the_limit_are_inlined(rt: HostRuntime) -> Result<(), AllocError> {
     let alloc = rt.alloc();
-    for (limit, linked) in INLINED {
+    for &(limit, linked) in &INLINED {
         let outside = (CALLED, NOTHING, NONE, NONE);
         let end = (0_u8, linked, NOTHING, NOTHING);
         let words = ["link", limit, "-o", "o", "a.ll"];
@@ -490,7 +493,7 @@ type Indexed = (
     (u8, &'static [u8], &'static [u8]),
 );
 
-const INDICES: [Indexed; 15] = [
+static INDICES: [Indexed; 15] = [
     (
         "a function is imported",
         INDEX,
@@ -644,7 +647,7 @@ const INDICES: [Indexed; 15] = [
 #[test]
 fn an_index_is_printed_or_told_why_not(rt: HostRuntime) -> Result<(), AllocError> {
     let alloc = rt.alloc();
-    for (name, words, outside, end) in INDICES {
+    for &(name, words, outside, end) in &INDICES {
         let (status, printed, noted) = end;
         let end = (status, BEFORE, printed, noted);
         assert!(rt; ends_so(&rt, alloc, words, outside, EMPTY, end)?, "{name}");
@@ -657,7 +660,7 @@ const RUN: &[&str] = &["run", "a.ll"];
 const THOUSAND_STEPS: &[&str] = &["run", "--steps=1000", "a.ll"];
 
 /// The name of a row, a module, and how its run from `main` ends: the status, and the line that is told.
-const ENDINGS: [(&str, &[u8], u8, &[u8]); 47] = [
+static ENDINGS: [(&str, &[u8], u8, &[u8]); 47] = [
     ("a number", SUM, 0, b"returned 5\n"),
     (
         "no value",
@@ -940,7 +943,7 @@ const ENDINGS: [(&str, &[u8], u8, &[u8]); 47] = [
 #[test]
 fn a_run_tells_how_it_ends(rt: HostRuntime) -> Result<(), AllocError> {
     let alloc = rt.alloc();
-    for (name, text, status, line) in ENDINGS {
+    for &(name, text, status, line) in &ENDINGS {
         let outside = (text, NOTHING, NONE, NONE);
         let end = (status, BEFORE, NOTHING, line);
         assert!(rt;
@@ -974,7 +977,7 @@ type Ran = (
     (u8, &'static [u8], &'static [u8]),
 );
 
-const RUNS: [Ran; 11] = [
+static RUNS: [Ran; 11] = [
     (RUN, ECHO, (b"ab", NONE), NONE, (0, b"ab", b"returned -1\n")),
     // the second read fails, and then the second push
     (
@@ -1041,7 +1044,7 @@ const RUNS: [Ran; 11] = [
 #[test]
 fn a_run_takes_words_and_streams(rt: HostRuntime) -> Result<(), AllocError> {
     let alloc = rt.alloc();
-    for (words, text, input, stuck, end) in RUNS {
+    for &(words, text, input, stuck, end) in &RUNS {
         let outside = (text, NOTHING, NONE, stuck);
         let (status, printed, noted) = end;
         let end = (status, BEFORE, printed, noted);
@@ -1078,7 +1081,7 @@ type Together = (
     (u8, &'static [u8], &'static [u8]),
 );
 
-const TOGETHER: [Together; 18] = [
+static TOGETHER: [Together; 18] = [
     (
         "a function of another module, and its local",
         FIRST_TWO,
@@ -1236,7 +1239,7 @@ const TOGETHER: [Together; 18] = [
 #[test]
 fn modules_run_together(rt: HostRuntime) -> Result<(), AllocError> {
     let alloc = rt.alloc();
-    for (name, words, texts, end) in TOGETHER {
+    for &(name, words, texts, end) in &TOGETHER {
         let [first, second, third] = texts;
         let mut files = files_of(alloc, first, second, NONE)?;
         files.with("c.ll", third)?;
