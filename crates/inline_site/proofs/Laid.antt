@@ -22,7 +22,7 @@ use Rattle.inline_site.proofs.Twice.{block_twice, map_twice}
 
 -- ---- an edit that changes nothing
 
-same_local : (o : Option ℕ) → option_map (λ x. x) o ≡ o
+pub same_local : (o : Option ℕ) → option_map (λ x. x) o ≡ o
 same_local None = refl
 same_local (Some x) = refl
 
@@ -46,7 +46,7 @@ same_end (Return (Some a)) = refl
 same_end (Switch width value default cases) = ap (λ (l : List Case). Switch width value default l) (map-id cases)
 same_end _ = refl
 
-same_blocks : (bs : List Block) → map (block_edited (λ x. x) (λ o. o)) bs ≡ bs
+pub same_blocks : (bs : List Block) → map (block_edited (λ x. x) (λ o. o)) bs ≡ bs
 same_blocks [] = refl
 same_blocks (b ∷ bs) = λ i. record { number = b.number; phis = same_phis b.phis i; lines = same_lines b.lines i; end = same_end b.end i } ∷ same_blocks bs i
 
@@ -55,7 +55,7 @@ edited_same f = λ i. record f { params = map-id f.params i; blocks = same_block
 
 -- ---- the parts
 
-end_leading_edited : (last : ℕ) (op : Operand → Operand) (t : Terminator) → end_edited (λ x. x) op (end_leading last t) ≡ end_leading last (end_edited (λ x. x) op t)
+pub end_leading_edited : (last : ℕ) (op : Operand → Operand) (t : Terminator) → end_edited (λ x. x) op (end_leading last t) ≡ end_leading last (end_edited (λ x. x) op t)
 end_leading_edited last op (Return a) = refl
 end_leading_edited last op _ = refl
 

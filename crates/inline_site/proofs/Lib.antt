@@ -8,11 +8,13 @@ mod Final
 mod Fitting
 mod Fixed
 mod Fresh
+mod Growing
 mod InlinedSound
 mod Interface
 mod Known
 mod Laid
 mod Leading
+pub mod Later
 mod Lost
 mod MadeSound
 mod Moved
@@ -25,7 +27,6 @@ mod Numbered
 mod Once
 mod OneSite
 mod Places
-mod Putting
 mod Returned
 mod Rooms
 mod Sparing

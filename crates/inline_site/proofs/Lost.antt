@@ -27,7 +27,7 @@ use Rattle.ir_edit.specs.Substituted.{substituted}
 use Rattle.ir_edit.proofs.Tally.{tally, tally_both, tally_same}
 use Rattle.ir_better.specs.Facts.{InCases, IsTarget}
 use Rattle.inline_site.specs.Copies.{behind_call, copied, copied_number, copied_operand, first_free}
-use Rattle.inline_site.specs.Inlined.{before_call, end_leading, entry_of, inlined, leading_to, named, phi_named, result_given, result_phis, return_entries, return_entry}
+use Rattle.inline_site.specs.Inlined.{IsInlined, before_call, end_leading, entry_of, inlined, leading_to, named, phi_named, result_given, result_phis, return_entries, return_entry}
 use Rattle.inline_site.specs.Laws.{IsBetter}
 use Rattle.inline_site.specs.Sites.{IsCallOf, Site, StandsAt}
 use Rattle.inline_site.proofs.Copied.{copied_apart}
@@ -350,3 +350,6 @@ inlined_better f callee place s as' sound sound' at is some = by callee.blocks r
     by (entry ∷ others) e =
         better_if f callee place s as' sound sound' at is entry others e
         (λ x reg local result none. better_lost f callee place s as' sound sound' at is entry others e x reg local result none)
+
+pub is_better : (f callee g : Function) (place : ℕ) → IsInlined f place callee (Some g) → Sound f → Sound callee → IsBetter g f callee
+is_better f callee g place (some, s, as', stands, call, is) sound sound' = subst (λ (h : Function). IsBetter h f callee) (sym is) (inlined_better f callee place s as' sound sound' stands call some)

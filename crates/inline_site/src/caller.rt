@@ -1,215 +1,207 @@
-//! Functions that calls are inlined into, one after another.
-ghost use Rattle.std.specs.Prelude.{◌≡◌, ◌<◌, ◌+◌, [], ◌++◌, length, map, take, drop, None, Some, IfOk, IfSome};
+//! A function that calls are inlined into, block by block.
+ghost use Rattle.std.specs.Prelude.{◌≡◌, ◌≢◌, ◌+◌, List, [], ◌∷◌, ◌++◌, map, length, option_to_list, IfOk, IfSome, OnOk};
+ghost use Rattle.ir_meaning.specs.Program.{counted};
 ghost use Rattle.ir_tree.specs.Rules.{Sound};
-ghost use Rattle.inline_site.specs.Callers.{IsReady, caller_of, function_of, made_of, with_middle, without};
-ghost use Rattle.inline_site.specs.Inlined.{IsInlined, named};
-ghost use Rattle.inline_site.specs.Laws.{IsBetterIfGiven};
+ghost use Rattle.ir_tree.specs.declared.block.Block.{Block};
+ghost use Rattle.ir_tree.specs.declared.block.Terminator.{Terminator};
+ghost use Rattle.ir_tree.specs.declared.block.Terminator.TheVariants.{Jump};
+ghost use Rattle.ir_tree.specs.declared.function.Function.{Function};
+ghost use Rattle.ir_tree.specs.declared.instr.Line.{Line};
+ghost use Rattle.inline_site.specs.Callers.{Inlines, IsReady, behind_open, counted_done, ended, lost_of, made_of};
+ghost use Rattle.inline_site.specs.Inlined.{entry_of, leading_to, return_entries};
+ghost use Rattle.inline_site.specs.Sites.{IsCallOf, counted_in};
 
+use crate::copy::copied;
 use crate::free::past_all;
-use crate::middle::{Middle, middle_at};
-use crate::splice::Halves;
-use ir_edit::substitute;
-use ir_tree::{Block, Duplicate, Function, Operand, Reg, Rows, Symbol};
+use crate::late::Late;
+use crate::names::Halves;
+use crate::open::Open;
+use crate::returns::{lost_of, push_leading, result_phis, return_entries};
+use ir_tree::{Argument, Block, Duplicate, Function, Line, Reg, Rows, Terminator};
 use std::alloc::{AllocError, Global};
+use std::mem::replace;
 
-/// A function that calls are inlined into: its blocks are moved and not copied.
+/// A function that calls are inlined into: the blocks that are done, the first number that is free, and what is put off until
+/// all are done.
 #[derive(Drop)]
 pub struct Caller {
-    outline: Function,
-    blocks: Vec<Block>,
+    done: Vec<Block>,
     free: u64,
+    late: Late,
 }
 
-/// What an attempt to inline gives back: the function with the callee's body in the place of the call, or the function as it
-/// was where no such call stands there.
-#[derive(Drop)]
-pub enum Tried {
-    Inlined(Caller),
-    NoCall(Caller),
-}
-
-/// The function without its blocks.
-fn outline_of(alloc: Global, f: &Function) -> Result<Function, AllocError>
-    ensures { IfOk result (λ g. g ≡ record f.now { blocks = [] }) }
+fn entry_of(copy: &[Block]) -> u32
+    ensures { result ≡ entry_of copy.now }
 {
-    let symbol = f.symbol.duplicate(alloc)?;
-    let params = f.params.duplicate(alloc)?;
-    Ok(Function {
-        symbol,
-        linkage: f.linkage,
-        result: f.result,
-        params,
-        noinline: f.noinline,
-        optnone: f.optnone,
-        blocks: Rows::new(alloc),
+    match copy {
+        [entry, ..] => entry.number,
+        [] => 0,
+    }
+}
+
+/// The blocks before the last one, and the last one's number.
+fn without_last(blocks: &[Block]) -> Option<(&[Block], u32)>
+    ensures copy { (front : List Block) (last : Block) → blocks.entry.now ≡ front ++ last ∷ [] → IfSome result (λ r. r.0.now ≡ front) }
+    ensures number { (front : List Block) (last : Block) → blocks.entry.now ≡ front ++ last ∷ [] → IfSome result (λ r. r.1 ≡ last.number) }
+{
+    match blocks {
+        [copy @ .., last] => Some((copy, last.number)),
+        [] => None,
+    }
+}
+
+/// The block behind a call of this result, up to its phis.
+fn behind_open(
+    alloc: Global,
+    local: Option<u32>,
+    returned: Option<Reg>,
+    copy: &[Block],
+    behind: u32,
+) -> Result<Open, AllocError>
+    ensures { IfOk result (λ o. o ≡ behind_open local returned behind copy.now) }
+{
+    let entries = return_entries(alloc, copy)?;
+    let phis = result_phis(alloc, local, returned, entries)?;
+    Ok(Open {
+        number: behind,
+        phis,
+        lines: Rows::new(alloc),
     })
 }
 
-fn blocks_of(alloc: Global, blocks: &[Block]) -> Result<Vec<Block>, AllocError>
-    ensures { IfOk result (λ v. v.items ≡ blocks.now) }
-{
-    let mut copies = Vec::new(alloc);
-    for block in blocks {
-        let block = block.duplicate(alloc)?;
-        copies.push(block)?;
-    }
-    Ok(copies)
-}
-
-/// These blocks with others in the place of one, and with phi entries of it naming the one behind the call.
-fn put(alloc: Global, blocks: Vec<Block>, middle: Middle) -> Result<Vec<Block>, AllocError>
-    requires { middle.place < length blocks.items }
-    ensures { IfOk result (λ v. v.items ≡ take middle.place (map (named middle.halves.block middle.halves.behind) blocks.items) ++ (middle.blocks.items ++ drop (middle.place + 1) (map (named middle.halves.block middle.halves.behind) blocks.items))) }
-{
-    let Middle {
-        place,
-        halves,
-        blocks: between,
-        ..
-    } = middle;
-    let mut blocks = blocks;
-    let mut between = between;
-    halves.rename(alloc, &mut blocks)?;
-    let mut back = blocks.split_off(place + 1)?;
-    blocks.truncate(place);
-    blocks.append(&mut between)?;
-    blocks.append(&mut back)?;
-    Ok(blocks)
-}
-
 impl Caller {
-    /// Takes a copy of the function; time and memory are linear in it.
-    pub fn of(alloc: Global, f: &Function) -> Result<Caller, AllocError>
-        ensures function { IfOk result (λ c. function_of c ≡ f.now) }
-        ensures ready { IfOk result IsReady }
+    /// Before the first block of the function.
+    pub fn of(alloc: Global, f: &Function) -> Caller
+        ensures function { made_of f.now result f.now.blocks ≡ f.now }
+        ensures ready { IsReady f.now result }
+        ensures count { counted_done result ≡ 0 }
     {
-        let outline = outline_of(alloc, f)?;
-        let blocks = blocks_of(alloc, f.blocks.as_slice())?;
         let free = past_all(f.params.as_slice(), f.blocks.as_slice());
-        Ok(Caller {
-            outline,
-            blocks,
+        Caller {
+            done: Vec::new(alloc),
             free,
-        })
-    }
-
-    /// The blocks of the function.
-    pub fn blocks(&self) -> &[Block]
-        ensures { result.now ≡ (function_of self.now).blocks }
-    {
-        &self.blocks
-    }
-
-    /// The symbol of the function.
-    pub fn symbol(&self) -> &Symbol
-        ensures { result.now ≡ (function_of self.now).symbol }
-    {
-        &self.outline.symbol
-    }
-
-    /// The function; nothing is copied.
-    pub fn into_function(self) -> Function
-        ensures { result ≡ function_of self }
-    {
-        let Caller {
-            outline,
-            blocks,
-            ..
-        } = self;
-        let Function {
-            symbol,
-            linkage,
-            result,
-            params,
-            noinline,
-            optnone,
-            ..
-        } = outline;
-        Function {
-            symbol,
-            linkage,
-            result,
-            params,
-            noinline,
-            optnone,
-            blocks: Rows::of(blocks),
+            late: Late::new(alloc),
         }
     }
 
-    /// The function with poison at each use of a local.
-    fn poisoned(self, alloc: Global, local: u32, reg: Reg) -> Result<Function, AllocError>
-        ensures { IfOk result (λ g. g ≡ without (Some (local, reg)) (function_of self)) }
-    {
-        let f = self.into_function();
-        let g = substitute(alloc, &f, &[(local, Operand::Poison(reg))])?;
-        Ok(g)
-    }
-
-    /// Poison at each use of a result that no return gives.
-    fn without(self, alloc: Global, lost: Option<(u32, Reg)>) -> Result<Caller, AllocError>
-        ensures function { IfOk result (λ c. function_of c ≡ without lost (function_of self)) }
-        ensures free { IfOk result (λ c. c.free ≡ self.free) }
-    {
-        let Some((local, reg)) = lost else {
-            return Ok(self);
-        };
-        let free = self.free;
-        let g = self.poisoned(alloc, local, reg)?;
-        let outline = outline_of(alloc, &g)?;
-        let blocks = blocks_of(alloc, g.blocks.as_slice())?;
-        Ok(Caller {
-            outline,
-            blocks,
-            free,
-        })
-    }
-
-    /// The function with this in the place of the block of a call.
-    pub(crate) fn with(self, alloc: Global, middle: Middle) -> Result<Caller, AllocError>
-        requires { middle.place < length self.blocks.items }
-        ensures function { IfOk result (λ c. function_of c ≡ with_middle middle (function_of self)) }
-        ensures free { IfOk result (λ c. c.free ≡ middle.halves.behind + 1) }
-    {
-        let Caller {
-            outline,
-            blocks,
-            ..
-        } = self;
-        let free = middle.halves.behind as u64 + 1;
-        let lost = middle.lost;
-        let blocks = put(alloc, blocks, middle)?;
-        let caller = Caller {
-            outline,
-            blocks,
-            free,
-        };
-        caller.without(alloc, lost)
-    }
-
-    /// Inlines the callee at the direct call of it, of its type, that stands at this place, counted from 1 over the function's
-    /// phis, instructions and terminators in the order of the text. Where no such call stands there, or the callee has no
-    /// blocks, the function stays.
-    ///
-    /// The function becomes the one that `specs/Inlined.antt` defines, for a sound callee; a sound one stays sound, and becomes
-    /// better in each program in which the callee's body is the program's own. Beside want of memory, functions are refused
-    /// whose numbers together pass 32 bits.
-    pub fn inline_at(
-        self,
+    /// Ends a block.
+    pub fn end(
+        &mut self,
         alloc: Global,
-        place: u32,
-        callee: &Function,
-    ) -> Result<Tried, AllocError>
-        ensures inlined { IfOk result (λ t. IsReady self → Sound callee.now → IsInlined (function_of self) place callee.now (made_of t)) }
-        ensures stays { IfOk result (λ t. made_of t ≡ None → caller_of t ≡ self) }
-        ensures ready { IfOk result (λ t. IsReady self → Sound callee.now → IsReady (caller_of t)) }
-        ensures better { IfOk result (λ t. IsReady self → Sound (function_of self) → Sound callee.now → IsBetterIfGiven (made_of t) (function_of self) callee.now) }
-        ensures sound { IfOk result (λ t. IsReady self → Sound (function_of self) → Sound callee.now → IfSome (made_of t) Sound) }
+        current: Open,
+        end: &Terminator,
+    ) -> Result<(), AllocError>
+        ensures function { OnOk result ((f : Function) (ahead : List Block) → made_of f self.new ahead ≡ made_of f self.old (ended current end.now ∷ ahead)) }
+        ensures ready { OnOk result ((g : Function) → IsReady g self.old → IsReady g self.new) }
+        ensures count { OnOk result (counted_done self.new ≡ counted_done self.old + counted (ended current end.now)) }
     {
-        let found = middle_at(alloc, &self.blocks, self.free, place, callee)?;
-        let Some(middle) = found else {
-            return Ok(Tried::NoCall(self));
+        let end = end.duplicate(alloc)?;
+        self.done.push(current.ended(end))?;
+        Ok(())
+    }
+
+    /// Adds a copy of a block.
+    fn push(&mut self, alloc: Global, block: &Block) -> Result<(), AllocError>
+        ensures done { OnOk result (self.new.done.items ≡ self.old.done.items ++ block.now ∷ []) }
+        ensures free { OnOk result (self.new.free ≡ self.old.free) }
+        ensures late { OnOk result (self.new.late ≡ self.old.late) }
+    {
+        let block = block.duplicate(alloc)?;
+        self.done.push(block)?;
+        Ok(())
+    }
+
+    /// Adds copies of these blocks.
+    pub(crate) fn pass(&mut self, alloc: Global, blocks: &[Block]) -> Result<(), AllocError>
+        ensures done { OnOk result (self.new.done.items ≡ self.old.done.items ++ blocks.now) }
+        ensures free { OnOk result (self.new.free ≡ self.old.free) }
+        ensures late { OnOk result (self.new.late ≡ self.old.late) }
+    {
+        for block in blocks {
+            self.push(alloc, block)?;
+        }
+        Ok(())
+    }
+
+    /// Puts the copy of a callee behind the open block, which leads to it, and opens the block behind the call.
+    fn splice(
+        &mut self,
+        current: &mut Open,
+        alloc: Global,
+        after: Open,
+        copy: &[Block],
+    ) -> Result<(), AllocError>
+        ensures done { OnOk result (self.new.done.items ≡ self.old.done.items ++ ended current.old (Jump (entry_of copy.now)) ∷ map (leading_to after.number) copy.now) }
+        ensures current { OnOk result (current.new ≡ after) }
+        ensures late { OnOk result (self.new.late ≡ self.old.late) }
+    {
+        let behind = after.number;
+        let before = replace(current, after);
+        self.done.push(before.ended(Terminator::Jump(entry_of(copy))))?;
+        push_leading(alloc, &mut self.done, copy, behind)
+    }
+
+    /// Inlines the copy of a callee at a call of this result.
+    fn put(
+        &mut self,
+        alloc: Global,
+        current: &mut Open,
+        local: Option<u32>,
+        returned: Option<Reg>,
+        copy: &[Block],
+        behind: u32,
+    ) -> Result<(), AllocError>
+        ensures done { OnOk result (self.new.done.items ≡ self.old.done.items ++ ended current.old (Jump (entry_of copy.now)) ∷ map (leading_to behind) copy.now) }
+        ensures current { OnOk result (current.new ≡ behind_open local returned behind copy.now) }
+        ensures halves { OnOk result (self.new.late.halves.items ≡ self.old.late.halves.items ++ record { block = current.old.number; behind = behind } ∷ []) }
+        ensures lost { OnOk result (self.new.late.lost.items ≡ self.old.late.lost.items ++ option_to_list (lost_of local returned (return_entries copy.now))) }
+        ensures free { OnOk result (self.new.free ≡ behind + 1) }
+    {
+        let after = behind_open(alloc, local, returned, copy, behind)?;
+        let halves = Halves {
+            block: current.number,
+            behind,
         };
-        let caller = self.with(alloc, middle)?;
-        Ok(Tried::Inlined(caller))
+        self.splice(current, alloc, after, copy)?;
+        self.late.push(halves, lost_of(local, returned, copy))?;
+        self.free = behind as u64 + 1;
+        Ok(())
+    }
+
+    /// Inlines the callee at a call of it, of its type, with these arguments, that stands next in the open block. What stands
+    /// behind it is then next in the block behind the call, which is open.
+    ///
+    /// Beside want of memory, functions are refused whose numbers together pass 32 bits.
+    pub fn inline(
+        &mut self,
+        alloc: Global,
+        current: &mut Open,
+        call: &Line,
+        arguments: &[Argument],
+        callee: &Function,
+    ) -> Result<(), AllocError>
+        requires some { callee.now.blocks ≢ [] }
+        requires call { IsCallOf callee.now call.now.instr arguments.now }
+        ensures inlined { OnOk result ((f : Function) (lines : List Line) (end : Terminator) (ahead : List Block) → Sound callee.now → Inlines f self.old self.new current.old current.new call.now callee.now lines end ahead) }
+        ensures count { OnOk result (Sound callee.now → counted_done self.new ≡ counted_done self.old + (length current.old.phis + length current.old.lines + 1) + counted_in callee.now.blocks) }
+        ensures lines { OnOk result (current.new.lines ≡ []) }
+    {
+        if self.free > u32::MAX as u64 {
+            return Err(AllocError);
+        }
+        let rows = copied(alloc, callee, arguments, self.free as u32)?;
+        let Some((copy, behind)) = without_last(rows.as_slice()) else {
+            return Err(AllocError);
+        };
+        self.put(alloc, current, call.local, callee.result, copy, behind)?;
+        Ok(())
+    }
+
+    /// The function of which all blocks are done.
+    pub fn finish(self, alloc: Global, f: &Function) -> Result<Function, AllocError>
+        ensures { IfOk result (λ g. g ≡ made_of f.now self []) }
+    {
+        let Caller { done, late, .. } = self;
+        late.done(alloc, f, done)
     }
 }

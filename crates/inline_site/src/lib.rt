@@ -23,15 +23,17 @@ mod caller;
 mod copy;
 mod free;
 mod inline;
+mod late;
 mod laws;
-mod middle;
+mod names;
+mod open;
 mod returns;
 mod site;
-mod splice;
 
-pub use caller::{Caller, Tried};
+pub use caller::Caller;
 pub use inline::inline_at;
 pub use laws::{
     inlined_is_better, inlined_is_known, inlined_is_one, inlined_is_sound, inlined_keeps_interface,
 };
+pub use open::Open;
 pub use site::arguments_of;

@@ -1,5 +1,6 @@
 //! What becomes of the returns of a copy.
 ghost use Rattle.std.specs.Prelude.{◌≡◌, ◌↔◌, false, [], ◌++◌, map, IfOk, OnOk};
+ghost use Rattle.inline_site.specs.Callers.{lost_of};
 ghost use Rattle.inline_site.specs.Inlined.{end_leading, leading_to, result_phis, return_entries};
 
 use ir_tree::{Block, Duplicate, Incoming, Phi, Reg, Rows, Terminator};
@@ -63,7 +64,7 @@ pub(crate) fn return_entries(alloc: Global, copy: &[Block]) -> Result<Rows<Incom
 }
 
 /// Whether a block returns a value.
-pub(crate) fn returns_value(copy: &[Block]) -> bool
+fn returns_value(copy: &[Block]) -> bool
     ensures { result ≡ false ↔ return_entries copy.now ≡ [] }
 {
     for block in copy {
@@ -72,6 +73,26 @@ pub(crate) fn returns_value(copy: &[Block]) -> bool
         }
     }
     false
+}
+
+/// A result that no block of the copy returns.
+pub(crate) fn lost_of(
+    local: Option<u32>,
+    returned: Option<Reg>,
+    copy: &[Block],
+) -> Option<(u32, Reg)>
+    ensures { result ≡ lost_of local returned (return_entries copy.now) }
+{
+    match (local, returned) {
+        (Some(local), Some(reg)) => {
+            if returns_value(copy) {
+                None
+            } else {
+                Some((local, reg))
+            }
+        }
+        _ => None,
+    }
 }
 
 /// The call's result as a phi of these entries; none without a result or without entries.
