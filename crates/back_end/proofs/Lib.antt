@@ -1,12 +1,1 @@
-pub mod Bettering
-mod Finding
-mod GoingOn
-pub mod Interface
-mod Keeping
-mod Naming
-pub mod Offered
-pub mod Once
-mod Ruling
-mod Table
-pub mod Turning
-pub mod Walks
+mod Ahead

@@ -1,16 +1,20 @@
--- The walk as the code has it: the table of bodies, and the calls that are found.
-use Rattle.std.specs.Prelude.{◌≡◌, ◌≢◌, ℕ, ◌<◌, ◌≤◌, List, [], length, Option, Some, option_map, slice_get}
+-- The walk as the code has it: the table of bodies, and a function while it is walked over.
+use Rattle.std.specs.Prelude.{◌≡◌, ℕ, ◌+◌, List, ◌∷◌, Option, option_map}
 use Rattle.std.specs.Borrow.{Bor}
 use Rattle.std.specs.HashMap.{HashMap, get_by}
 use Rattle.std.specs.Str.{bytes_eq}
 use Rattle.ir_tree.specs.declared.block.Block.{Block}
+use Rattle.ir_tree.specs.declared.block.Terminator.{Terminator}
 use Rattle.ir_tree.specs.declared.function.Function.{Function}
+use Rattle.ir_tree.specs.declared.instr.Instr.{Instr}
 use Rattle.ir_tree.specs.declared.instr.Line.{Line}
-use Rattle.ir_tree.specs.declared.operand.Argument.{Argument}
 use Rattle.ir_tree.specs.declared.operand.Symbol.{Symbol}
-use Rattle.inline_site.specs.Sites.{IsCallOf, Site, StandsAt, counted_in}
-use Rattle.back_end.specs.Walk.{Takes}
+use Rattle.inline_site.specs.Callers.{IsReady, counted_done, made_of, next_in, opened_with}
+use Rattle.inline_site.specs.declared.open.Open.{Open}
+use Rattle.back_end.specs.Inlinable.{count}
+use Rattle.back_end.specs.Walk.{IsWalk, Takes, Walks}
 use Rattle.back_end.specs.declared.bodies.Bodies.{Bodies}
+use Rattle.back_end.specs.declared.walker.Walker.{Walker}
 
 -- the function that the table has under a name
 abbrev pub named : {S : Type 0} → HashMap (Bor (List ℕ)) (Bor Function) S → List ℕ → Option Function
@@ -20,41 +24,29 @@ named table name = option_map (λ f. f.now) (get_by (λ key. bytes_eq name key.n
 abbrev pub bodies_in : Bodies → List ℕ → Option Function
 bodies_in b name = named b.table name
 
--- ---- among the lines of a block
+-- ---- one instruction
 
--- no line from this one on takes a body
-abbrev pub NoLine : (List ℕ → Option Function) → Symbol → ℕ → List Line → ℕ → ℕ → Type 0
-NoLine bodies symbol room lines from to = (i : ℕ) (l : Line) (c : Function) → from ≤ i → i < to → slice_get lines i ≡ Some l → Takes bodies symbol room l.instr c → ⊥
+-- in a function of so many phis, instructions and terminators the instruction takes the body of the callee, with the room that is left
+pub record TakesNow (bodies : List ℕ → Option Function) (symbol : Symbol) (many : ℕ) (instr : Instr) (callee : Function) : Type 0 where
+  pub room : ℕ
+  pub has_room : many + room ≡ 20000
+  pub takes : Takes bodies symbol room instr callee
 
--- the line is the first from this one on that does
-pub record IsFirstLine (bodies : List ℕ → Option Function) (symbol : Symbol) (room : ℕ) (lines : List Line) (from place : ℕ) (callee : Function) : Type 0 where
-  pub behind : from ≤ place
-  pub short : place < length lines
-  pub line : Line
-  pub here : slice_get lines place ≡ Some line
-  pub takes : Takes bodies symbol room line.instr callee
-  pub first : NoLine bodies symbol room lines from place
+abbrev pub TakesNone : (List ℕ → Option Function) → Symbol → ℕ → Instr → Type 0
+TakesNone bodies symbol many instr = (c : Function) → TakesNow bodies symbol many instr c → ⊥
 
--- ---- among blocks
+-- ---- the function
 
--- no instruction at these places takes a body
-abbrev pub NoCall : (List ℕ → Option Function) → Symbol → ℕ → List Block → ℕ → ℕ → Type 0
-NoCall bodies symbol room blocks from to = (q : ℕ) (s : Site) (c : Function) → from ≤ q → q < to → StandsAt blocks q s → Takes bodies symbol room s.call.instr c → ⊥
+-- the function h is f as it is now, of known size, and a walk over it from a place on is one over f
+pub record IsHere (bodies : List ℕ → Option Function) (f : Function) (w : Walker) (h : Function) (from : ℕ) : Type 0 where
+  pub ready : IsReady h w.caller
+  pub counts : w.count ≡ count h
+  pub walks : (k : ℕ) (g : Function) → Walks k bodies from h g → IsWalk bodies f g
 
--- the instruction at this place is the first from a place on that does
-pub record IsFirstCall (bodies : List ℕ → Option Function) (symbol : Symbol) (room : ℕ) (blocks : List Block) (from place : ℕ) (callee : Function) : Type 0 where
-  pub behind : from ≤ place
-  pub site : Site
-  pub stands : StandsAt blocks place site
-  pub takes : Takes bodies symbol room site.call.instr callee
-  pub first : NoCall bodies symbol room blocks from place
+-- these blocks are ahead
+abbrev pub IsAhead : (List ℕ → Option Function) → Function → Walker → List Block → Type 0
+IsAhead bodies f w ahead = IsHere bodies f w (made_of f w.caller ahead) (counted_done w.caller + 1)
 
--- at this place of f, which is short, stands a call of this function, which has a body
-pub record CanTake (f : Function) (place : ℕ) (callee : Function) : Type 0 where
-  pub some : callee.blocks ≢ []
-  pub site : Site
-  pub arguments : List Argument
-  pub stands : StandsAt f.blocks place site
-  pub call : IsCallOf callee site.call.instr arguments
-  pub within : place ≤ counted_in f.blocks
-  pub short : counted_in f.blocks ≤ 20000
+-- these instructions are ahead in the block that is open, and these blocks behind it
+abbrev pub IsBegun : (List ℕ → Option Function) → Function → Walker → Open → List Line → Terminator → List Block → Type 0
+IsBegun bodies f w o lines end ahead = IsHere bodies f w (made_of f w.caller (opened_with o lines end ∷ ahead)) (next_in w.caller o)

@@ -1,29 +1,32 @@
 //! The inline walk.
-ghost use Rattle.std.specs.Prelude.{◌≡◌, ◌≢◌, ◌↔◌, ◌+◌, ◌≤◌, [], IfOk, IfSome, IsTrue, MatchOption, Some, length, ℕ};
+ghost use Rattle.std.specs.Prelude.{◌≡◌, ◌≢◌, ◌↔◌, ◌≤◌, ◌+◌, [], ◌∷◌, List, IfOk, IfSome, IsTrue, MatchOption, OnOk, Option, length, ℕ};
 ghost use Rattle.ir_tree.specs.Rules.{Sound};
+ghost use Rattle.ir_tree.specs.declared.block.Block.{Block};
+ghost use Rattle.ir_tree.specs.declared.block.Terminator.{Terminator};
 ghost use Rattle.ir_tree.specs.declared.function.Function.{Function};
-ghost use Rattle.inline_site.specs.Callers.{IsReady, function_of};
-ghost use Rattle.inline_site.specs.Inlined.{IsInlined};
-ghost use Rattle.inline_site.specs.Sites.{counted_in};
+ghost use Rattle.ir_tree.specs.declared.instr.Line.{Line};
+ghost use Rattle.inline_site.specs.Callers.{Inlines, counted_done};
+ghost use Rattle.inline_site.specs.Sites.{IsCallOf, counted_in};
 ghost use Rattle.ir_meaning.specs.Program.{counted};
 ghost use Rattle.back_end.specs.Inlinable.{AreSound, count};
-ghost use Rattle.back_end.specs.Walk.{IsFirst, IsWalk, Takes, TakesAt, next_place};
-ghost use Rattle.back_end.specs.Walking.{CanTake, IsFirstCall, IsFirstLine, NoCall, NoLine, bodies_in};
+ghost use Rattle.back_end.specs.Walk.{IsWalk, Takes};
+ghost use Rattle.back_end.specs.Walking.{IsAhead, IsBegun, TakesNone, TakesNow, bodies_in};
 
 use crate::bodies::Bodies;
 use crate::inlinable::{callee_of, is_within};
-use inline_site::{Caller, Tried, arguments_of, inlined_is_sound};
-use ir_tree::{Block, Function, Instr, Line, Symbol};
+use crate::laws::walk_is_better;
+use inline_site::{Caller, Open, arguments_of};
+use ir_tree::{Argument, Block, Function, Instr, Line, Symbol};
 use std::alloc::{AllocError, Global};
 
 /// How many phis, instructions and terminators a function may have with the body that it takes.
 const ROOM: usize = 20_000;
 
-/// A call that takes a body: its place in the caller, and the callee.
+/// A call that takes a body: the callee, and the arguments.
 #[derive(Clone, Copy)]
-struct Call<'a> {
-    place: usize,
+struct Call<'a, 'b> {
     callee: &'a Function,
+    arguments: &'b [Argument],
 }
 
 /// Whether a function is another one than that of this symbol.
@@ -41,82 +44,23 @@ fn has_room(callee: &Function, room: usize) -> bool
     blocks.len() != 0 && is_within(blocks, room)
 }
 
-/// The function whose body the instruction takes, in a function of this symbol with so much room.
-fn taken<'a>(
+/// The call whose body the instruction takes, in a function of this symbol with so much room.
+fn taken<'a, 'b>(
     bodies: &Bodies<'a>,
     symbol: &Symbol,
     room: usize,
-    instr: &Instr,
-) -> Option<&'a Function>
-    ensures { MatchOption result ((c : Function) → Takes (bodies_in bodies.now) symbol.now room instr.now c → ⊥) (λ c. Takes (bodies_in bodies.now) symbol.now room instr.now c.now) }
+    instr: &'b Instr,
+) -> Option<Call<'a, 'b>>
+    ensures takes { MatchOption result ((c : Function) → Takes (bodies_in bodies.now) symbol.now room instr.entry.now c → ⊥) (λ c. Takes (bodies_in bodies.now) symbol.now room instr.entry.now c.callee.now) }
+    ensures call { IfSome result (λ c. IsCallOf c.callee.now instr.entry.now c.arguments.now) }
 {
     let named = callee_of(instr)?;
     let callee = bodies.named(named.name.as_slice())?;
     if !is_other(callee, symbol) || !has_room(callee, room) {
         return None;
     }
-    arguments_of(callee, instr)?;
-    Some(callee)
-}
-
-/// The function with the callee's body in the place of the call.
-fn inlined(alloc: Global, caller: Caller, call: Call<'_>) -> Result<Caller, AllocError>
-    requires ready { IsReady caller }
-    requires takes { CanTake (function_of caller) call.place call.callee.now }
-    requires sound { Sound call.callee.now }
-    ensures inlined { IfOk result (λ h. IsInlined (function_of caller) call.entry.place call.entry.callee.now (Some (function_of h))) }
-    ensures ready { IfOk result IsReady }
-{
-    match caller.inline_at(alloc, call.place as u32, call.callee)? {
-        Tried::Inlined(caller) => Ok(caller),
-        Tried::NoCall(_) => unreachable!(),
-    }
-}
-
-/// The first of these lines, from this one on, that takes a body, and the callee.
-fn first_line<'a>(
-    bodies: &Bodies<'a>,
-    symbol: &Symbol,
-    room: usize,
-    lines: &[Line],
-    from: usize,
-) -> Option<Call<'a>>
-    ensures { MatchOption result (NoLine (bodies_in bodies.now) symbol.now room lines.now from (length lines.now)) (λ c. IsFirstLine (bodies_in bodies.now) symbol.now room lines.now from c.place c.callee.now) }
-{
-    for place in from..lines.len() {
-        if let Some(callee) = taken(bodies, symbol, room, &lines[place].instr) {
-            return Some(Call { place, callee });
-        }
-    }
-    None
-}
-
-/// The first call from a place on that takes a body. Places count from 1 over phis, instructions and terminators in the order
-/// of the text.
-fn first_call<'a>(
-    bodies: &Bodies<'a>,
-    symbol: &Symbol,
-    room: usize,
-    blocks: &[Block],
-    from: usize,
-) -> Option<Call<'a>>
-    requires { counted_in blocks.now ≤ 20000 }
-    ensures { MatchOption result (NoCall (bodies_in bodies.now) symbol.now room blocks.now from (counted_in blocks.now + 1)) (λ c. IsFirstCall (bodies_in bodies.now) symbol.now room blocks.now from c.place c.callee.now) }
-{
-    let mut before = 0;
-    for block in blocks {
-        let ahead = before + block.phis.len() + 1;
-        let skipped = from.saturating_sub(ahead);
-        let lines = block.lines.as_slice();
-        if let Some(call) = first_line(bodies, symbol, room, lines, skipped) {
-            return Some(Call {
-                place: ahead + call.place,
-                callee: call.callee,
-            });
-        }
-        before = ahead + lines.len();
-    }
-    None
+    let arguments = arguments_of(callee, instr)?;
+    Some(Call { callee, arguments })
 }
 
 /// This number, and how many phis, instructions and terminators the block has.
@@ -142,57 +86,124 @@ fn count_of(blocks: &[Block]) -> Result<usize, AllocError>
     Ok(count)
 }
 
-/// A function while it is walked over: how many phis, instructions and terminators it has now, and the place from which on
-/// calls aren't looked at yet.
+/// The sum of these, refused where it passes 64 bits.
+fn sum(count: usize, callee: usize, phis: usize) -> Result<usize, AllocError>
+    ensures { IfOk result (λ n. n ≡ count + callee + phis) }
+{
+    let Some(more) = count.checked_add(callee) else {
+        return Err(AllocError);
+    };
+    match more.checked_add(phis) {
+        Some(all) => Ok(all),
+        None => Err(AllocError),
+    }
+}
+
+/// A function while it is walked over, and how many phis, instructions and terminators it has now.
 #[derive(Drop)]
 struct Walker {
     caller: Caller,
     count: usize,
-    from: usize,
-    ghost ready: { IsReady caller },
-    ghost counted: { count ≡ counted_in (function_of caller).blocks },
 }
 
 impl Walker {
     fn of(alloc: Global, f: &Function) -> Result<Walker, AllocError>
-        ensures { IfOk result (λ w. (function_of w.caller ≡ f.now) × (w.from ≡ 1)) }
+        ensures { IfOk result (λ w. (bodies : List ℕ → Option Function) → IsAhead bodies f.now w f.now.blocks) }
     {
         let count = count_of(f.blocks.as_slice())?;
-        let caller = Caller::of(alloc, f)?;
-        Ok(Walker {
-            caller,
-            count,
-            from: 1,
-        })
+        let caller = Caller::of(alloc, f);
+        Ok(Walker { caller, count })
     }
 
-    /// The first call that takes a body.
-    fn next<'a>(&self, bodies: &Bodies<'a>) -> Option<Call<'a>>
-        ensures { MatchOption result ((q : ℕ) (c : Function) → self.now.from ≤ q → TakesAt (bodies_in bodies.now) (function_of self.now.caller) q c → ⊥) (λ c. IsFirst (bodies_in bodies.now) (function_of self.now.caller) self.now.from c.place c.callee.now) }
+    /// The call whose body the instruction takes now.
+    fn call<'a, 'b>(
+        &self,
+        bodies: &Bodies<'a>,
+        symbol: &Symbol,
+        instr: &'b Instr,
+    ) -> Option<Call<'a, 'b>>
+        ensures takes { MatchOption result (TakesNone (bodies_in bodies.now) symbol.now self.now.count instr.entry.now) (λ c. TakesNow (bodies_in bodies.now) symbol.now self.now.count instr.entry.now c.callee.now) }
+        ensures call { IfSome result (λ c. IsCallOf c.callee.now instr.entry.now c.arguments.now) }
     {
         let room = ROOM.checked_sub(self.count)?;
-        let blocks = self.caller.blocks();
-        first_call(bodies, self.caller.symbol(), room, blocks, self.from)
+        taken(bodies, symbol, room, instr)
     }
 
-    /// Inlines the callee at this call, and goes on behind it.
-    fn inline(self, alloc: Global, call: Call<'_>) -> Result<Walker, AllocError>
-        requires takes { CanTake (function_of self.caller) call.place call.callee.now }
+    /// Inlines the callee at a call that stands next.
+    fn inline(
+        &mut self,
+        alloc: Global,
+        block: &mut Open,
+        line: &Line,
+        call: Call<'_, '_>,
+    ) -> Result<(), AllocError>
+        requires some { call.callee.now.blocks ≢ [] }
+        requires call { IsCallOf call.callee.now line.now.instr call.arguments.now }
         requires sound { Sound call.callee.now }
-        ensures inlined { IfOk result (λ w. IsInlined (function_of self.caller) call.entry.place call.entry.callee.now (Some (function_of w.caller))) }
-        ensures from { IfOk result (λ w. w.from ≡ next_place (function_of self.caller) call.entry.place (function_of w.caller)) }
+        ensures step { OnOk result ((f : Function) (lines : List Line) (end : Terminator) (ahead : List Block) → Inlines f self.old.caller self.new.caller block.old block.new line.now call.entry.callee.now lines end ahead) }
+        ensures count { OnOk result (self.new.count ≡ self.old.count + count call.entry.callee.now + length block.new.phis) }
+        ensures done { OnOk result (counted_done self.new.caller ≡ counted_done self.old.caller + (length block.old.phis + length block.old.lines + 1) + count call.entry.callee.now) }
+        ensures lines { OnOk result (block.new.lines ≡ []) }
     {
-        let behind = self.count - call.place;
-        let caller = inlined(alloc, self.caller, call)?;
-        let count = count_of(caller.blocks())?;
-        let Some(from) = count.saturating_sub(behind).checked_add(1) else {
-            return Err(AllocError);
-        };
-        Ok(Walker {
-            caller,
-            count,
-            from,
-        })
+        let added = count_of(call.callee.blocks.as_slice())?;
+        self.caller.inline(alloc, block, line, call.arguments, call.callee)?;
+        let count = sum(self.count, added, block.phis().len())?;
+        self.count = count;
+        Ok(())
+    }
+
+    /// The next instruction takes a body, or stays.
+    fn pass_line(
+        &mut self,
+        alloc: Global,
+        bodies: &Bodies<'_>,
+        symbol: &Symbol,
+        block: &mut Open,
+        line: &Line,
+    ) -> Result<(), AllocError>
+        requires { AreSound (bodies_in bodies.now) }
+        ensures { OnOk result ((f : Function) (lines : List Line) (end : Terminator) (ahead : List Block) → f.symbol ≡ symbol.now → IsBegun (bodies_in bodies.now) f self.old block.old (line.now ∷ lines) end ahead → IsBegun (bodies_in bodies.now) f self.new block.new lines end ahead) }
+    {
+        match self.call(bodies, symbol, &line.instr) {
+            Some(call) => self.inline(alloc, block, line, call)?,
+            None => block.push(alloc, line)?,
+        }
+        Ok(())
+    }
+
+    /// The instructions of a block take bodies, or stay.
+    fn pass_lines(
+        &mut self,
+        alloc: Global,
+        bodies: &Bodies<'_>,
+        symbol: &Symbol,
+        block: &mut Open,
+        lines: &[Line],
+    ) -> Result<(), AllocError>
+        requires { AreSound (bodies_in bodies.now) }
+        ensures { OnOk result ((f : Function) (end : Terminator) (ahead : List Block) → f.symbol ≡ symbol.now → IsBegun (bodies_in bodies.now) f self.old block.old lines.now end ahead → IsBegun (bodies_in bodies.now) f self.new block.new [] end ahead) }
+    {
+        for line in lines {
+            self.pass_line(alloc, bodies, symbol, block, line)?;
+        }
+        Ok(())
+    }
+
+    /// The next block's instructions take bodies, or stay.
+    fn pass(
+        &mut self,
+        alloc: Global,
+        bodies: &Bodies<'_>,
+        symbol: &Symbol,
+        block: &Block,
+    ) -> Result<(), AllocError>
+        requires { AreSound (bodies_in bodies.now) }
+        ensures { OnOk result ((f : Function) (ahead : List Block) → f.symbol ≡ symbol.now → IsAhead (bodies_in bodies.now) f self.old (block.now ∷ ahead) → IsAhead (bodies_in bodies.now) f self.new ahead) }
+    {
+        let mut begun = Open::of(alloc, block)?;
+        self.pass_lines(alloc, bodies, symbol, &mut begun, block.lines.as_slice())?;
+        self.caller.end(alloc, begun, &block.end)?;
+        Ok(())
     }
 }
 
@@ -206,10 +217,11 @@ pub fn walk(alloc: Global, bodies: &Bodies<'_>, f: &Function) -> Result<Function
     ensures walk { IfOk result (λ g. IsWalk (bodies_in bodies.now) f.now g) }
     ensures sound { IfOk result (λ g. Sound g) }
 {
-    inlined_is_sound();
+    walk_is_better();
     let mut walker = Walker::of(alloc, f)?;
-    while let Some(call) = walker.next(bodies) {
-        walker = walker.inline(alloc, call)?;
+    for block in f.blocks.as_slice() {
+        walker.pass(alloc, bodies, &f.symbol, block)?;
     }
-    Ok(walker.caller.into_function())
+    let g = walker.caller.finish(alloc, f)?;
+    Ok(g)
 }

@@ -56,7 +56,7 @@ without_more [] r o = refl
 without_more (q ∷ rs) r o = without_more rs r (operand_replaced (replacement ((q.0, Poison q.1) ∷ [])) o)
 
 -- what no replacement changes stays
-without_stays : (rs : List (ℕ × Reg)) (o : Operand) → ((v : ℕ → Option Operand) → operand_replaced v o ≡ o) → without rs o ≡ o
+pub without_stays : (rs : List (ℕ × Reg)) (o : Operand) → ((v : ℕ → Option Operand) → operand_replaced v o ≡ o) → without rs o ≡ o
 without_stays [] o h = refl
 without_stays (r ∷ rs) o h = ap (without rs) (h (replacement ((r.0, Poison r.1) ∷ []))) ∙ without_stays rs o h
 
@@ -162,7 +162,7 @@ results_copied name op (Some x) (Some reg) (e ∷ es) = refl
 
 -- ---- counts
 
-many_mapped : {X Y : Type 0} (f : X → Y) (xs : List X) → length (map f xs) ≡ length xs
+pub many_mapped : {X Y : Type 0} (f : X → Y) (xs : List X) → length (map f xs) ≡ length xs
 many_mapped f [] = refl
 many_mapped f (x ∷ xs) = let rest : length (map f xs) ≡ length xs = many_mapped f xs in omega (arith, rest)
 
@@ -267,7 +267,7 @@ ready_more g c c' free late ready = record {
 
 -- ---- one call more
 
-types_kept : (op : Operand → Operand) (as' : List Argument) → argument_types (map (argument_edited op) as') ≡ argument_types as'
+pub types_kept : (op : Operand → Operand) (as' : List Argument) → argument_types (map (argument_edited op) as') ≡ argument_types as'
 types_kept op [] = refl
 types_kept op (a ∷ more) = ap (λ (l : List Reg). a.reg ∷ l) (types_kept op more)
 
@@ -278,7 +278,7 @@ call_late rs callee instr as' is = record {
   typed = types_kept (without rs) as' ∙ is.typed;
 }
 
-laid : (edit name : Block → Block) (xs : List Block) (y : Block) (ys : List Block) → map edit (map name (xs ++ y ∷ ys)) ≡ map edit (map name xs) ++ edit (name y) ∷ map edit (map name ys)
+pub laid : (edit name : Block → Block) (xs : List Block) (y : Block) (ys : List Block) → map edit (map name (xs ++ y ∷ ys)) ≡ map edit (map name xs) ++ edit (name y) ∷ map edit (map name ys)
 laid edit name [] y ys = refl
 laid edit name (x ∷ xs) y ys = ap (λ (l : List Block). edit (name x) ∷ l) (laid edit name xs y ys)
 
@@ -306,7 +306,7 @@ module _ (f callee : Function) (c : Caller) (o : Open) (call : Line) (as' : List
   abbrev whole : Function
   whole = made_of f c (opened_with o (call ∷ lines) end ∷ ahead)
 
-  abbrev site : Site
+  abbrev pub site : Site
   site = record {
     front = map (block_edited (λ n. n) (without c.late.lost.items)) (map (with_names (named_by c.late.halves.items)) c.done.items);
     block = block_edited (λ n. n) (without c.late.lost.items) (with_names (named_by c.late.halves.items) (opened_with o (call ∷ lines) end));

@@ -26,6 +26,13 @@ impl Open {
         })
     }
 
+    /// The phis of the block.
+    pub fn phis(&self) -> &[Phi]
+        ensures { result.now ≡ self.now.phis }
+    {
+        self.phis.as_slice()
+    }
+
     /// Adds an instruction.
     pub fn push(&mut self, alloc: Global, line: &Line) -> Result<(), AllocError>
         ensures { OnOk result (self.new ≡ record self.old { lines = self.old.lines ++ line.now ∷ [] }) }

@@ -12,14 +12,14 @@ use std::alloc::{AllocError, Global};
 use std::collections::HashMap;
 
 /// A stack slot of a scalar: the local that holds its address, and the scalar's type.
-#[derive(Clone, Copy, Debug, PartialEq, Eq)]
+#[derive(Clone, Copy)]
 pub(crate) struct Slot {
     pub local: u32,
     pub reg: Reg,
 }
 
 /// The rank of a slot among those that are promoted, from 0, and its type.
-#[derive(Clone, Copy, Debug, PartialEq, Eq)]
+#[derive(Clone, Copy)]
 pub(crate) struct Place {
     pub rank: usize,
     pub reg: Reg,

@@ -7,7 +7,7 @@ use std::alloc::{AllocError, Global};
 
 /// A use of a local: as the address of a load or a store of the type `access`, or in any other way where that is
 /// `None`.
-#[derive(Clone, Copy, Debug, PartialEq, Eq)]
+#[derive(Clone, Copy)]
 pub(crate) struct Use {
     pub local: u32,
     pub access: Option<Reg>,
@@ -48,6 +48,52 @@ fn push_entries(uses: &mut Vec<Use>, entries: &[Incoming]) -> Result<(), AllocEr
     Ok(())
 }
 
+/// The uses of two operands.
+fn push_both(uses: &mut Vec<Use>, left: &Operand, right: &Operand) -> Result<(), AllocError>
+    ensures { OnOk result (uses.new.items ≡ uses.old.items ++ (operand_uses None left.now ++ operand_uses None right.now)) }
+{
+    push_operand(uses, None, left)?;
+    push_operand(uses, None, right)
+}
+
+/// The uses of a store.
+fn push_store(
+    uses: &mut Vec<Use>,
+    reg: Reg,
+    value: &Operand,
+    address: &Operand,
+) -> Result<(), AllocError>
+    ensures { OnOk result (uses.new.items ≡ uses.old.items ++ (operand_uses None value.now ++ operand_uses (Some reg) address.now)) }
+{
+    push_operand(uses, None, value)?;
+    push_operand(uses, Some(reg), address)
+}
+
+/// The uses of an operand and of arguments behind it.
+fn push_with(
+    uses: &mut Vec<Use>,
+    operand: &Operand,
+    arguments: &[Argument],
+) -> Result<(), AllocError>
+    ensures { OnOk result (uses.new.items ≡ uses.old.items ++ (operand_uses None operand.now ++ argument_uses arguments.now)) }
+{
+    push_operand(uses, None, operand)?;
+    push_arguments(uses, arguments)
+}
+
+/// The uses of a `select`.
+fn push_select(
+    uses: &mut Vec<Use>,
+    condition: &Operand,
+    if_true: &Argument,
+    if_false: &Argument,
+) -> Result<(), AllocError>
+    ensures { OnOk result (uses.new.items ≡ uses.old.items ++ (operand_uses None condition.now ++ (operand_uses None if_true.now.operand ++ operand_uses None if_false.now.operand))) }
+{
+    push_operand(uses, None, condition)?;
+    push_both(uses, &if_true.operand, &if_false.operand)
+}
+
 fn push_instr(uses: &mut Vec<Use>, instr: &Instr) -> Result<(), AllocError>
     ensures { OnOk result (uses.new.items ≡ uses.old.items ++ instr_uses instr.now) }
 {
@@ -58,42 +104,23 @@ fn push_instr(uses: &mut Vec<Use>, instr: &Instr) -> Result<(), AllocError>
             value,
             address,
             ..
-        } => {
-            push_operand(uses, None, value)?;
-            push_operand(uses, Some(*reg), address)
-        }
-        Instr::Binary { left, right, .. } => {
-            push_operand(uses, None, left)?;
-            push_operand(uses, None, right)
-        }
-        Instr::Icmp { left, right, .. } => {
-            push_operand(uses, None, left)?;
-            push_operand(uses, None, right)
-        }
+        } => push_store(uses, *reg, value, address),
+        Instr::Binary { left, right, .. } => push_both(uses, left, right),
+        Instr::Icmp { left, right, .. } => push_both(uses, left, right),
         Instr::Cast { value, .. } => push_operand(uses, None, value),
         Instr::Select {
             condition,
             if_true,
             if_false,
-        } => {
-            push_operand(uses, None, condition)?;
-            push_operand(uses, None, &if_true.operand)?;
-            push_operand(uses, None, &if_false.operand)
-        }
+        } => push_select(uses, condition, if_true, if_false),
         Instr::Freeze { value, .. } => push_operand(uses, None, value),
         Instr::Alloca { .. } => Ok(()),
-        Instr::Address { base, indices, .. } => {
-            push_operand(uses, None, base)?;
-            push_arguments(uses, indices.as_slice())
-        }
+        Instr::Address { base, indices, .. } => push_with(uses, base, indices.as_slice()),
         Instr::Call {
             callee,
             arguments,
             ..
-        } => {
-            push_operand(uses, None, callee)?;
-            push_arguments(uses, arguments.as_slice())
-        }
+        } => push_with(uses, callee, arguments.as_slice()),
         Instr::Phi { incoming, .. } => push_entries(uses, incoming.as_slice()),
     }
 }

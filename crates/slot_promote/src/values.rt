@@ -108,8 +108,7 @@ impl Values {
                     Ok(())
                 }
             }
-            Operand::Number { .. } | Operand::Null | Operand::Poison(_) | Operand::Symbol { .. } =>
-                { Ok(()) }
+            _ => Ok(()),
         }
     }
 
@@ -120,15 +119,7 @@ impl Values {
         match &line.instr {
             Instr::Alloca { .. } => self.pass_alloca(slots, line.local),
             Instr::Store { value, address, .. } => self.pass_store(alloc, slots, value, address),
-            Instr::Load { .. }
-            | Instr::Binary { .. }
-            | Instr::Icmp { .. }
-            | Instr::Cast { .. }
-            | Instr::Select { .. }
-            | Instr::Freeze { .. }
-            | Instr::Address { .. }
-            | Instr::Call { .. }
-            | Instr::Phi { .. } => Ok(()),
+            _ => Ok(()),
         }
     }
 
