@@ -16,7 +16,7 @@ use crate::phis::{BlockEnd, new_phis};
 use crate::slots::Slots;
 use crate::values::{Values, without_slots};
 use ir_flow::{Edges, preds};
-use ir_tree::{Block, Duplicate, Function, Phi, Rows};
+use ir_tree::{Block, Duplicate, Function, Line, Phi, Rows};
 use std::alloc::{AllocError, Global};
 
 /// How the block ends whose first new phi has this number.
@@ -65,6 +65,38 @@ fn joined(alloc: Global, phis: Rows<Phi>, others: &[Phi]) -> Result<Rows<Phi>, A
     Ok(rows)
 }
 
+/// The lines of a block without slots.
+fn lines(
+    alloc: Global,
+    slots: &Slots,
+    first: Option<usize>,
+    block: &Block,
+) -> Result<Rows<Line>, AllocError>
+    ensures { IfOk result (λ rows. rows ≡ lines_without (place_in slots.now) (at_start (place_in slots.now) first) block.now.lines) }
+{
+    let start = Values::new(alloc, first);
+    let lines = without_slots(alloc, slots, start, block.lines.as_slice())?;
+    Ok(lines)
+}
+
+/// The block with other phis and lines.
+fn with_parts(
+    alloc: Global,
+    block: &Block,
+    phis: Rows<Phi>,
+    lines: Rows<Line>,
+) -> Result<Block, AllocError>
+    ensures { IfOk result (λ b. b ≡ record block.now { phis = phis; lines = lines }) }
+{
+    let end = block.end.duplicate(alloc)?;
+    Ok(Block {
+        number: block.number,
+        phis,
+        lines,
+        end,
+    })
+}
+
 /// The block with these new phis before its own, and without slots among its lines.
 fn block(
     alloc: Global,
@@ -76,15 +108,9 @@ fn block(
     ensures { IfOk result (λ b. b ≡ record block.now { phis = new ++ block.now.phis; lines = lines_without (place_in slots.now) (at_start (place_in slots.now) first) block.now.lines }) }
 {
     let phis = joined(alloc, new, block.phis.as_slice())?;
-    let start = Values::new(alloc, first);
-    let lines = without_slots(alloc, slots, start, block.lines.as_slice())?;
-    let end = block.end.duplicate(alloc)?;
-    Ok(Block {
-        number: block.number,
-        phis,
-        lines,
-        end,
-    })
+    let lines = lines(alloc, slots, first, block)?;
+    let made = with_parts(alloc, block, phis, lines)?;
+    Ok(made)
 }
 
 /// The blocks with new phis, where each block ends so, and the first new phi of each has this number.
@@ -129,15 +155,23 @@ fn all_blocks(
     Ok(rows)
 }
 
-fn promoted(alloc: Global, f: &Function) -> Result<Function, AllocError>
-    ensures { IfOk result (λ g. g ≡ promoted_function f.now) }
+/// The blocks of the function with its slots as values.
+fn promoted_blocks(alloc: Global, f: &Function) -> Result<Rows<Block>, AllocError>
+    ensures { IfOk result (λ blocks. blocks ≡ (promoted_function f.now).blocks) }
 {
     let slots = Slots::of(alloc, f)?;
     let edges = preds(alloc, f)?;
     let next = next_number(f);
+    let blocks = all_blocks(alloc, &slots, &edges, next, f.blocks.as_slice())?;
+    Ok(blocks)
+}
+
+/// The function with other blocks.
+fn with_blocks(alloc: Global, f: &Function, blocks: Rows<Block>) -> Result<Function, AllocError>
+    ensures { IfOk result (λ g. g ≡ record f.now { blocks = blocks }) }
+{
     let symbol = f.symbol.duplicate(alloc)?;
     let params = f.params.duplicate(alloc)?;
-    let blocks = all_blocks(alloc, &slots, &edges, next, f.blocks.as_slice())?;
     Ok(Function {
         symbol,
         linkage: f.linkage,
@@ -147,6 +181,14 @@ fn promoted(alloc: Global, f: &Function) -> Result<Function, AllocError>
         optnone: f.optnone,
         blocks,
     })
+}
+
+fn promoted(alloc: Global, f: &Function) -> Result<Function, AllocError>
+    ensures { IfOk result (λ g. g ≡ promoted_function f.now) }
+{
+    let blocks = promoted_blocks(alloc, f)?;
+    let g = with_blocks(alloc, f, blocks)?;
+    Ok(g)
 }
 
 /// The function with each promotable slot as values, all at once: none where slots times blocks are more than

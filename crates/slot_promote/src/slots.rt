@@ -1,9 +1,11 @@
 //! The slots that are promoted.
-ghost use Rattle.std.specs.Prelude.{◌≡◌, ℕ, ◌==◌, ◌++◌, ◌&&◌, ◌||◌, not, IfOk, OnOk};
+ghost use Rattle.std.specs.HashMap as hash;
+ghost use Rattle.std.specs.Prelude.{◌≡◌, ℕ, nat_eq, List, ◌==◌, ◌++◌, ◌&&◌, ◌||◌, not, IfOk, OnOk};
 ghost use Rattle.ir_tree.specs.declared.operand.Reg.{Reg};
 ghost use Rattle.slot_promote.specs.Slots.{scalar, slot_made, line_slots, slots, is_access, is_accessed_as, promotable, limited, promoted_slots};
 ghost use Rattle.slot_promote.specs.Tables.{allows, place_in};
 ghost use Rattle.slot_promote.specs.Uses.{uses};
+ghost use Rattle.slot_promote.specs.declared.uses.Use.{Use};
 ghost use Rattle.slot_promote.specs.Values.{placed, is_there, reg_of, rank_of};
 
 use crate::uses::{Use, uses_in};
@@ -126,17 +128,35 @@ impl Accesses {
     }
 }
 
-/// The slots each of whose uses is the address of an access of their type.
-fn promotable(alloc: Global, uses: &[Use], slots: &[Slot]) -> Result<Vec<Slot>, AllocError>
-    ensures { IfOk result (λ kept. kept.items ≡ promotable uses.now slots.now) }
+/// The slots that these uses allow.
+fn allowed(alloc: Global, accesses: &Accesses, slots: &[Slot]) -> Result<Vec<Slot>, AllocError>
+    ensures { IfOk result (λ kept. (us : List Use) → ((reg : Reg) (x : ℕ) → allows accesses.now reg x ≡ is_accessed_as reg x us) → kept.items ≡ promotable us slots.now) }
 {
-    let accesses = Accesses::of(alloc, uses)?;
     let mut kept = Vec::new(alloc);
     for slot in slots {
         if accesses.allows(slot.reg, slot.local) {
             kept.push(*slot)?;
         }
     }
+    Ok(kept)
+}
+
+/// The slots each of whose uses is the address of an access of their type.
+fn promotable(alloc: Global, uses: &[Use], slots: &[Slot]) -> Result<Vec<Slot>, AllocError>
+    ensures { IfOk result (λ kept. kept.items ≡ promotable uses.now slots.now) }
+{
+    let accesses = Accesses::of(alloc, uses)?;
+    let kept = allowed(alloc, &accesses, slots)?;
+    Ok(kept)
+}
+
+/// The promotable slots of these blocks.
+fn promotable_in(alloc: Global, blocks: &[Block]) -> Result<Vec<Slot>, AllocError>
+    ensures { IfOk result (λ kept. kept.items ≡ promotable (uses blocks.now) (slots blocks.now)) }
+{
+    let uses = uses_in(alloc, blocks)?;
+    let slots = slots_in(alloc, blocks)?;
+    let kept = promotable(alloc, &uses, &slots)?;
     Ok(kept)
 }
 
@@ -159,30 +179,29 @@ pub(crate) struct Slots {
     places: HashMap<u32, Place>,
 }
 
-impl Slots {
-    fn placed(alloc: Global, list: Vec<Slot>) -> Result<Self, AllocError>
-        ensures list { IfOk result (λ s. s.list.items ≡ list.items) }
-        ensures places { IfOk result (λ s. (x : ℕ) → place_in s x ≡ placed 0 list.items x) }
-    {
-        let mut places = HashMap::new(alloc);
-        for rank in (0..list.len()).rev() {
-            let Slot { local, reg } = list[rank];
-            places.insert(local, Place { rank, reg })?;
-        }
-        Ok(Slots { list, places })
+/// The places of these slots by their locals.
+fn places(alloc: Global, list: &[Slot]) -> Result<HashMap<u32, Place>, AllocError>
+    ensures { IfOk result (λ t. (x : ℕ) → hash.get nat_eq t x ≡ placed 0 list.now x) }
+{
+    let mut places = HashMap::new(alloc);
+    for rank in (0..list.len()).rev() {
+        let Slot { local, reg } = list[rank];
+        places.insert(local, Place { rank, reg })?;
     }
+    Ok(places)
+}
 
+impl Slots {
     /// The slots of a function that are promoted.
     pub(crate) fn of(alloc: Global, f: &Function) -> Result<Self, AllocError>
         ensures list { IfOk result (λ s. s.list.items ≡ promoted_slots f.now) }
         ensures places { IfOk result (λ s. (x : ℕ) → place_in s x ≡ placed 0 (promoted_slots f.now) x) }
     {
         let blocks = f.blocks.as_slice();
-        let uses = uses_in(alloc, blocks)?;
-        let slots = slots_in(alloc, blocks)?;
-        let kept = promotable(alloc, &uses, &slots)?;
+        let kept = promotable_in(alloc, blocks)?;
         let list = limited(alloc, blocks.len(), kept);
-        Slots::placed(alloc, list)
+        let places = places(alloc, &list)?;
+        Ok(Slots { list, places })
     }
 
     /// Whether the local is a slot that is promoted.

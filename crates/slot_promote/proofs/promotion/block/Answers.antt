@@ -1,18 +1,9 @@
 use Rattle.std.proofs.Common.{◌≡◌, ◌++◌, ◌∙◌, List, ap}
-use Rattle.ir_tree.specs.declared.instr.Line.{Line}
 use Rattle.ir_tree.specs.declared.instr.Phi.{Phi}
-use Rattle.ir_better.specs.Promote.{Current}
-use Rattle.slot_promote.specs.Tables.{place_in}
-use Rattle.slot_promote.specs.Values.{at_start, without_slots}
 use Rattle.slot_promote.proofs.promotion.block.Goals as goal
 
 pub returns : goal.returns
-returns c = λ i. record { number = c.args.block.now.number; phis = phis i; lines = lines i; end = c.in_ok-end.ensures i }
+returns c = c.in_ok-made.ensures ∙ (λ i. record c.args.block.now { phis = phis i; lines = c.in_ok-lines.ensures i })
   where
     phis : c.in_ok-phis.phis ≡ c.args.new ++ c.args.block.now.phis
     phis = c.in_ok-phis.ensures ∙ ap (λ (ps : List Phi). c.args.new ++ ps) c.as_slice.ensures
-
-    lines : c.in_ok-lines.lines ≡ without_slots (place_in c.args.slots.now) (at_start (place_in c.args.slots.now) c.args.first) c.args.block.now.lines
-    lines =
-        c.in_ok-lines.ensures ∙ ap (λ (cur : Current). without_slots (place_in c.args.slots.now) cur c.as_slice-2.result.now) (λ j. λ y. c.new-start.ensures (place_in c.args.slots.now) y j)
-        ∙ ap (λ (ls : List Line). without_slots (place_in c.args.slots.now) (at_start (place_in c.args.slots.now) c.args.first) ls) c.as_slice-2.ensures

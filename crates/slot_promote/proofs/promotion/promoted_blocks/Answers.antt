@@ -1,0 +1,17 @@
+use Rattle.std.proofs.Common.{◌∙◌, sym, ap, length}
+use Rattle.ir_flow.proofs.Reaching.{row-inside}
+use Rattle.slot_promote.specs.Tables.{place_in}
+use Rattle.slot_promote.proofs.Loops.{whole_function}
+use Rattle.slot_promote.proofs.promotion.promoted_blocks.Goals as goal
+
+pub all_blocks-requires : goal.all_blocks-requires
+all_blocks-requires c = record {
+  edges = c.in_ok-edges.ensures.long ∙ ap length (sym c.as_slice.ensures);
+  inside = row-inside c.args.f.now c.in_ok-edges.edges c.in_ok-edges.ensures;
+}
+
+pub returns : goal.returns
+returns c =
+    c.in_ok-blocks.ensures
+    ∙ whole_function c.args.f.now (place_in c.in_ok-slots.slots) c.in_ok-slots.slots.list.items c.in_ok-edges.edges c.next_number-next.result c.as_slice.result.now
+    c.in_ok-slots.ensures.places c.in_ok-slots.ensures.list c.in_ok-edges.ensures c.next_number-next.ensures c.as_slice.ensures
