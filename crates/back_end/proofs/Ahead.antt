@@ -1,5 +1,5 @@
 -- A function that is walked over: what is ahead, and what a walk from there on is.
-use Rattle.std.proofs.Common.{◌≡◌, ◌∙◌, ◌<◌, ◌≤◌, ◌+◌, ◌-◌, ◌==◌, ℕ, zero, suc, ◌⊎◌, inl, inr, Bool, true, false, List, [], ◌∷◌, ◌++◌, Option, Some, None, map, length, length-append, take, append_assoc, append-nil, ap, sym, refl, subst, arith, if◌then◌else◌}
+use Rattle.std.proofs.Common.{◌≡◌, ◌∙◌, ◌<◌, ◌≤◌, ◌+◌, ◌-◌, ◌==◌, ℕ, zero, suc, ◌⊎◌, inl, inr, Bool, true, false, List, [], ◌∷◌, ◌++◌, MatchOption, Option, Some, None, map, length, length-append, take, append_assoc, append-nil, ap, sym, refl, subst, arith, if◌then◌else◌}
 use Rattle.std.specs.Prelude.{slice_get}
 use Rattle.std.proofs.lemmas.Bool.{cases_lt}
 use Rattle.ir_tree.specs.Types.{argument_types}
@@ -84,6 +84,17 @@ takes_late bodies symbol room rs instr c t = record {
   call = call_late rs c instr t.arguments t.call;
   small = t.small;
 }
+
+-- ---- the room that is left
+
+pub matched : {X : Type 0} (o : Option X) (P P' : Type 0) (Q Q' : X → Type 0) → (P → P') → ((x : X) → Q x → Q' x) → MatchOption o P Q → MatchOption o P' Q'
+matched None P P' Q Q' p q h = p h
+matched (Some x) P P' Q Q' p q h = q x h
+
+pub none_now : (bodies : List ℕ → Option Function) (symbol : Symbol) (many room : ℕ) (instr : Instr) → many + room ≡ 20000 → ((c : Function) → Takes bodies symbol room instr c → ⊥) → TakesNone bodies symbol many instr
+none_now bodies symbol many room instr is none c t =
+    let same : t.room ≡ room = (let other : many + t.room ≡ 20000 = t.has_room in omega (arith, is, other)) in
+    none c (subst (λ (r : ℕ). Takes bodies symbol r instr c) same t.takes)
 
 -- ---- places that take nothing
 
