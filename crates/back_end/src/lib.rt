@@ -16,7 +16,7 @@
 //! function only that is made of each sound one ([`made_is_one`]).
 //!
 //! Below this crate stand the passes, and `ir_meaning`, `ir_better` and `edge_counts` for what is proved. The cost is that of
-//! the passes; a walk looks for its next call from the function's beginning, so it costs as much as its inlinings do.
+//! the passes; a walk goes over the function once, and costs what the function and the bodies that it takes are long.
 #![tactic(auto)]
 
 mod bodies;

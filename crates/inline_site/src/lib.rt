@@ -8,15 +8,15 @@
 //!
 //! The result is one, sound where both functions are, and uses no other symbols than they do (`specs/Laws.antt`); it is better
 //! in every program in which the callee's body is the program's own. `inline_at` inlines at one call. A `Caller` is a function
-//! that calls are inlined into one after another: it keeps the first number that is free, and its blocks move and aren't
-//! copied. `arguments_of` tells whether an instruction is a call that may take a body.
+//! that calls are inlined into block by block: its blocks that are done. The block that is made is an `Open` one; what is ahead
+//! stays in the function that is read. A `Caller` keeps the first number that is free, and puts off until its end what an
+//! inlining changes elsewhere: phi entries that named the block of a call, and uses of results that no return gives
+//! (`specs/Callers.antt`). `arguments_of` tells whether an instruction is a call that may take a body.
 //!
 //! Below this crate stand `ir_tree`, `ir_edit`, whose edits make the copy, and `edge_counts`, `ir_meaning` and `ir_better` for
-//! what is proved. Inlining into a `Caller` copies the callee and the block of the call, with one look-up in a table for each
-//! use in the callee. Of the caller's other blocks no instruction is looked at: their sizes are counted up to the place, their
-//! phi entries are searched for the block of the call, of which only the phis that have one are built anew, and the blocks
-//! behind the call move by their headers, as blocks stand in a vector. The whole caller is copied as it becomes a `Caller`,
-//! so at each `inline_at`, and twice where no return gives the call's result, whose uses may stand anywhere.
+//! what is proved. Inlining into a `Caller` costs what the callee is long, with one look-up in a table for each use in it,
+//! however long the caller is. The end costs one look-up for each phi entry, and one more copy of the function where a result
+//! is lost. `inline_at` copies the function once.
 #![tactic(auto)]
 
 mod caller;

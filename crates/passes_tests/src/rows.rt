@@ -9,7 +9,7 @@ use block_merge::merge;
 use block_trim::trim;
 use branch_simplify::branches;
 use dead_code::needed;
-use inline_site::{Caller, Tried, inline_at};
+use inline_site::inline_at;
 use ir_edit::renumber;
 use ir_facts::apply;
 use ir_parse::parse;
@@ -102,21 +102,18 @@ fn inlined(
     }
 }
 
-/// A caller with the callee inlined at these places, one after the other.
+/// The function with the callee inlined at these places, one after the other.
 fn inlined_at_each(
     alloc: Global,
     f: &Function,
     places: &[u32],
     callee: &Function,
 ) -> Result<Function, AllocError> {
-    let mut caller = Caller::of(alloc, f)?;
+    let mut made = f.duplicate(alloc)?;
     for place in places {
-        caller = match caller.inline_at(alloc, *place, callee)? {
-            Tried::Inlined(caller) => caller,
-            Tried::NoCall(caller) => caller,
-        };
+        made = inlined(alloc, &made, *place, callee)?;
     }
-    Ok(caller.into_function())
+    Ok(made)
 }
 
 /// References to these global values.
