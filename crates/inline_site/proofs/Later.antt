@@ -23,13 +23,14 @@ use Rattle.ir_tree.specs.declared.operand.Reg.{Reg}
 use Rattle.ir_edit.specs.Edited.{argument_edited, block_edited, edited, end_edited, incoming_edited, instr_edited, line_edited, phi_edited}
 use Rattle.ir_edit.specs.Substituted.{operand_replaced, or_local, replacement, substituted}
 use Rattle.ir_edit.specs.Numbered.{blocks_numbers, later_or}
-use Rattle.inline_site.specs.Callers.{behind_open, IsReady, Inlines, ended, entry_by, late_given, lost_of, made_of, named_by, next_in, opened_with, phi_by, poisons, with_names, without}
+use Rattle.inline_site.specs.Callers.{behind_open, IsReady, Inlines, counted_done, ended, entry_by, late_given, lost_of, made_of, name_in, named_by, next_in, opened_with, phi_by, poisons, with_names, without}
 use Rattle.inline_site.specs.Copies.{added, behind_call, bound, copied, copied_number, copied_operand, first_free}
 use Rattle.inline_site.specs.Inlined.{IsInlined, after_call, before_call, block_named, end_leading, entry_named, entry_of, inlined, leading_to, named, phi_named, result_given, result_phis, return_entries, return_entry, spliced}
 use Rattle.inline_site.specs.Sites.{IsCallOf, Site, StandsAt, counted_in}
 use Rattle.inline_site.specs.declared.caller.Caller.{Caller}
 use Rattle.inline_site.specs.declared.late.Late.{Late}
 use Rattle.inline_site.specs.declared.names.Halves.{Halves}
+use Rattle.inline_site.specs.declared.names.Names.{Names}
 use Rattle.inline_site.specs.declared.open.Open.{Open}
 use Rattle.inline_site.proofs.Copied.{behind_is}
 use Rattle.inline_site.proofs.Growing.{grown, old_local, old_number}
@@ -219,12 +220,16 @@ pub none_lost : (f : Function) (rs : List (ℕ × Reg)) → length rs ≡ 0 → 
 none_lost f [] e = sym ((λ i. edited (λ x. x) (λ o. nothing_replaced o i) f) ∙ edited_same f)
 none_lost f (r ∷ rs) e = absurd (omega (arith, e))
 
-pub done_late : (l : Late) (f g h : Function) (name : ℕ → ℕ) (bs cs : List Block) → ((n : ℕ) → name n ≡ named_by l.halves.items n) → cs ≡ map (with_names name) bs → g ≡ record f { blocks = cs }
-    → h ≡ substituted (poisons l.lost.items) g → h ≡ late_given l (record f { blocks = bs })
-done_late l f g h name bs cs same names blocks lost =
+pub done_late : (l : Late) (f g h : Function) (bs cs : List Block) → cs ≡ map (with_names (named_by l.halves.items)) bs → g ≡ record f { blocks = cs } → h ≡ substituted (poisons l.lost.items) g
+    → h ≡ late_given l (record f { blocks = bs })
+done_late l f g h bs cs names blocks lost =
     lost
-    ∙ ap (substituted (poisons l.lost.items)) (blocks ∙ (λ i. record f { blocks = names i }) ∙ (λ i. record f { blocks = map (with_names (λ n. same n i)) bs }))
+    ∙ ap (substituted (poisons l.lost.items)) (blocks ∙ (λ i. record f { blocks = names i }))
     ∙ substituted_late l.lost.items (record f { blocks = map (with_names (named_by l.halves.items)) bs })
+
+-- the names of the table are the last ones
+pub renamed : (names : Names) (hs : List Halves) (bs : List Block) → ((n : ℕ) → name_in names n ≡ named_by hs n) → map (with_names (name_in names)) bs ≡ map (with_names (named_by hs)) bs
+renamed names hs bs same = λ i. map (with_names (λ n. same n i)) bs
 
 -- ---- the beginning
 
@@ -238,6 +243,10 @@ same_phis_names (p ∷ ps) = λ i. record { local = p.local; reg = p.reg; incomi
 same_names : (bs : List Block) → map (with_names (named_by [])) bs ≡ bs
 same_names [] = refl
 same_names (b ∷ bs) = λ i. record { number = b.number; phis = same_phis_names b.phis i; lines = b.lines; end = b.end } ∷ same_names bs i
+
+pub no_names : (hs : List Halves) (bs : List Block) → length hs ≡ 0 → bs ≡ map (with_names (named_by hs)) bs
+no_names [] bs e = sym (same_names bs)
+no_names (h ∷ hs) bs e = absurd (omega (arith, e))
 
 pub made_first : (f : Function) (c : Caller) → c.done.items ≡ [] → c.late.halves.items ≡ [] → c.late.lost.items ≡ [] → made_of f c f.blocks ≡ f
 made_first f c done halves lost =
@@ -501,3 +510,25 @@ inlined_here f g callee place c c' o o' call lines end ahead same ready at step 
     (subst (λ (n : ℕ). IsInlined f n callee (Some (made_of f c' (opened_with o' lines end ∷ ahead)))) at
     (subst (λ (h : Function). IsInlined h (next_in c o) callee (Some (made_of f c' (opened_with o' lines end ∷ ahead)))) same
     (step.inlined (subst (λ (h : Function). IsReady h c) (sym same) ready))))
+
+pub inlined_at : (f g callee : Function) (place : ℕ) (s : Site) (first c c' : Caller) (o o' : Open) → StandsAt f.blocks place s → made_of f first f.blocks ≡ f → IsReady f first → counted_done first ≡ 0
+    → o ≡ record { number = s.block.number; phis = s.block.phis; lines = s.before } → c.done.items ≡ first.done.items ++ s.front → c.free ≡ first.free → c.late ≡ first.late
+    → Inlines f c c' o o' s.call callee s.after s.block.end s.back → g ≡ made_of f c' (opened_with o' s.after s.block.end ∷ s.back) → IsInlined f place callee (Some g)
+inlined_at f g callee place s first c c' o o' stands same ready none block done free late step is =
+    inlined_here f g callee place c c' o o' s.call s.after s.block.end s.back whole_f (ready_more f first c free late ready) at step is
+  where
+    whole_f : made_of f c (opened_with o (s.call ∷ s.after) s.block.end ∷ s.back) ≡ f
+    whole_f =
+        ap (λ (p : Open). made_of f c (opened_with p (s.call ∷ s.after) s.block.end ∷ s.back)) block
+        ∙ ap (λ (ls : List Line). made_of f c (record s.block { lines = ls } ∷ s.back)) (sym stands.lines)
+        ∙ made_more f first c s.front (s.block ∷ s.back) done late
+        ∙ ap (made_of f first) (sym stands.blocks)
+        ∙ same
+
+    at : next_in c o ≡ place
+    at =
+        let front : counted_in c.done.items ≡ counted_in first.done.items + counted_in s.front = counted_pass first.done.items c.done.items s.front done in
+        let phis : length o.phis ≡ length s.block.phis = ap (λ (p : Open). length p.phis) block in
+        let lines : length o.lines ≡ length s.before = ap (λ (p : Open). length p.lines) block in
+        let counts : place ≡ counted_in s.front + (length s.block.phis + (length s.before + 1)) = stands.counts in
+        omega (arith, front, phis, lines, counts, none)

@@ -22,7 +22,6 @@ mod MovedEdges
 mod MovedItems
 mod MovedOperands
 mod MovedTypes
-mod Naming
 mod Numbered
 mod Once
 mod OneSite

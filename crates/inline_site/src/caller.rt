@@ -100,17 +100,6 @@ impl Caller {
         Ok(())
     }
 
-    /// Adds a copy of a block.
-    fn push(&mut self, alloc: Global, block: &Block) -> Result<(), AllocError>
-        ensures done { OnOk result (self.new.done.items ≡ self.old.done.items ++ block.now ∷ []) }
-        ensures free { OnOk result (self.new.free ≡ self.old.free) }
-        ensures late { OnOk result (self.new.late ≡ self.old.late) }
-    {
-        let block = block.duplicate(alloc)?;
-        self.done.push(block)?;
-        Ok(())
-    }
-
     /// Adds copies of these blocks.
     pub(crate) fn pass(&mut self, alloc: Global, blocks: &[Block]) -> Result<(), AllocError>
         ensures done { OnOk result (self.new.done.items ≡ self.old.done.items ++ blocks.now) }
@@ -118,7 +107,8 @@ impl Caller {
         ensures late { OnOk result (self.new.late ≡ self.old.late) }
     {
         for block in blocks {
-            self.push(alloc, block)?;
+            let block = block.duplicate(alloc)?;
+            self.done.push(block)?;
         }
         Ok(())
     }

@@ -1,7 +1,8 @@
 //! Inlining at one call.
-ghost use Rattle.std.specs.Prelude.{◌≡◌, ◌≢◌, ◌∷◌, [], Some, IfOk, IfSome};
+ghost use Rattle.std.specs.Prelude.{◌≡◌, ◌≢◌, ◌∷◌, ◌++◌, [], Some, IfOk, IfSome, OnOk};
 ghost use Rattle.ir_tree.specs.Rules.{Sound};
-ghost use Rattle.inline_site.specs.Callers.{IsReady, made_of, next_in, opened_with};
+ghost use Rattle.ir_tree.specs.declared.function.Function.{Function};
+ghost use Rattle.inline_site.specs.Callers.{made_of, opened_with};
 ghost use Rattle.inline_site.specs.Copying.{site_of};
 ghost use Rattle.inline_site.specs.Inlined.{IsInlined};
 ghost use Rattle.inline_site.specs.Laws.{IsBetterIfGiven};
@@ -13,42 +14,37 @@ use crate::site::{SiteParts, arguments_of, site_at};
 use ir_tree::{Argument, Function};
 use std::alloc::{AllocError, Global};
 
-/// The function up to a call.
+/// Goes on up to a call, in whose block nothing else is ahead.
 fn up_to(
     alloc: Global,
-    f: &Function,
-    place: u32,
+    caller: &mut Caller,
     site: SiteParts<'_>,
-) -> Result<(Caller, Open), AllocError>
-    requires { StandsAt f.now.blocks place (site_of site) }
-    ensures function { IfOk result (λ r. made_of f.now r.0 (opened_with r.1 ((site_of site.entry).call ∷ (site_of site.entry).after) (site_of site.entry).block.end ∷ (site_of site.entry).back) ≡ f.now) }
-    ensures ready { IfOk result (λ r. IsReady f.now r.0) }
-    ensures place { IfOk result (λ r. next_in r.0 r.1 ≡ place) }
+) -> Result<Open, AllocError>
+    ensures block { IfOk result (λ o. o ≡ record { number = (site_of site.entry).block.number; phis = (site_of site.entry).block.phis; lines = (site_of site.entry).before }) }
+    ensures done { IfOk result (λ o. caller.new.done.items ≡ caller.old.done.items ++ (site_of site.entry).front) }
+    ensures free { IfOk result (λ o. caller.new.free ≡ caller.old.free) }
+    ensures late { IfOk result (λ o. caller.new.late ≡ caller.old.late) }
 {
-    let mut caller = Caller::of(alloc, f);
     caller.pass(alloc, site.front)?;
     let mut current = Open::of(alloc, site.block)?;
     current.push_all(alloc, site.before)?;
-    Ok((caller, current))
+    Ok(current)
 }
 
-/// The function with what stands behind a call.
+/// Goes on with what stands behind a call.
 fn from_there(
     alloc: Global,
-    f: &Function,
-    caller: Caller,
+    caller: &mut Caller,
     current: Open,
     site: SiteParts<'_>,
-) -> Result<Function, AllocError>
-    ensures { IfOk result (λ g. g ≡ made_of f.now caller (opened_with current (site_of site.entry).after (site_of site.entry).block.end ∷ (site_of site.entry).back)) }
+) -> Result<(), AllocError>
+    ensures { OnOk result ((f : Function) → made_of f caller.new [] ≡ made_of f caller.old (opened_with current (site_of site.entry).after (site_of site.entry).block.end ∷ (site_of site.entry).back)) }
 {
-    let mut caller = caller;
     let mut current = current;
     current.push_all(alloc, site.after)?;
     caller.end(alloc, current, &site.block.end)?;
     caller.pass(alloc, site.back)?;
-    let g = caller.finish(alloc, f)?;
-    Ok(g)
+    Ok(())
 }
 
 fn inlined(
@@ -64,11 +60,11 @@ fn inlined(
     requires call { IsCallOf callee.now (site_of site).call.instr arguments.now }
     ensures { IfOk result (λ g. Sound callee.now → IsInlined f.now place callee.now (Some g)) }
 {
-    let (caller, current) = up_to(alloc, f, place, site)?;
-    let mut caller = caller;
-    let mut current = current;
+    let mut caller = Caller::of(alloc, f);
+    let mut current = up_to(alloc, &mut caller, site)?;
     caller.inline(alloc, &mut current, site.call, arguments, callee)?;
-    let g = from_there(alloc, f, caller, current, site)?;
+    from_there(alloc, &mut caller, current, site)?;
+    let g = caller.finish(alloc, f)?;
     Ok(g)
 }
 

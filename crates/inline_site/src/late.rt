@@ -3,7 +3,7 @@ ghost use Rattle.std.specs.Prelude.{◌≡◌, [], ◌∷◌, ◌++◌, option_t
 ghost use Rattle.ir_edit.specs.Substituted.{substituted};
 ghost use Rattle.inline_site.specs.Callers.{late_given, poisons};
 
-use crate::names::{Halves, Names};
+use crate::names::{Halves, rename};
 use ir_edit::substitute;
 use ir_tree::{Block, Duplicate, Function, Operand, Reg, Rows};
 use std::alloc::{AllocError, Global};
@@ -104,8 +104,7 @@ impl Late {
         ensures { IfOk result (λ g. g ≡ late_given self.now (record f.now { blocks = blocks.items })) }
     {
         let mut blocks = blocks;
-        let names = Names::of(alloc, &self.halves)?;
-        names.rename(alloc, &mut blocks)?;
+        rename(alloc, &self.halves, &mut blocks)?;
         let renamed = with_blocks(alloc, f, blocks)?;
         let g = without_lost(alloc, &self.lost, renamed)?;
         Ok(g)

@@ -1,5 +1,5 @@
 //! The last names of blocks.
-ghost use Rattle.std.specs.Prelude.{◌≡◌, ℕ, map, IfOk, IsFalse, OnOk};
+ghost use Rattle.std.specs.Prelude.{◌≡◌, ℕ, map, IfOk, OnOk};
 ghost use Rattle.inline_site.specs.Callers.{entry_by, name_in, named_by, phi_by, with_names};
 
 use ir_tree::{Block, Duplicate, Incoming, Phi, Rows};
@@ -15,13 +15,13 @@ pub(crate) struct Halves {
 
 /// The block behind the last call of each block that was cut at calls.
 #[derive(Drop)]
-pub(crate) struct Names {
+struct Names {
     last: HashMap<u32, u32>,
 }
 
 impl Names {
     /// Of blocks that were cut at calls, one call after another.
-    pub(crate) fn of(alloc: Global, halves: &[Halves]) -> Result<Names, AllocError>
+    fn of(alloc: Global, halves: &[Halves]) -> Result<Names, AllocError>
         ensures { IfOk result (λ names. (n : ℕ) → name_in names n ≡ named_by halves.now n) }
     {
         let mut names = Names {
@@ -72,40 +72,30 @@ impl Names {
         Ok(rows)
     }
 
-    /// Whether an entry names a block that has another name at last.
-    fn renames(&self, incoming: &[Incoming]) -> bool
-        ensures { IsFalse result → map (entry_by (name_in self.now)) incoming.now ≡ incoming.now }
-    {
-        for entry in incoming {
-            if self.name(entry.from) != entry.from {
-                return true;
-            }
-        }
-        false
-    }
-
-    /// Whether an entry of one of the phis does.
-    fn renames_in(&self, phis: &[Phi]) -> bool
-        ensures { IsFalse result → map (phi_by (name_in self.now)) phis.now ≡ phis.now }
-    {
-        for phi in phis {
-            if self.renames(phi.incoming.as_slice()) {
-                return true;
-            }
-        }
-        false
-    }
-
-    /// Lets phi entries name blocks by their last names. Only phis with other entries are built anew.
-    pub(crate) fn rename(&self, alloc: Global, blocks: &mut Vec<Block>) -> Result<(), AllocError>
+    /// Lets phi entries name blocks by their last names.
+    fn rename(&self, alloc: Global, blocks: &mut Vec<Block>) -> Result<(), AllocError>
         ensures { OnOk result (blocks.new.items ≡ map (with_names (name_in self.now)) blocks.old.items) }
     {
         for place in 0..blocks.len() {
-            if self.renames_in(blocks[place].phis.as_slice()) {
-                let phis = self.phis(alloc, blocks[place].phis.as_slice())?;
-                blocks[place].phis = phis;
-            }
+            let phis = self.phis(alloc, blocks[place].phis.as_slice())?;
+            blocks[place].phis = phis;
         }
         Ok(())
     }
+}
+
+/// Lets phi entries name blocks by their last names, where blocks were cut at these calls, one after another.
+pub(crate) fn rename(
+    alloc: Global,
+    halves: &[Halves],
+    blocks: &mut Vec<Block>,
+) -> Result<(), AllocError>
+    ensures { OnOk result (blocks.new.items ≡ map (with_names (named_by halves.now)) blocks.old.items) }
+{
+    if halves.len() == 0 {
+        return Ok(());
+    }
+    let names = Names::of(alloc, halves)?;
+    names.rename(alloc, blocks)?;
+    Ok(())
 }

@@ -191,15 +191,22 @@ fn places(alloc: Global, list: &[Slot]) -> Result<HashMap<u32, Place>, AllocErro
     Ok(places)
 }
 
+/// The slots of a function that are promoted.
+fn list(alloc: Global, f: &Function) -> Result<Vec<Slot>, AllocError>
+    ensures { IfOk result (λ list. list.items ≡ promoted_slots f.now) }
+{
+    let blocks = f.blocks.as_slice();
+    let kept = promotable_in(alloc, blocks)?;
+    Ok(limited(alloc, blocks.len(), kept))
+}
+
 impl Slots {
     /// The slots of a function that are promoted.
     pub(crate) fn of(alloc: Global, f: &Function) -> Result<Self, AllocError>
         ensures list { IfOk result (λ s. s.list.items ≡ promoted_slots f.now) }
         ensures places { IfOk result (λ s. (x : ℕ) → place_in s x ≡ placed 0 (promoted_slots f.now) x) }
     {
-        let blocks = f.blocks.as_slice();
-        let kept = promotable_in(alloc, blocks)?;
-        let list = limited(alloc, blocks.len(), kept);
+        let list = list(alloc, f)?;
         let places = places(alloc, &list)?;
         Ok(Slots { list, places })
     }
