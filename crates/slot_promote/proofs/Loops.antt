@@ -177,11 +177,10 @@ all_ends at ends first blocks place is long h p = by (nat_lt p place) refl
 
 -- ---- blocks
 
-pub block_pushed : (at : ℕ → Option Place) (list : List Slot) (ends : ℕ → End) (from : ℕ → List ℕ) (firsts : List (Option ℕ)) (d : Option ℕ) (blocks : List Block) (place : ℕ) (rows rows' all : List Block) (b made' : Block) (edges : List ℕ) (new : List Phi)
-    → place < length blocks → place < length firsts → b ≡ get_or blocks place b → edges ≡ from place → new ≡ new_phis ends edges (get_or firsts place d) list
-    → made' ≡ record b { phis = new ++ b.phis; lines = without_slots at (at_start at (get_or firsts place d)) b.lines } → rows' ≡ rows ++ made' ∷ []
+pub block_pushed : (at : ℕ → Option Place) (list : List Slot) (ends : ℕ → End) (from : ℕ → List ℕ) (firsts : List (Option ℕ)) (d : Option ℕ) (blocks : List Block) (place : ℕ) (rows rows' all : List Block) (b made' : Block) (edges : List ℕ)
+    → place < length blocks → place < length firsts → b ≡ get_or blocks place b → edges ≡ from place → made' ≡ block_with at list ends edges (get_or firsts place d) b → rows' ≡ rows ++ made' ∷ []
     → rows ++ blocks_with at list ends from (first_in firsts) place (drop place blocks) ≡ all → rows' ++ blocks_with at list ends from (first_in firsts) (place + 1) (drop (place + 1) blocks) ≡ all
-block_pushed at list ends from firsts d blocks place rows rows' all b made' edges new lt inside b_is edges_is new_is made_is pushed before =
+block_pushed at list ends from firsts d blocks place rows rows' all b made' edges lt inside b_is edges_is made_is pushed before =
     ap (λ (l : List Block). l ++ blocks_with at list ends from (first_in firsts) (place + 1) (drop (place + 1) blocks)) pushed
     ∙ append_assoc rows (made' ∷ []) (blocks_with at list ends from (first_in firsts) (place + 1) (drop (place + 1) blocks))
     ∙ (λ i. rows ++ (whole i ∷ blocks_with at list ends from (first_in firsts) (next i) (drop (place + 1) blocks)))
@@ -192,7 +191,7 @@ block_pushed at list ends from firsts d blocks place rows rows' all b made' edge
 
     whole : made' ≡ block_with at list ends (from place) (first_in firsts place) b
     whole =
-        made_is ∙ ap (λ (ps : List Phi). record b { phis = ps ++ b.phis; lines = without_slots at (at_start at (get_or firsts place d)) b.lines }) (new_is ∙ ap (λ (es : List ℕ). new_phis ends es (get_or firsts place d) list) edges_is)
+        made_is ∙ ap (λ (es : List ℕ). block_with at list ends es (get_or firsts place d) b) edges_is
         ∙ ap (λ (o : Option ℕ). block_with at list ends (from place) o b) (first_is firsts place d inside)
 
 -- ---- the whole

@@ -7,7 +7,7 @@ ghost use Rattle.ir_meaning.specs.Near.{BetterThan};
 ghost use Rattle.ir_meaning.specs.Program.{Program};
 ghost use Rattle.ir_better.specs.Formed.{IsFormed};
 ghost use Rattle.slot_promote.specs.Laws.{longest};
-ghost use Rattle.slot_promote.specs.Promoted.{blocks_with, end_with, ends_with, first_phi, promoted_function};
+ghost use Rattle.slot_promote.specs.Promoted.{block_with, blocks_with, end_with, ends_with, first_phi, promoted_function};
 ghost use Rattle.slot_promote.specs.Tables.{end_view, ends_in, first_in, place_in};
 ghost use Rattle.slot_promote.specs.Values.{at_start, without_slots as lines_without};
 
@@ -113,6 +113,23 @@ fn block(
     Ok(made)
 }
 
+/// The block with new phis, to which blocks that end so lead from these places.
+fn block_from(
+    alloc: Global,
+    slots: &Slots,
+    ends: &[BlockEnd],
+    sources: &[u32],
+    first: Option<usize>,
+    old: &Block,
+) -> Result<Block, AllocError>
+    requires { (p : ℕ) → Among p sources.now → p < length ends.now }
+    ensures { IfOk result (λ b. b ≡ block_with (place_in slots.now) slots.now.list.items (ends_in (place_in slots.now) ends.now) sources.now first old.now) }
+{
+    let new = new_phis(alloc, slots, ends, sources, first)?;
+    let made = block(alloc, slots, first, new, old)?;
+    Ok(made)
+}
+
 /// The blocks with new phis, where each block ends so, and the first new phi of each has this number.
 fn blocks(
     alloc: Global,
@@ -130,8 +147,7 @@ fn blocks(
 {
     let mut rows = Rows::new(alloc);
     for place in 0..blocks.len() {
-        let new = new_phis(alloc, slots, ends, edges.of(place), firsts[place])?;
-        let made = block(alloc, slots, firsts[place], new, &blocks[place])?;
+        let made = block_from(alloc, slots, ends, edges.of(place), firsts[place], &blocks[place])?;
         rows.push(made)?;
     }
     Ok(rows)
