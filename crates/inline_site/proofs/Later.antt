@@ -1,11 +1,11 @@
 -- What is put off until a function is done, with the callee inlined at one call more.
-use Rattle.std.proofs.Common.{◌≡◌, ◌≢◌, ℕ, ◌+◌, ◌<◌, ◌≤◌, ◌==◌, Bool, true, false, List, [], ◌∷◌, ◌++◌, All, Option, Some, None, map, option_map, length, length-append, refl, sym, ◌∙◌, ap, subst, arith, append_assoc, append-nil, map-id, if◌then◌else◌}
+use Rattle.std.proofs.Common.{◌≡◌, ◌≢◌, ℕ, ◌+◌, ◌<◌, ◌≤◌, ◌==◌, Bool, true, false, List, [], ◌∷◌, ◌++◌, All, Option, Some, None, map, option_map, length, refl, sym, ◌∙◌, ap, subst, arith, append_assoc, append-nil, map-id, if◌then◌else◌}
 use Rattle.std.proofs.lemmas.Bool.{ne_eqb}
 use Rattle.std.proofs.lemmas.List.{map-append}
 use Rattle.std.proofs.lemmas.List.Elements.{All-head, All-nil, All-push, All-same, All-tail, All-weaker}
 use Rattle.std.specs.Prelude.{option_to_list}
 use Rattle.ir_meaning.specs.Program.{counted}
-use Rattle.ir_tree.specs.Types.{argument_types, param_types}
+use Rattle.ir_tree.specs.Types.{argument_types}
 use Rattle.ir_tree.specs.declared.block.Block.{Block}
 use Rattle.ir_tree.specs.declared.block.Terminator.{Terminator}
 use Rattle.ir_tree.specs.declared.block.Terminator.TheVariants.{Branch, Jump, Return, Switch, Unreachable}
@@ -24,7 +24,7 @@ use Rattle.ir_edit.specs.Edited.{argument_edited, block_edited, edited, end_edit
 use Rattle.ir_edit.specs.Substituted.{operand_replaced, or_local, replacement, substituted}
 use Rattle.ir_edit.specs.Numbered.{blocks_numbers, later_or}
 use Rattle.inline_site.specs.Callers.{behind_open, IsReady, Inlines, counted_done, ended, entry_by, late_given, lost_of, made_of, name_in, named_by, next_in, opened_with, phi_by, poisons, with_names, without}
-use Rattle.inline_site.specs.Copies.{added, behind_call, bound, copied, copied_number, copied_operand, first_free}
+use Rattle.inline_site.specs.Copies.{behind_call, bound, copied, copied_number, copied_operand, first_free}
 use Rattle.inline_site.specs.Inlined.{IsInlined, after_call, before_call, block_named, end_leading, entry_named, entry_of, inlined, leading_to, named, phi_named, result_given, result_phis, return_entries, return_entry, spliced}
 use Rattle.inline_site.specs.Sites.{IsCallOf, Site, StandsAt, counted_in}
 use Rattle.inline_site.specs.declared.caller.Caller.{Caller}
@@ -35,7 +35,7 @@ use Rattle.inline_site.specs.declared.open.Open.{Open}
 use Rattle.inline_site.proofs.Copied.{behind_is}
 use Rattle.inline_site.proofs.Growing.{grown, old_local, old_number}
 use Rattle.inline_site.proofs.Laid.{edited_same, end_leading_edited, same_blocks}
-use Rattle.inline_site.proofs.Twice.{block_twice, blocks_twice, map_twice}
+use Rattle.inline_site.proofs.Twice.{block_twice, blocks_twice}
 
 -- ---- names
 

@@ -85,12 +85,7 @@ impl Caller {
     }
 
     /// Ends a block.
-    pub fn end(
-        &mut self,
-        alloc: Global,
-        current: Open,
-        end: &Terminator,
-    ) -> Result<(), AllocError>
+    pub fn end(&mut self, alloc: Global, current: Open, end: &Terminator) -> Result<(), AllocError>
         ensures function { OnOk result ((f : Function) (ahead : List Block) → made_of f self.new ahead ≡ made_of f self.old (ended current end.now ∷ ahead)) }
         ensures ready { OnOk result ((g : Function) → IsReady g self.old → IsReady g self.new) }
         ensures count { OnOk result (counted_done self.new ≡ counted_done self.old + counted (ended current end.now)) }
@@ -127,7 +122,8 @@ impl Caller {
     {
         let behind = after.number;
         let before = replace(current, after);
-        self.done.push(before.ended(Terminator::Jump(entry_of(copy))))?;
+        self.done
+            .push(before.ended(Terminator::Jump(entry_of(copy))))?;
         push_leading(alloc, &mut self.done, copy, behind)
     }
 

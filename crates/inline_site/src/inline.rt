@@ -15,11 +15,7 @@ use ir_tree::{Argument, Function};
 use std::alloc::{AllocError, Global};
 
 /// Goes on up to a call, in whose block nothing else is ahead.
-fn up_to(
-    alloc: Global,
-    caller: &mut Caller,
-    site: SiteParts<'_>,
-) -> Result<Open, AllocError>
+fn up_to(alloc: Global, caller: &mut Caller, site: SiteParts<'_>) -> Result<Open, AllocError>
     ensures block { IfOk result (λ o. o ≡ record { number = (site_of site.entry).block.number; phis = (site_of site.entry).block.phis; lines = (site_of site.entry).before }) }
     ensures done { IfOk result (λ o. caller.new.done.items ≡ caller.old.done.items ++ (site_of site.entry).front) }
     ensures free { IfOk result (λ o. caller.new.free ≡ caller.old.free) }

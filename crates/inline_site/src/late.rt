@@ -54,11 +54,7 @@ fn poisoned(alloc: Global, lost: &[(u32, Reg)], f: &Function) -> Result<Function
 }
 
 /// Poison for results that no return gives.
-fn without_lost(
-    alloc: Global,
-    lost: &[(u32, Reg)],
-    f: Function,
-) -> Result<Function, AllocError>
+fn without_lost(alloc: Global, lost: &[(u32, Reg)], f: Function) -> Result<Function, AllocError>
     ensures { IfOk result (λ g. g ≡ substituted (poisons lost.now) f) }
 {
     if lost.len() == 0 {

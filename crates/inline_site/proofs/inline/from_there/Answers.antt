@@ -1,4 +1,4 @@
-use Rattle.std.proofs.Common.{◌∙◌, List, [], ◌∷◌, append-nil, ap}
+use Rattle.std.proofs.Common.{◌∙◌, [], ◌∷◌, append-nil, ap}
 use Rattle.inline_site.specs.Callers.{ended, made_of}
 use Rattle.inline_site.specs.declared.open.Open.{Open}
 use Rattle.inline_site.proofs.Later.{made_more}

@@ -1,5 +1,4 @@
 use Rattle.std.proofs.Common.{◌∙◌, arith}
-use Rattle.inline_site.specs.Callers.{with_names}
 use Rattle.inline_site.proofs.Later.{no_names, renamed}
 use Rattle.inline_site.proofs.names.rename.Goals as goal
 

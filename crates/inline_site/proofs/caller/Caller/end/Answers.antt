@@ -1,7 +1,6 @@
-use Rattle.std.proofs.Common.{◌≡◌, ◌∙◌, ◌++◌, List, [], ◌∷◌, ap, rules}
-use Rattle.ir_tree.specs.declared.block.Block.{Block}
+use Rattle.std.proofs.Common.{rules}
 use Rattle.inline_site.specs.Callers.{ended}
-use Rattle.inline_site.proofs.Later.{counted_end, made_more}
+use Rattle.inline_site.proofs.Later.{counted_end}
 use Rattle.inline_site.proofs.caller.Caller.end.Goals as goal
 
 pub returns-clause-count : goal.returns-clause-count

@@ -1,6 +1,4 @@
-use Rattle.std.proofs.Common.{◌≡◌, ◌∙◌, ◌++◌, List, [], ◌∷◌}
-use Rattle.ir_tree.specs.Rules.{Sound}
-use Rattle.ir_tree.specs.declared.block.Block.{Block}
+use Rattle.std.proofs.Common.{◌≡◌, ◌∙◌, ◌++◌, [], ◌∷◌}
 use Rattle.inline_site.specs.Copies.{behind_call, copied}
 use Rattle.inline_site.specs.Copying.{empty}
 use Rattle.inline_site.proofs.Later.{counted_put, inlines}
