@@ -167,8 +167,8 @@ module _ (f : Function) (c : Caller) (o : Open) (lines : List Line) (end : Termi
       many_mapped (phi_edited (λ n. n) (without c.late.lost.items)) (map (phi_by (named_by c.late.halves.items)) o.phis) ∙ many_mapped (phi_by (named_by c.late.halves.items)) o.phis in
       let all : length (map (line_edited (λ n. n) (without c.late.lost.items)) (o.lines ++ lines)) ≡ length o.lines + length lines = many_mapped (line_edited (λ n. n) (without c.late.lost.items)) (o.lines ++ lines) ∙ length-append o.lines lines in
       let there = in_there now.blocks (map (block_edited (λ n. n) (without c.late.lost.items)) (map (with_names (named_by c.late.halves.items)) c.done.items)) (map (block_edited (λ n. n) (without c.late.lost.items)) (map (with_names (named_by c.late.halves.items)) ahead))
-          (block_edited (λ n. n) (without c.late.lost.items) (with_names (named_by c.late.halves.items) (opened_with o lines end))) q s
-          (laid (block_edited (λ n. n) (without c.late.lost.items)) (with_names (named_by c.late.halves.items)) c.done.items (opened_with o lines end) ahead) stands (omega (arith, done, more)) (omega (arith, done, phis, all, less)) in
+      (block_edited (λ n. n) (without c.late.lost.items) (with_names (named_by c.late.halves.items) (opened_with o lines end))) q s
+      (laid (block_edited (λ n. n) (without c.late.lost.items)) (with_names (named_by c.late.halves.items)) c.done.items (opened_with o lines end) ahead) stands (omega (arith, done, more)) (omega (arith, done, phis, all, less)) in
       (omega (arith, there.0, done, phis), omega (arith, there.1, all))
 
   count_open : count now ≡ counted_done c + (length o.phis + (length o.lines + length lines) + 1) + counted_in ahead
@@ -215,7 +215,7 @@ stayed bodies f symbol w o o' l lines end ahead same none is here =
     not q c at t =
         let line : t.site.call ≡ line_edited (λ n. n) (without w.caller.late.lost.items) l =
         one_line (made_of f w.caller (opened_with o (l ∷ lines) end ∷ ahead)).blocks (next_in w.caller o) t.site (site f f w.caller o l [] lines end ahead)
-            (subst (λ (n : ℕ). StandsAt (made_of f w.caller (opened_with o (l ∷ lines) end ∷ ahead)).blocks n t.site) at t.stands) (site_stands f f w.caller o l [] lines end ahead) in
+        (subst (λ (n : ℕ). StandsAt (made_of f w.caller (opened_with o (l ∷ lines) end ∷ ahead)).blocks n t.site) at t.stands) (site_stands f f w.caller o l [] lines end ahead) in
         let counts : w.count ≡ count (made_of f w.caller (opened_with o (l ∷ lines) end ∷ ahead)) = here.counts in
         let room : count (made_of f w.caller (opened_with o (l ∷ lines) end ∷ ahead)) + t.room ≡ 20000 = t.has_room in
         none c (record {

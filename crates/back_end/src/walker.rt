@@ -146,7 +146,8 @@ impl Walker {
         ensures lines { OnOk result (block.new.lines ≡ []) }
     {
         let added = count_of(call.callee.blocks.as_slice())?;
-        self.caller.inline(alloc, block, line, call.arguments, call.callee)?;
+        self.caller
+            .inline(alloc, block, line, call.arguments, call.callee)?;
         let count = sum(self.count, added, block.phis().len())?;
         self.count = count;
         Ok(())

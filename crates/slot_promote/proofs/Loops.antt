@@ -17,10 +17,10 @@ use Rattle.ir_tree.specs.declared.operand.Reg.{Reg}
 use Rattle.ir_flow.specs.Graph.{row}
 use Rattle.ir_flow.specs.OfFunction.{IsGraphOf}
 use Rattle.ir_better.specs.Promote.{Current, Makes, Other, Writes, behind, changed}
-use Rattle.slot_promote.specs.Promoted.{End, block_with, blocks_with, end_with, ends_with, entries_of, entry_of, new_phis, first_phi, next_number, phis_from, promoted_function}
+use Rattle.slot_promote.specs.Promoted.{End, block_with, blocks_with, end_with, ends_with, entries_of, entry_of, first_phi, next_number, phis_from, promoted_function}
 use Rattle.slot_promote.specs.Slots.{promoted_slots}
 use Rattle.slot_promote.specs.Tables.{end_view, ends_in, first_in, viewed}
-use Rattle.slot_promote.specs.Values.{at_start, behind_line, behind_lines, goes, instr_with, is_there, makes, reg_of, regs, placed, without_slots, writes}
+use Rattle.slot_promote.specs.Values.{behind_line, behind_lines, goes, instr_with, is_there, makes, reg_of, regs, placed, without_slots, writes}
 use Rattle.slot_promote.specs.declared.phis.BlockEnd.{BlockEnd}
 use Rattle.slot_promote.specs.declared.slots.Place.{Place}
 use Rattle.slot_promote.specs.declared.slots.Slot.{Slot}

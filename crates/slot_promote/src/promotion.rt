@@ -147,7 +147,14 @@ fn blocks(
 {
     let mut rows = Rows::new(alloc);
     for place in 0..blocks.len() {
-        let made = block_from(alloc, slots, ends, edges.of(place), firsts[place], &blocks[place])?;
+        let made = block_from(
+            alloc,
+            slots,
+            ends,
+            edges.of(place),
+            firsts[place],
+            &blocks[place],
+        )?;
         rows.push(made)?;
     }
     Ok(rows)
