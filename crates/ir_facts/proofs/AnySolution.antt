@@ -23,8 +23,8 @@ use Rattle.ir_better.specs.Needed.{AllKept, EndReads, IsKept, Reads}
 use Rattle.ir_better.proofs.Alike.Itself.{same_better}
 use Rattle.ir_better.proofs.Facts.Known.{known_better}
 use Rattle.ir_edit.specs.Substituted.{replacement}
-use Rattle.ir_facts.specs.Candidates.{candidates}
-use Rattle.ir_facts.specs.Settled.{IsFirm, IsSettled, LinesFirm}
+use Rattle.fact_sources.specs.Candidates.{candidates}
+use Rattle.fact_sources.specs.Settled.{IsFirm, IsSettled, LinesFirm}
 use Rattle.ir_facts.specs.Steps.{IsSolution, StepsAreBetter, end_of, ends_of, substituted_by}
 use Rattle.ir_facts.proofs.Blocks.{find_at, found_there}
 use Rattle.ir_facts.proofs.Covering.{covered}

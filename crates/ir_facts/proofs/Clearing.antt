@@ -4,10 +4,11 @@ use Rattle.std.specs.Prelude.{◌&&◌, not}
 use Rattle.ir_tree.specs.declared.block.Block.{Block}
 use Rattle.ir_tree.specs.declared.instr.Line.{Line}
 use Rattle.ir_better.specs.Facts.{Facts, is_phi}
-use Rattle.ir_facts.specs.Candidates.{block_candidates, phi_candidates}
-use Rattle.ir_facts.specs.Clear.{any_among, block_clear, defined, inner_keys, keys_among, lines_clear, with_given}
-use Rattle.ir_facts.specs.Membership.{beside}
-use Rattle.ir_facts.specs.Naming.{end_names, instr_names, phis_name}
+use Rattle.fact_sources.specs.Candidates.{block_candidates, phi_candidates}
+use Rattle.fact_sources.specs.Apart.{defined}
+use Rattle.ir_facts.specs.Clear.{any_among, block_clear, inner_keys, keys_among, lines_clear, with_given}
+use Rattle.fact_sources.specs.Membership.{beside}
+use Rattle.fact_sources.specs.Naming.{end_names, instr_names, phis_name}
 
 -- one line behind the others
 pub line_clear : (inner own front new : ℕ → Bool) (l : Line) (rest more : List Line) → more ≡ l ∷ rest → instr_names (beside inner own) l.instr ≡ false → instr_names (beside own front) l.instr ≡ false

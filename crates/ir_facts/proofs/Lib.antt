@@ -2,7 +2,6 @@ pub mod Agreeing
 pub mod AnySolution
 pub mod AtPoints
 pub mod Availability
-pub mod Beside
 pub mod Blocks
 pub mod Chosen
 pub mod Clearing
@@ -20,7 +19,6 @@ pub mod Marks
 pub mod Matching
 pub mod OneFunction
 pub mod OneList
-pub mod Outside
 pub mod Parting
 pub mod Passing
 pub mod Places
@@ -38,7 +36,6 @@ pub mod Settling
 pub mod SoleOperands
 pub mod SourceTypes
 pub mod Sourcing
-pub mod Standing
 pub mod StepSound
 pub mod StepsSound
 pub mod StillApart
@@ -46,6 +43,5 @@ pub mod Substituting
 pub mod Thinning
 pub mod Unnamed
 pub mod Unused
-pub mod Walking
 pub mod Widths
 pub mod Words

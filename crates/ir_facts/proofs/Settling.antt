@@ -16,11 +16,11 @@ use Rattle.ir_tree.specs.declared.instr.Line.{Line}
 use Rattle.ir_tree.specs.declared.operand.Reg.{Reg}
 use Rattle.ir_edit.specs.Numbered.{line_numbers, local_number, phi_numbers}
 use Rattle.ir_flow.specs.OfFunction.{IsReach}
-use Rattle.ir_facts.specs.Apart.{IsApart, given_apart, given_where, is_listed}
-use Rattle.ir_facts.specs.Settled.{IsSettled, LinesFirm, any_choice, any_choice_in, choice_of, frozen_as, settled, settled_block, settled_line}
+use Rattle.fact_sources.specs.Apart.{IsApart, given_apart, given_where, is_listed}
+use Rattle.fact_sources.specs.Settled.{IsSettled, LinesFirm, settled, settled_block, settled_line}
 use Rattle.ir_facts.specs.Steps.{AllReached}
 use Rattle.ir_facts.proofs.Chosen.{settled_firm, type_settled}
-use Rattle.ir_facts.proofs.Unnamed.{neither}
+use Rattle.fact_sources.proofs.Neither.{neither}
 
 -- ---- lines and blocks
 
@@ -85,27 +85,6 @@ given_settled false b = ap (λ (xs : List ℕ). phi_numbers b.phis ++ xs) (given
 given_apart_settled : (inside : ℕ → Bool) (p : ℕ) (bs : List Block) → given_apart inside p (map settled_block bs) ≡ given_apart inside p bs
 given_apart_settled inside p [] = refl
 given_apart_settled inside p (b ∷ bs) = λ i. given_settled (inside p) b i ++ given_apart_settled inside (suc p) bs i
-
--- ---- where no line has a choice
-
-instr_kept : (i : Instr) (o : Option (ℕ × ℕ)) → is_some o ≡ false → frozen_as o i ≡ i
-instr_kept i None h = refl
-instr_kept i (Some pair) h = absurd (false≢true (sym h))
-
-lines_kept : (ls : List Line) → any_choice ls ≡ false → map settled_line ls ≡ ls
-lines_kept [] h = refl
-lines_kept (l ∷ ls) h =
-    let two = neither (is_some (choice_of l.instr)) (any_choice ls) h in
-    λ i. record { local = l.local; instr = instr_kept l.instr (choice_of l.instr) two.0 i } ∷ lines_kept ls two.1 i
-
-blocks_kept : (bs : List Block) → any_choice_in bs ≡ false → map settled_block bs ≡ bs
-blocks_kept [] h = refl
-blocks_kept (b ∷ bs) h =
-    let two = neither (any_choice b.lines) (any_choice_in bs) h in
-    λ i. record { number = b.number; phis = b.phis; lines = lines_kept b.lines two.0 i; end = b.end } ∷ blocks_kept bs two.1 i
-
-pub nothing_settled : (f : Function) → any_choice_in f.blocks ≡ false → f ≡ settled f
-nothing_settled f h = λ i. record f { blocks = sym (blocks_kept f.blocks h) i }
 
 -- ---- functions
 

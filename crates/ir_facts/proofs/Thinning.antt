@@ -14,14 +14,15 @@ use Rattle.ir_tree.specs.declared.operand.Operand.{Operand}
 use Rattle.ir_better.specs.Facts.{is_phi}
 use Rattle.ir_better.specs.Needed.{Reads}
 use Rattle.ir_flow.proofs.Solved.{at_end, at_ends}
-use Rattle.ir_facts.specs.Candidates.{phi_candidates}
-use Rattle.ir_facts.specs.Clear.{any_among, block_clear, blocks_clear, defined, given_by, lines_clear, with_given}
-use Rattle.ir_facts.specs.Membership.{beside, is_member}
-use Rattle.ir_facts.specs.Naming.{end_names, entries_name, instr_names, phis_name}
+use Rattle.fact_sources.specs.Candidates.{phi_candidates}
+use Rattle.fact_sources.specs.Apart.{defined}
+use Rattle.ir_facts.specs.Clear.{any_among, block_clear, blocks_clear, given_by, lines_clear, with_given}
+use Rattle.fact_sources.specs.Membership.{beside, is_member}
+use Rattle.fact_sources.specs.Naming.{end_names, entries_name, instr_names, phis_name}
 use Rattle.ir_facts.proofs.Covers.{BlockCovered, Covers, EdgesCovered, LinesCovered, PhisCovered, TakenAt, closing, named, opening, with_named}
 use Rattle.ir_facts.proofs.Holding.{phi_held}
 use Rattle.ir_facts.proofs.Reading.{end_into, instr_into, operand_into}
-use Rattle.ir_facts.proofs.Unnamed.{neither}
+use Rattle.fact_sources.proofs.Neither.{neither}
 
 not_false : (a : Bool) → not a ≡ true → a ≡ false
 not_false true h = absurd (false≢true h)

@@ -18,14 +18,11 @@ use Rattle.ir_better.specs.Facts.{Facts}
 use Rattle.ir_edit.specs.Edited.{argument_edited, case_edited, edited, end_edited, incoming_edited, instr_edited, line_edited, phi_edited}
 use Rattle.ir_edit.specs.Numbered.{later_or}
 use Rattle.ir_edit.specs.Substituted.{operand_replaced, or_local, replacement}
-use Rattle.ir_facts.specs.Membership.{is_member}
-use Rattle.ir_facts.specs.Naming.{arguments_name, block_names, blocks_name, end_names, entries_name, instr_names, is_key, lines_name, phis_name}
+use Rattle.fact_sources.specs.Membership.{is_member}
+use Rattle.fact_sources.specs.Naming.{arguments_name, block_names, blocks_name, end_names, entries_name, instr_names, is_key, lines_name, phis_name}
+use Rattle.fact_sources.proofs.Neither.{neither}
 use Rattle.ir_facts.proofs.Editing.{block_by}
 use Rattle.ir_facts.proofs.Holding.{params_kept}
-
-pub neither : (a b : Bool) → (a || b) ≡ false → (a ≡ false) × (b ≡ false)
-neither true b h = absurd (false≢true (sym h))
-neither false b h = (refl, h)
 
 pub no_key : (fs : Facts) (x : ℕ) → is_key x fs ≡ false → replacement fs x ≡ None
 no_key [] x h = refl

@@ -2,15 +2,14 @@
 -- block reads what it defines behind the definition alone, and a local is read in its own block alone, or its candidate is
 -- defined in that block in front of it.
 use Rattle.std.specs.Prelude.{ℕ, Bool, true, false, not, ◌&&◌, ◌||◌, nat_eq, if◌then◌else◌, List, [], ◌∷◌, ◌++◌, Option, Some, None}
-use Rattle.ir_tree.specs.Flow.{definitions, holds}
 use Rattle.ir_tree.specs.declared.block.Block.{Block}
 use Rattle.ir_tree.specs.declared.function.Function.{Function}
 use Rattle.ir_tree.specs.declared.instr.Line.{Line}
 use Rattle.ir_better.specs.Facts.{Facts, is_phi}
-use Rattle.ir_facts.specs.Apart.{is_listed}
-use Rattle.ir_facts.specs.Candidates.{block_candidates, phi_candidates}
-use Rattle.ir_facts.specs.Membership.{beside, is_member}
-use Rattle.ir_facts.specs.Naming.{end_names, instr_names, phis_name}
+use Rattle.fact_sources.specs.Apart.{defined, is_listed}
+use Rattle.fact_sources.specs.Candidates.{block_candidates, phi_candidates}
+use Rattle.fact_sources.specs.Membership.{beside, is_member}
+use Rattle.fact_sources.specs.Naming.{end_names, instr_names, phis_name}
 
 -- the locals of the facts whose operand is a local of the set, and whether there are any
 abbrev pub keys_among : (ℕ → Bool) → Facts → List ℕ
@@ -20,10 +19,6 @@ keys_among among ((x, v) ∷ fs) = if is_member among v then x ∷ keys_among am
 abbrev pub any_among : (ℕ → Bool) → Facts → Bool
 any_among among [] = false
 any_among among ((x, v) ∷ fs) = is_member among v || any_among among fs
-
--- what a block defines
-abbrev pub defined : Block → ℕ → Bool
-defined b x = holds (definitions b) x
 
 -- the locals that are to be read in their own block alone: those whose candidate is of the set, and another block defines it
 unfoldable pub inner_keys : (ℕ → Bool) → Block → List ℕ

@@ -1,14 +1,6 @@
 pub mod Agreement
-pub mod Apart
-pub mod Askable
-pub mod AtPoints
-pub mod Candidates
 pub mod Clear
 pub mod FactFlow
 pub mod FlowLaws
-pub mod Laws
-pub mod Membership
-pub mod Naming
 pub mod Points
-pub mod Settled
 pub mod Steps

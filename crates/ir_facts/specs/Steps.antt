@@ -11,8 +11,8 @@ use Rattle.ir_meaning.specs.Program.{Program}
 use Rattle.ir_better.specs.Facts.{EdgeFacts, Facts, Has, IsTarget, behind_lines, function_replaced, is_phi_operand}
 use Rattle.ir_better.specs.Formed.{IsFormed}
 use Rattle.ir_edit.specs.Substituted.{replacement, substituted}
-use Rattle.ir_facts.specs.Candidates.{candidates}
-use Rattle.ir_facts.specs.Settled.{IsSettled, settled}
+use Rattle.fact_sources.specs.Candidates.{candidates}
+use Rattle.fact_sources.specs.Settled.{IsSettled, settled}
 
 -- ---- facts at points
 
@@ -86,11 +86,6 @@ round_of f = step_of (settled f)
 unfoldable pub rounds_of : ℕ → Function → Function
 rounds_of zero f = f
 rounds_of (suc n) f = rounds_of n (round_of f)
-
--- what is made, or the function itself where nothing is
-abbrev pub or_same : Function → Option Function → Function
-or_same f None = f
-or_same f (Some g) = g
 
 -- rounds are these, and so are the uses at which the facts hold: in a sound function all whose blocks are reached a candidate has
 -- its fact wherever its local is used

@@ -1,16 +1,16 @@
 //! Whether candidates are clear of the uses of their locals, as is seen block by block.
 ghost use Rattle.std.specs.Prelude.{◌≡◌, ◌++◌, ◌&&◌, ◌||◌, ℕ, nat_eq, not, IfOk, OnOk};
 ghost use Rattle.std.specs.HashSet.{contains};
-ghost use Rattle.ir_facts.specs.Askable.{BlocksHaveWidths, LinesHaveWidths};
+ghost use Rattle.fact_sources.specs.Askable.{BlocksHaveWidths, LinesHaveWidths};
 ghost use Rattle.ir_better.specs.Facts.{is_phi};
-ghost use Rattle.ir_facts.specs.Candidates.{phi_candidates};
+ghost use Rattle.fact_sources.specs.Candidates.{phi_candidates};
 ghost use Rattle.ir_facts.specs.Clear.{all_inner, any_among, block_clear, blocks_clear, inner_keys, is_clear, keys_among, lines_clear, with_given};
-ghost use Rattle.ir_facts.specs.Membership.{beside};
-ghost use Rattle.ir_facts.specs.Naming.{phis_name};
+ghost use Rattle.fact_sources.specs.Membership.{beside};
+ghost use Rattle.fact_sources.specs.Naming.{phis_name};
 
-use crate::apart::{defined, set_of};
-use crate::naming::{end_names, instr_names, is_among, is_beside, phis_name};
-use crate::sources::{phi_locals, push_block, push_phis};
+use fact_sources::{
+    Beside, defined, end_names, instr_names, is_among, phi_locals, phis_name, push_block, push_phis, set_of,
+};
 use ir_tree::{Block, Function, Line, Operand, Phi};
 use std::alloc::{AllocError, Global};
 use std::collections::HashSet;
@@ -25,8 +25,9 @@ fn push_keys(
 ) -> Result<(), AllocError>
     ensures { OnOk result (keys.new.items ≡ keys.old.items ++ keys_among (beside (contains nat_eq set.now) (contains nat_eq but.now)) found.now) }
 {
+    let among = Beside { set, but };
     for pair in found {
-        if is_beside(set, but, &pair.1) {
+        if is_among(&among, &pair.1) {
             keys.push(pair.0)?;
         }
     }
@@ -97,7 +98,9 @@ fn lines_clear(
     ensures { IfOk result (λ clear. clear ≡ lines_clear (contains nat_eq inner.now) (contains nat_eq own.now) (contains nat_eq front.old) lines.now) }
 {
     for line in lines {
-        if instr_names(inner, own, &line.instr) || instr_names(own, front, &line.instr) {
+        let other = Beside { set: inner, but: own };
+        let early = Beside { set: own, but: front };
+        if instr_names(&other, &line.instr) || instr_names(&early, &line.instr) {
             return Ok(false);
         }
         insert_given(front, line.local)?;
@@ -112,14 +115,6 @@ fn is_sourced(alloc: Global, own: &HashSet<u32>, phis: &[Phi]) -> Result<bool, A
     let mut found = Vec::new(alloc);
     push_phis(alloc, &mut found, phis)?;
     Ok(any_among(own, &found))
-}
-
-/// Whether a phi takes an inner local.
-fn takes_inner(alloc: Global, inner: &HashSet<u32>, phis: &[Phi]) -> bool
-    ensures { result ≡ phis_name (contains nat_eq inner.now) phis.now }
-{
-    let none = HashSet::new(alloc);
-    phis_name(inner, &none, phis)
 }
 
 /// Whether the lines of a block are clear.
@@ -148,8 +143,12 @@ fn block_clear(alloc: Global, inner: &HashSet<u32>, block: &Block) -> Result<boo
 {
     let own = defined(alloc, block)?;
     let sourced = is_sourced(alloc, &own, block.phis.as_slice())?;
-    let taken = takes_inner(alloc, inner, block.phis.as_slice());
-    let read = end_names(inner, &own, &block.end);
+    let taken = phis_name(inner, block.phis.as_slice());
+    let other = Beside {
+        set: inner,
+        but: &own,
+    };
+    let read = end_names(&other, &block.end);
     let clear = are_clear(alloc, inner, &own, block)?;
     let free = is_free(sourced, taken, read, clear);
     Ok(free)

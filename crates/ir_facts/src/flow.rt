@@ -6,7 +6,7 @@ ghost use Rattle.ir_flow.specs.OfFunction.{IsGraphOf};
 ghost use Rattle.ir_facts.specs.FactFlow.{opened, phi_in, phi_of, taken_from};
 ghost use Rattle.ir_facts.specs.Points.{entry_holds, held_along, held_behind};
 
-use crate::sources::is_local;
+use fact_sources::is_local;
 use fold_rules::is_same;
 use ir_flow::{Edges, Equations};
 use ir_tree::{Block, Function, Incoming, Line, Operand, Phi};

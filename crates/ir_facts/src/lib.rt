@@ -29,22 +29,19 @@
 //! whose blocks aren't clear of these.
 #![tactic(auto)]
 
-mod apart;
-mod at_points;
-mod choices;
 mod clear;
 mod flow;
 mod laws;
-mod naming;
 mod points;
 mod rounds;
-mod sources;
 
+pub use fact_sources::candidates;
 pub use laws::{
     applied_is_one, facts_are_one, facts_at_points_agree, facts_hold_at_uses, facts_make_steps,
     formed_functions_have_widths, line_sources_right, phi_sources_are_sole, phi_sources_right,
     rounds_are_better, settled_is_better, steps_are_better, steps_are_sound,
 };
-pub use points::{Fact, facts};
+pub use point_edit::Fact;
+pub use points::facts;
 pub use rounds::apply;
-pub use sources::candidates;
+

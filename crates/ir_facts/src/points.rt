@@ -8,20 +8,12 @@ ghost use Rattle.ir_facts.specs.Points.{AreFacts, EachIsFact, IsFact, line_point
 ghost use Rattle.lto_sets.specs.Sets.{contains};
 
 use crate::flow::{FactFlow, held_behind, opened, phi_of, put};
-use crate::sources::candidates;
+use fact_sources::candidates;
 use ir_flow::{Edges, greatest, preds};
 use ir_tree::{Block, Duplicate, Function, Line, Operand};
 use lto_sets::Bits;
+use point_edit::Fact;
 use std::alloc::{AllocError, Global};
-
-/// That `value` may stand for `local` at the points `at`: counted from 0 in the order of the text, in each block the
-/// point behind its phis and then one behind each other instruction.
-#[derive(Drop)]
-pub struct Fact {
-    pub local: u32,
-    pub value: Operand,
-    pub at: Bits,
-}
 
 /// The set of the places that are marked. Beside want of memory, `2^32` marks or more are refused as too many for it.
 fn bits_of(alloc: Global, marks: &[bool]) -> Result<Bits, AllocError>

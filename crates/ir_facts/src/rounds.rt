@@ -5,18 +5,16 @@ ghost use Rattle.ir_tree.specs.Rules.{Sound};
 ghost use Rattle.ir_meaning.specs.Near.{BetterThan};
 ghost use Rattle.ir_meaning.specs.Program.{Program};
 ghost use Rattle.ir_better.specs.Formed.{IsFormed};
-ghost use Rattle.ir_facts.specs.Apart.{IsApart};
-ghost use Rattle.ir_facts.specs.Steps.{AreRounds, IsApplied, IsRound, IsStep, candidate_of, or_same};
+ghost use Rattle.fact_sources.specs.Apart.{IsApart};
+ghost use Rattle.fact_sources.specs.Settled.{or_same};
+ghost use Rattle.ir_facts.specs.Steps.{AreRounds, IsApplied, IsRound, IsStep, candidate_of};
 
-use crate::apart::{apart, firm, resting};
-use crate::at_points::function_at;
-use crate::choices::settled;
 use crate::clear::is_clear;
-use crate::naming::are_used;
 use crate::points::facts_of;
-use crate::sources::candidates;
+use fact_sources::{apart, are_used, candidates, firm, resting, settled};
 use ir_edit::substitute;
 use ir_tree::{Duplicate, Function};
+use point_edit::function_at;
 use std::alloc::{AllocError, Global};
 use std::collections::HashSet;
 

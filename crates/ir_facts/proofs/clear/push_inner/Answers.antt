@@ -1,6 +1,6 @@
 use Rattle.std.proofs.Common.{ℕ, List, ◌++◌, nat_eq, ◌∙◌, ap}
 use Rattle.std.specs.HashSet.{contains}
-use Rattle.ir_facts.specs.Candidates.{block_candidates}
+use Rattle.fact_sources.specs.Candidates.{block_candidates}
 use Rattle.ir_facts.proofs.Clearing.{inner_is}
 use Rattle.ir_facts.proofs.clear.push_inner.Goals as goal
 

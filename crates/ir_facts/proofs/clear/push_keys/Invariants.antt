@@ -1,7 +1,7 @@
 use Rattle.std.proofs.Common.{◌≡◌, ◌++◌, drop, nat_eq}
 use Rattle.std.specs.HashSet.{contains}
 use Rattle.ir_facts.specs.Clear.{keys_among}
-use Rattle.ir_facts.specs.Membership.{beside}
+use Rattle.fact_sources.specs.Membership.{beside}
 use Rattle.ir_facts.proofs.clear.push_keys.Given as goal
 
 abbrev pub invariant-loop-pair : goal.invariant-loop-pair

@@ -1,7 +1,8 @@
 use Rattle.std.proofs.Common.{◌≡◌, nat_eq, Option, Some, None, arith, subst}
 use Rattle.std.specs.HashSet.{contains}
 use Rattle.ir_tree.specs.declared.function.Function.{Function}
-use Rattle.ir_facts.specs.Steps.{IsRound, or_same}
+use Rattle.fact_sources.specs.Settled.{or_same}
+use Rattle.ir_facts.specs.Steps.{IsRound}
 use Rattle.ir_facts.proofs.InRounds.{last_round, no_rounds, one_more, round_sound}
 use Rattle.ir_facts.proofs.StillApart.{round_apart}
 use Rattle.ir_facts.proofs.rounds.+rounds.Goals as goal

@@ -2,7 +2,8 @@ use Rattle.std.proofs.Common.{◌≡◌, nat_eq, Option, Some, None, arith, subs
 use Rattle.std.specs.HashSet.{contains}
 use Rattle.ir_tree.specs.Rules.{Sound}
 use Rattle.ir_tree.specs.declared.function.Function.{Function}
-use Rattle.ir_facts.specs.Steps.{AreRounds, IsApplied, IsRound, or_same}
+use Rattle.fact_sources.specs.Settled.{or_same}
+use Rattle.ir_facts.specs.Steps.{AreRounds, IsApplied, IsRound}
 use Rattle.ir_facts.proofs.InRounds.{are_better, last_round, one_more, round_sound}
 use Rattle.ir_facts.proofs.StillApart.{round_apart}
 use Rattle.ir_facts.proofs.rounds.apply.Goals as goal

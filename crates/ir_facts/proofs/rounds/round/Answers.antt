@@ -2,9 +2,10 @@ use Rattle.std.proofs.Common.{◌≡◌, nat_eq, Option, Some, None, subst, sym}
 use Rattle.std.specs.HashSet.{contains}
 use Rattle.ir_tree.specs.Rules.{Sound}
 use Rattle.ir_tree.specs.declared.function.Function.{Function}
-use Rattle.ir_facts.specs.Apart.{IsApart}
-use Rattle.ir_facts.specs.Settled.{settled}
-use Rattle.ir_facts.specs.Steps.{IsRound, IsStep, candidate_of, or_same}
+use Rattle.fact_sources.specs.Apart.{IsApart}
+use Rattle.fact_sources.specs.Settled.{settled}
+use Rattle.fact_sources.specs.Settled.{or_same}
+use Rattle.ir_facts.specs.Steps.{IsRound, IsStep, candidate_of}
 use Rattle.ir_facts.proofs.SettledSound.{settled_sound}
 use Rattle.ir_facts.proofs.Settling.{apart_settled}
 use Rattle.ir_facts.proofs.Widths.{formed_wide}

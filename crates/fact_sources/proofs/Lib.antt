@@ -1,0 +1,5 @@
+pub mod Kept
+pub mod Neither
+pub mod NoneNamed
+pub mod Outside
+pub mod Standing

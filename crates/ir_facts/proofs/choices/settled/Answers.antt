@@ -1,8 +1,0 @@
-use Rattle.std.proofs.Common.{ap, sym, ◌∙◌}
-use Rattle.ir_facts.specs.Settled.{any_choice_in}
-use Rattle.ir_facts.proofs.Settling.{nothing_settled}
-use Rattle.ir_facts.proofs.choices.settled.Goals as goal
-
-pub returns-then-not-any : goal.returns-then-not-any
-returns-then-not-any c =
-    nothing_settled c.args.f.now (ap any_choice_in (sym c.as_slice.ensures) ∙ sym c.any_choice_in-any.ensures ∙ c.if-not-any.true)
