@@ -38,6 +38,7 @@ impl Locals for HashSet<u32> {
 }
 
 /// The locals of a set that another lacks.
+#[derive(Clone, Copy)]
 pub struct Beside<'a> {
     pub set: &'a HashSet<u32>,
     pub but: &'a HashSet<u32>,
