@@ -1,5 +1,5 @@
 -- Where candidates stand, and which locals are inner.
-use Rattle.std.proofs.Common.{◌≡◌, ℕ, zero, suc, ◌==◌, ◌⊎◌, inl, inr, Bool, true, false, List, [], ◌∷◌, Option, Some, None, refl, sym, ◌∙◌, ap, if◌then◌else◌}
+use Rattle.std.proofs.Common.{◌≡◌, ℕ, zero, suc, ◌+◌, ◌==◌, ◌⊎◌, inl, inr, Bool, true, false, List, [], ◌∷◌, Option, Some, None, refl, sym, ◌∙◌, ap, if◌then◌else◌, arith}
 use Rattle.std.specs.Prelude.{slice_get, not}
 use Rattle.std.proofs.lemmas.Bool.{and_from, eq-eqb, false≢true, or_left, or_right}
 use Rattle.ir_tree.specs.Flow.{definitions, holds}
@@ -11,7 +11,7 @@ use Rattle.ir_edit.specs.Numbered.{later_or}
 use Rattle.ir_edit.specs.Substituted.{replacement}
 use Rattle.fact_sources.specs.Apart.{defined, is_listed}
 use Rattle.fact_sources.specs.Candidates.{block_candidates, blocks_candidates}
-use Rattle.ir_facts.specs.Clear.{all_inner, any_among, inner_keys, keys_among}
+use Rattle.ir_facts.specs.Clear.{all_inner, all_over, any_among, inner_keys, is_over, keys_among}
 use Rattle.fact_sources.specs.Membership.{beside, is_member}
 use Rattle.ir_facts.proofs.Matching.{KeysIn}
 use Rattle.ir_facts.proofs.OneFunction.{one_of}
@@ -91,6 +91,29 @@ inner_or_near among bs p b x z e h m = by (defined b z) refl
     by : (t : Bool) → defined b z ≡ t → (is_listed x (all_inner among bs) ≡ true) ⊎ (holds (definitions b) z ≡ true)
     by true q = inr q
     by false q = inl (listed_at among x bs p b e (inside among b x z h m q))
+
+-- a local whose candidate its block stands above is over it
+over_at : (at : ℕ → Option ℕ) (above : ℕ → ℕ → Bool) (x z k : ℕ) (bs : List Block) (p : ℕ) (b : Block) → slice_get bs p ≡ Some b → Has (block_candidates b) x (Local z) → is_over at above (k + p) z ≡ true
+    → is_listed x (all_over at above k bs) ≡ true
+over_at at above x z k [] p b e h o = absurd (cc e)
+over_at at above x z k (d ∷ bs) zero b e h o =
+    let is : d ≡ b = cc e in
+    let here : k + 0 ≡ k = omega arith in
+    listed_left x (keys_among (is_over at above k) (block_candidates d)) (all_over at above (suc k) bs)
+    (ap (λ (a : Block). is_listed x (keys_among (is_over at above k) (block_candidates a))) is
+    ∙ listed_key (is_over at above k) (block_candidates b) x (Local z) h (ap (λ (q : ℕ). is_over at above q z) (sym here) ∙ o))
+over_at at above x z k (d ∷ bs) (suc p) b e h o =
+    let here : suc k + p ≡ k + suc p = omega arith in
+    listed_right x (keys_among (is_over at above k) (block_candidates d)) (all_over at above (suc k) bs)
+    (over_at at above x z (suc k) bs p b e h (ap (λ (q : ℕ). is_over at above q z) here ∙ o))
+
+pub over_or_not : (at : ℕ → Option ℕ) (above : ℕ → ℕ → Bool) (x z : ℕ) (bs : List Block) (p : ℕ) (b : Block) → slice_get bs p ≡ Some b → Has (block_candidates b) x (Local z)
+    → (is_listed x (all_over at above 0 bs) ≡ true) ⊎ (is_over at above p z ≡ false)
+over_or_not at above x z bs p b e h = by (is_over at above p z) refl
+  where
+    by : (t : Bool) → is_over at above p z ≡ t → (is_listed x (all_over at above 0 bs) ≡ true) ⊎ (t ≡ false)
+    by false q = inr refl
+    by true q = inl (over_at at above x z 0 bs p b e h (let here : p ≡ 0 + p = omega arith in ap (λ (i : ℕ). is_over at above i z) (sym here) ∙ q))
 
 pub none_among : (among : ℕ → Bool) (fs : Facts) (x : ℕ) (v : Operand) → any_among among fs ≡ false → Has fs x v → is_member among v ≡ false
 none_among among [] x v n h = absurd h

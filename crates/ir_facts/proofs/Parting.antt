@@ -14,10 +14,10 @@ use Rattle.ir_tree.specs.declared.operand.Operand.{Operand}
 use Rattle.ir_tree.specs.declared.operand.Operand.TheVariants.{Local, Null, Number as Constant, Poison as PoisonOf, Symbol as Named}
 use Rattle.ir_better.specs.Facts.{Facts, Has}
 use Rattle.ir_edit.specs.Substituted.{replacement, substituted}
-use Rattle.fact_sources.specs.Apart.{IsApart, defined, firm, is_listed, resting}
+use Rattle.fact_sources.specs.Apart.{IsApart, defined, firm, resting}
 use Rattle.point_edit.specs.AtPoints.{function_at}
 use Rattle.fact_sources.specs.Candidates.{block_candidates, candidates, line_candidates, phi_candidates}
-use Rattle.ir_facts.specs.Clear.{all_inner, is_clear}
+use Rattle.ir_facts.specs.Clear.{IsClear, is_barred, is_over, stands_over}
 use Rattle.fact_sources.specs.Membership.{is_member}
 use Rattle.ir_facts.specs.Points.{EachIsFact}
 use Rattle.ir_facts.specs.Steps.{IsStep, candidate_of, step_of}
@@ -26,7 +26,7 @@ use Rattle.ir_facts.proofs.AtPoints.{OwnAll, made_step, pairs}
 use Rattle.ir_facts.proofs.Covering.{covered, or_mono}
 use Rattle.ir_facts.proofs.Covers.{Covers, opening}
 use Rattle.ir_facts.proofs.Holding.{one_step}
-use Rattle.ir_facts.proofs.Inner.{CandidateAt, candidate_at, holds_key, inner_or_near, none_among}
+use Rattle.ir_facts.proofs.Inner.{CandidateAt, candidate_at, holds_key, inner_or_near, none_among, over_or_not}
 use Rattle.ir_facts.proofs.Keys.{candidates_once, firm_found, firm_sub, found_has, has_found, has_resting, keys, resting_has}
 use Rattle.ir_facts.proofs.Matching.{Once, apart_right, has_site, keys_block, keys_lines, site_of}
 use Rattle.ir_facts.proofs.OneFunction.{one_of}
@@ -35,7 +35,7 @@ use Rattle.ir_facts.proofs.Passing.{apart_safe, block_once, given_once, one_defi
 use Rattle.ir_facts.proofs.RightSources.{AreSources, LineSource, LineSources, PhiSources}
 use Rattle.ir_facts.proofs.Sourcing.{are_sources}
 use Rattle.ir_facts.proofs.Substituting.{holds_left}
-use Rattle.ir_facts.proofs.Thinning.{clear_at, covers_thin, thin, thin_parts}
+use Rattle.ir_facts.proofs.Thinning.{MayRead, Thin, clear_at, covers_thin, inner, may_read, over, thin, thin_parts}
 
 -- ---- fewer candidates are sources
 
@@ -146,25 +146,33 @@ module _ (f : Function) (sound : Sound f) (among : ℕ → Bool) (a : IsApart f 
           by true m = absurd (subst (λ (fs : Facts). Has fs x (Local z)) none (has_resting among (candidates f) x (Local z) (found_has (candidates f) x (Local z) own) m))
 
   -- where blocks are clear of what rests on what unreached blocks give, each use is replaced too
-  module _ (clear : is_clear among f ≡ true) (r : ℕ → ℕ → Bool) (cov : Covers r f) where
-    abbrev inner : ℕ → Bool
-    inner x = is_listed x (all_inner among f.blocks)
-
+  module _ (clear : IsClear among f) (r : ℕ → ℕ → Bool) (cov : Covers r f) where
     abbrev less : ℕ → ℕ → Bool
-    less = thin inner r f cov clear
+    less = thin among r f cov clear
 
     same_block : (p q : ℕ) (b d : Block) → p ≡ q → slice_get f.blocks p ≡ Some b → slice_get f.blocks q ≡ Some d → b ≡ d
     same_block p q b d same e g = cc (sym e, ap (slice_get f.blocks) same, g)
 
+    place_of : (p q x : ℕ) (b d : Block) → slice_get f.blocks p ≡ Some b → slice_get f.blocks q ≡ Some d → holds (definitions b) x ≡ true → holds (definitions d) x ≡ true → p ≡ q
+    place_of p q x b d e g h k = one_definer f.blocks (given_once (replacement (candidates f)) r f cov (are_sources r f cov)) p q x b d e g h k
+
     one_place_of : (p q x : ℕ) (b d : Block) → slice_get f.blocks p ≡ Some b → slice_get f.blocks q ≡ Some d → holds (definitions b) x ≡ true → holds (definitions d) x ≡ true → b ≡ d
-    one_place_of p q x b d e g h k = same_block p q b d (one_definer f.blocks (given_once (replacement (candidates f)) r f cov (are_sources r f cov)) p q x b d e g h k) e g
+    one_place_of p q x b d e g h k = same_block p q b d (place_of p q x b d e g h k) e g
+
+    -- the place that the table has for a local is that of its block
+    placed_at : (x p q : ℕ) (b : Block) → clear.at x ≡ Some q → slice_get f.blocks p ≡ Some b → holds (definitions b) x ≡ true → q ≡ p
+    placed_at x p q b is e h = by (slice_get f.blocks q) refl (clear.placed x q is)
+      where
+        by : (o : Option Block) → slice_get f.blocks q ≡ o → defined_in o x ≡ true → q ≡ p
+        by None g k = absurd (false≢true k)
+        by (Some d) g k = place_of q p x d b g e k h
 
     -- the candidate of a phi that rests, its block doesn't define
     phi_out : (p : ℕ) (b : Block) (x z : ℕ) → slice_get f.blocks p ≡ Some b → holds (phi_locals b) x ≡ true → Has (block_candidates b) x (Local z) → holds (definitions b) z ≡ false
     unfolding block_candidates
     phi_out p b x z e h has =
         elim (one_of (phi_candidates b.phis b.phis) (line_candidates b.lines) x (Local z) has) [
-          | inl a ↦ none_among (defined b) (phi_candidates b.phis b.phis) x (Local z) (clear_at inner r f cov clear p b e).sources a
+          | inl a ↦ none_among (defined b) (phi_candidates b.phis b.phis) x (Local z) (clear_at among r f cov clear p b e).sources a
           | inr a ↦
               absurd (false≢true (
               sym (apart_right x (phi_locals b) (results b.lines) (block_once (replacement (candidates f)) r f cov (are_sources r f cov) p b e x) h)
@@ -181,11 +189,36 @@ module _ (f : Function) (sound : Sound f) (among : ℕ → Bool) (a : IsApart f 
         here : holds (definitions site.block) x ≡ true
         here = holds_key (block_candidates site.block) (definitions site.block) (keys_block site.block) x (Local z) site.has
 
+        -- an inner local isn't read where its candidate is defined
+        inner_out : holds (definitions b) z ≡ true → Thin among r f cov clear p x → inner among r f cov clear x ≡ true → ⊥
+        inner_out d parts i =
+            by (may_read (over among r f cov clear x) (clear.at x) clear.above p
+            (ap (λ (t : Bool). is_barred t (over among r f cov clear x) (clear.at x) clear.above p) (sym i) ∙ parts.free))
+          where
+            under : (q : ℕ) → clear.at x ≡ Some q → over among r f cov clear x ≡ false → clear.above q p ≡ true → ⊥
+            under q is low up =
+                elim (over_or_not clear.at clear.above x z f.blocks site.at site.block site.found site.has) [
+                  | inl o ↦ false≢true (sym low ∙ o)
+                  | inr apart ↦
+                      beside_it (clear.at z) refl (ap (λ (j : ℕ). is_over clear.at clear.above j z) (placed_at x site.at q site.block is site.found here) ∙ apart)
+                ]
+              where
+                beside_it : (o : Option ℕ) → clear.at z ≡ o → stands_over clear.above q o ≡ false → ⊥
+                beside_it None k n = false≢true (sym n)
+                beside_it (Some j) k n = false≢true (sym n ∙ ap (λ (i : ℕ). clear.above q i) (placed_at z p j b k e d) ∙ up)
+
+            by : MayRead (over among r f cov clear x) (clear.at x) clear.above p → ⊥
+            by m =
+                elim m.where' [
+                  | inl same ↦ false≢true (sym parts.apart ∙ ap (λ (j : ℕ). defined_in (slice_get f.blocks j) x) (sym same) ∙ clear.placed x m.at m.is)
+                  | inr two ↦ under m.at m.is two.0 two.1
+                ]
+
         at_start : holds (definitions b) z ≡ true → less p x ≡ true → ⊥
         at_start d g =
-            let parts = thin_parts inner r f cov clear p x g in
+            let parts = thin_parts among r f cov clear p x g in
             elim (inner_or_near among f.blocks site.at site.block x z site.found site.has m) [
-              | inl i ↦ false≢true (sym parts.free ∙ i)
+              | inl i ↦ inner_out d parts i
               | inr near ↦
                   false≢true (
                   sym parts.apart
@@ -212,7 +245,7 @@ module _ (f : Function) (sound : Sound f) (among : ℕ → Bool) (a : IsApart f 
     source_out p b x z e h is = by (among z) refl
       where
         wide : opening r p b x ≡ true
-        wide = or_mono (less p x) (holds (phi_locals b) x) (r p x) (λ g. (thin_parts inner r f cov clear p x g).there) h
+        wide = or_mono (less p x) (holds (phi_locals b) x) (r p x) (λ g. (thin_parts among r f cov clear p x g).there) h
 
         by : (t : Bool) → among z ≡ t → holds (definitions b) z ≡ false
         by true m = resting_out p b x z e h is m
@@ -225,10 +258,10 @@ module _ (f : Function) (sound : Sound f) (among : ℕ → Bool) (a : IsApart f 
     step_less : IsStep (candidate_of f) f (step_of f)
     step_less =
         let src = are_sources r f cov in
-        let cov' = covers_thin inner r f cov clear in
+        let cov' = covers_thin among r f cov clear in
         one_step (replacement (candidates f)) less f cov' src
         (apart_safe (replacement (candidates f)) less f cov' src source_out
-        (λ p b x z e is g. ap (λ (o : Option Block). defined_in o z) (sym e) ∙ (thin_parts inner r f cov clear p z g).apart))
+        (λ p b x z e is g. ap (λ (o : Option Block). defined_in o z) (sym e) ∙ (thin_parts among r f cov clear p z g).apart))
 
-  pub step_clear : is_clear among f ≡ true → IsStep (candidate_of f) f (step_of f)
+  pub step_clear : IsClear among f → IsStep (candidate_of f) f (step_of f)
   step_clear clear = let all = covered f sound in step_less clear all.family all.held

@@ -1,8 +1,7 @@
 -- Free choices settled in their places: definitions, types and control flow stay, and no row rests on a free choice.
 use Rattle.std.proofs.Common.{◌≡◌, ◌<◌, ◌||◌, ℕ, zero, suc, Bool, true, false, List, [], ◌∷◌, ◌++◌, inl, inr, Option, Some, None, map, option_map, take, refl, sym, ◌∙◌, ap, subst}
-use Rattle.std.specs.Prelude.{slice_get, flat_map, filter_map, if◌then◌else◌, is_some, nat_eq}
+use Rattle.std.specs.Prelude.{slice_get, flat_map, filter_map, if◌then◌else◌, nat_eq}
 use Rattle.std.specs.List.{cons_option}
-use Rattle.std.proofs.lemmas.Bool.{false≢true}
 use Rattle.std.proofs.lemmas.List.{length-map}
 use Rattle.std.proofs.lemmas.Option.{slice_get-map}
 use Rattle.lto_sets.specs.Sets.{contains}
@@ -11,7 +10,6 @@ use Rattle.ir_tree.specs.Formed.{numbers}
 use Rattle.ir_tree.specs.Rules.{Typing, block_typings, line_typing, place, typings}
 use Rattle.ir_tree.specs.declared.block.Block.{Block}
 use Rattle.ir_tree.specs.declared.function.Function.{Function}
-use Rattle.ir_tree.specs.declared.instr.Instr.{Instr}
 use Rattle.ir_tree.specs.declared.instr.Line.{Line}
 use Rattle.ir_tree.specs.declared.operand.Reg.{Reg}
 use Rattle.ir_edit.specs.Numbered.{line_numbers, local_number, phi_numbers}
@@ -20,7 +18,6 @@ use Rattle.fact_sources.specs.Apart.{IsApart, given_apart, given_where, is_liste
 use Rattle.fact_sources.specs.Settled.{IsSettled, LinesFirm, settled, settled_block, settled_line}
 use Rattle.ir_facts.specs.Steps.{AllReached}
 use Rattle.ir_facts.proofs.Chosen.{settled_firm, type_settled}
-use Rattle.fact_sources.proofs.Neither.{neither}
 
 -- ---- lines and blocks
 

@@ -1,6 +1,5 @@
 -- A function that names none of some locals is as before with these locals replaced.
-use Rattle.std.proofs.Common.{◌≡◌, ℕ, ◌==◌, Bool, true, false, ◌||◌, List, [], ◌∷◌, Option, Some, None, map, option_map, refl, sym, ◌∙◌, ap, if◌then◌else◌}
-use Rattle.std.proofs.lemmas.Bool.{false≢true}
+use Rattle.std.proofs.Common.{◌≡◌, ℕ, ◌==◌, Bool, false, ◌||◌, List, [], ◌∷◌, Option, Some, None, map, option_map, refl, sym, ◌∙◌, ap, if◌then◌else◌}
 use Rattle.ir_tree.specs.declared.block.Block.{Block}
 use Rattle.ir_tree.specs.declared.block.Case.{Case}
 use Rattle.ir_tree.specs.declared.block.Terminator.{Terminator}

@@ -1,22 +1,17 @@
 -- A step with candidates of locals that nobody uses changes nothing.
-use Rattle.std.proofs.Common.{◌≡◌, ℕ, Bool, true, false, ◌||◌, List, [], ◌∷◌, Option, Some, None, length, refl, sym, ◌∙◌, ap, arith}
+use Rattle.std.proofs.Common.{◌≡◌, ℕ, Bool, false, ◌||◌, List, [], ◌∷◌, Option, Some, None, refl, sym, ◌∙◌, ap}
 use Rattle.ir_tree.specs.declared.block.Block.{Block}
-use Rattle.ir_tree.specs.declared.block.Terminator.{Terminator}
-use Rattle.ir_tree.specs.declared.block.Terminator.TheVariants.{Branch, Jump, Return, Switch, Unreachable}
 use Rattle.ir_tree.specs.declared.function.Function.{Function}
 use Rattle.ir_tree.specs.declared.instr.Incoming.{Incoming}
-use Rattle.ir_tree.specs.declared.instr.Instr.{Instr}
-use Rattle.ir_tree.specs.declared.instr.Instr.TheVariants.{Address, Alloca, Binary, Call, Cast, Freeze, Icmp, Load, Phi as StrayPhi, Select, Store}
 use Rattle.ir_tree.specs.declared.instr.Line.{Line}
 use Rattle.ir_tree.specs.declared.instr.Phi.{Phi}
-use Rattle.ir_tree.specs.declared.operand.Argument.{Argument}
 use Rattle.ir_tree.specs.declared.operand.Operand.{Operand}
 use Rattle.ir_tree.specs.declared.operand.Operand.TheVariants.{Local, Null, Number as Constant, Poison as PoisonOf, Symbol as Named}
 use Rattle.ir_better.specs.Facts.{Facts, behind_local, block_replaced, blocks_replaced, edges_replaced, lines_replaced, phis_replaced, replaced}
 use Rattle.ir_edit.specs.Substituted.{replacement}
 use Rattle.fact_sources.specs.Candidates.{candidates}
 use Rattle.fact_sources.specs.Membership.{is_member}
-use Rattle.fact_sources.specs.Naming.{arguments_name, block_names, blocks_name, end_names, entries_name, instr_names, is_key, lines_name, phis_name}
+use Rattle.fact_sources.specs.Naming.{block_names, blocks_name, end_names, entries_name, instr_names, is_key, lines_name, phis_name}
 use Rattle.ir_facts.specs.Steps.{IsSolution, IsStep, candidate_of, ends_of}
 use Rattle.ir_facts.proofs.Holding.{Known, known_one, local_none}
 use Rattle.ir_facts.proofs.Replaced.{end_is, instr_is}

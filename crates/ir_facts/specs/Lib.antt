@@ -3,4 +3,5 @@ pub mod Clear
 pub mod FactFlow
 pub mod FlowLaws
 pub mod Points
+pub mod Scopes
 pub mod Steps

@@ -1,18 +1,16 @@
 //! Facts about the values of locals, and substitution by them: copy and constant propagation.
 //!
-//! [`candidates`] gives for each local of a function the operand that may stand for its value, if there is one: of
-//! a phi the one operand that it takes beside its own value, of an instruction the operand of the rule table.
-//! The definition is `specs/Candidates.antt`, and the contract is equality with it. Laws: what the candidate of a
-//! phi is, and when there is one ([`phi_sources_are_sole`]), that it is what the phi takes on an edge
-//! ([`phi_sources_right`]), and that the candidate of an instruction may stand for what it gives
+//! [`candidates`] (of `fact_sources`) gives for each local of a function the operand that may stand for its value, if there
+//! is one. Laws: what the candidate of a phi is, and when there is one ([`phi_sources_are_sole`]), that it is what the phi
+//! takes on an edge ([`phi_sources_right`]), and that the candidate of an instruction may stand for what it gives
 //! ([`line_sources_right`]), by the law of the rule table.
 //!
 //! [`apply`] puts candidates in the place of locals, in rounds. In a round an instruction whose operand rests on a free
-//! choice first becomes a freeze of that constant (`specs/Settled.antt`), so that it is one value wherever it stands. The
+//! choice first becomes a freeze of that constant (`fact_sources::settled`), so that it is one value wherever it stands. The
 //! definition (`specs/Steps.antt`) is by facts at points, the greatest solution of equations over the edges. In a sound function a fact whose operand no unreached
 //! block defines holds wherever its local is used (of functions all whose blocks are reached: [`facts_hold_at_uses`]),
-//! so no sets at points are kept of it, nor of the others where blocks are clear of them, as two walks tell
-//! (`specs/Clear.antt`); else the others are solved and looked up at points (`specs/AtPoints.antt`). What is
+//! so no sets at points are kept of it, nor of the others where blocks are clear of them, as a walk tells over tables of
+//! places and dominators (`specs/Clear.antt`); else the others are solved and looked up at points (`point_edit`). What is
 //! made is one function ([`applied_is_one`]), sound, and better in every program ([`rounds_are_better`]).
 //!
 //! [`facts`] gives the facts themselves, each with the points where it holds, of any function that the grammar
@@ -20,13 +18,13 @@
 //! which is one list ([`facts_are_one`]). What any solution makes of a sound function is better ([`steps_are_better`]).
 //! The two definitions of where facts hold agree ([`facts_at_points_agree`]).
 //!
-//! Below this crate stand `ir_tree`, `ir_flow`, `lto_sets`, `ir_edit`, `fold_rules`, and `ir_meaning` and `ir_better`
-//! for what is proved. A round goes through the function for free choices, for candidates, once more where there are
-//! any, to see whether one is used, and once or twice to replace uses; rounds end behind one that changes nothing. Each
-//! entry of a phi is compared once, whether an operand is a phi of the same block is looked up in a set that is made
-//! once for a block, and each use is looked up in a tree of the candidates. `facts` solves the equations of each fact
-//! by itself, and so does a round with each fact whose operand is a local that an unreached block defines, in functions
-//! whose blocks aren't clear of these.
+//! Below this crate stand `fact_sources`, `point_edit`, `block_places`, `ir_tree`, `ir_flow`, `lto_sets`, `ir_edit`,
+//! `fold_rules`, and `ir_meaning` and `ir_better` for what is proved. A round goes through the function for free choices,
+//! for candidates, once more where there are any, to see whether one is used, and once or twice to replace uses; rounds
+//! end behind one that changes nothing. Each use is looked up in a tree of the candidates. Where a candidate is a local
+//! that an unreached block defines, a round makes the tables, and goes through the function to see whether it is clear.
+//! `facts` solves the equations of each fact by itself, and so does a round with each such fact in functions whose blocks
+//! aren't clear of these.
 #![tactic(auto)]
 
 mod clear;
@@ -34,6 +32,7 @@ mod flow;
 mod laws;
 mod points;
 mod rounds;
+mod scopes;
 
 pub use fact_sources::candidates;
 pub use laws::{
@@ -44,4 +43,3 @@ pub use laws::{
 pub use point_edit::Fact;
 pub use points::facts;
 pub use rounds::apply;
-

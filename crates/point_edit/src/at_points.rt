@@ -592,11 +592,7 @@ fn all_blocks_at(alloc: Global, facts: &[Fact], blocks: &[Block]) -> Result<Rows
 /// takes at the last point of the block from which it comes. Definitions stay.
 ///
 /// Beside want of memory, a function of `2^32` points or more is refused as too large.
-pub fn function_at(
-    alloc: Global,
-    facts: &[Fact],
-    f: &Function,
-) -> Result<Function, AllocError>
+pub fn function_at(alloc: Global, facts: &[Fact], f: &Function) -> Result<Function, AllocError>
     ensures { IfOk result (λ g. g ≡ function_at facts.now f.now) }
 {
     let symbol = f.symbol.duplicate(alloc)?;

@@ -37,7 +37,7 @@ returns-then-clear c =
     let f = c.args.f.now in
     subst (IsStep (candidate_of f) f)
     (sym (c.in_ok-g-2.ensures ∙ ap (λ (rs : List (ℕ × Operand)). substituted rs f) (c.as_slice-then-clear.ensures.value ∙ c.in_ok-found.ensures)))
-    (step_clear f c.requires.sound (contains nat_eq c.args.outside.now) c.requires.apart (sym c.in_ok-clear.ensures ∙ c.if-clear.true))
+    (step_clear f c.requires.sound (contains nat_eq c.args.outside.now) c.requires.apart (c.in_ok-clear.ensures c.if-clear.true))
 
 pub returns : goal.returns
 returns c =

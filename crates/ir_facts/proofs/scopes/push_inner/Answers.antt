@@ -2,7 +2,7 @@ use Rattle.std.proofs.Common.{ℕ, List, ◌++◌, nat_eq, ◌∙◌, ap}
 use Rattle.std.specs.HashSet.{contains}
 use Rattle.fact_sources.specs.Candidates.{block_candidates}
 use Rattle.ir_facts.proofs.Clearing.{inner_is}
-use Rattle.ir_facts.proofs.clear.push_inner.Goals as goal
+use Rattle.ir_facts.proofs.scopes.push_inner.Goals as goal
 
 pub returns : goal.returns
 returns c =

@@ -1,0 +1,27 @@
+use Rattle.std.proofs.Common.{◌≡◌, ℕ, nat_eq, Bool, true, sym, ◌∙◌, ap}
+use Rattle.std.specs.BTreeMap.{get}
+use Rattle.std.specs.HashSet.{contains}
+use Rattle.std.specs.Ordering.{nat_cmp}
+use Rattle.ir_tree.specs.declared.function.Function.{Function}
+use Rattle.ir_flow.specs.Dominating.{dominance}
+use Rattle.block_places.specs.Above.{is_above}
+use Rattle.ir_facts.specs.Clear.{IsClear, barred, blocks_clear}
+use Rattle.ir_facts.specs.Scopes.{AreScopes, bars}
+use Rattle.ir_facts.specs.declared.scopes.Scopes.{Scopes}
+use Rattle.ir_facts.proofs.clear.is_clear.Goals as goal
+
+clear_by : (among : ℕ → Bool) (f : Function) (s : Scopes) → AreScopes among f s → blocks_clear (bars s) (get nat_cmp s.numbers) 0 f.blocks ≡ true → IsClear among f
+clear_by among f s are h = record {
+  above = is_above (dominance s.above);
+  passed = are.above;
+  at = get nat_cmp s.places;
+  placed = are.placed;
+  place = get nat_cmp s.numbers;
+  numbered = are.numbered;
+  clear = sym (λ i. blocks_clear (barred (λ x. are.inner x i) (λ x. are.over x i) (get nat_cmp s.places) (is_above (dominance s.above))) (get nat_cmp s.numbers) 0 f.blocks) ∙ h;
+}
+
+pub returns : goal.returns
+returns c e =
+    clear_by (contains nat_eq c.args.outside.now) c.args.f.now c.in_ok-scopes.scopes c.in_ok-scopes.ensures
+    (ap (blocks_clear (bars c.in_ok-scopes.scopes) (get nat_cmp c.in_ok-scopes.scopes.numbers) 0) (sym c.as_slice.ensures) ∙ sym c.in_ok-clear.ensures ∙ e)

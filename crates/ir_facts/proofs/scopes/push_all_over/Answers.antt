@@ -1,0 +1,27 @@
+use Rattle.std.proofs.Common.{◌≡◌, suc, ◌+◌, ◌∷◌, drop, sym, ap, ◌∙◌, subst, arith}
+use Rattle.std.proofs.Math.Seq.{drop-cons}
+use Rattle.std.specs.BTreeMap.{get}
+use Rattle.std.specs.Ordering.{nat_cmp}
+use Rattle.ir_tree.specs.declared.block.Block.{Block}
+use Rattle.ir_flow.specs.Dominating.{dominance}
+use Rattle.block_places.specs.Above.{is_above}
+use Rattle.fact_sources.specs.Askable.{BlocksHaveWidths}
+use Rattle.ir_facts.proofs.Clearing.{over_pushed}
+use Rattle.ir_facts.proofs.scopes.push_all_over.Goals as goal
+
+pub loop-block-preserved : goal.loop-block-preserved
+loop-block-preserved c =
+    let blocks = c.args.blocks.now in
+    let i = c.loop-block.block-index in
+    let block = c.block-item.result in
+    let one : suc i ≡ i + 1 = omega arith in
+    let next : c.loop-block.place + 1 ≡ suc c.loop-block.place = omega arith in
+    let cut = drop-cons blocks i block c.loop-block-test.true ∙ ap (λ (b : Block). b ∷ drop (suc i) blocks) (sym c.block-item.is) ∙ ap (λ j. block ∷ drop j blocks) one in
+    record {
+      sized = (subst BlocksHaveWidths cut c.loop-block.invariant.sized).1;
+      at = (let same = c.loop-block.invariant.at in omega (arith, same));
+      keys =
+          over_pushed (get nat_cmp c.args.places.now) (is_above (dominance c.args.above.now)) c.loop-block.place (c.loop-block.place + 1) block (drop (i + 1) blocks) (drop i blocks)
+          c.loop-block.keys.items c.push_over.new.keys.items cut next c.in_ok-push_over.ensures
+          ∙ c.loop-block.invariant.keys;
+    }

@@ -1,0 +1,251 @@
+//! Where locals may be read whose candidates other blocks define that aren't reached.
+ghost use Rattle.std.specs.Prelude.{◌≡◌, ◌++◌, ℕ, nat_eq, IfOk, OnOk};
+ghost use Rattle.std.specs.BTreeMap.{get};
+ghost use Rattle.std.specs.HashSet.{contains};
+ghost use Rattle.std.specs.Ordering.{nat_cmp};
+ghost use Rattle.ir_flow.specs.Dominating.{dominance};
+ghost use Rattle.block_places.specs.Above.{is_above as stands_above};
+ghost use Rattle.fact_sources.specs.Apart.{is_listed};
+ghost use Rattle.fact_sources.specs.Askable.{BlocksHaveWidths, LinesHaveWidths};
+ghost use Rattle.fact_sources.specs.Candidates.{block_candidates};
+ghost use Rattle.ir_facts.specs.Clear.{all_inner, all_over, inner_keys, is_barred, is_over, keys_among};
+ghost use Rattle.ir_facts.specs.Scopes.{AreScopes};
+
+use block_places::{above, is_above, places, places_by_number};
+use fact_sources::{Beside, Locals, defined, is_among, push_block, set_of};
+use ir_flow::Dominators;
+use ir_tree::{Block, Function, Operand};
+use std::alloc::{AllocError, Global};
+use std::collections::{BTreeMap, HashSet};
+
+/// The tables by which it is known where a local may be read.
+#[derive(Drop)]
+pub(crate) struct Scopes {
+    /// The locals whose candidate a block defines that isn't reached, another one than the local's own.
+    pub inner: HashSet<u32>,
+    /// Those whose own block stands above that of the candidate, and those of whose candidate the place isn't known.
+    pub over: HashSet<u32>,
+    /// The place of the block that defines a local.
+    pub places: BTreeMap<u32, u32>,
+    /// The place of the block of a number.
+    pub numbers: BTreeMap<u32, u32>,
+    /// Which blocks stand above which.
+    pub above: Dominators,
+}
+
+/// The place that a table has for a number.
+pub(crate) fn place_of(places: &BTreeMap<u32, u32>, number: u32) -> Option<u32>
+    ensures { result ≡ get nat_cmp places.now number }
+{
+    match places.get(&number) {
+        Some(place) => Some(*place),
+        None => None,
+    }
+}
+
+// ---- what isn't to be read
+
+fn is_barred(inner: bool, over: bool, home: Option<u32>, above: &Dominators, place: u32) -> bool
+    ensures { result ≡ is_barred inner over home (stands_above (dominance above.now)) place }
+{
+    if !inner {
+        return false;
+    }
+    let Some(home) = home else {
+        return true;
+    };
+    !(home == place || (!over && is_above(above, home, place)))
+}
+
+/// The locals that aren't to be read in the block at a place.
+#[derive(Clone, Copy)]
+pub(crate) struct Barred<'a> {
+    pub scopes: &'a Scopes,
+    pub place: u32,
+}
+
+impl<'a> Locals for Barred<'a> {
+    ghost use Rattle.ir_facts.specs.Scopes.{bars};
+
+    ghost members = { λ b. bars b.scopes.now b.place };
+
+    fn has(&self, local: u32) -> bool {
+        let scopes = self.scopes;
+        let inner = scopes.inner.contains(&local);
+        let over = scopes.over.contains(&local);
+        let home = place_of(&scopes.places, local);
+        is_barred(inner, over, home, &scopes.above, self.place)
+    }
+}
+
+// ---- the tables
+
+/// The locals that a block defines that the one at a place stands above, and those of which no block is known.
+#[derive(Clone, Copy)]
+struct Under<'a> {
+    places: &'a BTreeMap<u32, u32>,
+    above: &'a Dominators,
+    place: u32,
+}
+
+impl<'a> Locals for Under<'a> {
+    ghost use Rattle.std.specs.BTreeMap.{get};
+    ghost use Rattle.std.specs.Ordering.{nat_cmp};
+    ghost use Rattle.ir_flow.specs.Dominating.{dominance};
+    ghost use Rattle.block_places.specs.Above.{is_above};
+    ghost use Rattle.ir_facts.specs.Clear.{is_over};
+
+    ghost members = { λ u. is_over (get nat_cmp u.places.now) (is_above (dominance u.above.now)) u.place };
+
+    fn has(&self, local: u32) -> bool {
+        match place_of(self.places, local) {
+            Some(place) => is_above(self.above, self.place, place),
+            None => true,
+        }
+    }
+}
+
+/// The locals of the facts whose operand is a local of the set.
+fn push_keys<L: Locals>(
+    keys: &mut Vec<u32>,
+    found: &[(u32, Operand)],
+    among: &L,
+) -> Result<(), AllocError>
+    ensures { OnOk result (keys.new.items ≡ keys.old.items ++ keys_among (L.members among.now) found.now) }
+{
+    for pair in found {
+        if is_among(among, &pair.1) {
+            keys.push(pair.0)?;
+        }
+    }
+    Ok(())
+}
+
+fn push_inner(
+    alloc: Global,
+    keys: &mut Vec<u32>,
+    outside: &HashSet<u32>,
+    block: &Block,
+) -> Result<(), AllocError>
+    requires sized { LinesHaveWidths block.now.lines }
+    ensures { OnOk result (keys.new.items ≡ keys.old.items ++ inner_keys (contains nat_eq outside.now) block.now) }
+{
+    let own = defined(alloc, block)?;
+    let mut found = Vec::new(alloc);
+    push_block(alloc, &mut found, block)?;
+    let among = Beside {
+        set: outside,
+        but: &own,
+    };
+    push_keys(keys, &found, &among)?;
+    Ok(())
+}
+
+fn push_all_inner(
+    alloc: Global,
+    keys: &mut Vec<u32>,
+    outside: &HashSet<u32>,
+    blocks: &[Block],
+) -> Result<(), AllocError>
+    requires sized { BlocksHaveWidths blocks.now }
+    ensures { OnOk result (keys.new.items ≡ keys.old.items ++ all_inner (contains nat_eq outside.now) blocks.now) }
+{
+    for block in blocks {
+        push_inner(alloc, keys, outside, block)?;
+    }
+    Ok(())
+}
+
+fn inner_of(
+    alloc: Global,
+    outside: &HashSet<u32>,
+    blocks: &[Block],
+) -> Result<HashSet<u32>, AllocError>
+    requires sized { BlocksHaveWidths blocks.now }
+    ensures { IfOk result (λ set. (x : ℕ) → contains nat_eq set x ≡ is_listed x (all_inner (contains nat_eq outside.now) blocks.now)) }
+{
+    let mut keys = Vec::new(alloc);
+    push_all_inner(alloc, &mut keys, outside, blocks)?;
+    let set = set_of(alloc, &keys)?;
+    Ok(set)
+}
+
+fn push_over(
+    alloc: Global,
+    keys: &mut Vec<u32>,
+    under: &Under<'_>,
+    block: &Block,
+) -> Result<(), AllocError>
+    requires sized { LinesHaveWidths block.now.lines }
+    ensures { OnOk result (keys.new.items ≡ keys.old.items ++ keys_among (is_over (get nat_cmp under.now.places.now) (stands_above (dominance under.now.above.now)) under.now.place) (block_candidates block.now)) }
+{
+    let mut found = Vec::new(alloc);
+    push_block(alloc, &mut found, block)?;
+    push_keys(keys, &found, under)?;
+    Ok(())
+}
+
+fn push_all_over(
+    alloc: Global,
+    keys: &mut Vec<u32>,
+    places: &BTreeMap<u32, u32>,
+    above: &Dominators,
+    blocks: &[Block],
+) -> Result<(), AllocError>
+    requires sized { BlocksHaveWidths blocks.now }
+    ensures { OnOk result (keys.new.items ≡ keys.old.items ++ all_over (get nat_cmp places.now) (stands_above (dominance above.now)) 0 blocks.now) }
+{
+    if blocks.len() > u32::MAX as usize {
+        return Err(AllocError);
+    }
+    let mut place: u32 = 0;
+    for block in blocks {
+        let under = Under {
+            places,
+            above,
+            place,
+        };
+        push_over(alloc, keys, &under, block)?;
+        place = place + 1;
+    }
+    Ok(())
+}
+
+fn over_of(
+    alloc: Global,
+    places: &BTreeMap<u32, u32>,
+    above: &Dominators,
+    blocks: &[Block],
+) -> Result<HashSet<u32>, AllocError>
+    requires sized { BlocksHaveWidths blocks.now }
+    ensures { IfOk result (λ set. (x : ℕ) → contains nat_eq set x ≡ is_listed x (all_over (get nat_cmp places.now) (stands_above (dominance above.now)) 0 blocks.now)) }
+{
+    let mut keys = Vec::new(alloc);
+    push_all_over(alloc, &mut keys, places, above, blocks)?;
+    let set = set_of(alloc, &keys)?;
+    Ok(set)
+}
+
+/// The tables of a function for the candidates that are locals of the set.
+pub(crate) fn scopes_of(
+    alloc: Global,
+    outside: &HashSet<u32>,
+    f: &Function,
+) -> Result<Scopes, AllocError>
+    requires sized { BlocksHaveWidths f.now.blocks }
+    ensures { IfOk result (λ s. AreScopes (contains nat_eq outside.now) f.now s) }
+{
+    let blocks = f.blocks.as_slice();
+    let above = above(alloc, f)?;
+    let places = places(alloc, blocks)?;
+    let numbers = places_by_number(alloc, blocks)?;
+    let inner = inner_of(alloc, outside, blocks)?;
+    let over = over_of(alloc, &places, &above, blocks)?;
+    Ok(Scopes {
+        inner,
+        over,
+        places,
+        numbers,
+        above,
+    })
+}
