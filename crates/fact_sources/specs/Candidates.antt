@@ -9,6 +9,7 @@ use Rattle.ir_tree.specs.declared.instr.Phi.{Phi}
 use Rattle.ir_tree.specs.declared.operand.Operand.{Operand}
 use Rattle.ir_meaning.specs.Table.{rule, same}
 use Rattle.ir_better.specs.Facts.{Facts, is_local, is_phi_operand}
+use Rattle.local_names.specs.Membership.{is_member}
 
 -- ---- phis
 
@@ -29,6 +30,16 @@ sole_source ps x es (Some v) = if takes_only x v es && not (is_phi_operand v ps)
 
 abbrev pub phi_source : List Phi → Phi → Option Operand
 phi_source ps p = sole_source ps p.local p.incoming (first_other p.local p.incoming)
+
+-- ---- phis beside a set of locals
+
+abbrev pub sole_beside : (ℕ → Bool) → ℕ → List Incoming → Option Operand → Option Operand
+sole_beside among x es None = None
+sole_beside among x es (Some v) = if takes_only x v es && not (is_member among v) then Some v else None
+
+-- the one operand that a phi takes beside its own local, unless it is of the set
+abbrev pub source_beside : (ℕ → Bool) → Phi → Option Operand
+source_beside among p = sole_beside among p.local p.incoming (first_other p.local p.incoming)
 
 -- ---- instructions
 

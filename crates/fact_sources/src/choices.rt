@@ -1,5 +1,5 @@
 //! Free choices settled: an instruction whose row may rest on one becomes a freeze of the row's constant, in its place.
-ghost use Rattle.std.specs.Prelude.{◌≡◌, IfOk, map, not};
+ghost use Rattle.std.specs.Prelude.{◌≡◌, IfOk, is_some, map, not};
 ghost use Rattle.ir_tree.specs.Rules.{Sound};
 ghost use Rattle.ir_meaning.specs.Table.{compares_freely, is_equality, is_poison, may_choose};
 ghost use Rattle.fold_rules.specs.Folding.{row_of};
@@ -76,13 +76,19 @@ fn choice_of(instr: &Instr) -> Option<(u8, u64)>
 
 // ---- whether there is one
 
+fn has_choice(instr: &Instr) -> bool
+    requires sized { HasWidths instr.now }
+    ensures { result ≡ is_some (choice_of instr.now) }
+{
+    choice_of(instr).is_some()
+}
+
 fn any_choice(lines: &[Line]) -> bool
     requires sized { LinesHaveWidths lines.now }
     ensures { result ≡ any_choice lines.now }
 {
     for line in lines {
-        let choice = choice_of(&line.instr);
-        if choice.is_some() {
+        if has_choice(&line.instr) {
             return true;
         }
     }

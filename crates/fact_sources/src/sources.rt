@@ -5,12 +5,11 @@ ghost use Rattle.ir_better.specs.Facts.{is_local, is_phi};
 ghost use Rattle.fold_rules.specs.Folding.{row_of};
 ghost use Rattle.fold_rules.specs.Widths.{HasWidths};
 ghost use Rattle.fact_sources.specs.Askable.{BlocksHaveWidths, LinesHaveWidths};
-ghost use Rattle.fact_sources.specs.Candidates.{block_candidates, blocks_candidates, candidates, first_other, line_candidates, line_source, paired, phi_candidates, result_candidate, takes_only};
-ghost use Rattle.fact_sources.specs.Membership.{source_beside};
+ghost use Rattle.fact_sources.specs.Candidates.{block_candidates, blocks_candidates, candidates, first_other, line_candidates, line_source, paired, phi_candidates, result_candidate, source_beside, takes_only};
 
-use crate::naming::is_among;
 use fold_rules::{Folded, is_same, rule};
 use ir_tree::{Block, Duplicate, Function, Incoming, Instr, Line, Operand, Phi};
+use local_names::is_among;
 use std::alloc::{AllocError, Global};
 use std::collections::HashSet;
 

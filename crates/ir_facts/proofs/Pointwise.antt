@@ -19,7 +19,7 @@ use Rattle.ir_facts.proofs.Keys.{candidates_once, found_has, has_found}
 use Rattle.ir_facts.proofs.Parting.{own_all, sources_less}
 use Rattle.ir_facts.proofs.Sourcing.{are_sources}
 use Rattle.ir_facts.proofs.Unnamed.{operand_same, unnamed}
-use Rattle.fact_sources.proofs.NoneNamed.{blocks_none}
+use Rattle.local_names.proofs.NoneNamed.{blocks_none}
 
 -- no candidates
 abbrev nothing : ℕ → Option Operand

@@ -7,7 +7,7 @@ use Rattle.ir_tree.specs.declared.function.Function.{Function}
 use Rattle.ir_tree.specs.declared.operand.Operand.{Operand}
 use Rattle.ir_better.specs.Facts.{Facts, Has}
 use Rattle.point_edit.specs.AtPoints.{function_at}
-use Rattle.fact_sources.specs.Naming.{is_key}
+use Rattle.local_names.specs.Naming.{is_key}
 use Rattle.ir_facts.specs.Points.{AreFacts, IsFactFlow}
 use Rattle.ir_facts.specs.Steps.{IsSolution, IsStep, candidate_of}
 use Rattle.point_edit.specs.declared.fact.Fact.{Fact}

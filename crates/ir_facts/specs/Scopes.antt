@@ -7,7 +7,7 @@ use Rattle.ir_tree.specs.declared.function.Function.{Function}
 use Rattle.ir_flow.specs.Dominating.{dominance}
 use Rattle.block_places.specs.Above.{StandsAbove, is_above}
 use Rattle.block_places.specs.Places.{AreNumbered, ArePlaced}
-use Rattle.fact_sources.specs.Apart.{is_listed}
+use Rattle.local_names.specs.Apart.{is_listed}
 use Rattle.ir_facts.specs.Clear.{all_inner, all_over, barred}
 use Rattle.ir_facts.specs.declared.scopes.Scopes.{Scopes}
 

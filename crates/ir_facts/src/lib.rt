@@ -18,7 +18,7 @@
 //! which is one list ([`facts_are_one`]). What any solution makes of a sound function is better ([`steps_are_better`]).
 //! The two definitions of where facts hold agree ([`facts_at_points_agree`]).
 //!
-//! Below this crate stand `fact_sources`, `point_edit`, `block_places`, `ir_tree`, `ir_flow`, `lto_sets`, `ir_edit`,
+//! Below this crate stand `fact_sources`, `point_edit`, `block_places`, `local_names`, `ir_tree`, `ir_flow`, `lto_sets`, `ir_edit`,
 //! `fold_rules`, and `ir_meaning` and `ir_better` for what is proved. A round goes through the function for free choices,
 //! for candidates, once more where there are any, to see whether one is used, and once or twice to replace uses; rounds
 //! end behind one that changes nothing. Each use is looked up in a tree of the candidates. Where a candidate is a local

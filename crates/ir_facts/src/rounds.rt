@@ -5,15 +5,16 @@ ghost use Rattle.ir_tree.specs.Rules.{Sound};
 ghost use Rattle.ir_meaning.specs.Near.{BetterThan};
 ghost use Rattle.ir_meaning.specs.Program.{Program};
 ghost use Rattle.ir_better.specs.Formed.{IsFormed};
-ghost use Rattle.fact_sources.specs.Apart.{IsApart};
+ghost use Rattle.local_names.specs.Apart.{IsApart};
 ghost use Rattle.fact_sources.specs.Settled.{or_same};
 ghost use Rattle.ir_facts.specs.Steps.{AreRounds, IsApplied, IsRound, IsStep, candidate_of};
 
 use crate::clear::is_clear;
 use crate::points::facts_of;
-use fact_sources::{apart, are_used, candidates, firm, resting, settled};
+use fact_sources::{candidates, settled};
 use ir_edit::substitute;
 use ir_tree::{Duplicate, Function};
+use local_names::{apart, are_used, firm, resting};
 use point_edit::function_at;
 use std::alloc::{AllocError, Global};
 use std::collections::HashSet;

@@ -2,11 +2,11 @@ use Rattle.std.proofs.Common.{ℕ, nat_eq, List, sym, ◌∙◌, ap, subst}
 use Rattle.std.specs.HashSet.{contains}
 use Rattle.ir_tree.specs.declared.operand.Operand.{Operand}
 use Rattle.ir_edit.specs.Substituted.{substituted}
-use Rattle.fact_sources.specs.Apart.{firm, resting}
+use Rattle.local_names.specs.Apart.{firm, resting}
 use Rattle.point_edit.specs.AtPoints.{function_at}
 use Rattle.ir_facts.specs.Steps.{IsStep, candidate_of}
 use Rattle.ir_facts.proofs.Parting.{step_at, step_clear, step_everywhere}
-use Rattle.fact_sources.proofs.NoneNamed.{empty_list}
+use Rattle.local_names.proofs.NoneNamed.{empty_list}
 use Rattle.ir_facts.proofs.Unused.{unused_step}
 use Rattle.ir_facts.proofs.Widths.{formed_wide}
 use Rattle.ir_facts.proofs.rounds.forwarded.Goals as goal

@@ -1,0 +1,3 @@
+pub mod Neither
+pub mod NoneNamed
+pub mod Outside

@@ -1,0 +1,3 @@
+pub mod Apart
+pub mod Membership
+pub mod Naming
