@@ -2,7 +2,7 @@ use Rattle.std.proofs.Common.{◌≡◌, ℕ, suc, ◌+◌, arith, ◌∷◌, dr
 use Rattle.std.proofs.Math.Seq.{drop-cons}
 use Rattle.std.specs.HashSet.{contains}
 use Rattle.ir_tree.specs.declared.instr.Phi.{Phi}
-use Rattle.local_names.specs.Membership.{source_beside}
+use Rattle.fact_sources.specs.Candidates.{source_beside}
 use Rattle.fact_sources.proofs.Standing.{pushed, source_is}
 use Rattle.fact_sources.proofs.sources.push_phis.Goals as goal
 
