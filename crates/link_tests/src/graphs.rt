@@ -172,7 +172,7 @@ module 3 h.ll
 
 #[test]
 fn calls_are_imported_within_their_limits(rt: HostRuntime) {
-    for (name, counts, callees, wanted, report) in GRAPHS {
+    for &(name, counts, callees, wanted, report) in &GRAPHS {
         let (imports, told) = decided(rt.alloc(), counts, callees).expect(&rt, "a link");
         assert!(rt; imports.len() == wanted.len(), "{name}");
         for (found, list) in imports.iter().zip(wanted) {

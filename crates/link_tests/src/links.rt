@@ -262,7 +262,7 @@ module 2 c.ll
 
 #[test]
 fn links_are_reported_or_refused(rt: HostRuntime) {
-    for (name, files, limit, status, text) in LINKS {
+    for &(name, files, limit, status, text) in &LINKS {
         let (answer, told) = answered(rt.alloc(), files, limit).expect(&rt, "sound modules");
         assert!(rt; answer == status && told.equals(text), "{name}");
     }

@@ -114,7 +114,7 @@ define i32 @putchar(i32 %x) {
 
 #[test]
 fn each_symbol_has_the_definition_that_prevails(rt: HostRuntime) {
-    for (name, files, wanted) in PROGRAMS {
+    for &(name, files, wanted) in &PROGRAMS {
         let found = program_of(rt.alloc(), files).expect(&rt, "a program");
         assert!(rt; found.len() == wanted.len(), "{name}");
         for (global, (home, symbol)) in found.as_slice().iter().zip(wanted) {

@@ -104,7 +104,7 @@ const COMMANDS: [(&[&str], Told); 6] = [
 
 #[test]
 fn words_are_commands(rt: HostRuntime) {
-    for (words, wanted) in COMMANDS {
+    for &(words, wanted) in &COMMANDS {
         let found = read(&rt, rt.alloc(), words);
         assert!(rt; found.0 == wanted.0 && found.1 == wanted.1, "{words:?}");
     }
@@ -147,7 +147,7 @@ const REFUSED: [(&str, &[&str]); 16] = [
 
 #[test]
 fn other_words_are_usage(rt: HostRuntime) {
-    for (why, words) in REFUSED {
+    for &(why, words) in &REFUSED {
         assert!(rt; read(&rt, rt.alloc(), words).0 == "usage", "{why}");
     }
 }

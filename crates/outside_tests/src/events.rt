@@ -80,7 +80,7 @@ fn gave(core: &Core, link: u32, wanted: &[&[u8]]) -> bool {
 fn two_links_share_one_list(rt: HostRuntime) -> Result<(), AllocError> {
     let alloc = rt.alloc();
     let mut core = opened(alloc)?;
-    for (link, worker, turn) in TURNS {
+    for &(link, worker, turn) in &TURNS {
         assert!(rt; takes(alloc, &mut core, link, worker, turn)?);
     }
     let [entry] = core.entries() else {

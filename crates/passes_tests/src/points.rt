@@ -65,7 +65,7 @@ const POINTS: [Row; 3] = [
 
 #[test]
 fn facts_hold_at_their_points(rt: HostRuntime) -> Result<(), AllocError> {
-    for (text, wanted) in POINTS {
+    for &(text, wanted) in &POINTS {
         let Some(module) = read(rt.alloc(), text) else {
             panic!(rt; "a sound module");
         };

@@ -105,8 +105,8 @@ fn fails_so<W: Wait>(
 
 #[test]
 fn each_call_of_the_disk_fails_alone(rt: HostRuntime) -> Result<(), AllocError> {
-    for (call, first, second, faults) in CALLS {
-        for (leaves, left) in LEFT {
+    for &(call, first, second, faults) in &CALLS {
+        for &(leaves, left) in &LEFT {
             let found = [Answer::Found(b'1'), Answer::Found(b'3')];
             let wanted = [
                 Answer::Missed,

@@ -142,14 +142,14 @@ const FUNCTIONS: [Row; 14] = [
 
 #[test]
 fn faults_of_variables_stand_at_their_tokens(rt: HostRuntime) {
-    for (text, left, kind) in VARIABLES {
+    for &(text, left, kind) in &VARIABLES {
         assert!(rt; refused(rt.alloc(), text) == Some((left, kind)), "{text:?}");
     }
 }
 
 #[test]
 fn faults_of_functions_stand_at_their_tokens(rt: HostRuntime) {
-    for (text, left, kind) in FUNCTIONS {
+    for &(text, left, kind) in &FUNCTIONS {
         assert!(rt; refused(rt.alloc(), text) == Some((left, kind)), "{text:?}");
     }
 }

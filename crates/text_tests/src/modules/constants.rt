@@ -49,7 +49,7 @@ const CONSTANTS: [(&str, &str); 10] = [
 
 #[test]
 fn constants_are_read_again(rt: HostRuntime) -> Result<(), AllocError> {
-    for (text, want) in CONSTANTS {
+    for &(text, want) in &CONSTANTS {
         assert!(rt; shown(rt.alloc(), text)?.as_str() == want, "{text}");
         assert!(rt; stays(rt.alloc(), text)?, "{text}");
     }

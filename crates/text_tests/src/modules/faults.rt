@@ -29,7 +29,7 @@ const FIRST_FAULTS: [(&str, &str); 13] = [
 
 #[test]
 fn the_first_place_counts(rt: HostRuntime) -> Result<(), AllocError> {
-    for (text, want) in FIRST_FAULTS {
+    for &(text, want) in &FIRST_FAULTS {
         assert!(rt; shown(rt.alloc(), text)?.as_str() == want, "{text}");
     }
     Ok(())
@@ -77,7 +77,7 @@ const KINDS: [(&str, &str); 19] = [
 
 #[test]
 fn each_kind_has_its_place(rt: HostRuntime) -> Result<(), AllocError> {
-    for (text, want) in KINDS {
+    for &(text, want) in &KINDS {
         assert!(rt; shown(rt.alloc(), text)?.as_str() == want, "{text}");
     }
     Ok(())
@@ -120,7 +120,7 @@ const STAGES: [(&str, &str); 7] = [
 
 #[test]
 fn stages_come_one_behind_another(rt: HostRuntime) -> Result<(), AllocError> {
-    for (text, want) in STAGES {
+    for &(text, want) in &STAGES {
         assert!(rt; shown(rt.alloc(), text)?.as_str() == want, "{text}");
     }
     Ok(())

@@ -29,7 +29,7 @@ const GLOBALS: [(&str, &str); 10] = [
 
 #[test]
 fn globals_stand_once(rt: HostRuntime) -> Result<(), AllocError> {
-    for (text, want) in GLOBALS {
+    for &(text, want) in &GLOBALS {
         assert!(rt; shown(rt.alloc(), text)?.as_str() == want, "{text}");
     }
     Ok(())
@@ -56,7 +56,7 @@ const TYPES: [(&str, &str); 7] = [
 
 #[test]
 fn types_expand(rt: HostRuntime) -> Result<(), AllocError> {
-    for (text, want) in TYPES {
+    for &(text, want) in &TYPES {
         assert!(rt; shown(rt.alloc(), text)?.as_str() == want, "{text}");
     }
     Ok(())
@@ -93,7 +93,7 @@ const LOCALS: [(&str, &str); 9] = [
 
 #[test]
 fn locals_are_numbered_anew(rt: HostRuntime) -> Result<(), AllocError> {
-    for (text, want) in LOCALS {
+    for &(text, want) in &LOCALS {
         assert!(rt; shown(rt.alloc(), text)?.as_str() == want, "{text}");
     }
     Ok(())
@@ -135,7 +135,7 @@ const COUNTERS: [(&str, &str); 7] = [
 
 #[test]
 fn numbers_go_on_behind_the_greatest_that_is_written(rt: HostRuntime) -> Result<(), AllocError> {
-    for (text, want) in COUNTERS {
+    for &(text, want) in &COUNTERS {
         assert!(rt; shown(rt.alloc(), text)?.as_str() == want, "{text}");
     }
     Ok(())

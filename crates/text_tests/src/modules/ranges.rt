@@ -84,7 +84,7 @@ const NUMBERS: [(&str, &str); 23] = [
 
 #[test]
 fn numbers_of_names_are_in_range(rt: HostRuntime) -> Result<(), AllocError> {
-    for (text, want) in NUMBERS {
+    for &(text, want) in &NUMBERS {
         assert!(rt; shown(rt.alloc(), text)?.as_str() == want, "{text}");
     }
     Ok(())
@@ -133,7 +133,7 @@ const COUNTS: [(&str, &str); 9] = [
 
 #[test]
 fn counts_of_slots_are_within_the_limits(rt: HostRuntime) -> Result<(), AllocError> {
-    for (text, want) in COUNTS {
+    for &(text, want) in &COUNTS {
         assert!(rt; shown(rt.alloc(), text)?.as_str() == want, "{text}");
     }
     Ok(())
@@ -201,7 +201,7 @@ const INITIALISERS: [(&str, &str); 8] = [
 
 #[test]
 fn numbers_stand_behind_type_names(rt: HostRuntime) -> Result<(), AllocError> {
-    for (text, want) in INITIALISERS {
+    for &(text, want) in &INITIALISERS {
         assert!(rt; shown(rt.alloc(), text)?.as_str() == want, "{text}");
         assert!(rt; stays(rt.alloc(), text)?, "{text}");
     }

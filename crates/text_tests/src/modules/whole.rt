@@ -74,7 +74,7 @@ const TARGETS: [(&str, &str); 3] = [
 
 #[test]
 fn the_last_target_line_stands(rt: HostRuntime) -> Result<(), AllocError> {
-    for (text, want) in TARGETS {
+    for &(text, want) in &TARGETS {
         assert!(rt; shown(rt.alloc(), text)?.as_str() == want, "{text}");
     }
     Ok(())
@@ -101,7 +101,7 @@ const GROUPS: [(&str, &str); 4] = [
 
 #[test]
 fn groups_of_one_number_add_up(rt: HostRuntime) -> Result<(), AllocError> {
-    for (text, want) in GROUPS {
+    for &(text, want) in &GROUPS {
         assert!(rt; shown(rt.alloc(), text)?.as_str() == want, "{text}");
     }
     Ok(())

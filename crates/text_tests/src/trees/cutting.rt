@@ -155,11 +155,11 @@ const CLASSES: [(&str, &str); 8] = [
 
 #[test]
 fn texts_are_cut(rt: HostRuntime) -> Result<(), AllocError> {
-    for (text, want) in CUT {
+    for &(text, want) in &CUT {
         let got = shown(rt.alloc(), text, false)?;
         assert_eq!(rt; got.as_str(), want);
     }
-    for (text, want) in CLASSES {
+    for &(text, want) in &CLASSES {
         let got = shown(rt.alloc(), text, true)?;
         assert_eq!(rt; got.as_str(), want);
     }
@@ -184,7 +184,7 @@ const CONTENTS: [(&str, &str); 12] = [
 
 #[test]
 fn tokens_are_listed(rt: HostRuntime) -> Result<(), AllocError> {
-    for (text, want) in CONTENTS {
+    for &(text, want) in &CONTENTS {
         let lexed = lex(rt.alloc(), text.as_bytes())?;
         assert_eq!(rt; lexed.tokens.len(), 1, "{text}");
         for token in &lexed.tokens {

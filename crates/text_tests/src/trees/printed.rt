@@ -55,7 +55,7 @@ const TEXTS: [(&[u8], &[u8]); 3] = [(FUNCTION, NAMED), (MODULE, b""), (NESTED, b
 #[test]
 fn what_is_read_is_printed_again(rt: HostRuntime) -> Result<(), AllocError> {
     let alloc = rt.alloc();
-    for (text, behind) in TEXTS {
+    for &(text, behind) in &TEXTS {
         let mut whole = Vec::from_slice(alloc, text)?;
         whole.extend_from_slice(behind)?;
         let parsed = read(alloc, &whole).expect(&rt, "a module");

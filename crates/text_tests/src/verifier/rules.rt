@@ -451,7 +451,7 @@ fn is_so(alloc: Global, text: &[u8], wanted: Option<(u32, Rule)>) -> Result<bool
 
 #[test]
 fn rules_are_kept_and_broken(rt: HostRuntime) -> Result<(), AllocError> {
-    for (name, text, broken) in ROWS {
+    for &(name, text, broken) in &ROWS {
         assert!(rt; is_so(rt.alloc(), text, broken)?, "{name}");
     }
     Ok(())
