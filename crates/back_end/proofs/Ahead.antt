@@ -24,7 +24,7 @@ use Rattle.inline_site.specs.declared.open.Open.{Open}
 use Rattle.inline_site.proofs.Later.{call_late, laid, late_counts, many_mapped, site, site_stands, types_kept, without_stays}
 use Rattle.inline_site.proofs.Standing.{Found, found_in, one_line, within}
 use Rattle.back_end.specs.Inlinable.{count}
-use Rattle.back_end.specs.Walk.{IsFirst, IsWalk, Takes, TakesAt, Walks, next_place}
+use Rattle.back_end.specs.Walk.{IsFirst, IsWalk, Takes, TakesAt, Walks}
 use Rattle.back_end.specs.Walking.{IsAhead, IsBegun, IsHere, TakesNone, TakesNow}
 use Rattle.back_end.specs.declared.walker.Walker.{Walker}
 use Rattle.back_end.proofs.Finding.{counted_both, place_within}

@@ -1,4 +1,4 @@
-use Rattle.std.proofs.Common.{◌≡◌, List, [], drop}
+use Rattle.std.proofs.Common.{◌≡◌, List, drop}
 use Rattle.ir_tree.specs.declared.block.Block.{Block}
 use Rattle.ir_tree.specs.declared.block.Terminator.{Terminator}
 use Rattle.ir_tree.specs.declared.function.Function.{Function}
