@@ -154,8 +154,11 @@ fn promotable(alloc: Global, uses: &[Use], slots: &[Slot]) -> Result<Vec<Slot>, 
 fn promotable_in(alloc: Global, blocks: &[Block]) -> Result<Vec<Slot>, AllocError>
     ensures { IfOk result (λ kept. kept.items ≡ promotable (uses blocks.now) (slots blocks.now)) }
 {
-    let uses = uses_in(alloc, blocks)?;
     let slots = slots_in(alloc, blocks)?;
+    if slots.len() == 0 {
+        return Ok(slots);
+    }
+    let uses = uses_in(alloc, blocks)?;
     let kept = promotable(alloc, &uses, &slots)?;
     Ok(kept)
 }
