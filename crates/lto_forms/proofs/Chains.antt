@@ -1,5 +1,5 @@
 -- The reader of pieces one behind another, each from the state that the one before left, reads them.
-use Rattle.std.proofs.Common.{◌≡◌, ℕ, zero, suc, ◌+◌, ◌<◌, Bool, true, false, cond, ◌&&◌, not, List, [], ◌∷◌, ◌++◌, length, Result, Ok, Err, refl, sym, ap, subst, ◌∙◌, append_assoc, arith}
+use Rattle.std.proofs.Common.{◌≡◌, ℕ, zero, suc, ◌+◌, ◌<◌, Bool, true, false, cond, ◌&&◌, not, List, [], ◌∷◌, ◌++◌, length, Result, Ok, Err, refl, sym, ap, subst, ◌∙◌, append_assoc, arith, inl, inr}
 use Rattle.std.proofs.lemmas.List.{length-append}
 use Rattle.lto_forms.specs.declared.fault.Fault.{Fault}
 use Rattle.lto_forms.specs.declared.fault.FaultKind.{FaultKind}
@@ -8,7 +8,7 @@ use Rattle.lto_forms.specs.Alphabet.{Alphabet, AllReal, is_number}
 use Rattle.lto_forms.specs.Chained.{Chain, stops_here, chain_within, chain_at}
 use Rattle.lto_forms.specs.Faults.{LimitGoesOn, NumberGoesOn}
 use Rattle.lto_forms.specs.Forms.{Form}
-use Rattle.lto_forms.specs.Lawful.{ends, Stops, Swapped, GoesOn, Lawful}
+use Rattle.lto_forms.specs.Lawful.{ends, Stops, Swapped, GoesOn, Lawful, UpTo}
 use Rattle.lto_forms.specs.Readers.{Reader, fault_at, done, follow, ◌>>=◌}
 use Rattle.lto_forms.proofs.Composed.{reads, reads_is, wrong, wrong_is, cut_is, cons_is, cons_not_nil, append_is_nil, all_real, local_mid}
 
@@ -48,7 +48,7 @@ module _ {T A : Type 0} (a : A) where
 module _ {T : Type 0} (alphabet : Alphabet T) where
   module _ {S A : Type 0} (final : S → Bool) (begins first more : S → T → Bool) (after : T → Bool) (g wide : S → Form T (A × S)) (f : S → Reader T (A × S)) (laws : (s : S) → Lawful alphabet (g s) (wide s) (f s) (first s) (more s) false)
       (alike : (s : S) (t u : T) → is_number alphabet t ≡ true → alphabet.class u ≡ alphabet.class t → begins s t ≡ begins s u) (within : (s : S) (t : T) → final s ≡ true → first s t ≡ true → begins s t ≡ true)
-      (apart : (s next : S) (front : List T) (a : A) → g s front (a, next) → (t : T) → more s t ≡ true → first next t ≡ true → ⊥) (ends_piece : (s : S) (t : T) → more s t ≡ true → after t ≡ true) (ends_chain : (s : S) (t : T) → final s ≡ true → begins s t ≡ true → after t ≡ true)
+      (apart : (s next : S) (front : List T) (a : A) → wide s front (a, next) → (t : T) → more s t ≡ true → first next t ≡ true → ⊥) (ends_piece : (s : S) (t : T) → more s t ≡ true → after t ≡ true) (ends_chain : (s : S) (t : T) → final s ≡ true → begins s t ≡ true → after t ≡ true)
       (finish : (s : S) → (ts : List T) × (as' : List A) × Chain final g s ts as' × AllReal alphabet ts) where
     abbrev chain : S → List T → List A → Type 0
     chain = Chain final g
@@ -114,18 +114,18 @@ module _ {T : Type 0} (alphabet : Alphabet T) where
         by_stop again true e d = let r = reads_is [] as' ts rest d in ([], r.1, subst (λ (x : List A). chain s [] x) r.0 ((and_parts _ _ e).0, refl))
         by_stop again false e d = by_piece again (f s ts) refl d
 
-    starts_chain : (s : S) (t : T) (ts : List T) (as' : List A) → chain s (t ∷ ts) as' → first s t ≡ true
+    starts_chain : (s : S) (t : T) (ts : List T) (as' : List A) → chain_wide s (t ∷ ts) as' → first s t ≡ true
     starts_chain s t ts [] c = absurd (cons_not_nil t ts c.1)
     starts_chain s t ts (a ∷ as') (front, back, next, e, p, c) = by_front front e p
       where
-        by_front : (front : List T) → t ∷ ts ≡ front ++ back → g s front (a, next) → first s t ≡ true
-        by_front [] e p = absurd (not_empty ((laws s).nothing (a, next) p))
-        by_front (u ∷ front) e p = ap (first s) (cons_is t u ts (front ++ back) e).0 ∙ (laws s).starts u front (a, next) p
+        by_front : (front : List T) → t ∷ ts ≡ front ++ back → wide s front (a, next) → first s t ≡ true
+        by_front [] e p = absurd (not_empty ((laws s).broad.nothing (a, next) p))
+        by_front (u ∷ front) e p = ap (first s) (cons_is t u ts (front ++ back) e).0 ∙ (laws s).broad.starts u front (a, next) p
 
-    nothing_chain : (s : S) (as' : List A) → chain s [] as' → final s ≡ true
+    nothing_chain : (s : S) (as' : List A) → chain_wide s [] as' → final s ≡ true
     nothing_chain s [] c = c.0
     nothing_chain s (a ∷ as') (front, back, next, e, p, c) =
-        absurd (not_empty ((laws s).nothing (a, next) (subst (λ (x : List T). g s x (a, next)) (append_is_nil front back (sym e)).0 p)))
+        absurd (not_empty ((laws s).broad.nothing (a, next) (subst (λ (x : List T). wide s x (a, next)) (append_is_nil front back (sym e)).0 p)))
 
     stops_then : (s : S) (rest : List T) → final s ≡ true → Stops after rest → stop s rest ≡ true
     stops_then s [] e d = rw e refl
@@ -134,15 +134,15 @@ module _ {T : Type 0} (alphabet : Alphabet T) where
         never : false ≡ true → ⊥
         never h = cc
 
-    goes_then : (s : S) (front rest : List T) (x : A × S) → g s front x → stop s (front ++ rest) ≡ false
-    goes_then s [] rest x p = absurd (not_empty ((laws s).nothing x p))
+    goes_then : (s : S) (front rest : List T) (x : A × S) → wide s front x → stop s (front ++ rest) ≡ false
+    goes_then s [] rest x p = absurd (not_empty ((laws s).broad.nothing x p))
     goes_then s (t ∷ front) rest x p = by_final (final s) refl
       where
         by_final : (b : Bool) → final s ≡ b → b && not (begins s t) ≡ false
         by_final false e = refl
-        by_final true e = ap not (within s t e ((laws s).starts t front x p))
+        by_final true e = ap not (within s t e ((laws s).broad.starts t front x p))
 
-    stops_between : (s next : S) (front back rest : List T) (a : A) (as' : List A) → g s front (a, next) → chain next back as' → Stops after rest → Stops (more s) (back ++ rest)
+    stops_between : (s next : S) (front back rest : List T) (a : A) (as' : List A) → wide s front (a, next) → chain_wide next back as' → Stops after rest → Stops (more s) (back ++ rest)
     stops_between s next front [] [] a as' p c d = tt
     stops_between s next front [] (t ∷ rest) a as' p c d = is_false (more s t) (λ m. never (sym d ∙ ends_piece s t m))
       where
@@ -150,15 +150,38 @@ module _ {T : Type 0} (alphabet : Alphabet T) where
         never h = cc
     stops_between s next front (t ∷ back) rest a as' p c d = is_false (more s t) (λ m. apart s next front a p t m (starts_chain next t back as' c))
 
+    contains_chain : (s : S) (ts : List T) (as' : List A) → chain s ts as' → chain_wide s ts as'
+    contains_chain s ts [] c = c
+    contains_chain s ts (a ∷ as') (front, back, next, e, p, c) = (front, back, next, e, (laws s).contains front (a, next) p, contains_chain next back as' c)
+
     complete_chain : (n : ℕ) (s : S) (front rest : List T) (as' : List A) → length (front ++ rest) < n → chain s front as' → Stops after rest → at_most n s (front ++ rest) ≡ reads as' rest
     complete_chain n s front rest [] lt c d = ap (λ (x : List T). at_most n s (x ++ rest)) c.1 ∙ stop_gives n s rest (stops_then s rest c.0 d)
     complete_chain zero s front rest (a ∷ as') lt c d = absurd (omega (arith, lt))
     complete_chain (suc n) s ts rest (a ∷ as') lt (front, back, next, e, p, c) d =
         let regrouped : ts ++ rest ≡ front ++ (back ++ rest) = ap (λ (y : List T). y ++ rest) e ∙ append_assoc front back rest in
-        let one : f s (front ++ (back ++ rest)) ≡ reads (a, next) (back ++ rest) = (laws s).complete front (back ++ rest) (a, next) p (stops_between s next front back rest a as' p c d) in
+        let one : f s (front ++ (back ++ rest)) ≡ reads (a, next) (back ++ rest) = (laws s).complete front (back ++ rest) (a, next) p (stops_between s next front back rest a as' ((laws s).contains front (a, next) p) (contains_chain next back as' c) d) in
         let less : length (back ++ rest) < n = omega (arith, lt, shorter s (front ++ (back ++ rest)) (back ++ rest) (a, next) one, ap length regrouped) in
         let two : at_most n next (back ++ rest) ≡ reads as' rest = complete_chain n next back rest as' less c d in
-        ap (λ (y : List T). at_most (suc n) s y) regrouped ∙ stop_not n s (front ++ (back ++ rest)) (goes_then s front (back ++ rest) (a, next) p) ∙ ap (λ (y : Result ((A × S) × List T) Fault). follow y (further n)) one ∙ ap (in_front a) two
+        ap (λ (y : List T). at_most (suc n) s y) regrouped ∙ stop_not n s (front ++ (back ++ rest)) (goes_then s front (back ++ rest) (a, next) ((laws s).contains front (a, next) p)) ∙ ap (λ (y : Result ((A × S) × List T) Fault). follow y (further n)) one ∙ ap (in_front a) two
+
+    reads_chain : (n : ℕ) (s : S) (front rest : List T) (as' : List A) → length (front ++ rest) < n → chain_wide s front as' → Stops after rest → UpTo (at_most n s (front ++ rest)) (reads as' rest)
+    reads_chain n s front rest [] lt c d = inl (ap (λ (x : List T). at_most n s (x ++ rest)) c.1 ∙ stop_gives n s rest (stops_then s rest c.0 d))
+    reads_chain zero s front rest (a ∷ as') lt c d = absurd (omega (arith, lt))
+    reads_chain (suc n) s ts rest (a ∷ as') lt (front, back, next, e, p, c) d =
+        let regrouped : ts ++ rest ≡ front ++ (back ++ rest) = ap (λ (y : List T). y ++ rest) e ∙ append_assoc front back rest in
+        let one = (laws s).broad.reads front (back ++ rest) (a, next) p (stops_between s next front back rest a as' p c d) in
+        let goes : at_most (suc n) s (ts ++ rest) ≡ follow (f s (front ++ (back ++ rest))) (further n) = ap (λ (y : List T). at_most (suc n) s y) regrouped ∙ stop_not n s (front ++ (back ++ rest)) (goes_then s front (back ++ rest) (a, next) p) in
+        subst (λ (y : Result (List A × List T) Fault). UpTo y (reads (a ∷ as') rest)) (sym goes) (by_piece one (λ less. reads_chain n next back rest as' less c d) (ap length regrouped))
+      where
+        in_front_up : (r : Result (List A × List T) Fault) → UpTo r (reads as' rest) → UpTo (in_front a r) (reads (a ∷ as') rest)
+        in_front_up r (inl e) = inl (ap (in_front a) e)
+        in_front_up r (inr (left, kind, b, e)) = inr (left, kind, b, ap (in_front a) e)
+
+        by_piece : UpTo (f s (front ++ (back ++ rest))) (reads (a, next) (back ++ rest)) → (length (back ++ rest) < n → UpTo (at_most n next (back ++ rest)) (reads as' rest)) → length (ts ++ rest) ≡ length (front ++ (back ++ rest)) → UpTo (follow (f s (front ++ (back ++ rest))) (further n)) (reads (a ∷ as') rest)
+        by_piece (inl i) again same =
+            let less : length (back ++ rest) < n = omega (arith, lt, shorter s (front ++ (back ++ rest)) (back ++ rest) (a, next) i, same) in
+            subst (λ (y : Result (List A × List T) Fault). UpTo y (reads (a ∷ as') rest)) (sym (ap (λ (y : Result ((A × S) × List T) Fault). follow y (further n)) i)) (in_front_up (at_most n next (back ++ rest)) (again less))
+        by_piece (inr (left, kind, b, i)) again same = inr (left, kind, b, ap (λ (y : Result ((A × S) × List T) Fault). follow y (further n)) i)
 
     -- a reading either stops here, or goes on with a piece
     module _ (P : Type 0) where
@@ -168,10 +191,6 @@ module _ {T : Type 0} (alphabet : Alphabet T) where
           by_test : (b : Bool) → stop s ts ≡ b → cond b (reads {A = List A} [] ts) (follow (f s ts) (further n)) ≡ o → P
           by_test true e d = stopped e d
           by_test false e d = gone e d
-
-    contains_chain : (s : S) (ts : List T) (as' : List A) → chain s ts as' → chain_wide s ts as'
-    contains_chain s ts [] c = c
-    contains_chain s ts (a ∷ as') (front, back, next, e, p, c) = (front, back, next, e, (laws s).contains front (a, next) p, contains_chain next back as' c)
 
     viable_chain : (n : ℕ) (s : S) (ts : List T) (e : Fault) → length ts < n → at_most n s ts ≡ wrong e → GoesOn alphabet (chain s) ts e.left
     viable_chain zero s ts e lt h = absurd (omega (arith, lt))
@@ -430,8 +449,8 @@ module _ {T : Type 0} (alphabet : Alphabet T) where
     chain_lawful s = record {
       sound = λ ts rest as' h. sound_chain (suc (length ts)) s ts rest as' h;
       complete = λ front rest as' c d. complete_chain (suc (length (front ++ rest))) s front rest as' (omega arith) c d;
-      starts = starts_chain s;
-      nothing = nothing_chain s;
+      starts = λ t ts as' c. starts_chain s t ts as' (contains_chain s (t ∷ ts) as' c);
+      nothing = λ as' c. nothing_chain s as' (contains_chain s [] as' c);
       some = let z = finish s in (z.0, z.1, z.2, z.3);
       viable = λ ts e h. viable_chain (suc (length ts)) s ts e (omega arith) h;
       local = local_here;
@@ -439,6 +458,11 @@ module _ {T : Type 0} (alphabet : Alphabet T) where
       swap = swap_here;
       contains = contains_chain s;
       limit = λ ts left h. limit_chain (suc (length ts)) s ts left (omega arith) h;
+      broad = record {
+        starts = starts_chain s;
+        nothing = nothing_chain s;
+        reads = λ front rest as' c d. reads_chain (suc (length (front ++ rest))) s front rest as' (omega arith) c d;
+      };
     }
       where
         local_here : (front : List T) (t : T) (rest rest' : List T) (o : Result (List A) FaultKind) → here_is s (front ++ t ∷ rest) ≡ ends o (t ∷ rest) → here_is s (front ++ t ∷ rest') ≡ ends o (t ∷ rest')

@@ -1,5 +1,5 @@
 -- The reader of balanced groups reads them.
-use Rattle.std.proofs.Common.{◌≡◌, ℕ, true, false, Option, Some, None, List, [], ◌∷◌, ◌++◌, length, Result, Ok, Err, refl, sym, ap, subst, ◌∙◌, arith}
+use Rattle.std.proofs.Common.{◌≡◌, ℕ, true, false, Option, Some, None, List, [], ◌∷◌, ◌++◌, length, Result, Ok, Err, refl, sym, ap, subst, ◌∙◌, arith, inl}
 use Rattle.std.proofs.lemmas.List.{length-append}
 use Rattle.lto_forms.specs.declared.fault.Fault.{Fault}
 use Rattle.lto_forms.specs.declared.fault.FaultKind.{FaultKind}
@@ -158,6 +158,7 @@ module _ {T B : Type 0} (alphabet : Alphabet T) (brackets : Brackets T B) (have 
     swap = swap_closing bs;
     contains = λ ts u s. s;
     limit = λ ts left h. absurd (limit_closing bs ts left h);
+    broad = record { starts = λ t ts u s. refl; nothing = λ u s. empty bs u s; reads = λ front rest u s d. inl (complete_closing bs front rest u s) };
   }
     where
       empty : (bs : List B) (u : Unit {0}) → Closing brackets bs [] u → none_open bs ≡ true

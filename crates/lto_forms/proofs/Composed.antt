@@ -8,7 +8,7 @@ use Rattle.lto_forms.specs.Alphabet.{Alphabet, AllReal, is_number}
 use Rattle.lto_forms.specs.Faults.{LimitGoesOn, NumberGoesOn}
 use Rattle.lto_forms.specs.Forms as form
 use Rattle.lto_forms.specs.Forms.{Form, Many, Star}
-use Rattle.lto_forms.specs.Lawful.{ends, Stops, Swapped, SameRefusal, GoesOn, IsRanged, Lawful}
+use Rattle.lto_forms.specs.Lawful.{Broad, ends, Stops, Swapped, SameRefusal, GoesOn, IsBound, IsRanged, Lawful, UpTo}
 use Rattle.lto_forms.specs.Readers.{Reader, fault_at, done, follow, ◌>>=◌, token_means, token_at, pick, many_at, star_at}
 
 -- ---- lists
@@ -65,6 +65,21 @@ reads_is {T} {A} a b x y h =
 reads_not_wrong : {T A : Type 0} (a : A) (x : List T) (e : Fault) → reads a x ≡ wrong e → ⊥
 reads_not_wrong a x e h = cc
 
+-- a reading that a range or a limit may end, and what follows it
+pub follow_up : {T A B : Type 0} (h : A → Reader T B) (r : Result (A × List T) Fault) (a : A) (mid : List T) (free : Result (B × List T) Fault) → UpTo r (reads a mid) → UpTo (h a mid) free → UpTo (follow r h) free
+follow_up {T} {A} h r a mid free (inl e) (inl d) = inl (ap (λ (y : Result (A × List T) Fault). follow y h) e ∙ d)
+follow_up {T} {A} h r a mid free (inl e) (inr (left, kind, b, d)) = inr (left, kind, b, ap (λ (y : Result (A × List T) Fault). follow y h) e ∙ d)
+follow_up {T} {A} h r a mid free (inr (left, kind, b, e)) q = inr (left, kind, b, ap (λ (y : Result (A × List T) Fault). follow y h) e)
+
+-- a limit at the first token
+pub limit_up : {T A : Type 0} (t : T) (ts : List T) (r free : Result (A × List T) Fault) → r ≡ fault_at Limit (t ∷ ts) → UpTo r free
+limit_up t ts r free e = inr (length (t ∷ ts), Limit, tt, e)
+
+-- the first of these tokens begins one
+abbrev pub Begun : {T : Type 0} → (T → Bool) → List T → Type 0
+Begun begins [] = ⊥
+Begun begins (t ∷ ts) = begins t ≡ true
+
 pub cons_not_nil : {T : Type 0} (t : T) (ts : List T) → t ∷ ts ≡ [] → ⊥
 cons_not_nil t ts e = cc
 
@@ -93,6 +108,13 @@ module _ {T : Type 0} (alphabet : Alphabet T) where
         rw (q.0, p.0) refl
     swap_gives front t u rest rest' (Err k) n n' h = absurd cc
 
+    gives_broad : Broad {T = T} (form.gives a) (done a) (λ _. false) (λ _. false) true
+    gives_broad = record {
+      starts = λ t ts b g. absurd (cons_not_nil t ts g.0);
+      nothing = λ b g. refl;
+      reads = λ front rest b g s. inl (complete_gives front rest b g.0 g.1);
+    }
+
     pub gives_lawful : Lawful alphabet (form.gives a) (form.gives a) (done a) (λ _. false) (λ _. false) true
     gives_lawful = record {
       sound = λ ts rest b e. let h = reads_is a b ts rest e in ([], h.1, (refl, sym h.0));
@@ -106,6 +128,7 @@ module _ {T : Type 0} (alphabet : Alphabet T) where
       swap = swap_gives;
       contains = λ ts b x. x;
       limit = λ ts left h. absurd (reads_not_wrong a ts (record { left = left; kind = Limit }) h);
+      broad = gives_broad;
     }
 
   -- ---- one token
@@ -216,6 +239,13 @@ module _ {T : Type 0} (alphabet : Alphabet T) where
     swap_token ranged [] t u rest rest' o n n' h = swap_here t u rest rest' o (meaning t) (meaning u) (ranged.alike t u n n') h
     swap_token ranged (v ∷ front) t u rest rest' o n n' h = swap_means t u v front rest rest' o (meaning v) h
 
+    token_broad : ((t : T) (a : A) → meaning t ≡ Ok a → first t ≡ true) → Broad (form.token meaning) (token_at meaning) first (λ _. false) false
+    token_broad begins = record {
+      starts = starts_token begins;
+      nothing = λ a g. absurd g;
+      reads = λ front rest a g _. inl (complete_token front rest a g);
+    }
+
     pub token_lawful : IsRanged alphabet meaning → ((t : T) (a : A) → meaning t ≡ Ok a → first t ≡ true) → (sample : T) (b : A) → meaning sample ≡ Ok b → alphabet.Real sample → Lawful alphabet (form.token meaning) (form.token meaning) (token_at meaning) first (λ _. false) false
     token_lawful ranged begins sample b s rl = record {
       sound = sound_token;
@@ -229,6 +259,7 @@ module _ {T : Type 0} (alphabet : Alphabet T) where
       swap = swap_token ranged;
       contains = λ ts b x. x;
       limit = λ ts left h. absurd (limit_token ranged ts left h);
+      broad = token_broad begins;
     }
 
   -- ---- one behind another
@@ -258,13 +289,13 @@ module _ {T : Type 0} (alphabet : Alphabet T) where
     not_more true never = absurd (never refl)
     not_more false never = refl
 
-    stops_between : (back rest : List T) (a : A) (b : B) → k a back b → Stops (λ t. more' t || (empty' && more t)) rest → Stops more (back ++ rest)
+    stops_between : (back rest : List T) (a : A) (b : B) → wide' a back b → Stops (λ t. more' t || (empty' && more t)) rest → Stops more (back ++ rest)
     stops_between [] [] a b s d = tt
-    stops_between [] (t ∷ rest) a b s d = stops_here t (or_false (more' t) (empty' && more t) d).1 ((laws a).nothing b s)
+    stops_between [] (t ∷ rest) a b s d = stops_here t (or_false (more' t) (empty' && more t) d).1 ((laws a).broad.nothing b s)
       where
         stops_here : (t : T) → empty' && more t ≡ false → empty' ≡ true → more t ≡ false
         stops_here t d e = sym (ap (λ (x : Bool). x && more t) e) ∙ d
-    stops_between (t ∷ back) rest a b s d = not_more (more t) (λ m. apart t m ((laws a).starts t back b s))
+    stops_between (t ∷ back) rest a b s d = not_more (more t) (λ m. apart t m ((laws a).broad.starts t back b s))
 
     stops_after : (rest : List T) → Stops (λ t. more' t || (empty' && more t)) rest → Stops more' rest
     stops_after [] d = tt
@@ -273,25 +304,25 @@ module _ {T : Type 0} (alphabet : Alphabet T) where
     complete_both : (ts rest : List T) (b : B) → both ts b → Stops (λ t. more' t || (empty' && more t)) rest → (f >>= h) (ts ++ rest) ≡ reads b rest
     unfolding form.◌>>=◌
     complete_both ts rest b (front, back, a, whole, s, d) stops =
-        let one : f (front ++ (back ++ rest)) ≡ reads a (back ++ rest) = law.complete front (back ++ rest) a s (stops_between back rest a b d stops) in
+        let one : f (front ++ (back ++ rest)) ≡ reads a (back ++ rest) = law.complete front (back ++ rest) a s (stops_between back rest a b ((laws a).contains back b d) stops) in
         let two : h a (back ++ rest) ≡ reads b rest = (laws a).complete back rest b d (stops_after rest stops) in
         let regrouped : ts ++ rest ≡ front ++ (back ++ rest) = ap (λ (y : List T). y ++ rest) whole ∙ append_assoc front back rest in
         ap (λ (y : List T). follow (f y) h) regrouped ∙ ap (λ (y : Result (A × List T) Fault). follow y h) one ∙ two
 
-    starts_both : (t : T) (ts : List T) (b : B) (front back : List T) (a : A) → t ∷ ts ≡ front ++ back → g front a → k a back b → first t || (empty && first' t) ≡ true
-    starts_both t ts b [] back a whole s d = or_true _ _ (inr (starts_second t (law.nothing a s) ((laws a).starts t ts b (subst (λ (y : List T). k a y b) (sym whole) d))))
+    starts_both : (t : T) (ts : List T) (b : B) (front back : List T) (a : A) → t ∷ ts ≡ front ++ back → wide front a → wide' a back b → first t || (empty && first' t) ≡ true
+    starts_both t ts b [] back a whole s d = or_true _ _ (inr (starts_second t (law.broad.nothing a s) ((laws a).broad.starts t ts b (subst (λ (y : List T). wide' a y b) (sym whole) d))))
       where
         starts_second : (t : T) → empty ≡ true → first' t ≡ true → empty && first' t ≡ true
         starts_second t e i = ap (λ (x : Bool). x && first' t) e ∙ i
     starts_both t ts b (u ∷ front) back a whole s d =
         let i = cons_is t u ts (front ++ back) whole in
-        or_true _ _ (inl (ap first i.0 ∙ law.starts u front a s))
+        or_true _ _ (inl (ap first i.0 ∙ law.broad.starts u front a s))
 
-    nothing_both : (b : B) (front back : List T) (a : A) → [] ≡ front ++ back → g front a → k a back b → empty && empty' ≡ true
+    nothing_both : (b : B) (front back : List T) (a : A) → [] ≡ front ++ back → wide front a → wide' a back b → empty && empty' ≡ true
     nothing_both b front back a whole s d =
         let n = append_is_nil front back (sym whole) in
-        let e : empty ≡ true = law.nothing a (subst (λ (y : List T). g y a) n.0 s) in
-        let e' : empty' ≡ true = (laws a).nothing b (subst (λ (y : List T). k a y b) n.1 d) in
+        let e : empty ≡ true = law.broad.nothing a (subst (λ (y : List T). wide y a) n.0 s) in
+        let e' : empty' ≡ true = (laws a).broad.nothing b (subst (λ (y : List T). wide' a y b) n.1 d) in
         ap (λ (x : Bool). x && empty') e ∙ e'
 
     viable_both : (ts : List T) (e : Fault) (r : Result (A × List T) Fault) → f ts ≡ r → follow r h ≡ wrong e → GoesOn alphabet both ts e.left
@@ -443,13 +474,29 @@ module _ {T : Type 0} (alphabet : Alphabet T) where
         let whole : h x.0 (q.0 ++ u ∷ rest') ≡ (f >>= h) (front ++ u ∷ rest') = sym (ap (λ (y : List T). follow (f y) h) (before (u ∷ rest')) ∙ ap (λ (y : Result (A × List T) Fault). follow y h) one) in
         subst (λ (y : Result (B × List T) Fault). Swapped o y u rest') whole two
 
+    reads_both : (ts rest : List T) (b : B) → form.◌>>=◌ wide wide' ts b → Stops (λ t. more' t || (empty' && more t)) rest → UpTo ((f >>= h) (ts ++ rest)) (reads b rest)
+    unfolding form.◌>>=◌
+    reads_both ts rest b (front, back, a, whole, s, d) stops =
+        let one = law.broad.reads front (back ++ rest) a s (stops_between back rest a b d stops) in
+        let two = (laws a).broad.reads back rest b d (stops_after rest stops) in
+        let regrouped : front ++ (back ++ rest) ≡ ts ++ rest = sym (ap (λ (y : List T). y ++ rest) whole ∙ append_assoc front back rest) in
+        subst (λ (y : List T). UpTo ((f >>= h) y) (reads b rest)) regrouped (follow_up h (f (front ++ (back ++ rest))) a (back ++ rest) (reads b rest) one two)
+
+    broad_both : Broad (form.◌>>=◌ wide wide') (f >>= h) (λ t. first t || (empty && first' t)) (λ t. more' t || (empty' && more t)) (empty && empty')
+    unfolding form.◌>>=◌
+    broad_both = record {
+      starts = λ t ts b s. starts_both t ts b s.0 s.1 s.2 s.3 s.4 s.5;
+      nothing = λ b s. nothing_both b s.0 s.1 s.2 s.3 s.4 s.5;
+      reads = reads_both;
+    }
+
     pub both_lawful : Lawful alphabet (form.◌>>=◌ g k) (form.◌>>=◌ wide wide') (f >>= h) (λ t. first t || (empty && first' t)) (λ t. more' t || (empty' && more t)) (empty && empty')
     unfolding form.◌>>=◌
     both_lawful = record {
       sound = λ ts rest b e. sound_both ts rest b (f ts) refl e;
       complete = complete_both;
-      starts = λ t ts b s. starts_both t ts b s.0 s.1 s.2 s.3 s.4 s.5;
-      nothing = λ b s. nothing_both b s.0 s.1 s.2 s.3 s.4 s.5;
+      starts = λ t ts b s. broad_both.starts t ts b (contains_both (t ∷ ts) b s);
+      nothing = λ b s. broad_both.nothing b (contains_both [] b s);
       some = let one = law.some in let two = (laws one.1).some in (one.0 ++ two.0, two.1, (one.0, two.0, one.1, refl, one.2, two.2), all_real one.0 two.0 one.3 two.3);
       viable = λ ts e d. viable_both ts e (f ts) refl d;
       local = λ front t rest rest' o d. local_both front t rest rest' o (f (front ++ t ∷ rest)) refl d;
@@ -457,6 +504,7 @@ module _ {T : Type 0} (alphabet : Alphabet T) where
       swap = λ front t u rest rest' o n n' d. swap_both front t u rest rest' o (f (front ++ t ∷ rest)) n n' refl d;
       contains = contains_both;
       limit = λ ts left d. limit_both ts left (f ts) refl d;
+      broad = broad_both;
     }
 
   -- ---- wider sets, and the same form in other words
@@ -485,10 +533,32 @@ module _ {T : Type 0} (alphabet : Alphabet T) where
     swap = law.swap;
     contains = law.contains;
     limit = law.limit;
+    broad = record {
+      starts = λ t ts a s. i t (law.broad.starts t ts a s);
+      nothing = law.broad.nothing;
+      reads = λ front rest a s d. law.broad.reads front rest a s (stops_narrower _ more' j rest d);
+    };
   }
 
-  pub same_form : {A : Type 0} {g g' wide wide' : Form T A} {f : Reader T A} {first more : T → Bool} {empty : Bool} → Lawful alphabet g wide f first more empty → ((ts : List T) (a : A) → g ts a → g' ts a) → ((ts : List T) (a : A) → g' ts a → g ts a) → ((ts : List T) (a : A) → wide ts a → wide' ts a) → Lawful alphabet g' wide' f first more empty
-  same_form law there back over = record {
+  -- the same form, and another one without the limits
+  pub with_wide : {A : Type 0} {g wide wide' : Form T A} {f : Reader T A} {first more : T → Bool} {empty : Bool} → Lawful alphabet g wide f first more empty → ((ts : List T) (a : A) → wide ts a → wide' ts a) → Broad wide' f first more empty → Lawful alphabet g wide' f first more empty
+  with_wide law over broad = record {
+    sound = law.sound;
+    complete = law.complete;
+    starts = law.starts;
+    nothing = law.nothing;
+    some = law.some;
+    viable = law.viable;
+    local = law.local;
+    number = law.number;
+    swap = law.swap;
+    contains = λ ts a s. over ts a (law.contains ts a s);
+    limit = λ ts left d. let v = law.limit ts left d in record { front = v.front; bad = v.bad; rest = v.rest; whole = v.whole; here = v.here; more = v.more; value = v.value; spelled = over (v.front ++ v.bad ∷ v.more) v.value v.spelled; real = v.real };
+    broad = broad;
+  }
+
+  pub same_form : {A : Type 0} {g g' wide wide' : Form T A} {f : Reader T A} {first more : T → Bool} {empty : Bool} → Lawful alphabet g wide f first more empty → ((ts : List T) (a : A) → g ts a → g' ts a) → ((ts : List T) (a : A) → g' ts a → g ts a) → ((ts : List T) (a : A) → wide ts a → wide' ts a) → ((ts : List T) (a : A) → wide' ts a → wide ts a) → Lawful alphabet g' wide' f first more empty
+  same_form law there back over under = record {
     sound = λ ts rest a e. let s = law.sound ts rest a e in (s.0, s.1, there s.0 a s.2);
     complete = λ front rest a s d. law.complete front rest a (back front a s) d;
     starts = λ t ts a s. law.starts t ts a (back (t ∷ ts) a s);
@@ -500,6 +570,11 @@ module _ {T : Type 0} (alphabet : Alphabet T) where
     swap = law.swap;
     contains = λ ts a s. over ts a (law.contains ts a (back ts a s));
     limit = λ ts left d. let v = law.limit ts left d in record { front = v.front; bad = v.bad; rest = v.rest; whole = v.whole; here = v.here; more = v.more; value = v.value; spelled = over (v.front ++ v.bad ∷ v.more) v.value v.spelled; real = v.real };
+    broad = record {
+      starts = λ t ts a s. law.broad.starts t ts a (under (t ∷ ts) a s);
+      nothing = λ a s. law.broad.nothing a (under [] a s);
+      reads = λ front rest a s d. law.broad.reads front rest a (under front a s) d;
+    };
   }
 
   -- ---- one of two, by the next token
@@ -623,6 +698,26 @@ module _ {T : Type 0} (alphabet : Alphabet T) where
         by_test true d = law.swap (v ∷ front) t u rest rest' o n n' d
         by_test false d = law'.swap (v ∷ front) t u rest rest' o n n' d
 
+    pick_never : false ≡ true → ⊥
+    pick_never e = cc
+
+    reads_one : (front rest : List T) (a : A) → wide front a → Stops after rest → UpTo (pick begins f f' (front ++ rest)) (reads a rest)
+    reads_one [] rest a s d = absurd (pick_never (law.broad.nothing a s))
+    reads_one (t ∷ front) rest a s d = subst (λ (y : Result (A × List T) Fault). UpTo y (reads a rest)) (sym (pick_yes t (front ++ rest) (within t (law.broad.starts t front a s)))) (law.broad.reads (t ∷ front) rest a s (stops_one rest d))
+
+    reads_other : (front rest : List T) (a : A) → wide' front a → Stops after rest → UpTo (pick begins f f' (front ++ rest)) (reads a rest)
+    reads_other [] [] a s d = law'.broad.reads [] [] a s tt
+    reads_other [] (t ∷ rest) a s d = subst (λ (y : Result (A × List T) Fault). UpTo y (reads a (t ∷ rest))) (sym (pick_no t rest (sym (ap (λ (x : Bool). x && begins t) (law'.broad.nothing a s)) ∙ (after_is t d).2))) (law'.broad.reads [] (t ∷ rest) a s (stops_other (t ∷ rest) d))
+    reads_other (t ∷ front) rest a s d = subst (λ (y : Result (A × List T) Fault). UpTo y (reads a rest)) (sym (pick_no t (front ++ rest) (without t (law'.broad.starts t front a s)))) (law'.broad.reads (t ∷ front) rest a s (stops_other rest d))
+
+    broad_pick : Broad (form.either wide wide') (pick begins f f') (λ t. first t || first' t) after empty'
+    unfolding form.either
+    broad_pick = record {
+      starts = λ t ts a s. elim s [ inl x ↦ or_true _ _ (inl (law.broad.starts t ts a x)) | inr x ↦ or_true _ _ (inr (law'.broad.starts t ts a x)) ];
+      nothing = λ a s. elim s [ inl x ↦ absurd (pick_never (law.broad.nothing a x)) | inr x ↦ law'.broad.nothing a x ];
+      reads = λ front rest a s d. elim s [ inl x ↦ reads_one front rest a x d | inr x ↦ reads_other front rest a x d ];
+    }
+
     pub pick_lawful : Lawful alphabet (form.either g g') (form.either wide wide') (pick begins f f') (λ t. first t || first' t) after empty'
     unfolding form.either
     pick_lawful = record {
@@ -637,6 +732,7 @@ module _ {T : Type 0} (alphabet : Alphabet T) where
       swap = swap_pick;
       contains = λ ts a s. elim s [ inl x ↦ inl (law.contains ts a x) | inr x ↦ inr (law'.contains ts a x) ];
       limit = limit_pick;
+      broad = broad_pick;
     }
       where
         never : false ≡ true → ⊥
@@ -747,6 +843,27 @@ module _ {T : Type 0} (alphabet : Alphabet T) where
         subst (λ (x : List A). Star wide ts x) (sym n.1) (p, q', whole, s, s')
     over ts as' (inr n) = subst (λ (x : List A). Star wide ts x) (sym n.1) n.0
 
+    star_never : false ≡ true → ⊥
+    star_never e = cc
+
+    star_starts : (t : T) (ts : List T) (as' : List A) → Star wide (t ∷ ts) as' → first t ≡ true
+    star_starts t ts [] s = absurd (cons_not_nil t ts s)
+    star_starts t ts (a ∷ as') (p, q, e, s, s') = by_front p e s
+      where
+        by_front : (p : List T) → t ∷ ts ≡ p ++ q → wide p a → first t ≡ true
+        by_front [] e s = absurd (star_never (law.broad.nothing a s))
+        by_front (u ∷ p) e s = ap first (cons_is t u ts (p ++ q) e).0 ∙ law.broad.starts u p a s
+
+    reads_zero : (front rest : List T) (as' : List A) → Star wide front as' → Stops after_many rest → UpTo (many_at begins f zero (front ++ rest)) (reads as' rest)
+    reads_zero front rest [] s d = inl (complete_zero front rest [] (s, refl) d)
+    reads_zero [] rest (a ∷ as') (p, q, e, s, s') d = absurd (star_never (law.broad.nothing a (subst (λ (y : List T). wide y a) (append_is_nil p q (sym e)).0 s)))
+    reads_zero (t ∷ front) rest (a ∷ as') s d = limit_up t (front ++ rest) (many_at begins f zero (t ∷ (front ++ rest))) (reads (a ∷ as') rest) (rw (within t (star_starts t front (a ∷ as') s)) refl)
+
+    under : (ts : List T) (as' : List A) → Star wide ts as' → form.either wide_more (form.gives []) ts as'
+    unfolding form.either form.◌>>=◌
+    under ts [] s = inr (s, refl)
+    under ts (a ∷ as') (p, q, e, s, s') = inl (p, q, a, e, s, (q, [], as', sym (append-nil q), s', (refl, refl)))
+
     zero_lawful : Lawful alphabet (Many g zero) (Star wide) (many_at begins f zero) first after_many true
     zero_lawful = record {
       sound = sound_zero;
@@ -760,6 +877,7 @@ module _ {T : Type 0} (alphabet : Alphabet T) where
       swap = swap_zero;
       contains = λ ts as' s. let n = none_zero ts as' s in subst (λ (x : List A). Star wide ts x) (sym n.1) n.0;
       limit = limit_zero;
+      broad = record { starts = star_starts; nothing = λ as' s. refl; reads = reads_zero };
     }
 
     abbrev one_more : ℕ → Form T (List A)
@@ -783,7 +901,7 @@ module _ {T : Type 0} (alphabet : Alphabet T) where
         let inner = λ (a : A). both_lawful (Many g room) (Star wide) (many_at begins f room) (λ more. form.gives (a ∷ more)) (λ more. form.gives (a ∷ more)) (λ more. done (a ∷ more)) first after_many (λ _. false) (λ _. false) true true (many_lawful room) (λ more. gives_lawful (a ∷ more)) (λ t e d. absurd (never d)) in
         let outer = both_lawful g wide f (λ a. form.◌>>=◌ (Many g room) (λ more. form.gives (a ∷ more))) (λ a. form.◌>>=◌ (Star wide) (λ more. form.gives (a ∷ more))) (λ a. many_at begins f room >>= λ more. done (a ∷ more)) first more first after_many false true law (λ a. widened first after_many (inner a) (first_only) (λ t d. d)) (λ t e d. apart t e (within t d)) in
         let picked = pick_lawful (one_more room) (form.gives []) wide_more (form.gives []) (f >>= λ a. many_at begins f room >>= λ more. done (a ∷ more)) (done []) begins _ _ (λ _. false) (λ _. false) true outer (gives_lawful []) alike (λ t d. within t (left_only (first t) d)) (λ t d. absurd (never d)) in
-        same_form (widened first after_many picked first_left after_right) (there room) (back room) over
+        same_form (widened first after_many picked first_left after_right) (there room) (back room) over under
       where
         never : false ≡ true → ⊥
         never e = cc
@@ -876,6 +994,11 @@ module _ {T : Type 0} (alphabet : Alphabet T) where
       swap = λ front t u rest rest' o n n' d. swap_star front t u rest rest' o n n' d;
       contains = λ ts as' s. (laws_at (length ts)).contains ts as' (from_star (length ts) ts as' (omega arith) s);
       limit = λ ts left d. (laws_at (length ts)).limit ts left d;
+      broad = record {
+        starts = (laws_at zero).broad.starts;
+        nothing = (laws_at zero).broad.nothing;
+        reads = λ front rest as' s d. (laws_at (length (front ++ rest))).broad.reads front rest as' s d;
+      };
     }
       where
         local_star : (front : List T) (t : T) (rest rest' : List T) (o : Result (List A) FaultKind) → star_at begins f (front ++ t ∷ rest) ≡ ends o (t ∷ rest) → star_at begins f (front ++ t ∷ rest') ≡ ends o (t ∷ rest')
@@ -894,7 +1017,7 @@ module _ {T : Type 0} (alphabet : Alphabet T) where
 
   -- ---- a reading that is barred here by a limit
 
-  module _ {A : Type 0} (g wide : Form T A) (f : Reader T A) (begins first more : T → Bool) (empty : Bool) (law : Lawful alphabet g wide f first more empty) (alike : (t u : T) → is_number alphabet t ≡ true → alphabet.class u ≡ alphabet.class t → (begins t ≡ begins u) ⊎ (empty ≡ false)) (without : (t : T) → first t ≡ true → begins t ≡ false) (opens : (t : T) → begins t ≡ true → (more' : List T) × (a : A) × wide (t ∷ more') a × AllReal alphabet more') where
+  module _ {A : Type 0} (g narrow wide : Form T A) (f : Reader T A) (begins first more : T → Bool) (empty : Bool) (law : Lawful alphabet g narrow f first more empty) (over : (ts : List T) (a : A) → narrow ts a → wide ts a) (under : (ts : List T) (a : A) → wide ts a → narrow ts a ⊎ Begun begins ts) (alike : (t u : T) → is_number alphabet t ≡ true → alphabet.class u ≡ alphabet.class t → (begins t ≡ begins u) ⊎ (empty ≡ false)) (without : (t : T) → first t ≡ true → begins t ≡ false) (opens : (t : T) → begins t ≡ true → (more' : List T) × (a : A) × wide (t ∷ more') a × AllReal alphabet more') where
     abbrev barred : Reader T A
     barred = pick begins (fault_at Limit) f
 
@@ -954,15 +1077,18 @@ module _ {T : Type 0} (alphabet : Alphabet T) where
         by_test true d = absurd (limit (ap (λ (x : Fault). x.kind) (wrong_is (record { left = length (t ∷ ts); kind = Limit }) (record { left = left; kind = Number }) d)))
         by_test false d = law.number (t ∷ ts) left d
 
+    widely : (ts : List T) (left : ℕ) → LimitGoesOn alphabet narrow ts left → LimitGoesOn alphabet wide ts left
+    widely ts left v = record { front = v.front; bad = v.bad; rest = v.rest; whole = v.whole; here = v.here; more = v.more; value = v.value; spelled = over (v.front ++ v.bad ∷ v.more) v.value v.spelled; real = v.real }
+
     limit_barred : (ts : List T) (left : ℕ) → barred ts ≡ wrong (record { left = left; kind = Limit }) → LimitGoesOn alphabet wide ts left
-    limit_barred [] left d = law.limit [] left d
+    limit_barred [] left d = widely [] left (law.limit [] left d)
     limit_barred (t ∷ ts) left d = by_test (begins t) refl d
       where
         by_test : (b : Bool) → begins t ≡ b → cond b (fault_at Limit (t ∷ ts)) (f (t ∷ ts)) ≡ wrong (record { left = left; kind = Limit }) → LimitGoesOn alphabet wide (t ∷ ts) left
         by_test true e d =
             let o = opens t e in
             record { front = []; bad = t; rest = ts; whole = refl; here = ap (λ (x : Fault). x.left) (wrong_is (record { left = length (t ∷ ts); kind = Limit }) (record { left = left; kind = Limit }) d); more = o.0; value = o.1; spelled = o.2; real = o.3 }
-        by_test false e d = law.limit (t ∷ ts) left d
+        by_test false e d = widely (t ∷ ts) left (law.limit (t ∷ ts) left d)
 
     swap_barred : (front : List T) (t u : T) (rest rest' : List T) (o : Result A FaultKind) → is_number alphabet t ≡ true → alphabet.class u ≡ alphabet.class t → barred (front ++ t ∷ rest) ≡ ends o (t ∷ rest) → Swapped o (barred (front ++ u ∷ rest')) u rest'
     swap_barred [] t u rest rest' o n n' d = by_test (begins t) (begins u) (alike t u n n') o d
@@ -1004,17 +1130,37 @@ module _ {T : Type 0} (alphabet : Alphabet T) where
         by_test true d = absurd (apart_ends o v front t rest d)
         by_test false d = law.swap (v ∷ front) t u rest rest' o n n' d
 
-    pub barred_lawful : Lawful alphabet g wide barred first (λ t. more t || begins t) empty
+    starts_barred : (t : T) (ts : List T) (a : A) → wide (t ∷ ts) a → first t || begins t ≡ true
+    starts_barred t ts a s = elim (under (t ∷ ts) a s) [ inl x ↦ or_true _ _ (inl (law.broad.starts t ts a x)) | inr e ↦ or_true _ _ (inr e) ]
+
+    nothing_barred : (a : A) → wide [] a → empty ≡ true
+    nothing_barred a s = elim (under [] a s) [ inl x ↦ law.broad.nothing a x | inr e ↦ absurd e ]
+
+    reads_narrow : (front rest : List T) (a : A) → narrow front a → Stops (λ t. more t || begins t) rest → UpTo (barred (front ++ rest)) (reads a rest)
+    reads_narrow [] [] a s d = law.broad.reads [] [] a s tt
+    reads_narrow [] (t ∷ rest) a s d = subst (λ (y : Result (A × List T) Fault). UpTo y (reads a (t ∷ rest))) (sym (free t rest (or_false (more t) (begins t) d).1)) (law.broad.reads [] (t ∷ rest) a s (stops_more (t ∷ rest) d))
+    reads_narrow (t ∷ front) rest a s d = subst (λ (y : Result (A × List T) Fault). UpTo y (reads a rest)) (sym (free t (front ++ rest) (without t (law.broad.starts t front a s)))) (law.broad.reads (t ∷ front) rest a s (stops_more rest d))
+
+    reads_begun : (front rest : List T) (a : A) → Begun begins front → UpTo (barred (front ++ rest)) (reads a rest)
+    reads_begun [] rest a e = absurd e
+    reads_begun (t ∷ front) rest a e = limit_up t (front ++ rest) (barred (t ∷ (front ++ rest))) (reads a rest) (rw e refl)
+
+    pub barred_lawful : Lawful alphabet g wide barred (λ t. first t || begins t) (λ t. more t || begins t) empty
     barred_lawful = record {
       sound = sound_barred;
       complete = complete_barred;
-      starts = law.starts;
+      starts = λ t ts a s. or_true _ _ (inl (law.starts t ts a s));
       nothing = law.nothing;
       some = law.some;
       viable = viable_barred;
       local = local_barred;
       number = number_barred;
       swap = swap_barred;
-      contains = law.contains;
+      contains = λ ts a s. over ts a (law.contains ts a s);
       limit = limit_barred;
+      broad = record {
+        starts = starts_barred;
+        nothing = nothing_barred;
+        reads = λ front rest a s d. elim (under front a s) [ inl x ↦ reads_narrow front rest a x d | inr e ↦ reads_begun front rest a e ];
+      };
     }

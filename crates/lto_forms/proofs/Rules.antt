@@ -10,7 +10,7 @@ use Rattle.lto_forms.specs.Forms.{Form, Many, upto, optional}
 use Rattle.lto_forms.specs.Lawful.{IsRanged, SameRefusal}
 use Rattle.lto_forms.specs.Readers.{Reader, fault_at, done, ◌>>=◌, token_at, pick, many_at, star_at, upto_at, optional_at}
 use Rattle.lto_forms.specs.Rules.{Opens, Rule, IsWithin, disjoint, subset, in_range, is_class, is_among, is_exact, is_valued}
-use Rattle.lto_forms.proofs.Composed.{all_real, cons_is, gives_lawful, token_lawful, both_lawful, pick_lawful, many_lawful, star_lawful, barred_lawful, widened}
+use Rattle.lto_forms.proofs.Composed.{Begun, all_real, cons_is, gives_lawful, token_lawful, both_lawful, pick_lawful, many_lawful, star_lawful, barred_lawful, widened}
 use Rattle.lto_forms.proofs.Unlimited.{all_lawful}
 
 and_parts : (a b : Bool) → a && b ≡ true → (a ≡ true) × (b ≡ true)
@@ -148,7 +148,7 @@ module _ {T : Type 0} (alphabet : Alphabet T) where
   pub wider : {A : Type 0} {g wide : Form T A} {f : Reader T A} {xs ms : List ℕ} {e : Bool} (xs' ms' : List ℕ) → Rule alphabet g wide f xs ms e → subset xs xs' ≡ true → subset ms ms' ≡ true → Rule alphabet g wide f xs' ms' true
   wider {xs = xs} {ms = ms} xs' ms' law s d =
       let w = widened alphabet (among alphabet xs') (among alphabet ms') law.law (λ t p. within_of xs xs' s (alphabet.class t) p) (λ t p. within_of ms ms' d (alphabet.class t) p) in
-      record { law = record { sound = w.sound; complete = w.complete; starts = w.starts; nothing = λ a s. refl; some = w.some; viable = w.viable; local = w.local; number = w.number; swap = w.swap; contains = w.contains; limit = w.limit } }
+      record { law = record { sound = w.sound; complete = w.complete; starts = w.starts; nothing = λ a s. refl; some = w.some; viable = w.viable; local = w.local; number = w.number; swap = w.swap; contains = w.contains; limit = w.limit; broad = record { starts = w.broad.starts; nothing = λ a s. refl; reads = w.broad.reads } } }
 
   pub star : {A : Type 0} {g wide : Form T A} {f : Reader T A} {xs ms : List ℕ} (bs : List ℕ) → Rule alphabet g wide f xs ms false → Opens alphabet bs wide → subset xs bs ≡ true → disjoint ms bs ≡ true → Rule alphabet (form.Star g) (form.Star wide) (star_at (among alphabet bs) f) xs (ms ++ bs) true
   star {g = g} {wide = wide} {f = f} {xs = xs} {ms = ms} bs law o s d =
@@ -169,11 +169,13 @@ module _ {T : Type 0} (alphabet : Alphabet T) where
             (λ t p. contains-append ms bs (alphabet.class t) (or_parts _ _ p));
       }
 
-  pub no_room : {A : Type 0} {g wide : Form T A} {f : Reader T A} {xs ms : List ℕ} {e : Bool} (bs : List ℕ) → Rule alphabet g wide f xs ms e → Opens alphabet bs wide → disjoint xs bs ≡ true → Rule alphabet g wide (pick (among alphabet bs) (fault_at Limit) f) xs (ms ++ bs) e
-  no_room {g = g} {wide = wide} {f = f} {xs = xs} {ms = ms} {e = e} bs law o d = record {
-    law = widened alphabet (among alphabet xs) (among alphabet (ms ++ bs))
-        (barred_lawful alphabet g wide f (among alphabet bs) (among alphabet xs) (among alphabet ms) e law.law (λ t u n m. inl (alike_of bs t u n m)) (λ t p. is_false (contains bs (alphabet.class t)) (λ q. apart_from xs bs d (alphabet.class t) p q)) o)
-        (λ t p. p)
+  -- a reader that goes on with a token of some classes without the limits alone
+  pub no_room : {A : Type 0} {g narrow wide : Form T A} {f : Reader T A} {xs ms : List ℕ} {e : Bool} (bs : List ℕ) → Rule alphabet g narrow f xs ms e → ((ts : List T) (a : A) → narrow ts a → wide ts a) → ((ts : List T) (a : A) → wide ts a → narrow ts a ⊎ Begun (among alphabet bs) ts) → Opens alphabet bs wide → disjoint xs bs ≡ true
+      → Rule alphabet g wide (pick (among alphabet bs) (fault_at Limit) f) (xs ++ bs) (ms ++ bs) e
+  no_room {g = g} {narrow = narrow} {wide = wide} {f = f} {xs = xs} {ms = ms} {e = e} bs law over under o d = record {
+    law = widened alphabet (among alphabet (xs ++ bs)) (among alphabet (ms ++ bs))
+        (barred_lawful alphabet g narrow wide f (among alphabet bs) (among alphabet xs) (among alphabet ms) e law.law over under (λ t u n m. inl (alike_of bs t u n m)) (λ t p. is_false (contains bs (alphabet.class t)) (λ q. apart_from xs bs d (alphabet.class t) p q)) o)
+        (λ t p. contains-append xs bs (alphabet.class t) (or_parts _ _ p))
         (λ t p. contains-append ms bs (alphabet.class t) (or_parts _ _ p));
   }
     where

@@ -1,5 +1,5 @@
 -- The reader of forms that go token by token through states reads them.
-use Rattle.std.proofs.Common.{◌≡◌, ℕ, true, false, List, [], ◌∷◌, ◌++◌, length, Result, Ok, Err, refl, sym, ap, subst, arith}
+use Rattle.std.proofs.Common.{◌≡◌, ℕ, true, false, List, [], ◌∷◌, ◌++◌, length, Result, Ok, Err, refl, sym, ap, subst, arith, inl}
 use Rattle.std.proofs.lemmas.List.{length-append}
 use Rattle.lto_forms.specs.declared.fault.Fault.{Fault}
 use Rattle.lto_forms.specs.declared.fault.FaultKind.{FaultKind}
@@ -142,4 +142,5 @@ module _ {T S : Type 0} (alphabet : Alphabet T) (step : S → T → Step S) (hav
     swap = swap_run s;
     contains = λ ts u h. h;
     limit = λ ts left h. absurd (only_syntax Limit no_limit s ts left h);
+    broad = record { starts = λ t ts u h. refl; nothing = λ u h. absurd h; reads = λ front rest u h d. inl (complete_run s front rest u h) };
   }

@@ -6,7 +6,8 @@ use Rattle.lto_forms.specs.declared.fault.FaultKind.{FaultKind}
 use Rattle.lto_forms.specs.Alphabet.{Alphabet, is_number}
 use Rattle.lto_forms.specs.Forms as form
 use Rattle.lto_forms.specs.Forms.{Form, Many, Star}
-use Rattle.lto_forms.specs.Lawful.{ends, Swapped, Lawful}
+use Rattle.lto_forms.specs.Faults.{LimitGoesOn}
+use Rattle.lto_forms.specs.Lawful.{ends, Swapped, Lawful, UpTo}
 use Rattle.lto_forms.specs.Readers.{Reader, done, ◌>>=◌, pick, many_at, star_at}
 use Rattle.lto_forms.proofs.Composed.{both_lawful, gives_lawful, pick_lawful, same_form, widened}
 
@@ -19,40 +20,48 @@ module _ {T : Type 0} (alphabet : Alphabet T) {A : Type 0} (g wide : Form T A) (
   abbrev after : T → Bool
   after t = more t || begins t
 
-  abbrev one_more : ℕ → Form T (List A)
-  one_more room = form.◌>>=◌ g (λ a. form.◌>>=◌ (Many g room) (λ as'. form.gives (a ∷ as')))
+  module _ (form_of : Form T A) where
+    abbrev one_more : ℕ → Form T (List A)
+    one_more room = form.◌>>=◌ form_of (λ a. form.◌>>=◌ (Many form_of room) (λ as'. form.gives (a ∷ as')))
 
-  abbrev wide_more : Form T (List A)
-  wide_more = form.◌>>=◌ wide (λ a. form.◌>>=◌ (Star wide) (λ as'. form.gives (a ∷ as')))
+    there : (room : ℕ) (ts : List T) (as' : List A) → form.either (one_more room) (form.gives []) ts as' → Many form_of (suc room) ts as'
+    unfolding form.either form.◌>>=◌
+    there room ts as' (inl (p, q, a, e, s, (q', r, l, e', s', n))) =
+        let whole : ts ≡ p ++ q' = e ∙ ap (λ (x : List T). p ++ x) (e' ∙ ap (λ (x : List T). q' ++ x) n.0 ∙ append-nil q') in
+        subst (λ (x : List A). Many form_of (suc room) ts x) (sym n.1) (p, q', whole, s, s')
+    there room ts as' (inr n) = subst (λ (x : List A). Many form_of (suc room) ts x) (sym n.1) n.0
 
-  over : (ts : List T) (as' : List A) → form.either wide_more (form.gives []) ts as' → Star wide ts as'
-  unfolding form.either form.◌>>=◌
-  over ts as' (inl (p, q, a, e, s, (q', r, l, e', s', n))) =
-      let whole : ts ≡ p ++ q' = e ∙ ap (λ (x : List T). p ++ x) (e' ∙ ap (λ (x : List T). q' ++ x) n.0 ∙ append-nil q') in
-      subst (λ (x : List A). Star wide ts x) (sym n.1) (p, q', whole, s, s')
-  over ts as' (inr n) = subst (λ (x : List A). Star wide ts x) (sym n.1) n.0
+    back : (room : ℕ) (ts : List T) (as' : List A) → Many form_of (suc room) ts as' → form.either (one_more room) (form.gives []) ts as'
+    unfolding form.either form.◌>>=◌
+    back room ts [] s = inr (s, refl)
+    back room ts (a ∷ as') (p, q, e, s, s') = inl (p, q, a, e, s, (q, [], as', sym (append-nil q), s', (refl, refl)))
 
-  there : (room : ℕ) (ts : List T) (as' : List A) → form.either (one_more room) (form.gives []) ts as' → Many g (suc room) ts as'
-  unfolding form.either form.◌>>=◌
-  there room ts as' (inl (p, q, a, e, s, (q', r, l, e', s', n))) =
-      let whole : ts ≡ p ++ q' = e ∙ ap (λ (x : List T). p ++ x) (e' ∙ ap (λ (x : List T). q' ++ x) n.0 ∙ append-nil q') in
-      subst (λ (x : List A). Many g (suc room) ts x) (sym n.1) (p, q', whole, s, s')
-  there room ts as' (inr n) = subst (λ (x : List A). Many g (suc room) ts x) (sym n.1) n.0
+    none_there : (ts : List T) (as' : List A) → form.gives [] ts as' → Many form_of zero ts as'
+    none_there ts as' n = subst (λ (x : List A). Many form_of zero ts x) (sym n.1) n.0
 
-  back : (room : ℕ) (ts : List T) (as' : List A) → Many g (suc room) ts as' → form.either (one_more room) (form.gives []) ts as'
-  unfolding form.either form.◌>>=◌
-  back room ts [] s = inr (s, refl)
-  back room ts (a ∷ as') (p, q, e, s, s') = inl (p, q, a, e, s, (q, [], as', sym (append-nil q), s', (refl, refl)))
+    none_back : (ts : List T) (as' : List A) → Many form_of zero ts as' → form.gives [] ts as'
+    none_back ts [] s = (s, refl)
+    none_back ts (a ∷ as') s = absurd s
 
-  none_there : (ts : List T) (as' : List A) → form.gives [] ts as' → Many g zero ts as'
-  none_there ts as' n = subst (λ (x : List A). Many g zero ts x) (sym n.1) n.0
+    to_star : (n : ℕ) (ts : List T) (as' : List A) → Many form_of n ts as' → Star form_of ts as'
+    to_star n ts [] s = s
+    to_star zero ts (a ∷ as') s = absurd s
+    to_star (suc n) ts (a ∷ as') (p, q, e, s, s') = (p, q, e, s, to_star n q as' s')
 
-  none_back : (ts : List T) (as' : List A) → Many g zero ts as' → form.gives [] ts as'
-  none_back ts [] s = (s, refl)
-  none_back ts (a ∷ as') s = absurd s
+    module _ (some : (a : A) → form_of [] a → ⊥) where
+      shorter : (n : ℕ) (ts p q : List T) (a : A) → length ts ≤ suc n → ts ≡ p ++ q → form_of p a → length q ≤ n
+      shorter n ts [] q a le e s = absurd (some a s)
+      shorter n ts (u ∷ p) q a le e s = omega (arith, le, ap length e, length-append p q)
 
-  none_over : (ts : List T) (as' : List A) → form.gives [] ts as' → Star wide ts as'
-  none_over ts as' n = subst (λ (x : List A). Star wide ts x) (sym n.1) n.0
+      some_front : (ts p q : List T) (a : A) → length ts ≤ 0 → ts ≡ p ++ q → form_of p a → ⊥
+      some_front ts [] q a le e s = some a s
+      some_front ts (u ∷ p) q a le e s = omega (arith, le, ap length e, length-append p q)
+
+      from_star : (n : ℕ) (ts : List T) (as' : List A) → length ts ≤ n → Star form_of ts as' → Many form_of n ts as'
+      from_star zero ts [] le s = s
+      from_star (suc n) ts [] le s = s
+      from_star zero ts (a ∷ as') le (p, q, e, s, s') = absurd (some_front ts p q a le e s)
+      from_star (suc n) ts (a ∷ as') le (p, q, e, s, s') = (p, q, e, s, from_star n q as' (shorter n ts p q a le e s) s')
 
   never : false ≡ true → ⊥
   never e = cc
@@ -72,13 +81,13 @@ module _ {T : Type 0} (alphabet : Alphabet T) {A : Type 0} (g wide : Form T A) (
       or4 false true d = refl
       or4 false false d = d
 
-  first_lawful : (room : ℕ) → Lawful alphabet (Many g room) (Star wide) (first_at room) first after true
-  first_lawful zero = same_form alphabet (widened alphabet first after (gives_lawful alphabet []) (λ t d. absurd (never d)) (λ t d. absurd (never d))) none_there none_back none_over
+  first_lawful : (room : ℕ) → Lawful alphabet (Many g room) (Many wide room) (first_at room) first after true
+  first_lawful zero = same_form alphabet (widened alphabet first after (gives_lawful alphabet []) (λ t d. absurd (never d)) (λ t d. absurd (never d))) (none_there g) (none_back g) (none_there wide) (none_back wide)
   first_lawful (suc room) =
-      let inner = λ (a : A). both_lawful alphabet (Many g room) (Star wide) (first_at room) (λ as'. form.gives (a ∷ as')) (λ as'. form.gives (a ∷ as')) (λ as'. done (a ∷ as')) first after (λ _. false) (λ _. false) true true (first_lawful room) (λ as'. gives_lawful alphabet (a ∷ as')) (λ t e d. absurd (never d)) in
-      let outer = both_lawful alphabet g wide f (λ a. form.◌>>=◌ (Many g room) (λ as'. form.gives (a ∷ as'))) (λ a. form.◌>>=◌ (Star wide) (λ as'. form.gives (a ∷ as'))) (λ a. first_at room >>= λ as'. done (a ∷ as')) first more first after false true law (λ a. widened alphabet first after (inner a) (λ t d. left_only (first t) d) (λ t d. d)) (λ t e d. apart t e (within t d)) in
-      let picked = pick_lawful alphabet (one_more room) (form.gives []) wide_more (form.gives []) (f >>= λ a. first_at room >>= λ as'. done (a ∷ as')) (done []) begins _ _ (λ _. false) (λ _. false) true outer (gives_lawful alphabet []) alike (λ t d. within t (left_only (first t) d)) (λ t d. absurd (never d)) in
-      same_form alphabet (widened alphabet first after picked first_left after_right) (there room) (back room) over
+      let inner = λ (a : A). both_lawful alphabet (Many g room) (Many wide room) (first_at room) (λ as'. form.gives (a ∷ as')) (λ as'. form.gives (a ∷ as')) (λ as'. done (a ∷ as')) first after (λ _. false) (λ _. false) true true (first_lawful room) (λ as'. gives_lawful alphabet (a ∷ as')) (λ t e d. absurd (never d)) in
+      let outer = both_lawful alphabet g wide f (λ a. form.◌>>=◌ (Many g room) (λ as'. form.gives (a ∷ as'))) (λ a. form.◌>>=◌ (Many wide room) (λ as'. form.gives (a ∷ as'))) (λ a. first_at room >>= λ as'. done (a ∷ as')) first more first after false true law (λ a. widened alphabet first after (inner a) (λ t d. left_only (first t) d) (λ t d. d)) (λ t e d. apart t e (within t d)) in
+      let picked = pick_lawful alphabet (one_more g room) (form.gives []) (one_more wide room) (form.gives []) (f >>= λ a. first_at room >>= λ as'. done (a ∷ as')) (done []) begins _ _ (λ _. false) (λ _. false) true outer (gives_lawful alphabet []) alike (λ t d. within t (left_only (first t) d)) (λ t d. absurd (never d)) in
+      same_form alphabet (widened alphabet first after picked first_left after_right) (there g room) (back g room) (there wide room) (back wide room)
 
   takes_some : (front rest ts : List T) (t : T) (a : A) → g front a → t ∷ ts ≡ front ++ rest → length rest ≤ length ts
   takes_some [] rest ts t a s e = absurd (never (law.nothing a s))
@@ -106,38 +115,33 @@ module _ {T : Type 0} (alphabet : Alphabet T) {A : Type 0} (g wide : Form T A) (
   are_first : (n : ℕ) (ts : List T) → length ts ≤ n → first_at n ts ≡ star_at begins f ts
   are_first n ts i = enough n (length ts) ts i (omega arith)
 
-  to_star : (n : ℕ) (ts : List T) (as' : List A) → Many g n ts as' → Star g ts as'
-  to_star n ts [] s = s
-  to_star zero ts (a ∷ as') s = absurd s
-  to_star (suc n) ts (a ∷ as') (p, q, e, s, s') = (p, q, e, s, to_star n q as' s')
+  some_read : (a : A) → g [] a → ⊥
+  some_read a s = never (law.nothing a s)
 
-  shorter : (n : ℕ) (ts p q : List T) (a : A) → length ts ≤ suc n → ts ≡ p ++ q → g p a → length q ≤ n
-  shorter n ts [] q a le e s = absurd (never (law.nothing a s))
-  shorter n ts (u ∷ p) q a le e s = omega (arith, le, ap length e, length-append p q)
+  some_wide : (a : A) → wide [] a → ⊥
+  some_wide a s = never (law.broad.nothing a s)
 
-  some_front : (ts p q : List T) (a : A) → length ts ≤ 0 → ts ≡ p ++ q → g p a → ⊥
-  some_front ts [] q a le e s = never (law.nothing a s)
-  some_front ts (u ∷ p) q a le e s = omega (arith, le, ap length e, length-append p q)
-
-  from_star : (n : ℕ) (ts : List T) (as' : List A) → length ts ≤ n → Star g ts as' → Many g n ts as'
-  from_star zero ts [] le s = s
-  from_star (suc n) ts [] le s = s
-  from_star zero ts (a ∷ as') le (p, q, e, s, s') = absurd (some_front ts p q a le e s)
-  from_star (suc n) ts (a ∷ as') le (p, q, e, s, s') = (p, q, e, s, from_star n q as' (shorter n ts p q a le e s) s')
+  widely : (n : ℕ) (ts : List T) (left : ℕ) → LimitGoesOn alphabet (Many wide n) ts left → LimitGoesOn alphabet (Star wide) ts left
+  widely n ts left v = record { front = v.front; bad = v.bad; rest = v.rest; whole = v.whole; here = v.here; more = v.more; value = v.value; spelled = to_star wide n (v.front ++ v.bad ∷ v.more) v.value v.spelled; real = v.real }
 
   pub all_lawful : Lawful alphabet (Star g) (Star wide) (star_at begins f) first after true
   all_lawful = record {
-    sound = λ ts rest as' e. let s = (first_lawful (length ts)).sound ts rest as' (are_first (length ts) ts (omega arith) ∙ e) in (s.0, s.1, to_star (length ts) s.0 as' s.2);
-    complete = λ front rest as' s d. sym (are_first (length (front ++ rest)) (front ++ rest) (omega arith)) ∙ (first_lawful (length (front ++ rest))).complete front rest as' (from_star (length (front ++ rest)) front as' (omega (arith, length-append front rest)) s) d;
-    starts = λ t ts as' s. (first_lawful (length (t ∷ ts))).starts t ts as' (from_star (length (t ∷ ts)) (t ∷ ts) as' (omega arith) s);
+    sound = λ ts rest as' e. let s = (first_lawful (length ts)).sound ts rest as' (are_first (length ts) ts (omega arith) ∙ e) in (s.0, s.1, to_star g (length ts) s.0 as' s.2);
+    complete = λ front rest as' s d. sym (are_first (length (front ++ rest)) (front ++ rest) (omega arith)) ∙ (first_lawful (length (front ++ rest))).complete front rest as' (from_star g some_read (length (front ++ rest)) front as' (omega (arith, length-append front rest)) s) d;
+    starts = λ t ts as' s. (first_lawful (length (t ∷ ts))).starts t ts as' (from_star g some_read (length (t ∷ ts)) (t ∷ ts) as' (omega arith) s);
     nothing = λ as' s. refl;
     some = ([], [], refl, tt);
-    viable = λ ts e d. let v = (first_lawful (length ts)).viable ts e (are_first (length ts) ts (omega arith) ∙ d) in record { front = v.front; rest = v.rest; whole = v.whole; here = v.here; more = v.more; value = v.value; spelled = to_star (length ts) (v.front ++ v.more) v.value v.spelled; real = v.real };
+    viable = λ ts e d. let v = (first_lawful (length ts)).viable ts e (are_first (length ts) ts (omega arith) ∙ d) in record { front = v.front; rest = v.rest; whole = v.whole; here = v.here; more = v.more; value = v.value; spelled = to_star g (length ts) (v.front ++ v.more) v.value v.spelled; real = v.real };
     local = λ front t rest rest' o d. local_all front t rest rest' o d;
-    number = λ ts left d. let v = (first_lawful (length ts)).number ts left (are_first (length ts) ts (omega arith) ∙ d) in record { front = v.front; bad = v.bad; rest = v.rest; whole = v.whole; here = v.here; bad_is = v.bad_is; good = v.good; good_is = v.good_is; more = v.more; value = v.value; spelled = to_star (length ts) (v.front ++ v.good ∷ v.more) v.value v.spelled; real = v.real };
+    number = λ ts left d. let v = (first_lawful (length ts)).number ts left (are_first (length ts) ts (omega arith) ∙ d) in record { front = v.front; bad = v.bad; rest = v.rest; whole = v.whole; here = v.here; bad_is = v.bad_is; good = v.good; good_is = v.good_is; more = v.more; value = v.value; spelled = to_star g (length ts) (v.front ++ v.good ∷ v.more) v.value v.spelled; real = v.real };
     swap = λ front t u rest rest' o n n' d. swap_all front t u rest rest' o n n' d;
-    contains = λ ts as' s. (first_lawful (length ts)).contains ts as' (from_star (length ts) ts as' (omega arith) s);
-    limit = λ ts left d. (first_lawful (length ts)).limit ts left (are_first (length ts) ts (omega arith) ∙ d);
+    contains = λ ts as' s. to_star wide (length ts) ts as' ((first_lawful (length ts)).contains ts as' (from_star g some_read (length ts) ts as' (omega arith) s));
+    limit = λ ts left d. widely (length ts) ts left ((first_lawful (length ts)).limit ts left (are_first (length ts) ts (omega arith) ∙ d));
+    broad = record {
+      starts = λ t ts as' s. (first_lawful (length (t ∷ ts))).broad.starts t ts as' (from_star wide some_wide (length (t ∷ ts)) (t ∷ ts) as' (omega arith) s);
+      nothing = λ as' s. refl;
+      reads = λ front rest as' s d. subst (λ (y : Result (List A × List T) Fault). UpTo y (Ok (as', rest))) (are_first (length (front ++ rest)) (front ++ rest) (omega arith)) ((first_lawful (length (front ++ rest))).broad.reads front rest as' (from_star wide some_wide (length (front ++ rest)) front as' (omega (arith, length-append front rest)) s) d);
+    };
   }
     where
       local_all : (front : List T) (t : T) (rest rest' : List T) (o : Result (List A) FaultKind) → star_at begins f (front ++ t ∷ rest) ≡ ends o (t ∷ rest) → star_at begins f (front ++ t ∷ rest') ≡ ends o (t ∷ rest')

@@ -43,6 +43,23 @@ Agreed r free = (r ≡ free) ⊎ ((left : ℕ) × (r ≡ Err (record { left = le
 abbrev pub Agrees : {T A : Type 0} → Reader T A → Reader T A → Type 0
 Agrees {T} f free = (ts : List T) → Agreed (f ts) (free ts)
 
+-- a range or a limit ends a reading that goes on without them
+abbrev pub IsBound : FaultKind → Type 0
+IsBound Number = Unit {0}
+IsBound Limit = Unit {0}
+IsBound Syntax = ⊥
+IsBound Profile = ⊥
+
+-- the first is past a range or a limit, or they are one
+abbrev pub UpTo : {X : Type 0} → Result X Fault → Result X Fault → Type 0
+UpTo r free = (r ≡ free) ⊎ ((left : ℕ) × (kind : FaultKind) × IsBound kind × (r ≡ Err (record { left = left; kind = kind })))
+
+-- What is spelled so without the limits begins with a token of first, or is empty, and f reads it up to a range or a limit.
+pub record Broad {T A : Type 0} (wide : Form T A) (f : Reader T A) (first more : T → Bool) (empty : Bool) : Type 0 where
+  pub starts : (t : T) (ts : List T) (a : A) → wide (t ∷ ts) a → first t ≡ true
+  pub nothing : (a : A) → wide [] a → empty ≡ true
+  pub reads : (front rest : List T) (a : A) → wide front a → Stops more rest → UpTo (f (front ++ rest)) (Ok (a, rest))
+
 module _ {T : Type 0} (alphabet : Alphabet T) where
   -- what stands before the last tokens, so many, goes on somehow to what the form has
   pub record GoesOn {A : Type 0} (g : Form T A) (ts : List T) (left : ℕ) : Type 0 where
@@ -85,3 +102,5 @@ module _ {T : Type 0} (alphabet : Alphabet T) where
     pub contains : (ts : List T) (a : A) → g ts a → wide ts a
     -- a fault of a limit stands where a reading without the limits goes on
     pub limit : (ts : List T) (left : ℕ) → f ts ≡ Err (record { left = left; kind = Limit }) → LimitGoesOn alphabet wide ts left
+    -- a reading without the limits is one of f, up to a range or a limit
+    pub broad : Broad wide f first more empty
