@@ -12,7 +12,7 @@ use Rattle.lto_forms.specs.Chained.{Chain}
 use Rattle.lto_forms.specs.Forms as form
 use Rattle.lto_forms.specs.Forms.{Form, Star}
 use Rattle.lto_forms.specs.Rules.{Rule, Opens, IsWithin}
-use Rattle.lto_forms.proofs.Composed.{same_form, widened}
+use Rattle.lto_forms.proofs.Composed.{widened, with_wide}
 use Rattle.lto_forms.proofs.Rules as rules
 use Rattle.lto_forms.proofs.Rules.{apart_from, contains-append}
 use Rattle.ir_read.specs.Addressing.{any_slots}
@@ -31,7 +31,7 @@ use Rattle.ir_bodies.specs.Lines.{line}
 use Rattle.ir_bodies.specs.LinesAt.{LINE}
 use Rattle.ir_bodies.specs.Successive.{Successive}
 use Rattle.ir_bodies.proofs.CallRules.{BEHIND_CALL}
-use Rattle.ir_bodies.proofs.LineRules.{any_name, line_rule, line_opens}
+use Rattle.ir_bodies.proofs.LineRules.{any_name, same_name, line_rule, line_opens}
 use Rattle.ir_bodies.proofs.Samples.{define_word_rule, label_real}
 use Rattle.ir_bodies.proofs.SuccessiveRules.{successive_lawful}
 
@@ -63,7 +63,7 @@ written_label_rule = rules.valued_rule tokens refusal not_number not_limit LABEL
         record { writes = ap (contains NUMERALS) e; other = zero_label; means = zero_label; alike = sym e; has = zero_named; real = label_real }
 
 label_rule : Rule tokens label any_label label_at LABEL [] false
-label_rule = record { law = same_form tokens written_label_rule.law (λ ts a s. s) (λ ts a s. s) (λ ts a s. any_name LABEL ts a s) }
+label_rule = record { law = with_wide tokens written_label_rule.law (λ ts a s. any_name LABEL ts a s) (rules.any_broad tokens refusal LABEL named itself same_name) }
 
 -- ---- blocks
 

@@ -9,7 +9,7 @@ use Rattle.lto_forms.specs.Alphabet.{among}
 use Rattle.lto_forms.specs.declared.fault.FaultKind.{FaultKind}
 use Rattle.lto_forms.specs.Forms as form
 use Rattle.lto_forms.specs.Rules.{Rule, Opens, in_range, is_among, is_valued}
-use Rattle.lto_forms.proofs.Composed.{same_form}
+use Rattle.lto_forms.proofs.Composed.{with_wide}
 use Rattle.lto_forms.proofs.Rules as rules
 use Rattle.ir_read.specs.Addressing.{slots_fit, any_slots}
 use Rattle.ir_read.specs.Classes.{tokens, refusal, one_of, itself}
@@ -65,8 +65,11 @@ any_name classes (t ∷ []) a s = by_test (among tokens classes t) s
     by_test false e = absurd cc
 any_name classes (t ∷ u ∷ ts) a s = absurd s
 
+pub same_name : (t u : Tok) → named t ≡ Some u → u ≡ itself t
+same_name t u q = sym (named_is t u q)
+
 any_local_rule : Rule tokens local any_local local_at LOCAL [] false
-any_local_rule = record { law = same_form tokens local_rule.law (λ ts a s. s) (λ ts a s. s) (λ ts a s. any_name LOCAL ts a s) }
+any_local_rule = record { law = with_wide tokens local_rule.law (λ ts a s. any_name LOCAL ts a s) (rules.any_broad tokens refusal LOCAL named itself same_name) }
 
 -- ---- what follows the first word of an instruction
 

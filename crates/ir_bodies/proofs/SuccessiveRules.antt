@@ -1,5 +1,5 @@
 -- The reader of pieces one behind another, each from the state that the one before left and at most so many, reads them.
-use Rattle.std.proofs.Common.{◌≡◌, ℕ, zero, suc, Bool, true, false, ◌||◌, inl, inr, List, [], ◌∷◌, ◌++◌, refl, sym, ap, subst, ◌∙◌}
+use Rattle.std.proofs.Common.{◌≡◌, ℕ, zero, suc, Bool, true, false, ◌||◌, ◌⊎◌, inl, inr, List, [], ◌∷◌, ◌++◌, refl, sym, ap, subst, ◌∙◌}
 use Rattle.std.proofs.lemmas.List.{append-nil}
 use Rattle.lto_forms.specs.Alphabet.{Alphabet, AllReal, is_number}
 use Rattle.lto_forms.specs.Chained.{Chain}
@@ -7,7 +7,7 @@ use Rattle.lto_forms.specs.Forms as form
 use Rattle.lto_forms.specs.Forms.{Form}
 use Rattle.lto_forms.specs.Lawful.{Lawful}
 use Rattle.lto_forms.specs.Readers.{Reader, ◌>>=◌, done}
-use Rattle.lto_forms.proofs.Composed.{gives_lawful, both_lawful, pick_lawful, barred_lawful, same_form, widened}
+use Rattle.lto_forms.proofs.Composed.{Begun, append_is_nil, cons_is, gives_lawful, both_lawful, pick_lawful, barred_lawful, same_form, widened}
 use Rattle.ir_bodies.specs.Successive.{Successive, successive_at}
 
 never : false ≡ true → ⊥
@@ -44,10 +44,19 @@ module _ {T S A : Type 0} (alphabet : Alphabet T) (final : S → Bool) (always :
       let o = opens s t e in
       (o.0, o.1.0 ∷ [], (t ∷ o.0, [], o.1.1, sym (append-nil (t ∷ o.0)), o.2, (always o.1.1, refl)), o.3)
 
+  none_or_begun : (s : S) (ts : List T) (as' : List A) → Chain final wide s ts as' → form.gives [] ts as' ⊎ Begun begins ts
+  none_or_begun s ts [] c = inl (c.1, refl)
+  none_or_begun s [] (a ∷ as') (p, q, next, e, d, c) = absurd (never ((laws s).broad.nothing (a, next) (subst (λ (y : List T). wide s y (a, next)) (append_is_nil p q (sym e)).0 d)))
+  none_or_begun s (t ∷ ts) (a ∷ as') (p, q, next, e, d, c) = inr (within t (by_front p e d))
+    where
+      by_front : (p : List T) → t ∷ ts ≡ p ++ q → wide s p (a, next) → first t ≡ true
+      by_front [] e d = absurd (never ((laws s).broad.nothing (a, next) d))
+      by_front (u ∷ p) e d = ap first (cons_is t u ts (p ++ q) e).0 ∙ (laws s).broad.starts u p (a, next) d
+
   none_lawful : (s : S) → Lawful alphabet (Successive piece zero s) (Chain final wide s) (successive_at begins one zero s) first after true
   none_lawful s =
       widened alphabet first after
-      (barred_lawful alphabet (Successive piece zero s) (Chain final wide s) (done []) begins (λ _. false) (λ _. false) true (same_form alphabet (gives_lawful alphabet []) (none_there s) (none_back s) (none_over s)) (λ t u n m. inl (alike t u n m)) (λ t e. absurd (never e)) (chain_opens s))
+      (barred_lawful alphabet (Successive piece zero s) (form.gives []) (Chain final wide s) (done []) begins (λ _. false) (λ _. false) true (same_form alphabet (gives_lawful alphabet []) (none_there s) (none_back s) (λ ts as' n. n) (λ ts as' n. n)) (none_over s) (none_or_begun s) (λ t u n m. inl (alike t u n m)) (λ t e. absurd (never e)) (chain_opens s))
       (λ t e. absurd (never e)) (λ t e. or_right (more t) (begins t) e)
 
   -- ---- where some may stand
@@ -77,6 +86,11 @@ module _ {T S A : Type 0} (alphabet : Alphabet T) (final : S → Bool) (always :
       subst (λ (y : List A). Chain final wide s ts y) (sym n.1) (p, q', x.1, whole, d, d')
   over s ts as' (inr n) = none_over s ts as' n
 
+  under : (s : S) (ts : List T) (as' : List A) → Chain final wide s ts as' → form.either (wide_more s) (form.gives []) ts as'
+  unfolding form.either form.◌>>=◌
+  under s ts [] c = inr (c.1, refl)
+  under s ts (a ∷ as') (p, q, next, e, d, c) = inl (p, q, (a, next), e, d, (q, [], as', sym (append-nil q), c, (refl, refl)))
+
   first_only : (t : T) → first t || false ≡ true → first t ≡ true
   first_only t d = left_only (first t) d
 
@@ -97,4 +111,4 @@ module _ {T S A : Type 0} (alphabet : Alphabet T) (final : S → Bool) (always :
       let inner = λ (x : A × S). both_lawful alphabet (Successive piece room x.1) (Chain final wide x.1) (successive_at begins one room x.1) (λ l. form.gives (x.0 ∷ l)) (λ l. form.gives (x.0 ∷ l)) (λ l. done (x.0 ∷ l)) first after (λ _. false) (λ _. false) true true (successive_lawful room x.1) (λ l. gives_lawful alphabet (x.0 ∷ l)) (λ t e d. absurd (never d)) in
       let outer = both_lawful alphabet (piece s) (wide s) (one s) (λ x. form.◌>>=◌ (Successive piece room x.1) (λ l. form.gives (x.0 ∷ l))) (λ x. form.◌>>=◌ (Chain final wide x.1) (λ l. form.gives (x.0 ∷ l))) (λ x. successive_at begins one room x.1 >>= λ l. done (x.0 ∷ l)) first more first after false true (laws s) (λ x. widened alphabet first after (inner x) first_only (λ t d. d)) (λ t e d. apart t e (within t d)) in
       let picked = pick_lawful alphabet (one_more room s) (form.gives []) (wide_more s) (form.gives []) (one s >>= λ x. successive_at begins one room x.1 >>= λ l. done (x.0 ∷ l)) (done []) begins _ _ (λ _. false) (λ _. false) true outer (gives_lawful alphabet []) alike (λ t d. within t (left_only (first t) d)) (λ t d. absurd (never d)) in
-      same_form alphabet (widened alphabet first after picked first_left after_right) (there room s) (back room s) (over s)
+      same_form alphabet (widened alphabet first after picked first_left after_right) (there room s) (back room s) (over s) (under s)

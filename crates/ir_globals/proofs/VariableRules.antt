@@ -16,7 +16,7 @@ use Rattle.lto_forms.specs.Forms as form
 use Rattle.lto_forms.specs.Readers as reader
 use Rattle.lto_forms.specs.declared.fault.FaultKind.{FaultKind}
 use Rattle.lto_forms.specs.Rules.{Rule, Opens, in_range, is_among, is_class, is_valued}
-use Rattle.lto_forms.proofs.Composed.{same_form}
+use Rattle.lto_forms.proofs.Composed.{with_wide}
 use Rattle.lto_forms.proofs.Rules as rules
 use Rattle.ir_read.specs.Classes.{tokens, IsReal, the, the_at, one_of, one_of_at, itself}
 use Rattle.ir_read.specs.FunctionHeads.{LINKAGES, linkage_word, QUALIFIERS, nothing_of, name_refusal}
@@ -56,7 +56,7 @@ any_name (t ∷ []) a s = by_test (among tokens NAMES t) s
 any_name (t ∷ u ∷ ts) a s = absurd s
 
 variable_name_rule : Rule tokens variable_name any_variable_name variable_name_at NAMES [] false
-variable_name_rule = record { law = same_form tokens (named_rule NAMES refl).law (λ ts a s. s) (λ ts a s. s) any_name }
+variable_name_rule = record { law = with_wide tokens (named_rule NAMES refl).law any_name (rules.any_broad tokens name_refusal NAMES global_named itself (λ t u q. sym (global_is t.head t u q))) }
 
 linkage_word_rule : Rule tokens (one_of LINKAGES linkage_word) (one_of LINKAGES linkage_word) (one_of_at LINKAGES linkage_word) LINKAGES [] false
 linkage_word_rule = one_rule LINKAGES linkage_word (word heads.External (codes "external")) refl external_real

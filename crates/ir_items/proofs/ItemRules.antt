@@ -1,5 +1,5 @@
 -- The readers of items read them.
-use Rattle.std.proofs.Common.{◌≡◌, ℕ, zero, suc, ◌-◌, Bool, true, false, cond, nat_eq, Some, List, [], ◌∷◌, ◌++◌, refl, sym, ap, inl, inr, arith}
+use Rattle.std.proofs.Common.{◌≡◌, ℕ, zero, suc, ◌-◌, Bool, true, false, cond, ◌||◌, ◌⊎◌, nat_eq, Option, Some, List, [], ◌∷◌, ◌++◌, refl, sym, ap, inl, inr, arith}
 use Rattle.std.specs.Prelude.{codes}
 use Rattle.ir_lex.specs.Bytes.{has}
 use Rattle.ir_lex.specs.declared.head.Head.TheVariants as heads
@@ -14,9 +14,9 @@ use Rattle.lto_forms.specs.declared.fault.FaultKind.TheVariants.{Limit}
 use Rattle.lto_forms.specs.Readers.{fault_at, pick}
 use Rattle.lto_forms.specs.Rules.{Rule, Opens, is_class, disjoint, subset}
 use Rattle.lto_forms.proofs.Chains.{chain_lawful}
-use Rattle.lto_forms.proofs.Composed.{same_form}
+use Rattle.lto_forms.proofs.Composed.{Begun, same_form, widened}
 use Rattle.lto_forms.proofs.Rules as rules
-use Rattle.lto_forms.proofs.Rules.{apart_from, within_of}
+use Rattle.lto_forms.proofs.Rules.{apart_from, contains-append, within_of}
 use Rattle.ir_bodies.specs.Blocks.{any_definition}
 use Rattle.ir_bodies.specs.BlocksAt.{DEFINE}
 use Rattle.ir_bodies.proofs.BlockRules.{definition_rule, definition_opens}
@@ -37,7 +37,7 @@ use Rattle.ir_read.specs.MetadataBehind.{BRACES}
 use Rattle.ir_read.specs.Operands.{LOCAL}
 use Rattle.ir_read.specs.ShapeForms.{any_shape, memory_shape}
 use Rattle.ir_read.proofs.AttributeRules.{head_attribute_rule, attribute_group_rule}
-use Rattle.ir_read.proofs.Refusing.{barred}
+use Rattle.ir_read.proofs.Barred.{barred_here}
 use Rattle.ir_read.proofs.FunctionHeadRules.{head_rule}
 use Rattle.ir_read.proofs.MetadataBehindRules.{metadata_behind_rule, node_yet_rule}
 use Rattle.ir_read.proofs.Nodes.{attached_rule, attached_opens, metadata_line_rule}
@@ -146,20 +146,49 @@ any_named_opens : (names : ℕ) → Opens tokens NAMING (any_named names)
 unfolding any_named
 any_named_opens names = rules.opens_seq tokens NAMING any_naming any_naming_opens (λ x. rules.nothing tokens (at_place (names - 1) x))
 
--- with no room for a name: what names nothing, and without limits any item
-unnaming_rule : (room : ℕ) (before : Before) → Rule tokens (piece room before 0) (any_piece before 0) (other_at before 0) (META ++ plain_beginnings before) MORE false
-unfolding piece any_piece form.either
+-- with no room for a name: what names nothing
+unnaming_rule : (room : ℕ) (before : Before) → Rule tokens (piece room before 0) (other any_shape before 0) (other_at before 0) (META ++ plain_beginnings before) MORE false
+unfolding piece form.either
 unnaming_rule room before = record {
-  law = same_form tokens (other_rule before 0).law (λ ts a s. inr s) (λ ts a s. elim s [ inl e ↦ absurd e | inr q ↦ q ]) (λ ts a s. inr s);
+  law = same_form tokens (other_rule before 0).law (λ ts a s. inr s) (λ ts a s. elim s [ inl e ↦ absurd e | inr q ↦ q ]) (λ ts a s. s) (λ ts a s. s);
 }
+
+unnaming_or_begun : (before : Before) (ts : List Tok) (a : Option Item × Position) → any_piece before 0 ts a → other any_shape before 0 ts a ⊎ Begun (among tokens NAMING) ts
+unfolding any_piece form.either
+unnaming_or_begun before ts a (inr s) = inl s
+unnaming_or_begun before [] a (inl s) = absurd (never ((named_rule 0 0).law.broad.nothing a s))
+  where
+    never : false ≡ true → ⊥
+    never e = cc
+unnaming_or_begun before (t ∷ ts) a (inl s) = inr ((named_rule 0 0).law.broad.starts t ts a s)
 
 any_piece_opens : (before : Before) (names : ℕ) → Opens tokens NAMING (any_piece before names)
 unfolding any_piece form.either
 any_piece_opens before names t h = let o = any_named_opens names t h in (o.0, o.1, inl o.2, o.3)
 
-full_rule : (room : ℕ) (before : Before) → disjoint (META ++ plain_beginnings before) NAMING ≡ true → Rule tokens (piece room before 0) (any_piece before 0) (piece_at room before 0) (META ++ plain_beginnings before) MORE false
+full_rule : (room : ℕ) (before : Before) → disjoint (META ++ plain_beginnings before) NAMING ≡ true → Rule tokens (piece room before 0) (any_piece before 0) (piece_at room before 0) (NAMING ++ (META ++ plain_beginnings before)) MORE false
 unfolding piece_at
-full_rule room before d = barred (META ++ plain_beginnings before) MORE NAMING (fault_at Limit) (unnaming_rule room before) (rules.no_room tokens NAMING (unnaming_rule room before) (any_piece_opens before 0) d) d
+full_rule room before d = record {
+  law = widened tokens (among tokens (NAMING ++ (META ++ plain_beginnings before))) (among tokens MORE)
+      (barred_here tokens (piece room before 0) (other any_shape before 0) (any_piece before 0) (other_at before 0) (among tokens NAMING) (among tokens (META ++ plain_beginnings before)) (among tokens MORE) (unnaming_rule room before).law (otherwise before) (unnaming_or_begun before) without
+      (any_piece_opens before 0))
+      (λ t e. contains-append NAMING (META ++ plain_beginnings before) (number t.head) (or_parts (among tokens (META ++ plain_beginnings before) t) (among tokens NAMING t) e)) (λ t e. e);
+}
+  where
+    otherwise : (before : Before) (ts : List Tok) (a : Option Item × Position) → other any_shape before 0 ts a → any_piece before 0 ts a
+    unfolding any_piece form.either
+    otherwise before ts a s = inr s
+
+    or_parts : (a b : Bool) → a || b ≡ true → (b ≡ true) ⊎ (a ≡ true)
+    or_parts true b h = inr refl
+    or_parts false b h = inl h
+
+    is_false : (b : Bool) → (b ≡ true → ⊥) → b ≡ false
+    is_false true never = absurd (never refl)
+    is_false false never = refl
+
+    without : (t : Tok) (ts : List Tok) (a : Option Item × Position) → other any_shape before 0 (t ∷ ts) a → among tokens NAMING t ≡ false
+    without t ts a s = is_false (among tokens NAMING t) (λ p. apart_from (META ++ plain_beginnings before) NAMING d (number t.head) ((unnaming_rule room before).law.broad.starts t ts a s) p)
 
 not_zero : (n : ℕ) → nat_eq (suc n) 0 ≡ false
 not_zero n = grind arith

@@ -1,5 +1,5 @@
 -- The readers of `alloca` and `getelementptr` read them.
-use Rattle.std.proofs.Common.{◌≡◌, ℕ, max, Bool, true, false, cond, ◌||◌, ◌&&◌, not, nat_eq, nat_lt, Option, Some, None, List, [], ◌∷◌, Result, Ok, Err, refl, sym, ap, subst, ◌∙◌, arith, ◌^◌, ◌≤◌, ◌<◌}
+use Rattle.std.proofs.Common.{◌≡◌, ℕ, max, Bool, true, false, cond, ◌||◌, ◌&&◌, not, nat_eq, nat_lt, Option, Some, None, List, [], ◌∷◌, Result, Ok, Err, refl, sym, ap, subst, ◌∙◌, arith, ◌^◌, ◌≤◌, ◌<◌, ◌⊎◌, inl, inr}
 use Rattle.std.proofs.Math.Nat.{pow-le-pow_right}
 use Rattle.std.specs.Prelude.{codes}
 use Rattle.ir_lex.specs.declared.head.Head.TheVariants as heads
@@ -13,7 +13,7 @@ use Rattle.lto_forms.specs.declared.fault.FaultKind.{FaultKind}
 use Rattle.lto_forms.specs.declared.fault.FaultKind.TheVariants.{Limit}
 use Rattle.lto_forms.specs.Readers.{Reader, fault_at, pick, token_at, token_means}
 use Rattle.lto_forms.specs.Rules.{Rule, IsWithin, in_range, is_valued}
-use Rattle.lto_forms.proofs.Composed.{same_form}
+use Rattle.lto_forms.proofs.Composed.{Begun, widened}
 use Rattle.lto_forms.proofs.Chains.{chain_lawful}
 use Rattle.lto_forms.proofs.Rules as rules
 use Rattle.lto_forms.proofs.Rules.{apart_from, within_of}
@@ -121,6 +121,36 @@ module _ (fits : ℕ → Bool) (some : fits 1 ≡ true) where
   without w t [] n s = not_too_many w t n s
   without w t (u ∷ ts) n s = absurd s
 
+  -- one that isn't too many fits
+  fits_here : (w : ℕ) (t : Tok) (n : ℕ) → is_count (any_slots pointer) w t ≡ Ok n → too_many fits w t ≡ false → is_count fits w t ≡ Ok n
+  unfolding is_valued
+  fits_here w t n e m = by_class (among tokens NUMBER t) (count_of (max 1 w) t) e m
+    where
+      by_test : (k : ℕ) (b : Bool) → in_range (Some k) ≡ Ok n → not b ≡ false → in_range (cond b (Some k) None) ≡ Ok n
+      by_test k true d m = d
+      by_test k false d m = absurd cc
+
+      by_class : (b : Bool) (o : Option ℕ) → counted_if b (fitting (any_slots pointer) o) (refusal (number t.head)) ≡ Ok n → b && passes fits o ≡ false → counted_if b (fitting fits o) (refusal (number t.head)) ≡ Ok n
+      by_class true None d m = d
+      by_class true (Some k) d m = by_test k (fits k) d m
+      by_class false o d m = d
+
+  count_or_many : (w : ℕ) (ts : List Tok) (n : ℕ) → count_in (any_slots pointer) w ts n → count_in fits w ts n ⊎ Begun (too_many fits w) ts
+  count_or_many w [] n s = absurd s
+  count_or_many w (t ∷ []) n s = by_test (too_many fits w t) refl
+    where
+      by_test : (b : Bool) → too_many fits w t ≡ b → count_in fits w (t ∷ []) n ⊎ (too_many fits w t ≡ true)
+      by_test true e = inr e
+      by_test false e = inl (fits_here w t n s e)
+  count_or_many w (t ∷ u ∷ ts) n s = absurd s
+
+  begins_count : (w : ℕ) (t : Tok) → among tokens NUMBER t || too_many fits w t ≡ true → among tokens NUMBER t ≡ true
+  begins_count w t e = by_class (among tokens NUMBER t) (passes fits (count_of (max 1 w) t)) e
+    where
+      by_class : (b p : Bool) → b || (b && p) ≡ true → b ≡ true
+      by_class true p e = refl
+      by_class false p e = e
+
   -- one that is too many goes on without the limits
   opens : (w : ℕ) (t : Tok) → too_many fits w t ≡ true → (more : List Tok) × (n : ℕ) × count_in (any_slots pointer) w (t ∷ more) n × AllReal tokens more
   unfolding is_valued
@@ -132,7 +162,11 @@ module _ (fits : ℕ → Bool) (some : fits 1 ≡ true) where
       by_class false o p q d = absurd cc
 
   barred_rule : (w : ℕ) → Rule tokens (count_in fits w) (count_in (any_slots pointer) w) (pick (too_many fits w) (fault_at Limit) (token_at (is_count fits w))) NUMBER [] false
-  barred_rule w = record { law = barred_here tokens (count_in fits w) (count_in (any_slots pointer) w) (token_at (is_count fits w)) (too_many fits w) (among tokens NUMBER) (among tokens []) (same_form tokens (fitting_rule w).law (λ ts n s. s) (λ ts n s. s) (token_wide w)) (without w) (opens w) }
+  barred_rule w = record {
+    law = widened tokens (among tokens NUMBER) (among tokens [])
+        (barred_here tokens (count_in fits w) (count_in fits w) (count_in (any_slots pointer) w) (token_at (is_count fits w)) (too_many fits w) (among tokens NUMBER) (among tokens []) (fitting_rule w).law (token_wide w) (count_or_many w) (without w) (opens w))
+        (λ t e. begins_count w t e) (λ t e. e);
+  }
 
   barred_is : (w : ℕ) (ts : List Tok) → pick (too_many fits w) (fault_at Limit) (token_at (is_count fits w)) ts ≡ count_in_at fits w ts
   unfolding count_means

@@ -1,5 +1,5 @@
 -- The readers of scalars, type names and counts read them.
-use Rattle.std.proofs.Common.{◌≡◌, ℕ, Bool, true, false, cond, ◌&&◌, ◌||◌, not, nat_eq, Option, Some, None, option_map, List, [], ◌∷◌, Result, Ok, Err, refl, sym, ap, subst, ◌∙◌, arith}
+use Rattle.std.proofs.Common.{◌≡◌, ℕ, Bool, true, false, cond, ◌&&◌, ◌||◌, not, nat_eq, Option, Some, None, option_map, List, [], ◌∷◌, Result, Ok, Err, refl, sym, ap, subst, ◌∙◌, arith, ◌⊎◌, inl, inr}
 use Rattle.std.specs.Prelude.{codes, nat_lt}
 use Rattle.ir_lex.specs.Bytes.{has}
 use Rattle.ir_lex.specs.declared.head.Head.TheVariants as heads
@@ -16,7 +16,7 @@ use Rattle.lto_forms.specs.Lawful.{Lawful, IsRanged, SameRefusal}
 use Rattle.lto_forms.specs.Forms as form
 use Rattle.lto_forms.specs.Readers.{Reader, fault_at, pick, token_at, token_means}
 use Rattle.lto_forms.specs.Rules.{Rule, IsWithin, in_range, is_class, is_valued}
-use Rattle.lto_forms.proofs.Composed.{token_lawful, same_form}
+use Rattle.lto_forms.proofs.Composed.{Begun, token_lawful, widened}
 use Rattle.lto_forms.proofs.Rules as rules
 use Rattle.lto_forms.proofs.Rules.{apart_from, within_of}
 use Rattle.ir_read.specs.Classes.{tokens, IsReal, refusal, NUMERALS, the, the_at}
@@ -194,16 +194,47 @@ token_whole room [] x s = absurd s
 token_whole room (t ∷ []) x s = leaf_whole room t x s
 token_whole room (t ∷ u ∷ ts) x s = absurd s
 
-fitting_lawful : (room : Room) → Lawful tokens (leaf room) (leaf whole) (token_at (is_leaf room)) (among tokens LEAF) (λ _. false) false
-fitting_lawful room = same_form tokens (token_lawful tokens (is_leaf room) (among tokens LEAF) (record { range = leaf_range room; alike = leaf_alike room; never = leaf_never room }) (leaf_begins room) zero_local zero_typed (zero_is_leaf room) local_real) (λ ts x s. s) (λ ts x s. s) (token_whole room)
+fitting_lawful : (room : Room) → Lawful tokens (leaf room) (leaf room) (token_at (is_leaf room)) (among tokens LEAF) (λ _. false) false
+fitting_lawful room = token_lawful tokens (is_leaf room) (among tokens LEAF) (record { range = leaf_range room; alike = leaf_alike room; never = leaf_never room }) (leaf_begins room) zero_local zero_typed (zero_is_leaf room) local_real
+
+-- one that isn't too large is one
+leaf_here : (room : Room) (t : Tok) (x : Typed) → is_leaf whole t ≡ Ok x → too_large room t ≡ false → is_leaf room t ≡ Ok x
+unfolding is_leaf
+leaf_here room t x e n = by_test (among tokens SCALAR t) (has_room room t) (has_room whole t) (ample t) e n
+  where
+    by_test : (b c w : Bool) → w ≡ true → cond (b && w) (Ok (scalar_typed t)) (is_valued tokens memory_refusal LOCAL type_name t) ≡ Ok x → b && not c ≡ false → cond (b && c) (Ok (scalar_typed t)) (is_valued tokens memory_refusal LOCAL type_name t) ≡ Ok x
+    by_test true true true h d n = d
+    by_test true true false h d n = absurd cc
+    by_test true false w h d n = absurd cc
+    by_test false c w h d n = d
+
+leaf_or_large : (room : Room) (ts : List Tok) (x : Typed) → leaf whole ts x → leaf room ts x ⊎ Begun (too_large room) ts
+leaf_or_large room [] x s = absurd s
+leaf_or_large room (t ∷ []) x s = by_test (too_large room t) refl
+  where
+    by_test : (b : Bool) → too_large room t ≡ b → leaf room (t ∷ []) x ⊎ (too_large room t ≡ true)
+    by_test true e = inr e
+    by_test false e = inl (leaf_here room t x s e)
+leaf_or_large room (t ∷ u ∷ ts) x s = absurd s
+
+or_parts : (a b : Bool) → a || b ≡ true → (a ≡ true) ⊎ (b ≡ true)
+or_parts true b h = inl refl
+or_parts false b h = inr h
 
 and_parts : (a b : Bool) → a && b ≡ true → a ≡ true
 and_parts true b h = refl
 and_parts false b h = absurd cc
 
 barred_rule : (room : Room) → Rule tokens (leaf room) (leaf whole) (pick (too_large room) (fault_at Limit) (token_at (is_leaf room))) LEAF [] false
-barred_rule room = record { law = barred_here tokens (leaf room) (leaf whole) (token_at (is_leaf room)) (too_large room) (among tokens LEAF) (λ _. false) (fitting_lawful room) without opens }
+barred_rule room = record {
+  law = widened tokens (among tokens LEAF) (λ _. false)
+      (barred_here tokens (leaf room) (leaf room) (leaf whole) (token_at (is_leaf room)) (too_large room) (among tokens LEAF) (λ _. false) (fitting_lawful room) (token_whole room) (leaf_or_large room) without opens)
+      (λ t e. begins_leaf t e) (λ t e. e);
+}
   where
+    begins_leaf : (t : Tok) → among tokens LEAF t || too_large room t ≡ true → among tokens LEAF t ≡ true
+    begins_leaf t e = elim (or_parts (among tokens LEAF t) (too_large room t) e) [ inl p ↦ p | inr q ↦ within_of SCALAR LEAF refl (number t.head) (and_parts (among tokens SCALAR t) (not (has_room room t)) q) ]
+
     without : (t : Tok) (ts : List Tok) (x : Typed) → leaf room (t ∷ ts) x → too_large room t ≡ false
     without t [] x s = too_large_not room t x s
     without t (u ∷ ts) x s = absurd s

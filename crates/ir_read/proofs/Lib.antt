@@ -20,7 +20,6 @@ pub mod MetadataBehindRules
 pub mod Nodes
 pub mod OperandRules
 pub mod PhiRules
-pub mod Refusing
 pub mod ShapeRules
 pub mod Singles
 pub mod Subforms

@@ -1,5 +1,5 @@
 -- The readers of shapes read them.
-use Rattle.std.proofs.Common.{◌≡◌, ℕ, zero, suc, ◌+◌, Bool, true, false, ◌⊎◌, inl, inr, List, [], ◌∷◌, ◌++◌, refl, sym, ap, subst, ◌∙◌, arith}
+use Rattle.std.proofs.Common.{◌≡◌, ℕ, zero, suc, ◌+◌, Bool, true, false, cond, ◌||◌, ◌⊎◌, inl, inr, List, [], ◌∷◌, ◌++◌, Result, Ok, Err, refl, sym, ap, subst, ◌∙◌, arith}
 use Rattle.std.specs.Prelude.{codes}
 use Rattle.ir_lex.specs.declared.head.Head.TheVariants as heads
 use Rattle.ir_lex.specs.Heads.{number}
@@ -10,12 +10,12 @@ use Rattle.lto_forms.specs.declared.fault.FaultKind.TheVariants.{Limit}
 use Rattle.lto_forms.specs.Forms as form
 use Rattle.lto_forms.specs.Forms.{Form, either}
 use Rattle.lto_forms.specs.Readers.{Reader, fault_at, pick}
-use Rattle.lto_forms.specs.Rules.{Rule, Opens}
+use Rattle.lto_forms.specs.Rules.{Rule, Opens, is_among, subset}
 use Rattle.lto_forms.proofs.Chains.{chain_lawful}
-use Rattle.lto_forms.proofs.Composed.{same_form}
+use Rattle.lto_forms.proofs.Composed.{Begun, same_form, widened}
 use Rattle.lto_forms.proofs.Rules as rules
 use Rattle.lto_forms.proofs.Rules.{apart_from, within_of}
-use Rattle.ir_read.specs.Classes.{tokens, one_of, one_of_at}
+use Rattle.ir_read.specs.Classes.{tokens, refusal, one_of, one_of_at}
 use Rattle.ir_read.specs.declared.extents.Extent.{Extent}
 use Rattle.ir_read.specs.declared.extents.Room.{Room}
 use Rattle.ir_read.specs.declared.shape.Typed.{Typed}
@@ -195,21 +195,33 @@ nested ts x (inr (inr (inr s))) = (0, s)
 
 -- ---- shapes
 
-innermost : (room : Room) → Rule tokens (leaf room) any_shape (leaf_at room) LEAF [] false
-innermost room = record { law = same_form tokens (leaf_rule room).law (itself _) (itself _) (λ ts x s. (0, s)) }
+at_no_level : Sub (leaf whole) any_shape
+at_no_level ts x s = (0, s)
+
+sub_opens : (bs : List ℕ) (p q : Form Tok Typed) → Sub p q → Opens tokens bs p → Opens tokens bs q
+sub_opens bs p q h opens t e = let o = opens t e in (o.0, o.1, h (t ∷ o.0) o.1 o.2, o.3)
+
+leaf_here : ℕ → Rule tokens (leaf whole) (leaf whole) (leaf_at whole) SHAPE [] false
+leaf_here n = rules.broader tokens SHAPE [] (leaf_rule whole) refl refl
 
 -- each bracket begins a shape
 array_opens : Opens tokens OPEN_BRACKET (array_of (λ _. any_shape))
 unfolding array_of
-array_opens = rules.opens_seq tokens OPEN_BRACKET (one_of OPEN_BRACKET line_of) (one_opens OPEN_BRACKET line_of) (λ line. elements_rule (λ _. leaf whole) any_shape (λ _. leaf_at whole) (λ _. rules.broader tokens SHAPE [] (innermost whole) refl refl) line)
+array_opens =
+    sub_opens OPEN_BRACKET (array_of (λ _. leaf whole)) (array_of (λ _. any_shape)) (array_sub (leaf whole) any_shape at_no_level)
+    (rules.opens_seq tokens OPEN_BRACKET (one_of OPEN_BRACKET line_of) (one_opens OPEN_BRACKET line_of) (λ line. elements_rule (λ _. leaf whole) (leaf whole) (λ _. leaf_at whole) leaf_here line))
 
 structure_opens : Opens tokens OPEN_BRACE (structure_of (λ _. any_shape))
 unfolding structure_of
-structure_opens = rules.opens_seq tokens OPEN_BRACE (one_of OPEN_BRACE line_of) (one_opens OPEN_BRACE line_of) (λ line. rules.seq tokens (members_rule false (λ _. leaf whole) any_shape (λ _. leaf_at whole) (λ _. rules.broader tokens SHAPE [] (innermost whole) refl refl)) (λ parts. rules.nothing tokens _) refl)
+structure_opens =
+    sub_opens OPEN_BRACE (structure_of (λ _. leaf whole)) (structure_of (λ _. any_shape)) (structure_sub (leaf whole) any_shape at_no_level)
+    (rules.opens_seq tokens OPEN_BRACE (one_of OPEN_BRACE line_of) (one_opens OPEN_BRACE line_of) (λ line. rules.seq tokens (members_rule false (λ _. leaf whole) (leaf whole) (λ _. leaf_at whole) (λ _. leaf_here 0)) (λ parts. rules.nothing tokens _) refl))
 
 packed_opens : Opens tokens OPEN_ANGLE (packed_of (λ _. any_shape))
 unfolding packed_of
-packed_opens = rules.opens_seq tokens OPEN_ANGLE (one_of OPEN_ANGLE line_of) (one_opens OPEN_ANGLE line_of) (λ line. packed_behind_rule (λ _. leaf whole) any_shape (λ _. leaf_at whole) (λ _. rules.broader tokens SHAPE [] (innermost whole) refl refl) line)
+packed_opens =
+    sub_opens OPEN_ANGLE (packed_of (λ _. leaf whole)) (packed_of (λ _. any_shape)) (packed_sub (leaf whole) any_shape at_no_level)
+    (rules.opens_seq tokens OPEN_ANGLE (one_of OPEN_ANGLE line_of) (one_opens OPEN_ANGLE line_of) (λ line. packed_behind_rule (λ _. leaf whole) (leaf whole) (λ _. leaf_at whole) (λ _. leaf_here 0) line))
 
 abbrev bracketed : Form Tok Typed
 bracketed = either (array_of (λ _. any_shape)) (either (structure_of (λ _. any_shape)) (packed_of (λ _. any_shape)))
@@ -225,23 +237,61 @@ brackets_open t h =
     let o = rules.opens_either tokens OPEN_BRACKET (number heads.OpenBrace ∷ number heads.OpenAngle ∷ []) (array_of (λ _. any_shape)) (either (structure_of (λ _. any_shape)) (packed_of (λ _. any_shape))) array_opens (rules.opens_either tokens OPEN_BRACE OPEN_ANGLE (structure_of (λ _. any_shape)) (packed_of (λ _. any_shape)) structure_opens packed_opens) t h in
     (o.0, o.1, bracketed_is (t ∷ o.0) o.1 o.2, o.3)
 
-innermost_rule : (room : Room) → Rule tokens (leaf room) any_shape (innermost_at room) LEAF [] false
+-- what begins with one of these tokens does
+one_begins : {A B : Type 0} (classes : List ℕ) (value : Tok → A) (k : A → Form Tok B) (ts : List Tok) (b : B) → form.◌>>=◌ (one_of classes value) k ts b → subset classes BRACKETS ≡ true → Begun (among tokens BRACKETS) ts
+unfolding form.◌>>=◌ is_among
+one_begins classes value k ts b ([], back, a, e, s, r) h = absurd s
+one_begins classes value k ts b (t ∷ [], back, a, e, s, r) h = subst (Begun (among tokens BRACKETS)) (sym e) (within_of classes BRACKETS h (number t.head) (passes (among tokens classes t) s))
+  where
+    passes : (c : Bool) → cond c (Ok (value t)) (Err (refusal (number t.head))) ≡ Ok a → c ≡ true
+    passes true d = refl
+    passes false d = absurd cc
+one_begins classes value k ts b (t ∷ u ∷ front, back, a, e, s, r) h = absurd s
+
+over_begins : (p : Form Tok Typed) (ts : List Tok) (x : Typed) → shape_over (λ _. p) (λ _ _. p) (leaf whole) ts x → leaf whole ts x ⊎ Begun (among tokens BRACKETS) ts
+unfolding shape_over either array_of structure_of packed_of
+over_begins p ts x (inl s) = inr (one_begins OPEN_BRACKET line_of (λ line. elements (λ _. p) line) ts x s refl)
+over_begins p ts x (inr (inl s)) = inr (one_begins OPEN_BRACE line_of _ ts x s refl)
+over_begins p ts x (inr (inr (inl s))) = inr (one_begins OPEN_ANGLE line_of (λ line. packed_behind (λ _. p) line) ts x s refl)
+over_begins p ts x (inr (inr (inr s))) = inl s
+
+leaf_or_bracket : (ts : List Tok) (x : Typed) → any_shape ts x → leaf whole ts x ⊎ Begun (among tokens BRACKETS) ts
+leaf_or_bracket ts x (zero, s) = inl s
+leaf_or_bracket ts x (suc depth, s) = over_begins (levels depth) ts x s
+
+innermost_rule : (room : Room) → Rule tokens (leaf room) any_shape (innermost_at room) SHAPE [] false
 unfolding innermost_at
-innermost_rule room = record { law = barred_here tokens (leaf room) any_shape (leaf_at room) (among tokens BRACKETS) (among tokens LEAF) (among tokens []) (innermost room).law without brackets_open }
+innermost_rule room = record {
+  law = widened tokens (among tokens SHAPE) (among tokens [])
+      (barred_here tokens (leaf room) (leaf whole) any_shape (leaf_at room) (among tokens BRACKETS) (among tokens LEAF) (among tokens []) (leaf_rule room).law at_no_level leaf_or_bracket without brackets_open)
+      (λ t e. begins_shape t e) (λ t e. e);
+}
   where
     is_false : (b : Bool) → (b ≡ true → ⊥) → b ≡ false
     is_false true never = absurd (never refl)
     is_false false never = refl
 
-    without : (t : Tok) (ts : List Tok) (x : Typed) → leaf room (t ∷ ts) x → among tokens BRACKETS t ≡ false
-    without t ts x s = is_false (among tokens BRACKETS t) (λ p. apart_from BRACKETS LEAF refl (number t.head) p ((innermost room).law.starts t ts x s))
+    without : (t : Tok) (ts : List Tok) (x : Typed) → leaf whole (t ∷ ts) x → among tokens BRACKETS t ≡ false
+    without t ts x s = is_false (among tokens BRACKETS t) (λ p. apart_from BRACKETS LEAF refl (number t.head) p ((leaf_rule room).law.broad.starts t ts x s))
+
+    or_parts : (a b : Bool) → a || b ≡ true → (a ≡ true) ⊎ (b ≡ true)
+    or_parts true b h = inl refl
+    or_parts false b h = inr h
+
+    begins_shape : (t : Tok) → among tokens LEAF t || among tokens BRACKETS t ≡ true → among tokens SHAPE t ≡ true
+    begins_shape t e = elim (or_parts (among tokens LEAF t) (among tokens BRACKETS t) e) [ inl p ↦ within_of LEAF SHAPE refl (number t.head) p | inr q ↦ within_of BRACKETS SHAPE refl (number t.head) q ]
+
+unnested : Sub any_shape (shape_over (λ _. any_shape) (λ _ _. any_shape) (leaf whole))
+unfolding shape_over either
+unnested ts x (zero, s) = inr (inr (inr s))
+unnested ts x (suc depth, s) = over_sub (levels depth) any_shape (λ us y d. (depth, d)) ts x s
 
 pub shape_rule : (depth : ℕ) (room : Room) → Rule tokens (shape depth room) any_shape (shape_at depth room) SHAPE [] false
-shape_rule zero room = rules.broader tokens SHAPE [] (innermost_rule room) refl refl
+shape_rule zero room = innermost_rule room
 shape_rule (suc depth) room =
     let law = shape_over_rule (λ n. shape depth (shared n room)) (λ packed s. shape depth (left packed room s)) (leaf room) any_shape (leaf whole) (λ n. shape_at depth (shared n room)) (λ packed s. shape_at depth (left packed room s)) (leaf_at room)
     (λ n. shape_rule depth (shared n room)) (λ packed s. shape_rule depth (left packed room s)) (leaf_rule room) in
-    record { law = same_form tokens law.law (itself _) (itself _) nested }
+    record { law = same_form tokens law.law (itself _) (itself _) nested unnested }
 
 pub memory_shape_rule : Rule tokens memory_shape any_shape memory_shape_at SHAPE [] false
 unfolding memory_shape memory_shape_at

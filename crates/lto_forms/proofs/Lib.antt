@@ -11,4 +11,5 @@ pub mod Runs
 pub mod Stars
 pub mod Unlimited
 pub mod Whole
+pub mod Bounds
 pub mod ChainLoops

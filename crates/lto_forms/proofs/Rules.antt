@@ -7,10 +7,10 @@ use Rattle.lto_forms.specs.declared.fault.FaultKind.TheVariants.{Syntax, Profile
 use Rattle.lto_forms.specs.Alphabet.{Alphabet, AllReal, among, contains, is_number}
 use Rattle.lto_forms.specs.Forms as form
 use Rattle.lto_forms.specs.Forms.{Form, Many, upto, optional}
-use Rattle.lto_forms.specs.Lawful.{IsRanged, SameRefusal}
-use Rattle.lto_forms.specs.Readers.{Reader, fault_at, done, ◌>>=◌, token_at, pick, many_at, star_at, upto_at, optional_at}
+use Rattle.lto_forms.specs.Lawful.{Broad, IsRanged, SameRefusal, UpTo}
+use Rattle.lto_forms.specs.Readers.{Reader, fault_at, done, ◌>>=◌, token_at, token_means, pick, many_at, star_at, upto_at, optional_at}
 use Rattle.lto_forms.specs.Rules.{Opens, Rule, IsWithin, disjoint, subset, in_range, is_class, is_among, is_exact, is_valued}
-use Rattle.lto_forms.proofs.Composed.{Begun, all_real, cons_is, gives_lawful, token_lawful, both_lawful, pick_lawful, many_lawful, star_lawful, barred_lawful, widened}
+use Rattle.lto_forms.proofs.Composed.{all_real, cons_is, gives_lawful, token_lawful, both_lawful, pick_lawful, many_lawful, star_lawful, widened}
 use Rattle.lto_forms.proofs.Unlimited.{all_lawful}
 
 and_parts : (a b : Bool) → a && b ≡ true → (a ≡ true) × (b ≡ true)
@@ -168,20 +168,6 @@ module _ {T : Type 0} (alphabet : Alphabet T) where
             (λ t p. p)
             (λ t p. contains-append ms bs (alphabet.class t) (or_parts _ _ p));
       }
-
-  -- a reader that goes on with a token of some classes without the limits alone
-  pub no_room : {A : Type 0} {g narrow wide : Form T A} {f : Reader T A} {xs ms : List ℕ} {e : Bool} (bs : List ℕ) → Rule alphabet g narrow f xs ms e → ((ts : List T) (a : A) → narrow ts a → wide ts a) → ((ts : List T) (a : A) → wide ts a → narrow ts a ⊎ Begun (among alphabet bs) ts) → Opens alphabet bs wide → disjoint xs bs ≡ true
-      → Rule alphabet g wide (pick (among alphabet bs) (fault_at Limit) f) (xs ++ bs) (ms ++ bs) e
-  no_room {g = g} {narrow = narrow} {wide = wide} {f = f} {xs = xs} {ms = ms} {e = e} bs law over under o d = record {
-    law = widened alphabet (among alphabet (xs ++ bs)) (among alphabet (ms ++ bs))
-        (barred_lawful alphabet g narrow wide f (among alphabet bs) (among alphabet xs) (among alphabet ms) e law.law over under (λ t u n m. inl (alike_of bs t u n m)) (λ t p. is_false (contains bs (alphabet.class t)) (λ q. apart_from xs bs d (alphabet.class t) p q)) o)
-        (λ t p. contains-append xs bs (alphabet.class t) (or_parts _ _ p))
-        (λ t p. contains-append ms bs (alphabet.class t) (or_parts _ _ p));
-  }
-    where
-      is_false : (b : Bool) → (b ≡ true → ⊥) → b ≡ false
-      is_false true never = absurd (never refl)
-      is_false false never = refl
 
   -- a reader that doesn't refuse such a token
   pub opens_of : {A : Type 0} {g wide : Form T A} {f : Reader T A} {xs ms : List ℕ} (bs : List ℕ) → Rule alphabet g wide f xs ms false → ((t : T) → among alphabet bs t ≡ true → (e : Fault) → f (t ∷ []) ≡ Err e → e.left ≡ 0) → Opens alphabet bs wide
@@ -342,6 +328,34 @@ module _ {T : Type 0} (alphabet : Alphabet T) where
       by_test true d e (Some a) p k l h = tt
       by_test false true e o p k l h = absurd cc
       by_test false false e o p k l h = refused_alike k l h
+
+  abbrev good : {A : Type 0} → A → Result A FaultKind
+  good x = Ok x
+
+  -- a token of several classes, whatever number it writes
+  pub any_broad : {A : Type 0} (refusal : ℕ → FaultKind) (wanted : List ℕ) (value : T → Option A) (any : T → A) → ((t : T) (a : A) → value t ≡ Some a → a ≡ any t) → Broad (form.token (is_among alphabet refusal wanted any)) (token_at (is_valued alphabet refusal wanted value)) (among alphabet wanted) (among alphabet []) false
+  unfolding is_among is_valued
+  any_broad {A} refusal wanted value any same' = record { starts = starts; nothing = λ a s. absurd s; reads = λ front rest a s d. reads front rest a s }
+    where
+      same_right : (x y : A) → good x ≡ good y → x ≡ y
+      same_right x y e = cc
+
+      starts : (t : T) (ts : List T) (a : A) → form.token (is_among alphabet refusal wanted any) (t ∷ ts) a → among alphabet wanted t ≡ true
+      starts t [] a s = test_ok (among alphabet wanted t) (any t) a (refusal (alphabet.class t)) s
+      starts t (u ∷ ts) a s = absurd s
+
+      by_value : (t : T) (rest : List T) (a : A) (o : Option A) → value t ≡ o → any t ≡ a → UpTo (token_means t rest (in_range o)) (Ok (a, rest))
+      by_value t rest a None q e = inr (length (t ∷ rest), Number, tt, refl)
+      by_value t rest a (Some b) q e = inl (ap (λ (x : A). Ok (x, rest)) (same' t b q ∙ e))
+
+      by_test : (t : T) (rest : List T) (a : A) (c : Bool) → cond c (Ok (any t)) (Err (refusal (alphabet.class t))) ≡ Ok a → UpTo (token_means t rest (cond c (in_range (value t)) (Err (refusal (alphabet.class t))))) (Ok (a, rest))
+      by_test t rest a true h = by_value t rest a (value t) refl (same_right (any t) a h)
+      by_test t rest a false h = absurd cc
+
+      reads : (front rest : List T) (a : A) → form.token (is_among alphabet refusal wanted any) front a → UpTo (token_at (is_valued alphabet refusal wanted value) (front ++ rest)) (Ok (a, rest))
+      reads [] rest a s = absurd s
+      reads (t ∷ []) rest a s = by_test t rest a (among alphabet wanted t) s
+      reads (t ∷ u ∷ front) rest a s = absurd s
 
   -- ---- tokens that begin something of a form
 

@@ -81,6 +81,13 @@ module _ {T : Type 0} (alphabet : Alphabet T) where
   FitsLimit wide ts left Profile = NoneGoesOn wide ts left
   FitsLimit wide ts left Number = NoneGoesOn wide ts left
 
+  -- without the limits none goes on with the token, unless the fault is of a limit, or of a number that is out of range
+  abbrev pub FitsBound : {A : Type 0} → Form T A → List T → ℕ → FaultKind → Type 0
+  FitsBound wide ts left Limit = LimitGoesOn wide ts left
+  FitsBound wide ts left Number = Unit {0}
+  FitsBound wide ts left Syntax = NoneGoesOn wide ts left
+  FitsBound wide ts left Profile = NoneGoesOn wide ts left
+
 abbrev pub IfFault : ReadError → (Fault → Type 0) → Type 0
 IfFault errors.NoMemory P = Unit {0}
 IfFault (errors.Fault f) P = P f
