@@ -10,10 +10,10 @@ use Rattle.lto_forms.specs.declared.fault.FaultKind.{FaultKind}
 use Rattle.lto_forms.specs.declared.fault.FaultKind.TheVariants.{Syntax, Profile, Number, Limit}
 use Rattle.lto_forms.specs.declared.fault.ReadError.{ReadError}
 use Rattle.lto_forms.specs.declared.fault.ReadError.TheVariants as errors
-use Rattle.lto_forms.specs.Faults.{StopsAt, FitsKind, LimitGoesOn}
+use Rattle.lto_forms.specs.Faults.{StopsAt, FitsBound, FitsKind}
 use Rattle.lto_forms.specs.Lawful.{Lawful}
-use Rattle.lto_forms.specs.Readers.{Reader, Gives, whole_of, ended}
-use Rattle.lto_forms.proofs.Composed.{wrong, wrong_is}
+use Rattle.lto_forms.specs.Readers.{Reader, Gives}
+use Rattle.lto_forms.proofs.Bounds.{whole_bound}
 use Rattle.lto_forms.proofs.Whole as whole
 use Rattle.ir_read.specs.Classes.{tokens}
 use Rattle.ir_items.specs.declared.module.ModuleFaultKind.TheVariants as kinds
@@ -89,49 +89,22 @@ number all (Ok rows) g = tt
 number all (Err errors.NoMemory) g = tt
 number all (Err (errors.Fault f)) g = number_fits (toks all) (last_tokens all f.left) f.left f.kind (whole.kind tokens whole_module any_module reader (among tokens ITEM) (among tokens ANY) true item_refusal item_not_number module_law (λ rows. rows) (Err (errors.Fault f)) (toks all) g)
 
-abbrev IfLimit : List Tok → Fault → FaultKind → Type 0
-IfLimit ts f Limit = LimitGoesOn tokens any_module ts f.left
-IfLimit ts f k = Unit {0}
-
-limit_of : (ts : List Tok) (f : Fault) → whole_of item_refusal (reader ts) ≡ wrong {X = List Item} f → IfLimit ts f f.kind
-limit_of ts f h = by_result (reader ts) refl h
+limit_fits : (ts rest : List Tok) (left : ℕ) (k : FaultKind) → FitsBound tokens any_module ts left k → FitsLimits ts left (kind_at k rest)
+limit_fits ts rest left Syntax h = h
+limit_fits ts rest left Number h = tt
+limit_fits ts rest left Limit h = h
+limit_fits ts [] left Profile h = h
+limit_fits ts (t ∷ rest) left Profile h = by_test (among tokens STRING t)
   where
-    no_limit : (k : FaultKind) → (k ≡ Limit → ⊥) → IfLimit ts f k
-    no_limit Limit n = absurd (n refl)
-    no_limit Syntax n = tt
-    no_limit Profile n = tt
-    no_limit Number n = tt
-
-    by_end : (is : List Item) (rest : List Tok) → ended item_refusal is rest ≡ wrong f → IfLimit ts f f.kind
-    by_end is [] e = absurd cc
-    by_end is (t ∷ rest) e = subst (λ (k : FaultKind). IfLimit ts f k) (ap (λ (x : Fault). x.kind) (wrong_is (record { left = length (t ∷ rest); kind = item_refusal t }) f e)) (no_limit (item_refusal t) (item_not_limit t))
-
-    by_kind : (k : FaultKind) → f.kind ≡ k → reader ts ≡ wrong f → IfLimit ts f k
-    by_kind Limit e d = module_law.limit ts f.left (d ∙ ap (λ (k : FaultKind). wrong (record { left = f.left; kind = k })) e)
-    by_kind Syntax e d = tt
-    by_kind Profile e d = tt
-    by_kind Number e d = tt
-
-    by_result : (r : Result (List Item × List Tok) Fault) → reader ts ≡ r → whole_of item_refusal r ≡ wrong f → IfLimit ts f f.kind
-    by_result (Ok x) d e = by_end x.0 x.1 e
-    by_result (Err g) d e = by_kind f.kind refl (d ∙ ap (λ (x : Fault). wrong x) (wrong_is g f e))
-
-limit_fits : (ts rest : List Tok) (f : Fault) (k : FaultKind) → IfLimit ts f k → FitsLimits ts f.left (kind_at k rest)
-limit_fits ts rest f Syntax h = tt
-limit_fits ts rest f Number h = tt
-limit_fits ts rest f Limit h = h
-limit_fits ts [] f Profile h = tt
-limit_fits ts (t ∷ rest) f Profile h = by_test (among tokens STRING t)
-  where
-    by_test : (b : Bool) → FitsLimits ts f.left (cond b kinds.Layout kinds.Profile)
-    by_test true = tt
-    by_test false = tt
+    by_test : (b : Bool) → FitsLimits ts left (cond b kinds.Layout kinds.Profile)
+    by_test true = h
+    by_test false = h
 
 pub limit : (all : List Token) (r : Read) → Given (toks all) r → IfErr (answer all r) (λ e. IfModuleFault e (λ f. FitsLimits (toks all) f.left f.kind))
 unfolding module_of
 limit all (Ok rows) g = tt
 limit all (Err errors.NoMemory) g = tt
-limit all (Err (errors.Fault f)) g = limit_fits (toks all) (last_tokens all f.left) f f.kind (limit_of (toks all) f g)
+limit all (Err (errors.Fault f)) g = limit_fits (toks all) (last_tokens all f.left) f.left f.kind (whole_bound tokens whole_module any_module reader (among tokens ITEM) (among tokens ANY) true item_refusal item_not_number item_not_limit module_law (toks all) f g)
 
 string_fits : (ts : List Tok) (k : FaultKind) → FitsString ts (kind_at k ts)
 string_fits ts Syntax = tt

@@ -9,7 +9,7 @@ use Rattle.lto_forms.specs.declared.fault.FaultKind.{FaultKind}
 use Rattle.lto_forms.specs.declared.fault.FaultKind.TheVariants.{Syntax, Profile, Number, Limit}
 use Rattle.lto_forms.specs.declared.fault.ReadError.{ReadError}
 use Rattle.lto_forms.specs.declared.fault.ReadError.TheVariants as errors
-use Rattle.lto_forms.specs.Faults.{NumberGoesOn, NoNumberGoesOn, LimitGoesOn}
+use Rattle.lto_forms.specs.Faults.{NumberGoesOn, NoNumberGoesOn, LimitGoesOn, NoneGoesOn}
 use Rattle.lto_forms.specs.Forms.{Form}
 use Rattle.lto_forms.specs.Readers.{whole_of, next_is}
 use Rattle.ir_read.specs.Classes.{tokens}
@@ -90,10 +90,14 @@ FitsNumber ts left kinds.Profile = NoNumberGoesOn tokens whole_module ts left
 FitsNumber ts left kinds.Limit = Unit {0}
 FitsNumber ts left kinds.Layout = NoNumberGoesOn tokens whole_module ts left
 
--- a limit is passed only where a reading without the limits goes on with the token
+-- a limit is passed only where a reading without the limits goes on with the token; where one goes on, the fault is that, or a number
+-- out of range
 abbrev pub FitsLimits : List Tok → ℕ → ModuleFaultKind → Type 0
 FitsLimits ts left kinds.Limit = LimitGoesOn tokens any_module ts left
-FitsLimits ts left kind = Unit {0}
+FitsLimits ts left kinds.Number = Unit {0}
+FitsLimits ts left kinds.Syntax = NoneGoesOn tokens any_module ts left
+FitsLimits ts left kinds.Profile = NoneGoesOn tokens any_module ts left
+FitsLimits ts left kinds.Layout = NoneGoesOn tokens any_module ts left
 
 -- a layout that isn't supported is a string, and nothing else that is refused is one
 abbrev pub FitsString : List Tok → ModuleFaultKind → Type 0

@@ -1,5 +1,5 @@
 -- Where a fault is of no range and no limit, no reading without the limits goes on.
-use Rattle.std.proofs.Common.{◌≡◌, ℕ, Bool, true, false, List, [], ◌∷◌, ◌++◌, length, Result, Ok, Err, refl, sym, ap, subst, ◌∙◌, append_assoc, inl, inr}
+use Rattle.std.proofs.Common.{◌≡◌, ℕ, Bool, List, [], ◌∷◌, ◌++◌, length, Result, Ok, Err, refl, sym, ap, subst, ◌∙◌, append_assoc, inl, inr}
 use Rattle.std.proofs.lemmas.List.{append-nil}
 use Rattle.lto_forms.specs.declared.fault.Fault.{Fault}
 use Rattle.lto_forms.specs.declared.fault.FaultKind.{FaultKind}
@@ -8,7 +8,7 @@ use Rattle.lto_forms.specs.Alphabet.{Alphabet}
 use Rattle.lto_forms.specs.Faults.{Extends, FitsBound, NoneGoesOn}
 use Rattle.lto_forms.specs.Forms.{Form}
 use Rattle.lto_forms.specs.Lawful.{IsBound, Lawful, UpTo, ends}
-use Rattle.lto_forms.specs.Readers.{Reader, ended, fault_at, whole_of}
+use Rattle.lto_forms.specs.Readers.{Reader, ended, whole_of}
 use Rattle.lto_forms.proofs.Composed.{cut_is, reads, reads_is, wrong, wrong_is}
 
 bound_is : (k : FaultKind) → IsBound k → (k ≡ Number → ⊥) → (k ≡ Limit → ⊥) → ⊥

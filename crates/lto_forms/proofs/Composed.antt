@@ -8,7 +8,7 @@ use Rattle.lto_forms.specs.Alphabet.{Alphabet, AllReal, is_number}
 use Rattle.lto_forms.specs.Faults.{LimitGoesOn, NumberGoesOn}
 use Rattle.lto_forms.specs.Forms as form
 use Rattle.lto_forms.specs.Forms.{Form, Many, Star}
-use Rattle.lto_forms.specs.Lawful.{Broad, ends, Stops, Swapped, SameRefusal, GoesOn, IsBound, IsRanged, Lawful, UpTo}
+use Rattle.lto_forms.specs.Lawful.{Broad, ends, Stops, Swapped, SameRefusal, GoesOn, IsRanged, Lawful, UpTo}
 use Rattle.lto_forms.specs.Readers.{Reader, fault_at, done, follow, ◌>>=◌, token_means, token_at, pick, many_at, star_at}
 
 -- ---- lists

@@ -2,7 +2,6 @@ pub mod Chains
 pub mod Closings
 pub mod Composed
 pub mod Grouped
-pub mod Limits
 pub mod Listed
 pub mod Loops
 pub mod Places

@@ -3,17 +3,17 @@ use Rattle.std.proofs.Common.{◌≡◌, ℕ, suc, nat_lt, Bool, true, false, co
 use Rattle.lto_forms.specs.declared.fault.Fault.{Fault}
 use Rattle.lto_forms.specs.declared.fault.FaultKind.TheVariants.{Syntax, Number, Limit}
 use Rattle.lto_forms.specs.Alphabet.{among, is_number}
-use Rattle.lto_forms.specs.Faults.{StopsAt, FitsKind, FitsLimit}
+use Rattle.lto_forms.specs.Faults.{StopsAt, FitsBound, FitsKind}
 use Rattle.lto_forms.specs.Forms as form
 use Rattle.lto_forms.specs.Forms.{Form}
-use Rattle.lto_forms.specs.Lawful.{Agrees, SameRefusal}
+use Rattle.lto_forms.specs.Lawful.{SameRefusal}
 use Rattle.lto_forms.specs.Listing.{Sign, class_of, opening, closing, comma, numeral, signs, not_here, sign, within, further, numbers, listing, all_numbers, any_listing, further_at, numbers_at, listing_at, list_of}
-use Rattle.lto_forms.specs.Readers.{Reader, ◌>>=◌, done, pick, star_at, token_at}
+use Rattle.lto_forms.specs.Readers.{token_at}
 use Rattle.lto_forms.specs.Rules.{Rule, Opens, is_class}
 use Rattle.lto_forms.proofs.Composed.{token_lawful}
 use Rattle.lto_forms.proofs.Places.{one_place}
 use Rattle.lto_forms.proofs.Rules as rules
-use Rattle.lto_forms.proofs.Limits as limits
+use Rattle.lto_forms.proofs.Bounds.{whole_bound}
 use Rattle.lto_forms.proofs.Whole as whole
 
 not_number : (n : ℕ) → not_here n ≡ Number → ⊥
@@ -104,37 +104,6 @@ module _ (most : ℕ) where
   unfolding listing any_listing listing_at
   listing_rule room = rules.seq signs opening_rule (λ _. rules.seq signs (numbers_rule room) (λ ns. rules.seq signs closing_rule (λ _. rules.nothing signs ns) refl) refl) refl
 
-  -- ---- without the limit
-
-  all_numbers_at : Reader Sign (List ℕ)
-  all_numbers_at = pick (among signs (3 ∷ [])) (token_at (within most) >>= λ first. star_at (among signs (2 ∷ [])) (further_at most) >>= λ others. done (first ∷ others)) (done [])
-
-  any_listing_at : Reader Sign (List ℕ)
-  any_listing_at = token_at (sign 0) >>= λ _. all_numbers_at >>= λ ns. token_at (sign 1) >>= λ _. done ns
-
-  all_numbers_rule : Rule signs (all_numbers most) (all_numbers most) all_numbers_at (3 ∷ []) (2 ∷ 3 ∷ []) true
-  unfolding all_numbers all_numbers_at
-  all_numbers_rule =
-      rules.alt signs (3 ∷ []) (rules.seq signs within_rule (λ first. rules.seq signs (rules.star signs (2 ∷ []) further_rule further_opens refl refl) (λ others. rules.nothing signs (first ∷ others)) refl) refl) (rules.nothing signs []) refl refl
-
-  any_listing_rule : Rule signs (any_listing most) (any_listing most) any_listing_at (0 ∷ []) [] false
-  unfolding any_listing any_listing_at
-  any_listing_rule = rules.seq signs opening_rule (λ _. rules.seq signs all_numbers_rule (λ ns. rules.seq signs closing_rule (λ _. rules.nothing signs ns) refl) refl) refl
-
-  numbers_agree : (room : ℕ) → Agrees (numbers_at most room) all_numbers_at
-  unfolding numbers_at all_numbers_at
-  numbers_agree room =
-      limits.pick_agrees (among signs (3 ∷ [])) _ _ (done []) (done [])
-      (limits.both_agrees (token_at (within most)) (token_at (within most)) _ _ (limits.same_agrees (token_at (within most)))
-      (λ first. limits.both_agrees _ _ (λ others. done (first ∷ others)) (λ others. done (first ∷ others)) (limits.many_agrees (among signs (2 ∷ [])) (further_at most) (further_at most) (limits.same_agrees (further_at most)) (limits.takes_of signs further_rule.law) room) (λ others. limits.same_agrees (done (first ∷ others)))))
-      (limits.same_agrees (done []))
-
-  agrees : (room : ℕ) → Agrees (listing_at most room) any_listing_at
-  unfolding listing_at any_listing_at
-  agrees room =
-      limits.both_agrees (token_at (sign 0)) (token_at (sign 0)) _ _ (limits.same_agrees (token_at (sign 0)))
-      (λ _. limits.both_agrees (numbers_at most room) all_numbers_at _ _ (numbers_agree room) (λ ns. limits.same_agrees (token_at (sign 1) >>= λ _. done ns)))
-
   module _ (room : ℕ) where
     pub found : (ts : List Sign) (ns : List ℕ) → list_of most room ts ≡ Ok ns → listing most room ts ns
     found ts ns e = whole.whole_sound signs (listing most room) (any_listing most) (listing_at most room) (among signs (0 ∷ [])) (among signs []) false (λ t. Syntax) (λ t d. not_number 0 d) (listing_rule room).law ts ns e
@@ -148,10 +117,8 @@ module _ (most : ℕ) where
     pub kind : (ts : List Sign) (e : Fault) → list_of most room ts ≡ Err e → FitsKind signs (listing most room) ts e.left e.kind
     kind ts e d = whole.whole_kind signs (listing most room) (any_listing most) (listing_at most room) (among signs (0 ∷ [])) (among signs []) false (λ t. Syntax) (λ t d. not_number 0 d) (listing_rule room).law ts e d
 
-    pub limit : (ts : List Sign) (e : Fault) → list_of most room ts ≡ Err e → FitsLimit signs (any_listing most) ts e.left e.kind
-    limit ts e d =
-        limits.whole_limit signs (listing most room) (any_listing most) (any_listing most) (listing_at most room) any_listing_at (among signs (0 ∷ [])) (among signs []) (among signs (0 ∷ [])) (among signs []) false false (λ t. Syntax) (λ t e. not_number 0 e) (λ t e. not_limit 0 e)
-        (listing_rule room).law any_listing_rule.law (agrees room) ts e d
+    pub limit : (ts : List Sign) (e : Fault) → list_of most room ts ≡ Err e → FitsBound signs (any_listing most) ts e.left e.kind
+    limit ts e d = whole_bound signs (listing most room) (any_listing most) (listing_at most room) (among signs (0 ∷ [])) (among signs []) false (λ t. Syntax) (λ t e. not_number 0 e) (λ t e. not_limit 0 e) (listing_rule room).law ts e d
 
     pub place : (ts : List Sign) (n m : ℕ) → StopsAt signs (listing most room) ts n → StopsAt signs (listing most room) ts m → n ≡ m
     place = one_place signs (listing most room)

@@ -8,7 +8,7 @@ use Rattle.lto_forms.specs.Alphabet.{Alphabet, AllReal, among, contains, is_numb
 use Rattle.lto_forms.specs.Forms as form
 use Rattle.lto_forms.specs.Forms.{Form, Many, upto, optional}
 use Rattle.lto_forms.specs.Lawful.{Broad, IsRanged, SameRefusal, UpTo}
-use Rattle.lto_forms.specs.Readers.{Reader, fault_at, done, ◌>>=◌, token_at, token_means, pick, many_at, star_at, upto_at, optional_at}
+use Rattle.lto_forms.specs.Readers.{Reader, done, ◌>>=◌, token_at, token_means, pick, many_at, star_at, upto_at, optional_at}
 use Rattle.lto_forms.specs.Rules.{Opens, Rule, IsWithin, disjoint, subset, in_range, is_class, is_among, is_exact, is_valued}
 use Rattle.lto_forms.proofs.Composed.{all_real, cons_is, gives_lawful, token_lawful, both_lawful, pick_lawful, many_lawful, star_lawful, widened}
 use Rattle.lto_forms.proofs.Unlimited.{all_lawful}

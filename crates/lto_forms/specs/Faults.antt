@@ -74,13 +74,6 @@ module _ {T : Type 0} (alphabet : Alphabet T) where
   abbrev pub NoneGoesOn : {A : Type 0} → Form T A → List T → ℕ → Type 0
   NoneGoesOn wide ts left = (front : List T) (t : T) (rest : List T) → ts ≡ front ++ t ∷ rest → length (t ∷ rest) ≡ left → Extends wide (front ++ t ∷ []) → ⊥
 
-  -- a fault is a limit's exactly where a reading without the limits goes on with the token
-  abbrev pub FitsLimit : {A : Type 0} → Form T A → List T → ℕ → FaultKind → Type 0
-  FitsLimit wide ts left Limit = LimitGoesOn wide ts left
-  FitsLimit wide ts left Syntax = NoneGoesOn wide ts left
-  FitsLimit wide ts left Profile = NoneGoesOn wide ts left
-  FitsLimit wide ts left Number = NoneGoesOn wide ts left
-
   -- without the limits none goes on with the token, unless the fault is of a limit, or of a number that is out of range
   abbrev pub FitsBound : {A : Type 0} → Form T A → List T → ℕ → FaultKind → Type 0
   FitsBound wide ts left Limit = LimitGoesOn wide ts left

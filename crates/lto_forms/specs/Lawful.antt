@@ -35,14 +35,6 @@ SameRefusal {A} (Err Syntax) m = (k : FaultKind) × (m ≡ Err k)
 SameRefusal {A} (Err Profile) m = (k : FaultKind) × (m ≡ Err k)
 SameRefusal {A} (Err Limit) m = Unit {0}
 
--- the first is past a limit, or they are one
-abbrev pub Agreed : {T A : Type 0} → Result (A × List T) Fault → Result (A × List T) Fault → Type 0
-Agreed r free = (r ≡ free) ⊎ ((left : ℕ) × (r ≡ Err (record { left = left; kind = Limit })))
-
--- a reader with limits, and one without, which reads the same up to them
-abbrev pub Agrees : {T A : Type 0} → Reader T A → Reader T A → Type 0
-Agrees {T} f free = (ts : List T) → Agreed (f ts) (free ts)
-
 -- a range or a limit ends a reading that goes on without them
 abbrev pub IsBound : FaultKind → Type 0
 IsBound Number = Unit {0}

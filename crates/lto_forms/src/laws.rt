@@ -7,7 +7,7 @@
 ghost use Rattle.std.specs.Prelude.{◌≡◌, ℕ, List, [], ◌∷◌, Result, Ok, Err, true, false};
 ghost use Rattle.lto_forms.specs.declared.fault.Fault.{Fault};
 ghost use Rattle.lto_forms.specs.declared.fault.FaultKind.TheVariants.{Syntax, Number, Limit};
-ghost use Rattle.lto_forms.specs.Faults.{StopsAt, FitsKind, FitsLimit};
+ghost use Rattle.lto_forms.specs.Faults.{StopsAt, FitsBound, FitsKind};
 ghost use Rattle.lto_forms.specs.Balanced.{Closing, closing_at, none_open};
 ghost use Rattle.lto_forms.specs.Groups.{opens, closes, plain, marks, numbered};
 ghost use Rattle.lto_forms.specs.Lawful.{Lawful};
@@ -27,12 +27,13 @@ pub fn listing_is_read()
 
 /// A fault stands at the first token at which no reading goes on, which is one place. It is a number
 /// out of range only where another number goes on there, and where one does it is that or a limit; it
-/// is a limit exactly where a reading without the limit goes on.
+/// is a limit only where a reading without the limit goes on, and where one does it is that or a number
+/// out of range.
 pub fn listing_faults()
     ensures stops { (most room : ℕ) (ts : List Sign) (e : Fault) → list_of most room ts ≡ Err e → StopsAt signs (listing most room) ts e.left }
     ensures place { (most room : ℕ) (ts : List Sign) (n m : ℕ) → StopsAt signs (listing most room) ts n → StopsAt signs (listing most room) ts m → n ≡ m }
     ensures kind { (most room : ℕ) (ts : List Sign) (e : Fault) → list_of most room ts ≡ Err e → FitsKind signs (listing most room) ts e.left e.kind }
-    ensures limit { (most room : ℕ) (ts : List Sign) (e : Fault) → list_of most room ts ≡ Err e → FitsLimit signs (any_listing most) ts e.left e.kind }
+    ensures limit { (most room : ℕ) (ts : List Sign) (e : Fault) → list_of most room ts ≡ Err e → FitsBound signs (any_listing most) ts e.left e.kind }
 {}
 
 /// The reader of balanced groups is tied to their form, whichever brackets are open: a closing

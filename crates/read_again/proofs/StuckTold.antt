@@ -1,6 +1,6 @@
 -- Where the grammar stops, the kind of the fault fits the token at which it does.
 use Rattle.std.proofs.Common.{◌≡◌, ℕ, Bool, true, false, true≢false, cond, ◌||◌, List, [], ◌∷◌, ◌++◌, length, Result, Ok, Err, refl, sym, ap, subst, ◌∙◌, inl, inr, append_assoc}
-use Rattle.ir_items.specs.Modules.{module_of, whole_module}
+use Rattle.ir_items.specs.Modules.{any_module, module_of, whole_module}
 use Rattle.ir_lex.specs.declared.head.Head.TheVariants as heads
 use Rattle.ir_lex.specs.Heads.{number}
 use Rattle.ir_lex.specs.Tok.{Tok}
@@ -12,7 +12,7 @@ use Rattle.ir_read.specs.Classes.{tokens}
 use Rattle.ir_read.specs.Targets.{STRING}
 use Rattle.ir_read.specs.declared.raw.Item.{Item}
 use Rattle.lto_forms.specs.Alphabet.{among, contains}
-use Rattle.lto_forms.specs.Faults.{Extends, FitsKind, NoNumberGoesOn, StopsAt}
+use Rattle.lto_forms.specs.Faults.{Extends, FitsBound, FitsKind, NoNumberGoesOn, NoneGoesOn, StopsAt}
 use Rattle.lto_forms.specs.declared.fault.Fault.{Fault}
 use Rattle.lto_forms.specs.declared.fault.FaultKind.{FaultKind}
 use Rattle.lto_forms.specs.declared.fault.FaultKind.TheVariants.{Syntax, Profile, Number, Limit}
@@ -21,7 +21,7 @@ use Rattle.lto_forms.proofs.Places.{one_place}
 use Rattle.lto_forms.proofs.Rules.{apart_from}
 use Rattle.read_again.specs.Refusals.{BeginsVector, FitsToken, REFUSED_EVERYWHERE, StuckFits}
 use Rattle.read_again.proofs.Told.{Allowed, AllowedAt, MAY, never_class}
-use Rattle.read_again.proofs.ToldModules.{IfLimit, module_kind, module_limit, module_sound, module_stops, module_told}
+use Rattle.read_again.proofs.ToldModules.{module_kind, module_limit, module_sound, module_stops, module_told}
 
 behind_first : (a b : Bool) → a || false ≡ false → a || b ≡ true → b ≡ true
 behind_first true b e h = absurd (cc e)
@@ -41,44 +41,48 @@ module _ (front : List Tok) (t : Tok) (rest : List Tok) where
   unranged : (kind : told_kind.FaultKind) → NoNumberGoesOn tokens whole_module ts left → (kind ≡ kinds.Number → ⊥) → (kind ≡ kinds.Limit → ⊥) → NoNumberGoesOn tokens whole_module ts left
   unranged kind n a b = n
 
-  left_out : (b : Bool) → among tokens STRING t ≡ b → contains MAY (tokens.class t) ≡ true → NoNumberGoesOn tokens whole_module ts left → FitsToken front t rest (cond b kinds.Layout (kinds.Profile t.text))
-  left_out true e may n = record {
+  left_out : (b : Bool) → among tokens STRING t ≡ b → contains MAY (tokens.class t) ≡ true → NoNumberGoesOn tokens whole_module ts left → NoneGoesOn tokens any_module ts left → FitsToken front t rest (cond b kinds.Layout (kinds.Profile t.text))
+  left_out true e may n l = record {
     everywhere = λ h. absurd (apart_from STRING REFUSED_EVERYWHERE refl (tokens.class t) e h);
     only = λ word h. absurd (cc h);
     layout = λ h. e;
     range = λ h. absurd (cc h);
     no_range = λ a b. n;
     limit = λ h. absurd (cc h);
+    no_limit = λ p q. l;
   }
-  left_out false e may n = record {
+  left_out false e may n l = record {
     everywhere = λ h. refl;
     only = λ word h. (cc h, inl (behind_first _ _ e may));
     layout = λ h. absurd (cc h);
     range = λ h. absurd (cc h);
     no_range = λ a b. n;
     limit = λ h. absurd (cc h);
+    no_limit = λ p q. l;
   }
 
   -- a number directly behind `<`
-  vector : BeginsVector front t → (b : Bool) → among tokens STRING t ≡ b → NoNumberGoesOn tokens whole_module ts left → FitsToken front t rest (cond b kinds.Layout (kinds.Profile t.text))
-  vector v true e n = record {
+  vector : BeginsVector front t → (b : Bool) → among tokens STRING t ≡ b → NoNumberGoesOn tokens whole_module ts left → NoneGoesOn tokens any_module ts left → FitsToken front t rest (cond b kinds.Layout (kinds.Profile t.text))
+  vector v true e n l = record {
     everywhere = λ h. absurd (apart_from STRING REFUSED_EVERYWHERE refl (tokens.class t) e h);
     only = λ word h. absurd (cc h);
     layout = λ h. e;
     range = λ h. absurd (cc h);
     no_range = λ a b. n;
     limit = λ h. absurd (cc h);
+    no_limit = λ p q. l;
   }
-  vector v false e n = record {
+  vector v false e n l = record {
     everywhere = λ h. refl;
     only = λ word h. (cc h, inr v);
     layout = λ h. absurd (cc h);
     range = λ h. absurd (cc h);
     no_range = λ a b. n;
     limit = λ h. absurd (cc h);
+    no_limit = λ p q. l;
   }
 
-  by_kind : (k : FaultKind) → Allowed (tokens.class t) k → FitsKind tokens whole_module ts left k → IfLimit ts left k → FitsToken front t rest (grammar_fault t k)
+  by_kind : (k : FaultKind) → Allowed (tokens.class t) k → FitsKind tokens whole_module ts left k → FitsBound tokens any_module ts left k → FitsToken front t rest (grammar_fault t k)
   by_kind Syntax a n l = record {
     everywhere = not_everywhere a kinds.Syntax;
     only = λ word h. absurd (cc h);
@@ -86,6 +90,7 @@ module _ (front : List Tok) (t : Tok) (rest : List Tok) where
     range = λ h. absurd (cc h);
     no_range = λ p q. n;
     limit = λ h. absurd (cc h);
+    no_limit = λ p q. l;
   }
   by_kind Number a n l = record {
     everywhere = not_everywhere a kinds.Number;
@@ -94,6 +99,7 @@ module _ (front : List Tok) (t : Tok) (rest : List Tok) where
     range = λ h. n;
     no_range = λ p q. absurd (p refl);
     limit = λ h. absurd (cc h);
+    no_limit = λ p q. absurd (p refl);
   }
   by_kind Limit a n l = record {
     everywhere = not_everywhere a kinds.Limit;
@@ -102,19 +108,20 @@ module _ (front : List Tok) (t : Tok) (rest : List Tok) where
     range = λ h. absurd (cc h);
     no_range = λ p q. absurd (q refl);
     limit = λ h. l;
+    no_limit = λ p q. absurd (q refl);
   }
-  by_kind Profile a n l = left_out (among tokens STRING t) refl a n
+  by_kind Profile a n l = left_out (among tokens STRING t) refl a n l
 
   -- a number is refused nowhere else
   no_word : BeginsVector front t → contains REFUSED_EVERYWHERE (tokens.class t) ≡ false
   no_word v = never_class (number heads.Number) refl (number t.head) v.0
 
-  by_place : (k : FaultKind) → AllowedAt front (t ∷ rest) k → FitsKind tokens whole_module ts left k → IfLimit ts left k → FitsToken front t rest (grammar_fault t k)
+  by_place : (k : FaultKind) → AllowedAt front (t ∷ rest) k → FitsKind tokens whole_module ts left k → FitsBound tokens any_module ts left k → FitsToken front t rest (grammar_fault t k)
   by_place k (inl a) n l = by_kind k a n l
   by_place Syntax (inr v) n l = by_kind Syntax (no_word v) n l
   by_place Number (inr v) n l = by_kind Number (no_word v) n l
   by_place Limit (inr v) n l = by_kind Limit (no_word v) n l
-  by_place Profile (inr v) n l = vector v (among tokens STRING t) refl n
+  by_place Profile (inr v) n l = vector v (among tokens STRING t) refl n l
 
   module _ (before : StopsAt tokens whole_module ts left) (stuck : Extends whole_module (front ++ t ∷ []) → ⊥) where
     by_fault : (f : Fault) → module_of ts ≡ Err f → FitsToken front t rest (grammar_fault t f.kind)
@@ -124,7 +131,7 @@ module _ (front : List Tok) (t : Tok) (rest : List Tok) where
         let same = cut_is front (t ∷ rest) m.0 m.1 m.2 (sym (m.3 ∙ here)) in
         by_place f.kind (subst (λ (z : List Tok × List Tok). AllowedAt z.0 z.1 f.kind) (λ i. (sym same.0 i, sym same.1 i)) m.4)
         (subst (λ (n : ℕ). FitsKind tokens whole_module ts n f.kind) here (module_kind ts f e))
-        (subst (λ (n : ℕ). IfLimit ts n f.kind) here (module_limit ts f e))
+        (subst (λ (n : ℕ). FitsBound tokens any_module ts n f.kind) here (module_limit ts f e))
 
     by_result : (r : Result (List Item) Fault) → module_of ts ≡ r → FitsToken front t rest (kind_told t r)
     by_result (Ok is) e = absurd (stuck (rest, is, subst (λ (us : List Tok). whole_module us is) (sym (append_assoc front (t ∷ []) rest)) (module_sound ts is e)))

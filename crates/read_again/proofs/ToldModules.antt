@@ -3,13 +3,14 @@ use Rattle.std.proofs.Common.{◌≡◌, ℕ, true, List, [], ◌∷◌, ◌++�
 use Rattle.ir_lex.specs.Heads.{number}
 use Rattle.ir_lex.specs.Tok.{Tok}
 use Rattle.lto_forms.specs.Alphabet.{among}
-use Rattle.lto_forms.specs.Faults.{FitsKind, LimitGoesOn, StopsAt}
+use Rattle.lto_forms.specs.Faults.{FitsBound, FitsKind, StopsAt}
 use Rattle.lto_forms.specs.Lawful.{Lawful}
 use Rattle.lto_forms.specs.Readers.{Reader, ended, whole_of}
 use Rattle.lto_forms.specs.declared.fault.Fault.{Fault}
 use Rattle.lto_forms.specs.declared.fault.FaultKind.{FaultKind}
 use Rattle.lto_forms.specs.declared.fault.FaultKind.TheVariants.{Syntax, Profile, Number, Limit}
 use Rattle.lto_forms.proofs.Composed.{wrong, wrong_is}
+use Rattle.lto_forms.proofs.Bounds.{whole_bound}
 use Rattle.lto_forms.proofs.Whole as whole
 use Rattle.ir_read.specs.Classes.{tokens}
 use Rattle.ir_read.specs.declared.raw.Item.{Item}
@@ -45,10 +46,6 @@ pub module_kind : (ts : List Tok) (f : Fault) → module_of ts ≡ Err f → Fit
 unfolding module_of
 module_kind ts f e = whole.whole_kind tokens whole_module any_module reader (among tokens ITEM) (among tokens ANY) true item_refusal not_number module_law ts f e
 
-abbrev pub IfLimit : List Tok → ℕ → FaultKind → Type 0
-IfLimit ts left Limit = LimitGoesOn tokens any_module ts left
-IfLimit ts left k = Unit {0}
-
 -- the kind of a fault, and where it stands
 abbrev pub Told : List Tok → Fault → Type 0
 Told ts f = (front : List Tok) × (rest : List Tok) × (ts ≡ front ++ rest) × (length rest ≡ f.left) × AllowedAt front rest f.kind
@@ -65,26 +62,6 @@ module_told ts f e = by_result (reader ts) ((items_told FURTHER_PARAMETERS GLOBA
     by_result (Ok x) (front, w) d = by_end front x.1 x.0 w d
     by_result (Err g) told d = subst (Told ts) (wrong_is g f d) told
 
-pub module_limit : (ts : List Tok) (f : Fault) → module_of ts ≡ Err f → IfLimit ts f.left f.kind
+pub module_limit : (ts : List Tok) (f : Fault) → module_of ts ≡ Err f → FitsBound tokens any_module ts f.left f.kind
 unfolding module_of
-module_limit ts f h = by_result (reader ts) refl h
-  where
-    no_limit : (left : ℕ) (k : FaultKind) → (k ≡ Limit → ⊥) → IfLimit ts left k
-    no_limit left Limit n = absurd (n refl)
-    no_limit left Syntax n = tt
-    no_limit left Profile n = tt
-    no_limit left Number n = tt
-
-    by_end : (is : List Item) (rest : List Tok) → ended item_refusal is rest ≡ wrong {X = List Item} f → IfLimit ts f.left f.kind
-    by_end is [] e = absurd (cc e)
-    by_end is (t ∷ rest) e = subst (λ (x : Fault). IfLimit ts x.left x.kind) (wrong_is (record { left = length (t ∷ rest); kind = item_refusal t }) f e) (no_limit (length (t ∷ rest)) (item_refusal t) (not_limit t))
-
-    by_kind : (k : FaultKind) → f.kind ≡ k → reader ts ≡ wrong f → IfLimit ts f.left k
-    by_kind Limit e d = module_law.limit ts f.left (d ∙ ap (λ (k : FaultKind). wrong (record { left = f.left; kind = k })) e)
-    by_kind Syntax e d = tt
-    by_kind Profile e d = tt
-    by_kind Number e d = tt
-
-    by_result : (r : Result (List Item × List Tok) Fault) → reader ts ≡ r → whole_of item_refusal r ≡ wrong {X = List Item} f → IfLimit ts f.left f.kind
-    by_result (Ok x) d e = by_end x.0 x.1 e
-    by_result (Err g) d e = by_kind f.kind refl (d ∙ ap (λ (x : Fault). wrong x) (wrong_is g f e))
+module_limit ts f h = whole_bound tokens whole_module any_module reader (among tokens ITEM) (among tokens ANY) true item_refusal not_number not_limit module_law ts f h

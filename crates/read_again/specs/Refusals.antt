@@ -11,7 +11,7 @@ use Rattle.ir_read.specs.Classes.{tokens}
 use Rattle.ir_read.specs.ShapeForms.{OPEN_ANGLE}
 use Rattle.ir_read.specs.Targets.{STRING}
 use Rattle.lto_forms.specs.Alphabet.{among}
-use Rattle.lto_forms.specs.Faults.{LimitGoesOn, NoNumberGoesOn, NumberGoesOn}
+use Rattle.lto_forms.specs.Faults.{LimitGoesOn, NoNumberGoesOn, NoneGoesOn, NumberGoesOn}
 
 -- refused wherever no reading goes on with them: words that are left out, integers of no bits or of more than 64, names that LLVM keeps
 -- for itself, `...`, `^` and a `#` before a word
@@ -37,7 +37,8 @@ BeginsVector before t = (nat_eq (number t.head) (number heads.Number) ≡ true) 
 
 -- Of what is refused everywhere it is told that it is left out, and of nothing else but what is refused somewhere and a number behind
 -- `<`. A layout that isn't supported is a string. A number is out of range only where another one goes on in its place, and where one
--- does, that or a passed limit is told; and a limit is passed only where a reading without the limits goes on.
+-- does, that or a passed limit is told; and a limit is passed only where a reading without the limits goes on: where one does, that or a
+-- number out of range is told.
 pub record FitsToken (front : List Tok) (t : Tok) (rest : List Tok) (kind : FaultKind) : Type 0 where
   pub everywhere : among tokens REFUSED_EVERYWHERE t ≡ true → kind ≡ kinds.Profile t.text
   pub only : (word : List ℕ) → kind ≡ kinds.Profile word → (word ≡ t.text) × ((among tokens (REFUSED_EVERYWHERE ++ REFUSED_SOMEWHERE) t ≡ true) ⊎ BeginsVector front t)
@@ -45,6 +46,7 @@ pub record FitsToken (front : List Tok) (t : Tok) (rest : List Tok) (kind : Faul
   pub range : kind ≡ kinds.Number → NumberGoesOn tokens whole_module (front ++ t ∷ rest) (length (t ∷ rest))
   pub no_range : (kind ≡ kinds.Number → ⊥) → (kind ≡ kinds.Limit → ⊥) → NoNumberGoesOn tokens whole_module (front ++ t ∷ rest) (length (t ∷ rest))
   pub limit : kind ≡ kinds.Limit → LimitGoesOn tokens any_module (front ++ t ∷ rest) (length (t ∷ rest))
+  pub no_limit : (kind ≡ kinds.Number → ⊥) → (kind ≡ kinds.Limit → ⊥) → NoneGoesOn tokens any_module (front ++ t ∷ rest) (length (t ∷ rest))
 
 -- so of each token at which the grammar stops
 abbrev pub StuckFits : Type 0
