@@ -6,6 +6,7 @@ use Rattle.ir_lex.specs.declared.head.Head.TheVariants as heads
 use Rattle.ir_lex.specs.Heads.{number, head_of, word_head, listed_head, words_7}
 use Rattle.ir_lex.specs.Lexing.{is_bad}
 use Rattle.ir_lex.specs.Quotes.{is_zero_name}
+use Rattle.ir_lex.specs.Tok.{Tok}
 use Rattle.ir_lex.specs.Rows.{best_fit, rest_fit, label_len, number_len, word_len, name_len, meta_len, dots_len, other_len, string_len}
 use Rattle.lto_forms.specs.Alphabet.{among, contains}
 use Rattle.lto_forms.specs.Chained.{Chain, chain_at}
@@ -26,6 +27,7 @@ use Rattle.ir_globals.proofs.VariableRules.{variable_line_rule, variable_line_op
 use Rattle.ir_read.specs.AttributesAt.{HEAD}
 use Rattle.ir_read.specs.Classes.{tokens, IsReal, the, the_at}
 use Rattle.ir_read.specs.declared.function_heads.Role.TheVariants as roles
+use Rattle.ir_read.specs.declared.raw.Item.{Item}
 use Rattle.ir_read.specs.declared.places.Before.{Before}
 use Rattle.ir_read.specs.declared.places.Before.TheVariants as befores
 use Rattle.ir_read.specs.declared.places.Position.{Position}
@@ -166,6 +168,10 @@ any_piece_opens : (before : Before) (names : ℕ) → Opens tokens NAMING (any_p
 unfolding any_piece form.either
 any_piece_opens before names t h = let o = any_named_opens names t h in (o.0, o.1, inl o.2, o.3)
 
+otherwise : (before : Before) (ts : List Tok) (a : Option Item × Position) → other any_shape before 0 ts a → any_piece before 0 ts a
+unfolding any_piece form.either
+otherwise before ts a s = inr s
+
 full_rule : (room : ℕ) (before : Before) → disjoint (META ++ plain_beginnings before) NAMING ≡ true → Rule tokens (piece room before 0) (any_piece before 0) (piece_at room before 0) (NAMING ++ (META ++ plain_beginnings before)) MORE false
 unfolding piece_at
 full_rule room before d = record {
@@ -175,10 +181,6 @@ full_rule room before d = record {
       (λ t e. contains-append NAMING (META ++ plain_beginnings before) (number t.head) (or_parts (among tokens (META ++ plain_beginnings before) t) (among tokens NAMING t) e)) (λ t e. e);
 }
   where
-    otherwise : (before : Before) (ts : List Tok) (a : Option Item × Position) → other any_shape before 0 ts a → any_piece before 0 ts a
-    unfolding any_piece form.either
-    otherwise before ts a s = inr s
-
     or_parts : (a b : Bool) → a || b ≡ true → (b ≡ true) ⊎ (a ≡ true)
     or_parts true b h = inr refl
     or_parts false b h = inl h
