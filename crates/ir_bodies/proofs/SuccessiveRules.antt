@@ -7,7 +7,7 @@ use Rattle.lto_forms.specs.Forms as form
 use Rattle.lto_forms.specs.Forms.{Form}
 use Rattle.lto_forms.specs.Lawful.{Lawful}
 use Rattle.lto_forms.specs.Readers.{Reader, ◌>>=◌, done}
-use Rattle.lto_forms.proofs.Composed.{Begun, append_is_nil, cons_is, gives_lawful, both_lawful, pick_lawful, barred_lawful, same_form, widened}
+use Rattle.lto_forms.proofs.Composed.{Begun, append_is_nil, cons_is, cons_not_nil, gives_lawful, both_lawful, pick_lawful, barred_lawful, same_form, widened}
 use Rattle.ir_bodies.specs.Successive.{Successive, successive_at}
 
 never : false ≡ true → ⊥
@@ -44,20 +44,42 @@ module _ {T S A : Type 0} (alphabet : Alphabet T) (final : S → Bool) (always :
       let o = opens s t e in
       (o.0, o.1.0 ∷ [], (t ∷ o.0, [], o.1.1, sym (append-nil (t ∷ o.0)), o.2, (always o.1.1, refl)), o.3)
 
-  none_or_begun : (s : S) (ts : List T) (as' : List A) → Chain final wide s ts as' → form.gives [] ts as' ⊎ Begun begins ts
-  none_or_begun s ts [] c = inl (c.1, refl)
-  none_or_begun s [] (a ∷ as') (p, q, next, e, d, c) = absurd (never ((laws s).broad.nothing (a, next) (subst (λ (y : List T). wide s y (a, next)) (append_is_nil p q (sym e)).0 d)))
-  none_or_begun s (t ∷ ts) (a ∷ as') (p, q, next, e, d, c) = inr (within t (by_front p e d))
+  chain_starts : (s : S) (t : T) (ts : List T) (as' : List A) → Chain final wide s (t ∷ ts) as' → first t ≡ true
+  chain_starts s t ts [] c = absurd (cons_not_nil t ts c.1)
+  chain_starts s t ts (a ∷ as') (p, q, next, e, d, c) = by_front p e d
     where
       by_front : (p : List T) → t ∷ ts ≡ p ++ q → wide s p (a, next) → first t ≡ true
       by_front [] e d = absurd (never ((laws s).broad.nothing (a, next) d))
       by_front (u ∷ p) e d = ap first (cons_is t u ts (p ++ q) e).0 ∙ (laws s).broad.starts u p (a, next) d
 
+  none_or_begun : (s : S) (ts : List T) (as' : List A) → Chain final wide s ts as' → form.gives [] ts as' ⊎ Begun begins ts
+  none_or_begun s ts [] c = inl (c.1, refl)
+  none_or_begun s [] (a ∷ as') (p, q, next, e, d, c) = absurd (never ((laws s).broad.nothing (a, next) (subst (λ (y : List T). wide s y (a, next)) (append_is_nil p q (sym e)).0 d)))
+  none_or_begun s (t ∷ ts) (a ∷ as') c = inr (within t (chain_starts s t ts (a ∷ as') c))
+
+  none_starts : (s : S) (t : T) (ts : List T) (as' : List A) → Successive piece zero s (t ∷ ts) as' → first t ≡ true
+  none_starts s t ts [] e = absurd (cons_not_nil t ts e)
+  none_starts s t ts (a ∷ as') e = absurd e
+
   none_lawful : (s : S) → Lawful alphabet (Successive piece zero s) (Chain final wide s) (successive_at begins one zero s) first after true
   none_lawful s =
-      widened alphabet first after
-      (barred_lawful alphabet (Successive piece zero s) (form.gives []) (Chain final wide s) (done []) begins (λ _. false) (λ _. false) true (same_form alphabet (gives_lawful alphabet []) (none_there s) (none_back s) (λ ts as' n. n) (λ ts as' n. n)) (none_over s) (none_or_begun s) (λ t u n m. inl (alike t u n m)) (λ t e. absurd (never e)) (chain_opens s))
-      (λ t e. absurd (never e)) (λ t e. or_right (more t) (begins t) e)
+      let b = barred_lawful alphabet (Successive piece zero s) (form.gives []) (Chain final wide s) (done []) begins (λ _. false) (λ _. false) true (same_form alphabet (gives_lawful alphabet []) (none_there s) (none_back s) (λ ts as' n. n) (λ ts as' n. n)) (none_over s) (none_or_begun s)
+      (λ t u n m. inl (alike t u n m)) (λ t e. absurd (never e)) (chain_opens s) in
+      let w = widened alphabet (λ t. false || begins t) after b (λ t e. e) (λ t e. or_right (more t) (begins t) e) in
+      record {
+        sound = w.sound;
+        complete = w.complete;
+        starts = none_starts s;
+        nothing = w.nothing;
+        some = w.some;
+        viable = w.viable;
+        local = w.local;
+        number = w.number;
+        swap = w.swap;
+        contains = w.contains;
+        limit = w.limit;
+        broad = record { starts = chain_starts s; nothing = w.broad.nothing; reads = w.broad.reads };
+      }
 
   -- ---- where some may stand
 
