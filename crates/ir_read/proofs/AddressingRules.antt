@@ -21,6 +21,7 @@ use Rattle.ir_read.specs.Addressing.{slots_fit, any_slots, fitting, fitting_coun
 use Rattle.ir_read.specs.AddressingAt.{passes, too_many, count_means, begins, count_in_at, many_slots_at, one_slot_at, slots_behind_at, reserving_at, indexing_at, attaching_at, behind_comma_at, further_at, indices_at, addressing_at}
 use Rattle.ir_read.specs.Classes.{tokens, refusal, NUMERALS}
 use Rattle.ir_read.specs.Literals.{literal}
+use Rattle.ir_read.specs.InstructionsAt.{ALIGNED}
 use Rattle.ir_read.specs.Metadata.{META}
 use Rattle.ir_read.specs.MetadataAt.{COMMA, PAREN}
 use Rattle.ir_read.specs.Operands.{INTEGER, REG, SCALAR}
@@ -184,16 +185,13 @@ module _ (fits : ℕ → Bool) (some : fits 1 ≡ true) where
   unfolding many_slots many_slots_at
   many_slots_rule = rules.broader tokens INTEGER AFTER (rules.seq tokens integer_rule (λ w. rules.seq tokens (count_in_rule w) (λ n. rules.seq tokens alignment_rest_rule (λ a. rules.nothing tokens _) refl) refl) refl) refl refl
 
-abbrev ALIGNED : List ℕ
-ALIGNED = number heads.Align ∷ number heads.Meta ∷ number heads.Bang ∷ []
-
 one_slot_rule : Rule tokens one_slot one_slot one_slot_at ALIGNED AFTER false
 unfolding one_slot one_slot_at
 one_slot_rule = rules.seq tokens aligned_rule (λ a. rules.nothing tokens _) refl
 
 slots_behind_rule : (s : Written) → Rule tokens (slots_behind (slots_fit s)) (slots_behind (any_slots s)) (slots_behind_at (slots_fit s)) COMMA AFTER true
 unfolding slots_behind slots_behind_at
-slots_behind_rule s = rules.broader tokens COMMA AFTER (rules.alt tokens COMMA (rules.seq tokens comma_rule (λ _. rules.alt tokens INTEGER (many_slots_rule (slots_fit s) refl) one_slot_rule refl refl) refl) (rules.nothing tokens _) refl refl) refl refl
+slots_behind_rule s = rules.broader tokens COMMA AFTER (rules.alt tokens COMMA (rules.seq tokens comma_rule (λ _. rules.alt tokens ALIGNED one_slot_rule (many_slots_rule (slots_fit s) refl) refl refl) refl) (rules.nothing tokens _) refl refl) refl refl
 
 pub reserving_rule : Rule tokens (reserving slots_fit memory_shape) (reserving any_slots any_shape) reserving_at SHAPE AFTER false
 unfolding reserving reserving_at

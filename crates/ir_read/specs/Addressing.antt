@@ -69,7 +69,7 @@ unfoldable pub slots_behind : (ℕ → Bool) → Form Tok Slots
 slots_behind fits = either
     (do
       _ ← the heads.Comma
-      either (many_slots fits) one_slot)
+      either one_slot (many_slots fits))
     (gives (slots 1 None))
 
 -- shape [, iN Number] [, align N] {att}, over which counts of a shape fit

@@ -17,10 +17,9 @@ use Rattle.ir_read.specs.declared.raw.Instr.TheVariants as instrs
 use Rattle.ir_read.specs.declared.raw.Operand.{Operand}
 use Rattle.ir_read.specs.declared.shape.Typed.{Typed}
 use Rattle.ir_read.specs.Addressing.{slots, slots_fit, is_count, keep}
-use Rattle.ir_read.specs.InstructionsAt.{aligned_at, align_at}
+use Rattle.ir_read.specs.InstructionsAt.{ALIGNED, aligned_at, align_at}
 use Rattle.ir_read.specs.Metadata.{META}
 use Rattle.ir_read.specs.MetadataAt.{COMMA, attached_at}
-use Rattle.ir_read.specs.Operands.{INTEGER}
 use Rattle.ir_read.specs.OperandsAt.{integer_at}
 use Rattle.ir_read.specs.Phis as phis
 use Rattle.ir_read.specs.ShapeForms.{NUMBER, count_of}
@@ -53,11 +52,15 @@ one_slot_at = do
   a ← aligned_at
   done (slots 1 a)
 
+-- behind the comma
+abbrev pub slots_at : (ℕ → Bool) → Reader Tok Slots
+slots_at fits = pick (among tokens ALIGNED) one_slot_at (many_slots_at fits)
+
 unfoldable pub slots_behind_at : (ℕ → Bool) → Reader Tok Slots
 slots_behind_at fits = pick (among tokens COMMA)
     (do
       _ ← the_at heads.Comma
-      pick (among tokens INTEGER) (many_slots_at fits) one_slot_at)
+      slots_at fits)
     (done (slots 1 None))
 
 unfoldable pub reserving_at : Reader Tok Instr

@@ -5,7 +5,7 @@ ghost use Rattle.ir_lex.specs.Tok.{tok};
 ghost use Rattle.lto_forms.specs.Alphabet.{among};
 ghost use Rattle.lto_forms.specs.Readers.{Gives};
 ghost use Rattle.ir_read.specs.Addressing.{keep, slots_fit};
-ghost use Rattle.ir_read.specs.AddressingAt.{addressing_at, behind_comma_at, count_in_at, count_means, further_at, indices_at, many_slots_at, one_slot_at, reserving_at, slots_behind_at, stepped_at, stepping_by_at};
+ghost use Rattle.ir_read.specs.AddressingAt.{addressing_at, behind_comma_at, count_in_at, count_means, further_at, indices_at, many_slots_at, one_slot_at, reserving_at, slots_at, slots_behind_at, stepped_at, stepping_by_at};
 ghost use Rattle.ir_read.specs.Classes.{tokens};
 ghost use Rattle.ir_read.specs.Extents.{all_nest_within, extent_of, nests_within};
 ghost use Rattle.ir_read.specs.Literals.{IsWidth};
@@ -149,6 +149,18 @@ fn one_slot_at(alloc: Global, tokens: &mut Tokens) -> Result<Slots, ReadError>
     Ok(Slots { count: 1, align })
 }
 
+/// Reads `iN Number [, align N]` or `align N`, and the attachments.
+fn slots_at(alloc: Global, shape: &Measured, tokens: &mut Tokens) -> Result<Slots, ReadError>
+    requires { shape.now.extent ≡ extent_of shape.now.typed.shape }
+    ensures { Gives (λ x. (x, tokens.new)) result (slots_at (slots_fit shape.now.typed.shape) tokens.old) }
+{
+    if tokens.comes_aligned() {
+        one_slot_at(alloc, tokens)
+    } else {
+        many_slots_at(alloc, shape, tokens)
+    }
+}
+
 /// Reads `[, iN Number] [, align N]` and the attachments.
 #[tactic(auto, unfolding(crate::specs::AddressingAt::slots_behind_at))]
 fn slots_behind_at(alloc: Global, shape: &Measured, tokens: &mut Tokens) -> Result<Slots, ReadError>
@@ -162,11 +174,7 @@ fn slots_behind_at(alloc: Global, shape: &Measured, tokens: &mut Tokens) -> Resu
         });
     }
     expect(Head::Comma, tokens)?;
-    if tokens.comes_integer() {
-        many_slots_at(alloc, shape, tokens)
-    } else {
-        one_slot_at(alloc, tokens)
-    }
+    slots_at(alloc, shape, tokens)
 }
 
 /// Reads what follows `alloca`.

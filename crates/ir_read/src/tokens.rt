@@ -7,8 +7,9 @@ ghost use Rattle.lto_forms.specs.Alphabet.{among};
 ghost use Rattle.lto_forms.specs.Readers.{next_is};
 ghost use Rattle.ir_read.specs.Classes.{tokens, NextHead};
 ghost use Rattle.ir_read.specs.Instructions.{WRAPS};
+ghost use Rattle.ir_read.specs.InstructionsAt.{ALIGNED};
 ghost use Rattle.ir_read.specs.Metadata.{META};
-ghost use Rattle.ir_read.specs.Operands.{INTEGER, REG};
+ghost use Rattle.ir_read.specs.Operands.{REG};
 ghost use Rattle.ir_read.specs.ShapeFormsAt.{BRACKETS};
 ghost use Rattle.ir_read.specs.Values.{STEPPING};
 
@@ -104,13 +105,13 @@ impl<'t, 'a> Tokens<'t, 'a> {
         }
     }
 
-    /// Whether the next token is the type of an integer.
-    pub fn comes_integer(&self) -> bool
-        ensures { result ≡ next_is (among tokens INTEGER) self.now }
+    /// Whether the next token is `align` or metadata.
+    pub fn comes_aligned(&self) -> bool
+        ensures { result ≡ next_is (among tokens ALIGNED) self.now }
     {
         match self.rest {
             [] => false,
-            [t, ..] => matches!(t.head, Head::MemoryInteger | Head::RegisterInteger),
+            [t, ..] => matches!(t.head, Head::Align | Head::Meta | Head::Bang),
         }
     }
 

@@ -11,10 +11,10 @@ use Rattle.ir_read.specs.declared.raw.Operand.{Operand}
 use Rattle.ir_read.specs.declared.shape.Typed.{Typed}
 use Rattle.ir_read.specs.Addressing.{slots_fit, is_count, fitting_count}
 use Rattle.read_again.proofs.ToldInstructions.{aligned_told, align_told}
+use Rattle.ir_read.specs.InstructionsAt.{ALIGNED}
 use Rattle.ir_read.specs.Metadata.{META}
 use Rattle.ir_read.specs.MetadataAt.{COMMA}
 use Rattle.read_again.proofs.ToldMetadata.{attached_told}
-use Rattle.ir_read.specs.Operands.{INTEGER}
 use Rattle.read_again.proofs.ToldOperands.{integer_told}
 use Rattle.ir_read.specs.Phis as phis
 use Rattle.ir_read.specs.ShapeForms.{NUMBER}
@@ -46,7 +46,7 @@ one_slot_told = seq aligned_told (λ a. nothing _)
 pub slots_behind_told : (fits : (ℕ → Bool)) → Tells (slots_behind_at fits)
 unfolding slots_behind_at
 slots_behind_told fits =
-    alt (among tokens COMMA) (seq (the_told heads.Comma) (λ _. alt (among tokens INTEGER) (many_slots_told fits) one_slot_told)) (nothing _)
+    alt (among tokens COMMA) (seq (the_told heads.Comma) (λ _. alt (among tokens ALIGNED) one_slot_told (many_slots_told fits))) (nothing _)
 
 pub reserving_told : Tells reserving_at
 unfolding reserving_at

@@ -39,7 +39,7 @@ use Rattle.reading_back.proofs.Words.{comma_read}
 
 slot_read : (fits : ℕ → Bool) (n : ℕ) → IsAlignment n → Reads (slots_behind fits) (λ s. (s.count ≡ 1) × (s.align ≡ Some n)) (printed.aligned n)
 unfolding slots_behind one_slot
-slot_read fits n a = left _ (then comma_read (λ b u. right _ (last (aligned_read n a) (λ m e. nothing (refl, e)))))
+slot_read fits n a = left _ (then comma_read (λ b u. left _ (last (aligned_read n a) (λ m e. nothing (refl, e)))))
 
 pub alloca_read : (f : Form) (n : ℕ) → Reads memory_shape (IsShape f) (shape space f) → IsAlignment n → Reads (reserving slots_fit memory_shape) (IsInstr (Alloca f n)) (shape space f ++ printed.aligned n)
 unfolding reserving

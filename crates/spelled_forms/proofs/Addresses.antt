@@ -30,7 +30,7 @@ one_written = follow aligned_written (λ a h. nothing h)
 
 slots_written : (fits : ℕ → Bool) → Means (slots_behind fits) SlotsWritten
 unfolding slots_behind
-slots_written fits = either_means (skip _ (λ _. either_means (many_written fits) one_written)) (nothing tt)
+slots_written fits = either_means (skip _ (λ _. either_means one_written (many_written fits))) (nothing tt)
 
 pub reserving_written : (name : Option Tok) → Means (reserving slots_fit memory_shape) (Named name)
 unfolding reserving

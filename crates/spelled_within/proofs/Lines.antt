@@ -63,8 +63,8 @@ unfolding slots_behind many_slots one_slot
 slots_counted fits =
     either_means
     (skip _ (λ _.
-    either_means (follow {P = λ w. w ≤ 64} (among_means _ _ _ (λ t s c. width_narrow t)) (λ w le. follow {P = IsCount} (valued_means _ _ (λ t n s e. counted_fits (max 1 w) (wide_narrow w le) t.text n (fitting_is fits (count_of (max 1 w) t) n e))) (λ n c. skip _ (λ a. nothing c))))
-    (skip _ (λ a. nothing one_count))))
+    either_means (skip _ (λ a. nothing one_count))
+    (follow {P = λ w. w ≤ 64} (among_means _ _ _ (λ t s c. width_narrow t)) (λ w le. follow {P = IsCount} (valued_means _ _ (λ t n s e. counted_fits (max 1 w) (wide_narrow w le) t.text n (fitting_is fits (count_of (max 1 w) t) n e))) (λ n c. skip _ (λ a. nothing c))))))
     (nothing one_count)
 
 reserving_spelled : Means (reserving slots_fit memory_shape) InstrSpelled
