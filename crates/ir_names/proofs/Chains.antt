@@ -48,7 +48,7 @@ head_more (suc m) (suc n) types (named name) h le e = by_shape (shape_in types n
     by_shape (Err f) again d = absurd cc
 
 -- whatever the line
-any_line : (n : ℕ) (types : Types) (l line : ℕ) (o : Option Written) (h : Written) → chased n types l o ≡ Ok h → chased n types line o ≡ Ok h
+pub any_line : (n : ℕ) (types : Types) (l line : ℕ) (o : Option Written) (h : Written) → chased n types l o ≡ Ok h → chased n types line o ≡ Ok h
 any_line n types l line None h e = absurd cc
 any_line n types l line (Some s) h e = e
 
@@ -57,7 +57,7 @@ chased_more m n types line None h le e = absurd cc
 chased_more m n types line (Some s) h le e = head_more m n types s h le e
 
 -- from a name to its definition
-through : (n : ℕ) (types : Types) (name : Tok) (o : Option Written) (h : Written) → entry_in types name ≡ Ok o → chased n types name.line o ≡ Ok h → head_from (suc n) types (named name) ≡ Ok h
+pub through : (n : ℕ) (types : Types) (name : Tok) (o : Option Written) (h : Written) → entry_in types name ≡ Ok o → chased n types name.line o ≡ Ok h → head_from (suc n) types (named name) ≡ Ok h
 through n types name o h e d = ap (λ (r : Result (Option Written) Fault). (r >>= λ entry. or_unknown name.line entry) >>= λ s. head_from n types s) e ∙ d
 
 one_more : (types : Types) (name : Tok) (p : ℕ) (c : Chain) → entry_in types name ≡ Ok (shape_at types p) → IsChain types p c → head_from (c.names + 1) types (named name) ≡ Ok c.head.now

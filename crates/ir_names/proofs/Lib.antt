@@ -9,6 +9,4 @@ mod Powers
 mod Trimming
 mod Bodies
 mod Names
-mod Circles
-mod Searched
-mod Chains
+pub mod Chains

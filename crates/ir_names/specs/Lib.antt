@@ -11,7 +11,6 @@ pub mod Locals
 pub mod LocalsViews
 pub mod Marks
 pub mod Numbering
-pub mod Searching
 pub mod Settled
 pub mod Stages
 pub mod Symbols

@@ -1,5 +1,5 @@
 -- Walks over a graph that is given by rows: the row of a place has the places at the other ends of its edges.
-use Rattle.std.specs.Prelude.{◌≡◌, ℕ, zero, suc, Bool, false, ◌||◌, ◌⊎◌, nat_eq, List, [], ◌∷◌, ◌++◌, length, slice_index_or}
+use Rattle.std.specs.Prelude.{◌≡◌, ℕ, zero, suc, Bool, false, ◌||◌, ◌⊎◌, nat_eq, List, [], length, slice_index_or}
 use Rattle.std.specs.List.{list_any}
 
 abbrev pub Graph : Type 0
@@ -17,8 +17,3 @@ leads (suc n) graph to from = list_any (λ p. nat_eq p to || leads n graph to p)
 -- whether a walk leads from a place back to it. A walk that comes to no place twice has no more edges than there are places
 abbrev pub is_on_circle : Graph → ℕ → Bool
 is_on_circle graph p = leads (length graph) graph p p
-
--- the same of each place below a number
-abbrev pub circles_below : ℕ → Graph → List Bool
-circles_below zero graph = []
-circles_below (suc n) graph = circles_below n graph ++ is_on_circle graph n ∷ []

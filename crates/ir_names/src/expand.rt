@@ -23,7 +23,7 @@ const MOST: u64 = 0x8000_0000;
 const NESTING: u32 = 32;
 
 /// The fault of a limit that is passed on a line.
-fn limit(line: u32) -> ResolveError
+pub fn limit(line: u32) -> ResolveError
     ensures { result ≡ errors.Fault (limit line) }
 {
     ResolveError::Fault(Fault {

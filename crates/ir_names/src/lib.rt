@@ -3,14 +3,13 @@
 //! `Types`, `Globals` and `groups_of` keep the names of a module's items. `block_of` and `declaration_in`
 //! make the trees of blocks and declarations: locals and blocks numbered anew in the order of the text, type
 //! names expanded within the limits, constant addresses folded to a symbol and an offset, and alignments
-//! filled in. `circles_of` finds what holds itself in a graph.
+//! filled in.
 //!
 //! Below stand the tree of what is written (`ir_read`), tokens (`ir_lex`), the tree that is made
 //! (`ir_tree`) and `indexmap`, which keeps names in the order in which they are first seen. Each
 //! promise is one clause: a call gives what its definition in `specs/` says, the fault and its line
 //! among it, unless memory runs out. What a chain of type names leads to is found once for each name.
-//! Each pass is linear in the text and in what it makes, but that `circles_of` searches from each place
-//! that leads to a circle.
+//! Each pass is linear in the text and in what it makes.
 #![tactic(auto)]
 
 mod address;
@@ -19,7 +18,6 @@ mod expand;
 mod fault;
 mod function;
 mod globals;
-mod graph;
 mod groups;
 mod heads;
 mod instr;
@@ -35,11 +33,10 @@ mod types;
 
 pub use address::address_offset;
 pub use block::{Body, after, behind_lines, block_of, body_in};
-pub use expand::expanded;
+pub use expand::{expanded, limit};
 pub use fault::{Fault, FaultKind, ResolveError};
 pub use function::{declaration_in, params_in};
 pub use globals::{Globals, name_of};
-pub use graph::{Graph, circles_of};
 pub use groups::{Groups, groups_of, is_noinline, is_optnone};
 pub use heads::Types;
 pub use instr::{align_or, allocated, instr_in};
@@ -49,4 +46,4 @@ pub use numbering::locals_of;
 pub use operand::operand_in;
 pub use symbol::{symbol_name, symbol_of};
 pub use terminator::end_in;
-pub use types::TypeNames;
+pub use types::{TypeNames, unknown};

@@ -1,4 +1,3 @@
-pub mod Circles
 pub mod MarkCode
 pub mod MarkViews
 pub mod Reserved

@@ -7,8 +7,7 @@ ghost use Rattle.ir_names.specs.Stages as stages;
 ghost use Rattle.ir_stages.specs.MarkViews.{standing, marks};
 
 use crate::mark::{Mark, Marks};
-use crate::type_names::unknown;
-use ir_names::{Globals, NameSet, ResolveError, name_of};
+use ir_names::{Globals, NameSet, ResolveError, name_of, unknown};
 use ir_read::Name;
 use std::alloc::Global;
 

@@ -6,8 +6,9 @@ ghost use Rattle.ir_names.specs.Stages as stages;
 ghost use Rattle.ir_stages.specs.Reserved.{reserved};
 
 use crate::limits::{operand_within, shape_within};
-use ir_names::{ResolveError, Types, allocated};
+use ir_names::ResolveError;
 use ir_read::{Argument, Block, Incoming, Instr, Line, Operand, Terminator, Typed};
+use named_types::Sizes;
 use std::alloc::Global;
 
 #[tactic(auto, using(crate::proofs::Within::behind))]
@@ -15,7 +16,7 @@ fn both_within<'t, 'a>(
     left: &'t Operand<'a>,
     right: &'t Operand<'a>,
     alloc: Global,
-    types: &Types<'t, 'a>,
+    types: &Sizes<'_, 't, 'a>,
 ) -> Result<(), ResolveError>
     ensures { Settles (λ u. u) result (stages.marks_within types.now (marked.both left.now right.now)) }
 {
@@ -27,7 +28,7 @@ fn both_within<'t, 'a>(
 fn entries_within<'t, 'a>(
     incoming: &'t [Incoming<'a>],
     alloc: Global,
-    types: &Types<'t, 'a>,
+    types: &Sizes<'_, 't, 'a>,
 ) -> Result<(), ResolveError>
     ensures { Settles (λ u. u) result (stages.marks_within types.now (marked.all (λ i. marked.operand_marks i.value) incoming.now)) }
 {
@@ -41,7 +42,7 @@ fn entries_within<'t, 'a>(
 fn arguments_within<'t, 'a>(
     given: &'t [Argument<'a>],
     alloc: Global,
-    types: &Types<'t, 'a>,
+    types: &Sizes<'_, 't, 'a>,
 ) -> Result<(), ResolveError>
     ensures { Settles (λ u. u) result (stages.marks_within types.now (marked.all (λ a. marked.operand_marks a.operand) given.now)) }
 {
@@ -56,15 +57,12 @@ fn arguments_within<'t, 'a>(
 fn reserved_within<'t, 'a>(
     instr: &'t Instr<'a>,
     alloc: Global,
-    types: &Types<'t, 'a>,
+    types: &Sizes<'_, 't, 'a>,
 ) -> Result<(), ResolveError>
     ensures { Settles (λ u. u) result (stages.marks_within types.now (reserved instr.now)) }
 {
     match instr {
-        Instr::Alloca { typed, count, .. } => {
-            allocated(alloc, types, typed, *count)?;
-            Ok(())
-        }
+        Instr::Alloca { typed, count, .. } => { types.many_within(alloc, typed, *count) }
         _ => Ok(()),
     }
 }
@@ -75,7 +73,7 @@ fn choice_within<'t, 'a>(
     if_true: &'t Operand<'a>,
     if_false: &'t Operand<'a>,
     alloc: Global,
-    types: &Types<'t, 'a>,
+    types: &Sizes<'_, 't, 'a>,
 ) -> Result<(), ResolveError>
     ensures { Settles (λ u. u) result (stages.marks_within types.now (marked.operand_marks condition.now ++ marked.both if_true.now if_false.now)) }
 {
@@ -88,7 +86,7 @@ fn call_within<'t, 'a>(
     callee: &'t Operand<'a>,
     given: &'t [Argument<'a>],
     alloc: Global,
-    types: &Types<'t, 'a>,
+    types: &Sizes<'_, 't, 'a>,
 ) -> Result<(), ResolveError>
     ensures { Settles (λ u. u) result (stages.marks_within types.now (marked.operand_marks callee.now ++ marked.all (λ a. marked.operand_marks a.operand) given.now)) }
 {
@@ -103,7 +101,7 @@ fn stepping_within<'t, 'a>(
     base: &'t Operand<'a>,
     indices: &'t [Argument<'a>],
     alloc: Global,
-    types: &Types<'t, 'a>,
+    types: &Sizes<'_, 't, 'a>,
 ) -> Result<(), ResolveError>
     ensures { Settles (λ u. u) result (stages.marks_within types.now (marked.typed_marks typed.now ++ (marked.operand_marks base.now ++ marked.all (λ a. marked.operand_marks a.operand) indices.now))) }
 {
@@ -114,7 +112,7 @@ fn stepping_within<'t, 'a>(
 fn instr_within<'t, 'a>(
     instr: &'t Instr<'a>,
     alloc: Global,
-    types: &Types<'t, 'a>,
+    types: &Sizes<'_, 't, 'a>,
 ) -> Result<(), ResolveError>
     ensures { Settles (λ u. u) result (stages.marks_within types.now (marked.instr_marks instr.now)) }
 {
@@ -152,7 +150,7 @@ fn instr_within<'t, 'a>(
 fn lines_within<'t, 'a>(
     rows: &'t [Line<'a>],
     alloc: Global,
-    types: &Types<'t, 'a>,
+    types: &Sizes<'_, 't, 'a>,
 ) -> Result<(), ResolveError>
     ensures { Settles (λ u. u) result (stages.marks_within types.now (marked.all (λ l. marked.instr_marks l.instr) rows.now)) }
 {
@@ -165,7 +163,7 @@ fn lines_within<'t, 'a>(
 fn end_within<'t, 'a>(
     end: &'t Terminator<'a>,
     alloc: Global,
-    types: &Types<'t, 'a>,
+    types: &Sizes<'_, 't, 'a>,
 ) -> Result<(), ResolveError>
     ensures { Settles (λ u. u) result (stages.marks_within types.now (marked.end_marks end.now)) }
 {
@@ -181,7 +179,7 @@ fn end_within<'t, 'a>(
 fn block_within<'t, 'a>(
     block: &'t Block<'a>,
     alloc: Global,
-    types: &Types<'t, 'a>,
+    types: &Sizes<'_, 't, 'a>,
 ) -> Result<(), ResolveError>
     ensures { Settles (λ u. u) result (stages.marks_within types.now (marked.block_marks block.now)) }
 {
@@ -194,7 +192,7 @@ fn block_within<'t, 'a>(
 pub fn blocks_within<'t, 'a>(
     rows: &'t [Block<'a>],
     alloc: Global,
-    types: &Types<'t, 'a>,
+    types: &Sizes<'_, 't, 'a>,
 ) -> Result<(), ResolveError>
     ensures { Settles (λ u. u) result (stages.marks_within types.now (marked.all marked.block_marks rows.now)) }
 {

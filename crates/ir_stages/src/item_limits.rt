@@ -6,14 +6,16 @@ ghost use Rattle.ir_names.specs.Stages as stages;
 
 use crate::instruction_limits::blocks_within;
 use crate::limits::{operand_within, shape_within, typed_within};
+use crate::name_graph::graph_of;
 use ir_names::{ResolveError, Types};
 use ir_read::{Init, InitHead, InitPart, Item, Variable};
+use named_types::{Sizes, order_of};
 use std::alloc::Global;
 
 fn head_within<'t, 'a>(
     head: &'t InitHead<'a>,
     alloc: Global,
-    types: &Types<'t, 'a>,
+    types: &Sizes<'_, 't, 'a>,
 ) -> Result<(), ResolveError>
     ensures { Settles (λ u. u) result (stages.marks_within types.now (marked.head_marks head.now)) }
 {
@@ -27,7 +29,7 @@ fn head_within<'t, 'a>(
 fn part_within<'t, 'a>(
     part: &'t InitPart<'a>,
     alloc: Global,
-    types: &Types<'t, 'a>,
+    types: &Sizes<'_, 't, 'a>,
 ) -> Result<(), ResolveError>
     ensures { Settles (λ u. u) result (stages.marks_within types.now (marked.part_marks part.now)) }
 {
@@ -44,7 +46,7 @@ fn part_within<'t, 'a>(
 fn parts_within<'t, 'a>(
     parts: &'t [InitPart<'a>],
     alloc: Global,
-    types: &Types<'t, 'a>,
+    types: &Sizes<'_, 't, 'a>,
 ) -> Result<(), ResolveError>
     ensures { Settles (λ u. u) result (stages.marks_within types.now (marked.all marked.part_marks parts.now)) }
 {
@@ -58,7 +60,7 @@ fn parts_within<'t, 'a>(
 fn init_within<'t, 'a>(
     init: &'t Option<Init<'a>>,
     alloc: Global,
-    types: &Types<'t, 'a>,
+    types: &Sizes<'_, 't, 'a>,
 ) -> Result<(), ResolveError>
     ensures { Settles (λ u. u) result (stages.marks_within types.now (marked.init_marks init.now)) }
 {
@@ -75,7 +77,7 @@ fn init_within<'t, 'a>(
 fn variable_within<'t, 'a>(
     variable: &'t Variable<'a>,
     alloc: Global,
-    types: &Types<'t, 'a>,
+    types: &Sizes<'_, 't, 'a>,
 ) -> Result<(), ResolveError>
     ensures { Settles (λ u. u) result (stages.marks_within types.now (marked.variable_marks variable.now)) }
 {
@@ -86,7 +88,7 @@ fn variable_within<'t, 'a>(
 fn item_within<'t, 'a>(
     item: &'t Item<'a>,
     alloc: Global,
-    types: &Types<'t, 'a>,
+    types: &Sizes<'_, 't, 'a>,
 ) -> Result<(), ResolveError>
     ensures { Settles (λ u. u) result (stages.marks_within types.now (marked.item_marks item.now)) }
 {
@@ -98,13 +100,11 @@ fn item_within<'t, 'a>(
     }
 }
 
-/// Whether each shape of a module is within the limits as it is expanded, and each index of a constant
-/// address counts a part. A fault is at the first token in the order of the text.
 #[tactic(auto, using(crate::proofs::Within::behind))]
-pub fn shapes_within<'t, 'a>(
+fn items_within<'t, 'a>(
     items: &'t [Item<'a>],
     alloc: Global,
-    types: &Types<'t, 'a>,
+    types: &Sizes<'_, 't, 'a>,
 ) -> Result<(), ResolveError>
     ensures { Settles (λ u. u) result (stages.marks_within types.now (marked.marks_of items.now)) }
 {
@@ -112,4 +112,19 @@ pub fn shapes_within<'t, 'a>(
         item_within(item, alloc, types)?;
     }
     Ok(())
+}
+
+/// Whether each shape of a module is within the limits as it is expanded, and each index of a constant
+/// address counts a part. A fault is at the first token in the order of the text.
+pub fn shapes_within<'t, 'a>(
+    items: &'t [Item<'a>],
+    alloc: Global,
+    types: &Types<'t, 'a>,
+) -> Result<(), ResolveError>
+    ensures { Settles (λ u. u) result (stages.marks_within types.now (marked.marks_of items.now)) }
+{
+    let graph = graph_of(alloc, types.names())?;
+    let order = order_of(alloc, &graph)?;
+    let sizes = Sizes::of(alloc, types, &order)?;
+    items_within(items, alloc, &sizes)
 }

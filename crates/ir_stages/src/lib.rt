@@ -9,14 +9,13 @@
 //! Marks, type names and items are lent by whoever owns the items: of two lifetimes the first is that of
 //! the loan, and the second that of the text.
 //!
-//! Below stand the tree of what is written (`ir_read`), and the names, shapes and graphs of `ir_names`. Each
-//! promise is one clause: a stage gives what its definition in `ir_names` says, the fault and its line among
-//! it, unless memory runs out. Names are found by hash, so that each stage is linear in the items, but that
-//! a shape is expanded wherever it is written, and that a circle of type names is looked for from each name
-//! that leads to one.
+//! Below stand the tree of what is written (`ir_read`), the names and shapes of `ir_names`, and the graph and
+//! the sizes of type names (`named_types`). Each promise is one clause: a stage gives what its definition in
+//! `ir_names` says, the fault and its line among it, unless memory runs out. Names are found by hash and type
+//! names measured once, so that each stage is linear in the items, but for the shapes of constant addresses,
+//! which are expanded.
 #![tactic(auto)]
 
-mod circles;
 mod global_names;
 mod instruction_limits;
 mod instructions;
@@ -24,6 +23,7 @@ mod item_limits;
 mod items;
 mod limits;
 mod mark;
+mod name_graph;
 mod type_names;
 mod uses;
 

@@ -4,22 +4,23 @@ ghost use Rattle.ir_names.specs.Marks as marked;
 ghost use Rattle.ir_names.specs.Settled.{Settles};
 ghost use Rattle.ir_names.specs.Stages as stages;
 
-use ir_names::{ResolveError, Types, address_offset, expanded};
+use ir_names::{ResolveError, address_offset};
 use ir_read::{Level, Operand, Steps, Typed};
+use named_types::Sizes;
 use std::alloc::Global;
 
 /// The shapes of a constant address, whose outermost level is the last one and begins first.
 fn levels_within<'t, 'a>(
     levels: &'t [Level<'a>],
     alloc: Global,
-    types: &Types<'t, 'a>,
+    types: &Sizes<'_, 't, 'a>,
 ) -> Result<(), ResolveError>
     ensures { Settles (λ u. u) result (stages.levels_within types.now levels.now) }
 {
     let mut left = levels.len();
     'each: while left > 0 {
         left -= 1;
-        expanded(alloc, types, &levels[left].typed)?;
+        types.shape_within(alloc, &levels[left].typed)?;
     }
     Ok(())
 }
@@ -28,13 +29,13 @@ fn levels_within<'t, 'a>(
 fn address_within<'t, 'a>(
     steps: &'t Steps<'a>,
     alloc: Global,
-    types: &Types<'t, 'a>,
+    types: &Sizes<'_, 't, 'a>,
 ) -> Result<(), ResolveError>
     ensures { Settles (λ u. u) result (stages.address_within types.now steps.now) }
 {
     let levels = steps.levels.as_slice();
     levels_within(levels, alloc, types)?;
-    address_offset(alloc, types, levels)?;
+    address_offset(alloc, types.types(), levels)?;
     Ok(())
 }
 
@@ -43,7 +44,7 @@ fn address_within<'t, 'a>(
 pub fn operand_within<'t, 'a>(
     operand: &'t Operand<'a>,
     alloc: Global,
-    types: &Types<'t, 'a>,
+    types: &Sizes<'_, 't, 'a>,
 ) -> Result<(), ResolveError>
     ensures { Settles (λ u. u) result (stages.marks_within types.now (marked.operand_marks operand.now)) }
 {
@@ -58,24 +59,23 @@ pub fn operand_within<'t, 'a>(
 pub fn shape_within<'t, 'a>(
     typed: &'t Typed<'a>,
     alloc: Global,
-    types: &Types<'t, 'a>,
+    types: &Sizes<'_, 't, 'a>,
 ) -> Result<(), ResolveError>
     ensures { Settles (λ u. u) result (stages.marks_within types.now (marked.typed_marks typed.now)) }
 {
-    expanded(alloc, types, typed)?;
-    Ok(())
+    types.shape_within(alloc, typed)
 }
 
 /// The shape of a type name, where it isn't opaque.
 pub fn typed_within<'t, 'a>(
     typed: &'t Option<Typed<'a>>,
     alloc: Global,
-    types: &Types<'t, 'a>,
+    types: &Sizes<'_, 't, 'a>,
 ) -> Result<(), ResolveError>
     ensures { Settles (λ u. u) result (stages.typed_within types.now typed.now) }
 {
-    if let Some(typed) = typed {
-        expanded(alloc, types, typed)?;
+    match typed {
+        None => Ok(()),
+        Some(typed) => types.shape_within(alloc, typed),
     }
-    Ok(())
 }

@@ -1,29 +1,17 @@
 //! The type names of a module (LangRef, "Structure Type" and "Opaque Structure Types").
 ghost use Rattle.std.specs.Prelude.{◌≡◌, Ok, [], option_copied};
-ghost use Rattle.ir_names.specs.Locals.{unknown};
-ghost use Rattle.ir_names.specs.declared.fault.ResolveError.TheVariants as errors;
 ghost use Rattle.ir_names.specs.Keys.{key_of};
 ghost use Rattle.ir_names.specs.Settled.{Settles};
 ghost use Rattle.ir_names.specs.Types as typing;
-ghost use Rattle.ir_names.specs.TypeNames.{first_types, all_typed, use_in, holds_itself, type_names};
-ghost use Rattle.ir_stages.specs.Circles.{circles_in, marked_at};
+ghost use Rattle.ir_names.specs.TypeNames.{first_types, all_typed, use_in, holds_itself, graph_of, type_names};
 ghost use Rattle.ir_stages.specs.MarkViews.{standing, marks};
 
-use crate::circles::circles_in;
 use crate::mark::{Mark, Marks};
-use ir_names::{Fault, FaultKind, ResolveError, TypeNames, Types};
+use crate::name_graph::graph_of;
+use ir_names::{ResolveError, TypeNames, Types, unknown};
 use ir_read::{Name, Shape, Typed};
+use named_types::Circles;
 use std::alloc::Global;
-
-/// The fault of a name on a line that nothing is known under.
-pub fn unknown(line: u32) -> ResolveError
-    ensures { result ≡ errors.Fault (unknown line) }
-{
-    ResolveError::Fault(Fault {
-        line,
-        kind: FaultKind::Unknown,
-    })
-}
 
 /// The shape of a type name that isn't opaque.
 fn shape_if<'t, 'a>(typed: &'t Option<Typed<'a>>) -> Option<&'t Shape<'a>>
@@ -66,23 +54,18 @@ fn first_types<'t, 'a>(
 fn holds_itself<'t, 'a>(
     alloc: Global,
     all: &TypeNames<'t, 'a>,
-    circles: &[bool],
+    circles: &Circles,
     name: &Name<'a>,
 ) -> Result<bool, ResolveError>
-    requires { circles.now ≡ circles_in all.now }
+    requires { circles.now ≡ graph_of all.now }
     ensures { Settles (λ b. b) result (Ok (holds_itself all.now (key_of name.now))) }
 {
-    let place = all.place_of_name(alloc, name)?;
-    Ok(is_marked(circles, place))
-}
-
-/// Whether a place is marked.
-fn is_marked(circles: &[bool], place: Option<usize>) -> bool
-    ensures { result ≡ marked_at circles.now place }
-{
-    match place {
-        None => false,
-        Some(place) => place < circles.len() && circles[place],
+    match all.place_of_name(alloc, name)? {
+        None => Ok(false),
+        Some(place) => {
+            let back = circles.holds(alloc, place)?;
+            Ok(back)
+        }
     }
 }
 
@@ -90,10 +73,10 @@ fn is_marked(circles: &[bool], place: Option<usize>) -> bool
 fn use_in<'t, 'a>(
     alloc: Global,
     all: &TypeNames<'t, 'a>,
-    circles: &[bool],
+    circles: &Circles,
     name: &Name<'a>,
 ) -> Result<(), ResolveError>
-    requires { circles.now ≡ circles_in all.now }
+    requires { circles.now ≡ graph_of all.now }
     ensures { Settles (λ u. u) result (use_in all.now name.now) }
 {
     all.shape_in(alloc, name)?;
@@ -106,11 +89,11 @@ fn use_in<'t, 'a>(
 fn typed_by<'t, 'a>(
     alloc: Global,
     all: &TypeNames<'t, 'a>,
-    circles: &[bool],
+    circles: &Circles,
     types: &mut TypeNames<'t, 'a>,
     mark: &Mark<'t, 'a>,
 ) -> Result<(), ResolveError>
-    requires { circles.now ≡ circles_in all.now }
+    requires { circles.now ≡ graph_of all.now }
     ensures { Settles (λ _. types.new) result (all_typed all.now types.old (standing mark.now)) }
 {
     match mark {
@@ -123,10 +106,10 @@ fn typed_by<'t, 'a>(
 fn all_typed<'t, 'a>(
     alloc: Global,
     all: &TypeNames<'t, 'a>,
-    circles: &[bool],
+    circles: &Circles,
     rows: &[Mark<'t, 'a>],
 ) -> Result<TypeNames<'t, 'a>, ResolveError>
-    requires { circles.now ≡ circles_in all.now }
+    requires { circles.now ≡ graph_of all.now }
     ensures { Settles (λ t. t) result (all_typed all.now [] (marks rows.now)) }
 {
     let mut types = TypeNames::new(alloc);
@@ -144,7 +127,7 @@ pub fn types_in<'t, 'a>(alloc: Global, marks: &Marks<'t, 'a>) -> Result<Types<'t
 {
     let rows = marks.as_slice();
     let all = first_types(alloc, rows)?;
-    let circles = circles_in(alloc, &all)?;
+    let circles = Circles::of(alloc, graph_of(alloc, &all)?)?;
     let names = all_typed(alloc, &all, &circles, rows)?;
     let types = Types::of(alloc, names)?;
     Ok(types)

@@ -1,6 +1,6 @@
 //! A graph, and its places that a walk leads back to.
 
-use ir_names::{Graph, circles_of};
+use named_types::{Circles, Graph};
 use std::alloc::Global;
 
 /// Of three places, the second leads to the third and back, the first to the second.
@@ -11,7 +11,12 @@ fn chain(alloc: Global) -> Option<Vec<bool>> {
         row.push(target).ok()?;
         graph.push(row).ok()?;
     }
-    circles_of(alloc, &graph).ok()
+    let circles = Circles::of(alloc, graph).ok()?;
+    let mut found = Vec::new(alloc);
+    for place in 0..4 {
+        found.push(circles.holds(alloc, place).ok()?).ok()?;
+    }
+    Some(found)
 }
 
 #[test]
@@ -19,6 +24,8 @@ fn circles_are_found(rt: HostRuntime) {
     let alloc = rt.alloc();
     match chain(alloc) {
         None => assert!(rt; false),
-        Some(found) => assert!(rt; found.len() == 3 && !found[0] && found[1] && found[2]),
+        Some(found) => assert!(rt;
+            found.len() == 4 && !found[0] && found[1] && found[2] && !found[3]
+        ),
     }
 }

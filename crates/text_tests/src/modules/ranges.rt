@@ -234,3 +234,28 @@ fn chains_of_type_names_end(rt: HostRuntime) -> Result<(), AllocError> {
     );
     Ok(())
 }
+
+const LEFT_OUT: [(&str, &str); 4] = [
+    // Where the type of a count may stand, one that is left out is told as such.
+    (
+        "define void @f() {\n  %1 = alloca i8,\nmetadata",
+        "3: not in the profile: metadata",
+    ),
+    (
+        "define void @f() {\n  %1 = alloca i8,\ntarget",
+        "3: not in the profile: target",
+    ),
+    ("define void @f() {\n  %1 = alloca i8,\nptr", "3: syntax"),
+    (
+        "define void @f(ptr %p) {\n  %1 = load i8, ptr %p,\nmetadata",
+        "3: syntax",
+    ),
+];
+
+#[test]
+fn types_are_left_out_where_types_stand(rt: HostRuntime) -> Result<(), AllocError> {
+    for &(text, want) in &LEFT_OUT {
+        assert!(rt; shown(rt.alloc(), text)?.as_str() == want, "{text}");
+    }
+    Ok(())
+}

@@ -1,7 +1,9 @@
-//! Prefixes of texts, and texts that nest deep.
+//! Prefixes of texts, texts that nest deep, and type names that stand for many shapes.
 
 use ir_parse::{FaultKind, ReadError, parse};
 use std::alloc::{AllocError, Global};
+use std::fmt::Write;
+use std::string::String;
 
 const TEXT: &[u8] = b"@g = global i8 0
 define void @h() { ret void }
@@ -46,5 +48,50 @@ fn stops_at_the_end(alloc: Global, count: usize) -> Result<bool, AllocError> {
 #[test]
 fn open_brackets_are_read_without_recursion(rt: HostRuntime) -> Result<(), AllocError> {
     assert!(rt; stops_at_the_end(rt.alloc(), 1_000_000)?);
+    Ok(())
+}
+
+/// Type names on a line each, the first of 8 bits and each other of two of the one before, the last first
+/// or not, and so many.
+fn doubled(alloc: Global, count: usize, falling: bool) -> String {
+    let mut text = String::new(alloc);
+    for row in 0..count {
+        let place = if falling { count - 1 - row } else { row };
+        let _written = if place == 0 {
+            write!(text, "%t0 = type i8\n")
+        } else {
+            write!(
+                text,
+                "%t{} = type {{ %t{}, %t{} }}\n",
+                place,
+                place - 1,
+                place - 1
+            )
+        };
+    }
+    text
+}
+
+/// The line on which a limit is passed, or none.
+fn limit_of(alloc: Global, text: &str) -> Result<Option<u32>, AllocError> {
+    match parse(alloc, text.as_bytes()) {
+        Err(ReadError::NoMemory) => Err(AllocError),
+        Err(ReadError::Fault(fault)) if matches!(fault.kind, FaultKind::Limit) => {
+            Ok(Some(fault.line))
+        }
+        _ => Ok(None),
+    }
+}
+
+#[test]
+fn shapes_of_names_are_not_spelled_out(rt: HostRuntime) -> Result<(), AllocError> {
+    for &(count, falling, line) in &[
+        (32, false, None),
+        (33, false, Some(33)),
+        (33, true, Some(1)),
+    ] {
+        let text = doubled(rt.alloc(), count, falling);
+        assert!(rt; limit_of(rt.alloc(), text.as_str())? == line, "{count}");
+    }
     Ok(())
 }

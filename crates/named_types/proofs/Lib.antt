@@ -1,0 +1,5 @@
+mod Free
+mod Searched
+mod Small
+mod Weighing
+mod Measured
