@@ -1,13 +1,37 @@
--- Three turns, and three walks, one after another.
+-- A turn from its parts; three turns, and three walks, one after another.
 use Rattle.std.proofs.Common.{ℕ, List, Option, refl}
 use Rattle.ir_tree.specs.declared.function.Function.{Function}
+use Rattle.block_merge.specs.Merged.{IsMergeOf}
+use Rattle.block_trim.specs.Trimmed.{IsTrimOf}
+use Rattle.branch_simplify.specs.Simplified.{simplified}
+use Rattle.dead_code.specs.Least.{IsNeededOf}
+use Rattle.ir_facts.specs.Steps.{IsApplied}
 use Rattle.back_end.specs.Made.{AreTurns, IsTurn}
 use Rattle.back_end.specs.Walk.{AreWalks, IsWalk}
 
-pub three : (f a b c : Function) → IsTurn f a → IsTurn a b → IsTurn b c → AreTurns 3 f c
-unfolding AreTurns
-three f a b c first second third = (a, first, (b, second, (c, third, refl)))
+pub turn_of : (f propagated g : Function) → IsApplied f propagated → (trimmed merged : Function) × IsTrimOf (simplified propagated) trimmed × IsMergeOf trimmed merged × IsNeededOf merged g → IsTurn f g
+turn_of f propagated g facts (trimmed, merged, trim, merge, needed) = record {
+  propagated = propagated;
+  facts = facts;
+  trimmed = trimmed;
+  trim = trim;
+  merged = merged;
+  merge = merge;
+  needed = needed;
+}
 
-pub three_walks : (bodies : List ℕ → Option Function) (f a b c : Function) → IsWalk bodies f a → IsWalk bodies a b → IsWalk bodies b c → AreWalks 3 bodies f c
+pub two : (f a b : Function) → IsTurn f a → IsTurn a b → AreTurns 2 f b
+unfolding AreTurns
+two f a b first second = (a, first, (b, second, refl))
+
+pub three : (f a c : Function) → IsTurn f a → AreTurns 2 a c → AreTurns 3 f c
+unfolding AreTurns
+three f a c first rest = (a, first, rest)
+
+pub two_walks : (bodies : List ℕ → Option Function) (f a b : Function) → IsWalk bodies f a → IsWalk bodies a b → AreWalks 2 bodies f b
 unfolding AreWalks
-three_walks bodies f a b c first second third = (a, first, (b, second, (c, third, refl)))
+two_walks bodies f a b first second = (a, first, (b, second, refl))
+
+pub three_walks : (bodies : List ℕ → Option Function) (f a c : Function) → IsWalk bodies f a → AreWalks 2 bodies a c → AreWalks 3 bodies f c
+unfolding AreWalks
+three_walks bodies f a c first rest = (a, first, rest)

@@ -1,6 +1,13 @@
 //! The order of the passes.
 ghost use Rattle.std.specs.Prelude.{◌≡◌, IfOk};
 ghost use Rattle.ir_tree.specs.Rules.{Sound};
+ghost use Rattle.ir_tree.specs.declared.function.Function.{Function};
+ghost use Rattle.ir_edit.specs.Numbered.{in_text_order};
+ghost use Rattle.block_merge.specs.Merged.{IsMergeOf};
+ghost use Rattle.block_trim.specs.Trimmed.{IsTrimOf};
+ghost use Rattle.branch_simplify.specs.Simplified.{simplified};
+ghost use Rattle.dead_code.specs.Least.{IsNeededOf};
+ghost use Rattle.slot_promote.specs.Promoted.{promoted_function};
 ghost use Rattle.back_end.specs.Inlinable.{AreSound};
 ghost use Rattle.back_end.specs.Made.{AreTurns, IsMade, IsOptimised, IsTurn};
 ghost use Rattle.back_end.specs.Walk.{AreWalks};
@@ -20,6 +27,34 @@ use ir_tree::{Duplicate, Function};
 use slot_promote::promote;
 use std::alloc::{AllocError, Global};
 
+/// The end of a turn: blocks joined, and then what nobody needs gone.
+fn turn_from_merge(alloc: Global, f: &Function) -> Result<Function, AllocError>
+    requires sound { Sound f.now }
+    ensures { IfOk result (λ g. (merged : Function) × IsMergeOf f.now merged × IsNeededOf merged g) }
+{
+    let merged = merge(alloc, f)?;
+    let g = needed(alloc, &merged)?;
+    Ok(g)
+}
+
+/// A turn from where blocks that aren't reached go.
+fn turn_from_trim(alloc: Global, f: &Function) -> Result<Function, AllocError>
+    requires sound { Sound f.now }
+    ensures { IfOk result (λ g. (trimmed merged : Function) × IsTrimOf f.now trimmed × IsMergeOf trimmed merged × IsNeededOf merged g) }
+{
+    let trimmed = trim(alloc, f)?;
+    turn_from_merge(alloc, &trimmed)
+}
+
+/// A turn from where decided branches become jumps.
+fn turn_from_branches(alloc: Global, f: &Function) -> Result<Function, AllocError>
+    requires sound { Sound f.now }
+    ensures { IfOk result (λ g. (trimmed merged : Function) × IsTrimOf (simplified f.now) trimmed × IsMergeOf trimmed merged × IsNeededOf merged g) }
+{
+    let simplified = branches(alloc, f)?;
+    turn_from_trim(alloc, &simplified)
+}
+
 /// Copies and constants propagated, decided branches as jumps, what isn't reached gone, blocks joined, and then what
 /// nobody needs gone.
 fn turn(alloc: Global, f: &Function) -> Result<Function, AllocError>
@@ -29,10 +64,16 @@ fn turn(alloc: Global, f: &Function) -> Result<Function, AllocError>
 {
     turn_is_better();
     let propagated = apply(alloc, f)?;
-    let simplified = branches(alloc, &propagated)?;
-    let trimmed = trim(alloc, &simplified)?;
-    let merged = merge(alloc, &trimmed)?;
-    let g = needed(alloc, &merged)?;
+    turn_from_branches(alloc, &propagated)
+}
+
+/// Two turns.
+fn two_turns(alloc: Global, f: &Function) -> Result<Function, AllocError>
+    requires sound { Sound f.now }
+    ensures { IfOk result (λ g. AreTurns 2 f.now g) }
+{
+    let once = turn(alloc, f)?;
+    let g = turn(alloc, &once)?;
     Ok(g)
 }
 
@@ -42,9 +83,18 @@ fn turns(alloc: Global, f: &Function) -> Result<Function, AllocError>
     ensures { IfOk result (λ g. AreTurns 3 f.now g) }
 {
     let once = turn(alloc, f)?;
-    let twice = turn(alloc, &once)?;
-    let g = turn(alloc, &twice)?;
-    Ok(g)
+    two_turns(alloc, &once)
+}
+
+/// Two walks.
+fn two_walks(alloc: Global, bodies: &Bodies<'_>, f: &Function) -> Result<Function, AllocError>
+    requires sound { Sound f.now }
+    requires bodies { AreSound (bodies_in bodies.now) }
+    ensures walks { IfOk result (λ g. AreWalks 2 (bodies_in bodies.now) f.now g) }
+    ensures sound { IfOk result (λ g. Sound g) }
+{
+    let once = walk(alloc, bodies, f)?;
+    walk(alloc, bodies, &once)
 }
 
 /// Three walks.
@@ -55,9 +105,26 @@ fn walks(alloc: Global, bodies: &Bodies<'_>, f: &Function) -> Result<Function, A
     ensures sound { IfOk result (λ g. Sound g) }
 {
     let once = walk(alloc, bodies, f)?;
-    let twice = walk(alloc, bodies, &once)?;
-    let g = walk(alloc, bodies, &twice)?;
+    two_walks(alloc, bodies, &once)
+}
+
+/// Three turns, and then numbers in the order of the text.
+fn turned(alloc: Global, f: &Function) -> Result<Function, AllocError>
+    requires sound { Sound f.now }
+    ensures { IfOk result (λ g. (turned : Function) × AreTurns 3 f.now turned × (g ≡ in_text_order turned)) }
+{
+    let turned = turns(alloc, f)?;
+    let g = renumber(alloc, &turned)?;
     Ok(g)
+}
+
+/// Stack slots as values, three turns, and then numbers in the order of the text.
+fn promoted(alloc: Global, f: &Function) -> Result<Function, AllocError>
+    requires sound { Sound f.now }
+    ensures { IfOk result (λ g. (turned : Function) × AreTurns 3 (promoted_function f.now) turned × (g ≡ in_text_order turned)) }
+{
+    let promoted = promote(alloc, f)?;
+    turned(alloc, &promoted)
 }
 
 /// Bodies inlined, stack slots as values, three turns, and then numbers in the order of the text.
@@ -67,10 +134,7 @@ fn optimised(alloc: Global, bodies: &Bodies<'_>, f: &Function) -> Result<Functio
     ensures { IfOk result (λ g. IsOptimised (bodies_in bodies.now) f.now g) }
 {
     let walked = walks(alloc, bodies, f)?;
-    let promoted = promote(alloc, &walked)?;
-    let turned = turns(alloc, &promoted)?;
-    let g = renumber(alloc, &turned)?;
-    Ok(g)
+    promoted(alloc, &walked)
 }
 
 fn made(alloc: Global, bodies: &Bodies<'_>, f: &Function) -> Result<Function, AllocError>

@@ -1,24 +1,11 @@
-use Rattle.std.proofs.Common.{subst}
-use Rattle.ir_tree.specs.Rules.{Sound}
-use Rattle.ir_tree.specs.declared.function.Function.{Function}
-use Rattle.edge_counts.proofs.Entries.{apart}
-use Rattle.block_trim.specs.Trimmed.{IsTrimOf}
+use Rattle.std.proofs.Common.{IfOk}
+use Rattle.std.proofs.lemmas.Result.{IfOk-weaker}
 use Rattle.back_end.specs.Made.{IsTurn}
+use Rattle.back_end.proofs.Turning.{turn_of}
 use Rattle.back_end.proofs.passes.turn.Goals as goal
 
 pub returns : goal.returns
-returns c = record { made = made; sound = (c.turn_is_better.ensures c.args.f.now c.in_ok-g.g c.requires.sound made).0 }
-  where
-    trimmed_sound : Sound c.in_ok-trimmed.trimmed
-    trimmed_sound = c.in_ok-trimmed.ensures.sound (c.in_ok-simplified.ensures.sound c.in_ok-propagated.ensures.sound)
-
-    made : IsTurn c.args.f.now c.in_ok-g.g
-    made = record {
-      propagated = c.in_ok-propagated.propagated;
-      facts = c.in_ok-propagated.ensures.made;
-      trimmed = c.in_ok-trimmed.trimmed;
-      trim = subst (λ (s : Function). IsTrimOf s c.in_ok-trimmed.trimmed) c.in_ok-simplified.ensures.simplified c.in_ok-trimmed.ensures.trimmed;
-      merged = c.in_ok-merged.merged;
-      merge = c.in_ok-merged.ensures.merged (apart c.in_ok-trimmed.trimmed trimmed_sound.formed);
-      needed = c.in_ok-g.ensures.needed;
-    }
+returns c =
+    let made : IfOk c.turn_from_branches.result (IsTurn c.args.f.now) =
+    IfOk-weaker c.turn_from_branches.result _ _ (λ g parts. turn_of c.args.f.now c.in_ok-propagated.propagated g c.in_ok-propagated.ensures.made parts) c.turn_from_branches.ensures in
+    record { made = made; sound = IfOk-weaker c.turn_from_branches.result _ _ (λ g is. (c.turn_is_better.ensures c.args.f.now g c.requires.sound is).0) made }
