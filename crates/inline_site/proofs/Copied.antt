@@ -117,11 +117,11 @@ pub last_is : (free last : ℕ) (callee : Function) (bs : List Block) (n : ℕ) 
 last_is free last callee bs n is same number =
     number (map (moved_block free callee) callee.blocks) (moved_block free callee (empty (first_free callee))) (same ∙ moved_blocks free last callee is ∙ map-append (moved_block free callee) callee.blocks (empty (first_free callee) ∷ []))
 
-pub copied_is : (free last by : ℕ) (callee : Function) (as' : List Argument) (rs : List (ℕ × Operand)) (g copy : Function) → Formed callee → last ≡ first_free callee
-    → g ≡ moved free last callee → by ≡ behind_call free callee + 1 → rs ≡ map (shifted_by by) (bound callee.params as') → copy ≡ substituted rs g
-    → copy.blocks ≡ copied free callee as' ++ empty (behind_call free callee) ∷ []
-copied_is free last by callee as' rs g copy formed is g_is by_is rs_is copy_is =
-    ap (λ (h : Function). h.blocks) (copy_is ∙ ap (λ (l : List (ℕ × Operand)). substituted l g) rs_is ∙ ap (substituted (pairs_of by callee as')) g_is)
+pub copied_is : (free last by : ℕ) (callee : Function) (as' : List Argument) (g : Function) (rows : List Block) → Formed callee → last ≡ first_free callee → g ≡ moved free last callee → by ≡ behind_call free callee + 1
+    → rows ≡ (substituted (map (shifted_by by) (bound callee.params as')) g).blocks → rows ≡ copied free callee as' ++ empty (behind_call free callee) ∷ []
+copied_is free last by callee as' g rows formed is g_is by_is rows_is =
+    rows_is
+    ∙ ap (λ (h : Function). (substituted (pairs_of by callee as') h).blocks) g_is
     ∙ ap (map (block_edited (λ x. x) (operand_replaced (replacement (pairs_of by callee as'))))) (moved_blocks free last callee is)
     ∙ blocks_twice (λ x. x) (copied_number free callee) (operand_replaced (replacement (pairs_of by callee as'))) (λ o. operand_renamed (λ x. x + free) (operand_renamed (new_number (added callee)) o))
     (callee.blocks ++ empty (first_free callee) ∷ [])

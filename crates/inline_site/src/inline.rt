@@ -1,8 +1,8 @@
 //! Inlining at one call.
-ghost use Rattle.std.specs.Prelude.{◌≡◌, ◌≢◌, ◌∷◌, ◌++◌, [], Some, IfOk, IfSome, OnOk};
+ghost use Rattle.std.specs.Prelude.{◌≡◌, ◌≢◌, ℕ, ◌∷◌, ◌++◌, [], Some, IfOk, IfSome, OnOk};
 ghost use Rattle.ir_tree.specs.Rules.{Sound};
 ghost use Rattle.ir_tree.specs.declared.function.Function.{Function};
-ghost use Rattle.inline_site.specs.Callers.{made_of, opened_with};
+ghost use Rattle.inline_site.specs.Callers.{IsReady, counted_done, made_of, opened_with};
 ghost use Rattle.inline_site.specs.Copying.{site_of};
 ghost use Rattle.inline_site.specs.Inlined.{IsInlined};
 ghost use Rattle.inline_site.specs.Laws.{IsBetterIfGiven};
@@ -43,6 +43,24 @@ fn from_there(
     Ok(())
 }
 
+/// Goes on up to a call, inlines the callee there, and goes on with what stands behind the call.
+fn inline_there(
+    alloc: Global,
+    caller: &mut Caller,
+    site: SiteParts<'_>,
+    arguments: &[Argument],
+    callee: &Function,
+) -> Result<(), AllocError>
+    requires some { callee.now.blocks ≢ [] }
+    requires call { IsCallOf callee.now (site_of site).call.instr arguments.now }
+    ensures { OnOk result ((f : Function) (place : ℕ) → made_of f caller.old f.blocks ≡ f → IsReady f caller.old → counted_done caller.old ≡ 0 → StandsAt f.blocks place (site_of site.entry) → Sound callee.now → IsInlined f place callee.now (Some (made_of f caller.new []))) }
+{
+    let mut current = up_to(alloc, caller, site)?;
+    caller.inline(alloc, &mut current, site.call, arguments, callee)?;
+    from_there(alloc, caller, current, site)?;
+    Ok(())
+}
+
 fn inlined(
     alloc: Global,
     f: &Function,
@@ -57,9 +75,7 @@ fn inlined(
     ensures { IfOk result (λ g. Sound callee.now → IsInlined f.now place callee.now (Some g)) }
 {
     let mut caller = Caller::of(alloc, f);
-    let mut current = up_to(alloc, &mut caller, site)?;
-    caller.inline(alloc, &mut current, site.call, arguments, callee)?;
-    from_there(alloc, &mut caller, current, site)?;
+    inline_there(alloc, &mut caller, site, arguments, callee)?;
     let g = caller.finish(alloc, f)?;
     Ok(g)
 }
