@@ -1,7 +1,8 @@
 -- Elements of lists: of two lists, changed, chosen, and of lists of lists.
-use Rattle.std.proofs.Common.{◌≡◌, ℕ, zero, suc, ◌+◌, ◌⊎◌, inl, inr, List, [], ◌∷◌, ◌++◌, Option, Some, None, map, option_map, length, refl, sym, ◌∙◌, ap, subst, arith}
+use Rattle.std.proofs.Common.{◌≡◌, ℕ, zero, suc, ◌+◌, ◌⊎◌, inl, inr, List, [], ◌∷◌, ◌++◌, Option, Some, None, map, option_map, length, refl, sym, ◌∙◌, ap, subst, arith, append_assoc, drop, get_or, ◌<◌, ◌≤◌, ◌-◌}
 use Rattle.std.specs.Prelude.{slice_get, filter_map, flat_map}
 use Rattle.std.specs.List.{cons_option}
+use Rattle.std.proofs.lemmas.List.{drop_more}
 use Rattle.std.proofs.lemmas.Option.{slice_get-map}
 
 -- ---- at a place
@@ -114,3 +115,30 @@ flat_in {X} {Y} h x (z ∷ xs) y (zero, e) there =
     let same : x ≡ z = sym (cc e) in
     in_front y (h z) (flat_map h xs) (subst (λ (w : X). In y (h w)) same there)
 flat_in {X} {Y} h x (z ∷ xs) y (suc i, e) there = in_back y (h z) (flat_map h xs) (flat_in h x xs y (i, e) there)
+
+-- ---- rows that are made of elements, one after another
+
+-- what is left begins with the element that is read
+pub read_here : {X : Type 0} (xs : List X) (i : ℕ) (x : X) → i < length xs → x ≡ get_or xs i x → drop i xs ≡ x ∷ drop (i + 1) xs
+read_here xs i x less is = drop_more xs i x less ∙ ap (λ y. y ∷ drop (i + 1) xs) (sym is)
+
+pub read_before : {X : Type 0} (xs : List X) (place : ℕ) (d : X) → 0 < place → place ≤ length xs → drop (place - 1) xs ≡ get_or xs (place - 1) d ∷ drop place xs
+read_before xs place d some most =
+    let behind : place - 1 + 1 ≡ place = omega (arith, some) in
+    drop_more xs (place - 1) d (omega (arith, some, most)) ∙ ap (λ (k : ℕ). get_or xs (place - 1) d ∷ drop k xs) behind
+
+pub next_row : {X Y : Type 0} (f : X → Y) (xs : List X) (i : ℕ) (x : X) (rows more : List Y) (y : Y) → i < length xs → x ≡ get_or xs i x → y ≡ f x → more ≡ rows ++ y ∷ []
+    → more ++ map f (drop (i + 1) xs) ≡ rows ++ map f (drop i xs)
+next_row f xs i x rows more y less is made pushed =
+    ap (λ l. l ++ map f (drop (i + 1) xs)) pushed
+    ∙ append_assoc rows (y ∷ []) (map f (drop (i + 1) xs))
+    ∙ ap (λ z. rows ++ z ∷ map f (drop (i + 1) xs)) made
+    ∙ ap (λ l. rows ++ map f l) (sym (read_here xs i x less is))
+
+pub next_copy : {X : Type 0} (xs : List X) (i : ℕ) (x : X) (rows more : List X) (y : X) → i < length xs → x ≡ get_or xs i x → y ≡ x → more ≡ rows ++ y ∷ []
+    → more ++ drop (i + 1) xs ≡ rows ++ drop i xs
+next_copy xs i x rows more y less is made pushed =
+    ap (λ l. l ++ drop (i + 1) xs) pushed
+    ∙ append_assoc rows (y ∷ []) (drop (i + 1) xs)
+    ∙ ap (λ z. rows ++ z ∷ drop (i + 1) xs) made
+    ∙ ap (λ l. rows ++ l) (sym (read_here xs i x less is))

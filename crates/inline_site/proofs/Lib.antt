@@ -1,3 +1,4 @@
+mod Backwards
 mod Bound
 mod Carried
 mod CarriedOn
@@ -35,4 +36,3 @@ mod Twice
 mod TypedLocals
 mod Types
 mod Unset
-mod Whole

@@ -1,0 +1,13 @@
+use Rattle.std.proofs.Common.{◌∙◌}
+use Rattle.inline_site.proofs.Elements.{next_copy}
+use Rattle.inline_site.proofs.caller.Caller.pass.Goals as goal
+
+pub loop-block-preserved : goal.loop-block-preserved
+loop-block-preserved c = record {
+  done =
+      next_copy c.args.blocks.now c.loop-block.block-index c.block-item.result c.loop-block.self.done.items c.push.new.self.items c.in_ok-block.block c.loop-block-test.true c.block-item.is c.in_ok-block.ensures
+      c.in_ok-push.ensures.items
+      ∙ c.loop-block.invariant.done;
+  free = c.loop-block.invariant.free;
+  late = c.loop-block.invariant.late;
+}
