@@ -1,6 +1,6 @@
 -- Steps of loops.
-use Rattle.std.proofs.Common.{◌≡◌, ℕ, zero, suc, ◌+◌, ◌≤◌, ◌<◌, max, nat_eq, nat_lt, Bool, true, false, List, [], ◌∷◌, ◌++◌, length, get_or, drop, map, Option, Some, inl, inr, refl, sym, ◌∙◌, ap, arith, if◌then◌else◌, append_assoc}
-use Rattle.std.specs.Prelude.{slice_get, flat_map}
+use Rattle.std.proofs.Common.{◌≡◌, ℕ, zero, suc, ◌+◌, ◌-◌, ◌≤◌, ◌<◌, max, nat_eq, nat_lt, Bool, true, false, List, [], ◌∷◌, ◌++◌, length, get_or, drop, map, Option, Some, inl, inr, refl, sym, ◌∙◌, ap, arith, if◌then◌else◌, append_assoc}
+use Rattle.std.specs.Prelude.{cond, slice_get, flat_map}
 use Rattle.std.proofs.lemmas.List.{drop_more, get_or_past}
 use Rattle.std.proofs.lemmas.Option.{slice_get_past, slice_get_read}
 use Rattle.std.proofs.lemmas.Bool.{eqb-true, eq-eqb, ltb-true, ltb-false}
@@ -18,12 +18,63 @@ use Rattle.ir_flow.specs.Graph.{row}
 use Rattle.ir_flow.specs.OfFunction.{IsGraphOf}
 use Rattle.ir_better.specs.Promote.{Current, Makes, Other, Writes, behind, changed}
 use Rattle.slot_promote.specs.Promoted.{End, block_with, blocks_with, end_with, ends_with, entries_of, entry_of, first_phi, next_number, phis_from, promoted_function}
-use Rattle.slot_promote.specs.Slots.{promoted_slots}
+use Rattle.slot_promote.specs.Slots.{is_accessed_as, promotable, promoted_slots}
 use Rattle.slot_promote.specs.Tables.{end_view, ends_in, first_in, viewed}
 use Rattle.slot_promote.specs.Values.{behind_line, behind_lines, goes, instr_with, is_there, makes, reg_of, regs, placed, without_slots, writes}
 use Rattle.slot_promote.specs.declared.phis.BlockEnd.{BlockEnd}
 use Rattle.slot_promote.specs.declared.slots.Place.{Place}
 use Rattle.slot_promote.specs.declared.slots.Slot.{Slot}
+use Rattle.slot_promote.specs.declared.uses.Use.{Use}
+
+-- ---- what elements give, one after another
+
+pub given_more : {X Y : Type 0} (gives : X → List Y) (all_given : List X → List Y) → ((x : X) (xs : List X) → all_given (x ∷ xs) ≡ gives x ++ all_given xs) → (xs : List X) (i : ℕ) (x : X) (ys more : List Y)
+    → i < length xs → x ≡ get_or xs i x → more ≡ ys ++ gives x → more ++ all_given (drop (i + 1) xs) ≡ ys ++ all_given (drop i xs)
+given_more gives all_given parts xs i x ys more lt x_is pushed =
+    ap (λ l. l ++ all_given (drop (i + 1) xs)) pushed
+    ∙ append_assoc ys (gives x) (all_given (drop (i + 1) xs))
+    ∙ ap (λ l. ys ++ l) (sym (parts x (drop (i + 1) xs)) ∙ sym (ap all_given (drop_more xs i x lt ∙ ap (λ y. y ∷ drop (i + 1) xs) (sym x_is))))
+
+-- ---- slots
+
+pub slot_kept : (us : List Use) (slots : List Slot) (i : ℕ) (d : Slot) (kept more : List Slot) → i < length slots → is_accessed_as (get_or slots i d).reg (get_or slots i d).local us ≡ true → more ≡ kept ++ get_or slots i d ∷ []
+    → more ++ promotable us (drop (i + 1) slots) ≡ kept ++ promotable us (drop i slots)
+slot_kept us slots i d kept more lt allowed pushed =
+    ap (λ l. l ++ promotable us (drop (i + 1) slots)) pushed
+    ∙ append_assoc kept (get_or slots i d ∷ []) (promotable us (drop (i + 1) slots))
+    ∙ ap (λ (b : Bool). kept ++ (if b then get_or slots i d ∷ promotable us (drop (i + 1) slots) else promotable us (drop (i + 1) slots))) (sym allowed)
+    ∙ ap (λ l. kept ++ promotable us l) (sym (drop_more slots i d lt))
+
+pub slot_left : (us : List Use) (slots : List Slot) (i : ℕ) (d : Slot) (kept : List Slot) → i < length slots → is_accessed_as (get_or slots i d).reg (get_or slots i d).local us ≡ false
+    → kept ++ promotable us (drop (i + 1) slots) ≡ kept ++ promotable us (drop i slots)
+slot_left us slots i d kept lt refused =
+    ap (λ (b : Bool). kept ++ (if b then get_or slots i d ∷ promotable us (drop (i + 1) slots) else promotable us (drop (i + 1) slots))) (sym refused)
+    ∙ ap (λ l. kept ++ promotable us l) (sym (drop_more slots i d lt))
+
+cond_if : {X : Type 0} (b : Bool) (x y : X) → cond b x y ≡ (if b then x else y)
+cond_if true x y = refl
+cond_if false x y = refl
+
+-- places are put into the table from the last slot on
+pub placed_before : (list : List Slot) (rank : ℕ) (d : Slot) (table more : ℕ → Option Place) → 0 < rank → rank ≤ length list → ((x : ℕ) → table x ≡ placed rank (drop rank list) x)
+    → ((x : ℕ) → more x ≡ cond (nat_eq (get_or list (rank - 1) d).local x) (Some (record { rank = rank - 1; reg = (get_or list (rank - 1) d).reg })) (table x)) → (x : ℕ) → more x ≡ placed (rank - 1) (drop (rank - 1) list) x
+placed_before list rank d table more some most is put x =
+    put x
+    ∙ cond_if (nat_eq s.local x) (Some here) (table x)
+    ∙ ap (λ (o : Option Place). if nat_eq s.local x then Some here else o) (is x ∙ ap (λ (k : ℕ). placed k (drop rank list) x) next)
+    ∙ sym (ap (λ (l : List Slot). placed (rank - 1) l x) (drop_more list (rank - 1) d (omega (arith, some, most)) ∙ ap (λ (k : ℕ). s ∷ drop k list) behind))
+  where
+    s : Slot
+    s = get_or list (rank - 1) d
+
+    here : Place
+    here = record { rank = rank - 1; reg = s.reg }
+
+    next : rank ≡ suc (rank - 1)
+    next = omega (arith, some)
+
+    behind : rank - 1 + 1 ≡ rank
+    behind = omega (arith, some)
 
 pub among_index : (xs : List ℕ) (i : ℕ) → i < length xs → Among (get_or xs i 0) xs
 among_index [] i lt = absurd (omega (arith, lt))

@@ -1,0 +1,11 @@
+use Rattle.std.proofs.Common.{◌++◌, List, ◌∙◌, refl, ap}
+use Rattle.ir_tree.specs.declared.block.Block.{Block}
+use Rattle.ir_tree.specs.declared.instr.Line.{Line}
+use Rattle.slot_promote.specs.Slots.{line_slots, slots}
+use Rattle.slot_promote.proofs.Loops.{given_more}
+use Rattle.slot_promote.proofs.slots.slots_in.Goals as goal
+
+pub loop-block-preserved : goal.loop-block-preserved
+loop-block-preserved c =
+    given_more (λ (b : Block). line_slots b.lines) slots (λ x xs. refl) c.args.blocks.now c.loop-block.block-index c.block-item.result c.loop-block.found.items c.push_slots.new.found.items c.loop-block-test.true c.block-item.is (c.in_ok-push_slots.ensures ∙ ap (λ (l : List Line). c.loop-block.found.items ++ line_slots l) c.as_slice.ensures)
+    ∙ c.loop-block.invariant
