@@ -1,5 +1,5 @@
 -- Steps of loops.
-use Rattle.std.proofs.Common.{◌≡◌, ℕ, zero, suc, ◌+◌, ◌-◌, ◌≤◌, ◌<◌, max, nat_eq, nat_lt, Bool, true, false, List, [], ◌∷◌, ◌++◌, length, get_or, drop, map, Option, Some, inl, inr, refl, sym, ◌∙◌, ap, arith, if◌then◌else◌, append_assoc}
+use Rattle.std.proofs.Common.{◌≡◌, ℕ, zero, suc, ◌+◌, ◌-◌, ◌≤◌, ◌<◌, max, nat_eq, nat_lt, Bool, true, false, List, [], ◌∷◌, ◌++◌, length, get_or, drop, map, Option, Some, None, inl, inr, refl, sym, ◌∙◌, ap, arith, if◌then◌else◌, append_assoc}
 use Rattle.std.specs.Prelude.{cond, slice_get, flat_map}
 use Rattle.std.proofs.lemmas.List.{drop_more, get_or_past}
 use Rattle.std.proofs.lemmas.Option.{slice_get_past, slice_get_read}
@@ -17,7 +17,7 @@ use Rattle.ir_tree.specs.declared.operand.Reg.{Reg}
 use Rattle.ir_flow.specs.Graph.{row}
 use Rattle.ir_flow.specs.OfFunction.{IsGraphOf}
 use Rattle.ir_better.specs.Promote.{Current, Makes, Other, Writes, behind, changed}
-use Rattle.slot_promote.specs.Promoted.{End, block_with, blocks_with, end_with, ends_with, entries_of, entry_of, first_phi, next_number, phis_from, promoted_function}
+use Rattle.slot_promote.specs.Promoted.{End, block_with, blocks_with, end_with, ends_with, entries_of, entry_of, first_phi, free, next_number, phis_from, promoted_function, takes}
 use Rattle.slot_promote.specs.Slots.{is_accessed_as, promotable, promoted_slots}
 use Rattle.slot_promote.specs.Tables.{end_view, ends_in, first_in, viewed}
 use Rattle.slot_promote.specs.Values.{behind_line, behind_lines, goes, instr_with, is_there, makes, reg_of, regs, placed, without_slots, writes}
@@ -128,6 +128,40 @@ pub all_above : (f : Function) (p b m : ℕ) → p ≡ room (parameters f) → b
 all_above f p b m p_is b_is m_is =
     m_is ∙ (λ i. max (p_is i) (b_is i)) ∙ sym (room_both (locals f) (numbers f) ∙ ap (λ (k : ℕ). max k (room (numbers f))) (room_both (parameters f) (flat_map definitions f.blocks))
     ∙ assoc (room (parameters f)) (room (flat_map definitions f.blocks)) (room (numbers f)))
+
+-- ---- numbers of new phis
+
+pub phi_here : (from : ℕ → List ℕ) (k next place now : ℕ) (b : Bool) → takes place (from place) ≡ b → now ≡ free from k next place → (if b then Some now else None) ≡ first_phi from k next place
+phi_here from k next place now b takes_is now_is = (λ i. if sym takes_is i then Some (now_is i) else None)
+
+pub free_more : (from : ℕ → List ℕ) (k next place now after : ℕ) (b : Bool) → takes place (from place) ≡ b → now ≡ free from k next place → after ≡ (if b then now + k else now) → after ≡ free from k next (place + 1)
+free_more from k next place now after b takes_is now_is after_is =
+    after_is ∙ (λ i. if sym takes_is i then now_is i + k else now_is i) ∙ ap (free from k next) one
+  where
+    one : suc place ≡ place + 1
+    one = omega arith
+
+first_left : (firsts : List (Option ℕ)) (o : Option ℕ) (p : ℕ) → p < length firsts → first_in (firsts ++ o ∷ []) p ≡ first_in firsts p
+first_left [] o p lt = absurd (omega (arith, lt))
+first_left (x ∷ xs) o zero lt = refl
+first_left (x ∷ xs) o (suc p) lt = first_left xs o p (omega (arith, lt))
+
+first_last : (firsts : List (Option ℕ)) (o : Option ℕ) (p : ℕ) → p ≡ length firsts → first_in (firsts ++ o ∷ []) p ≡ o
+first_last [] o zero e = refl
+first_last [] o (suc p) e = absurd (omega (arith, e))
+first_last (x ∷ xs) o zero e = absurd (omega (arith, e))
+first_last (x ∷ xs) o (suc p) e = first_last xs o p (omega (arith, e))
+
+-- the next block takes values or not: its first new phi, and the number that is free behind it
+pub first_more : (from : ℕ → List ℕ) (k next place : ℕ) (firsts more : List (Option ℕ)) (first : Option ℕ) → length firsts ≡ place → first ≡ first_phi from k next place → more ≡ firsts ++ first ∷ []
+    → ((p : ℕ) → p < place → first_in firsts p ≡ first_phi from k next p) → (p : ℕ) → p < place + 1 → first_in more p ≡ first_phi from k next p
+first_more from k next place firsts more first long is pushed before p less = ap (λ (l : List (Option ℕ)). first_in l p) pushed ∙ by (nat_lt p place) refl
+  where
+    by : (t : Bool) → nat_lt p place ≡ t → first_in (firsts ++ first ∷ []) p ≡ first_phi from k next p
+    by true e = first_left firsts first p (omega (arith, long, ltb-true p place e)) ∙ before p (ltb-true p place e)
+    by false e =
+        let here : p ≡ place = omega (arith, ltb-false p place e, less) in
+        first_last firsts first p (here ∙ sym long) ∙ is ∙ ap (first_phi from k next) (sym here)
 
 -- ---- phis
 
