@@ -34,4 +34,4 @@ placed names p code d i q line c instruction is l e s here n =
     let number : numbered d.function.blocks d.block (length d.rest) ≡ counted_before d.function.blocks q + length s.block.phis + (length s.block.lines - length d.rest) + 1 =
     ap (λ (k : ℕ). numbered d.function.blocks k (length d.rest)) s.number ∙ numbered_at d.function.blocks q s.block (length d.rest) s.here s.first in
     let same : instruction ≡ numbered d.function.blocks d.block (length d.rest) = omega (arith, number, left, n, b.before, s.within) in
-    ap (λ (x : Symbol). record { symbol = x; instruction = instruction }) (sym symbol) ∙ ap (λ (k : ℕ). record { symbol = d.function.symbol; instruction = k }) same
+    λ j. record { symbol = sym symbol j; instruction = same j }

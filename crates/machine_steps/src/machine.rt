@@ -1,11 +1,12 @@
 //! The machine and its steps.
-ghost use Rattle.std.specs.Prelude.{◌≡◌, ◌+◌, ◌<◌, ◌∷◌, ◌++◌, [], ℕ, List, Option, length, Some, IfOk, OnErr, vec_len, vec_capacity};
+ghost use Rattle.std.specs.Prelude.{◌≡◌, ◌+◌, ◌<◌, ◌∷◌, ◌++◌, [], ℕ, List, Option, length, map, Some, IfOk, OnErr, vec_len, vec_capacity};
 ghost use Rattle.ir_tree.specs.declared.operand.Symbol.{Symbol};
 ghost use Rattle.ir_meaning.specs.Frame.{Frame as MeantFrame};
 ghost use Rattle.ir_meaning.specs.Memory.{Memory as MeantMemory};
 ghost use Rattle.ir_meaning.specs.Program.{Next, Program, State, place_of};
 ghost use Rattle.ir_machine.specs.Meant.{symbol_at};
 ghost use Rattle.ir_machine.specs.Names.{AreDistinct};
+ghost use Rattle.ir_machine.specs.declared.scalar.Scalar.TheVariants.{Number};
 ghost use Rattle.ir_frames.specs.Locals.{IsMemory};
 ghost use Rattle.machine_steps.specs.Code.{IsCode, IsRunnable, Knows};
 ghost use Rattle.machine_steps.specs.Frames.{IsStanding};
@@ -50,6 +51,17 @@ fn place_in(code: &Code, frame: &Frame) -> Place
             instruction: 0,
         },
     }
+}
+
+/// The values of numbers.
+fn values_of(alloc: Global, numbers: &[u64]) -> Result<Vec<Scalar>, AllocError>
+    ensures { IfOk result (λ values. values.items ≡ map Number numbers.now) }
+{
+    let mut values = Vec::with_capacity(alloc, numbers.len())?;
+    for number in numbers {
+        values.push(Scalar::Number(*number))?;
+    }
+    Ok(values)
 }
 
 impl<'c, 'a> Machine<'c, 'a> {
@@ -145,10 +157,7 @@ impl<'c, 'a> Machine<'c, 'a> {
         ensures begun { IfOk result (λ machine. (names : List Symbol) (p : Program) → AreDistinct names → IsCode names p code.now → Knows names code.now memory p.opening → IsMemory names memory p.opening → HasBegun names p root arguments.now machine) }
         ensures code { IfOk result (λ machine. machine.code.now ≡ code.now) }
     {
-        let mut values = Vec::with_capacity(alloc, arguments.len())?;
-        for number in arguments {
-            values.push(Scalar::Number(*number))?;
-        }
+        let mut values = values_of(alloc, arguments)?;
         match open(alloc, code, root, &mut values, memory.blocks.len())? {
             Some(top) => Ok(Machine {
                 code,
