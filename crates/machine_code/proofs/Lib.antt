@@ -1,4 +1,5 @@
 mod Zips
+mod Rows
 mod Standing
 mod Tasking
 mod Placing

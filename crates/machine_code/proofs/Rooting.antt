@@ -129,8 +129,8 @@ is_root gs l name i types h at integers (f, (code, count)) =
     let m = made_code l d.value f body in
     let e = some_entity (slice_get l.code.entities.items i) types integers in
     let kind = zip_got IsEntityFor gs l.code.entities.items i d.value e.0 h.entities here e.1.0 (number_at 0 gs i) in
-    let is : IsKind e.0 (AFunction (regs_of m.0.params) m.0.result) =
-    subst (λ (x : Kind). IsKind e.0 x) (ap (λ (x : GlobalValue). kind_at (number_at 0 gs i) x) m.1.0 ∙ kind_defined (number_at 0 gs i) m.0 m.1.1.0) kind in
+    let defined : kind_at (number_at 0 gs i) d.value ≡ AFunction (regs_of m.0.params) m.0.result = ap (λ (x : GlobalValue). kind_at (number_at 0 gs i) x) m.1.0 ∙ kind_defined (number_at 0 gs i) m.0 m.1.1.0 in
+    let is : IsKind e.0 (AFunction (regs_of m.0.params) m.0.result) = subst (λ (x : Kind). IsKind e.0 x) defined kind in
     let found = integers_got (regs_of m.0.params) types (e.1.1 ∙ integers_all m.0 e.0 is) in
     record {
       function = m.0;

@@ -1,13 +1,57 @@
 //! Instructions over sources (LangRef, "Instruction Reference").
-ghost use Rattle.std.specs.Prelude.{◌≡◌, IfOk};
+ghost use Rattle.std.specs.Prelude.{◌≡◌, All, IfOk};
+ghost use Rattle.ir_tree.specs.Layout.{IsLaidOut};
+ghost use Rattle.ir_machine.specs.Marks.{HasWidth};
 ghost use Rattle.machine_code.specs.Tasks.{IsSoundInstr, IsTask};
 
 use crate::addresses::Addresses;
 use ir_frames::{Compute, Task};
-use ir_tree::{Instr, size_of};
+use ir_tree::{Argument, Instr, Operand, Reg, Shape, size_of};
 use std::alloc::{AllocError, Global};
 
 impl<'a> Addresses<'a> {
+    /// An address computation over sources.
+    fn address<'i>(
+        &self,
+        alloc: Global,
+        inbounds: bool,
+        shape: &'i Shape,
+        base: &Operand,
+        indices: &[Argument],
+    ) -> Result<Task<'i>, AllocError>
+        requires laid { IsLaidOut shape.now }
+        requires widths { All (λ i. HasWidth i.reg) indices.now }
+        ensures { IfOk result (λ task. IsTask self.now (Instr.Address inbounds shape.entry.now base.now indices.now) task) }
+    {
+        let base = self.source(base);
+        let indices = self.all_typed(alloc, indices)?;
+        Ok(Task::Compute(Compute::Address {
+            inbounds,
+            shape,
+            base,
+            indices,
+        }))
+    }
+
+    /// A call over sources.
+    fn call<'i>(
+        &self,
+        alloc: Global,
+        returned: Option<Reg>,
+        callee: &Operand,
+        arguments: &[Argument],
+    ) -> Result<Task<'i>, AllocError>
+        ensures { IfOk result (λ task. IsTask self.now (Instr.Call returned callee.now arguments.now) task) }
+    {
+        let callee = self.source(callee);
+        let arguments = self.all_typed(alloc, arguments)?;
+        Ok(Task::Call {
+            result: returned,
+            callee,
+            arguments,
+        })
+    }
+
     /// An instruction over sources. Time and memory are in proportion to its operands; an `alloca` asks besides for the size
     /// of its shape.
     pub(crate) fn task<'i>(&self, alloc: Global, instr: &'i Instr) -> Result<Task<'i>, AllocError>
@@ -96,16 +140,7 @@ impl<'a> Addresses<'a> {
                 shape,
                 base,
                 indices,
-            } => {
-                let base = self.source(base);
-                let indices = self.all_typed(alloc, indices.as_slice())?;
-                Ok(Task::Compute(Compute::Address {
-                    inbounds: *inbounds,
-                    shape,
-                    base,
-                    indices,
-                }))
-            }
+            } => self.address(alloc, *inbounds, shape, base, indices.as_slice()),
             Instr::Phi { .. } => Ok(Task::Compute(Compute::Poison)),
             Instr::Alloca { shape, align } => {
                 let size = size_of(shape);
@@ -133,15 +168,7 @@ impl<'a> Addresses<'a> {
                 result,
                 callee,
                 arguments,
-            } => {
-                let callee = self.source(callee);
-                let arguments = self.all_typed(alloc, arguments.as_slice())?;
-                Ok(Task::Call {
-                    result: *result,
-                    callee,
-                    arguments,
-                })
-            }
+            } => self.call(alloc, *result, callee, arguments.as_slice()),
         }
     }
 }

@@ -1,9 +1,10 @@
-use Rattle.std.proofs.Common.{List, refl, subst}
-use Rattle.std.specs.List.{AllZip}
+use Rattle.std.proofs.Common.{List, All, sym, subst}
+use Rattle.std.proofs.lemmas.Result.{IfOk-weaker}
 use Rattle.ir_tree.specs.declared.instr.Instr.TheVariants as kind
 use Rattle.ir_tree.specs.declared.operand.Argument.{Argument}
-use Rattle.machine_code.specs.Sources.{IsTyped}
-use Rattle.machine_code.proofs.Tasking.{address_task, binary_task, by_kind, call_task, cast_task, compare_task, freeze_task, load_task, phi_task, reserve_task, select_task, sound, store_task}
+use Rattle.ir_machine.specs.Marks.{HasWidth}
+use Rattle.machine_code.specs.Tasks.{IsTask}
+use Rattle.machine_code.proofs.Tasking.{binary_task, by_kind, cast_task, compare_task, freeze_task, load_task, phi_task, reserve_task, select_task, sound, store_task}
 use Rattle.machine_code.proofs.addresses.Addresses.task.Goals as goal
 
 pub returns-in-Binary : goal.returns-in-Binary
@@ -41,12 +42,20 @@ returns-in-Load c =
     (load_task c.args.self.now c.in-Load.reg c.in-Load.address c.in-Load.align c.source-address.result c.source-address.ensures
     (sound c.args.instr.now (kind.Load c.in-Load.reg c.in-Load.address c.in-Load.align) c.in-Load.is c.requires))
 
-pub returns-in_ok-indices-in-Address : goal.returns-in_ok-indices-in-Address
-returns-in_ok-indices-in-Address c =
-    by_kind c.args.self.now c.args.instr.now (kind.Address c.in-Address.inbounds c.in-Address.shape c.in-Address.base c.in-Address.indices) _ c.in-Address.is
-    (address_task c.args.self.now c.in-Address.inbounds _ c.in-Address.shape c.in-Address.base c.in-Address.indices c.source-base.result c.in_ok-indices-in-Address.indices refl c.source-base.ensures
-    (subst (λ (rest : List Argument). AllZip (IsTyped c.args.self.now) rest c.in_ok-indices-in-Address.indices.items) c.as_slice.ensures c.in_ok-indices-in-Address.ensures)
-    (sound c.args.instr.now (kind.Address c.in-Address.inbounds c.in-Address.shape c.in-Address.base c.in-Address.indices) c.in-Address.is c.requires))
+pub address-requires-clause-laid : goal.address-requires-clause-laid
+address-requires-clause-laid c = (sound c.args.instr.now (kind.Address c.in-Address.inbounds c.in-Address.shape c.in-Address.base c.in-Address.indices) c.in-Address.is c.requires).0
+
+pub address-requires-clause-widths : goal.address-requires-clause-widths
+address-requires-clause-widths c =
+    subst (λ (is : List Argument). All (λ (i : Argument). HasWidth i.reg) is) (sym c.as_slice.ensures)
+    (sound c.args.instr.now (kind.Address c.in-Address.inbounds c.in-Address.shape c.in-Address.base c.in-Address.indices) c.in-Address.is c.requires).1
+
+pub returns-in-Address : goal.returns-in-Address
+returns-in-Address c =
+    IfOk-weaker c.address.result _ _
+    (λ made is.
+    by_kind c.args.self.now c.args.instr.now (kind.Address c.in-Address.inbounds c.in-Address.shape c.in-Address.base c.in-Address.indices) made c.in-Address.is
+    (subst (λ (rest : List Argument). IsTask c.args.self.now (kind.Address c.in-Address.inbounds c.in-Address.shape c.in-Address.base rest) made) c.as_slice.ensures is)) c.address.ensures
 
 pub returns-in-Phi : goal.returns-in-Phi
 returns-in-Phi c = by_kind c.args.self.now c.args.instr.now (kind.Phi c.in-Phi.reg c.in-Phi.incoming) _ c.in-Phi.is (phi_task c.args.self.now c.in-Phi.reg c.in-Phi.incoming)
@@ -65,8 +74,9 @@ returns-in-Store c =
     (store_task c.args.self.now c.in-Store.reg c.in-Store.value c.in-Store.address c.in-Store.align c.source-value-in-Store.result c.source-address-in-Store.result c.source-value-in-Store.ensures c.source-address-in-Store.ensures
     (sound c.args.instr.now (kind.Store c.in-Store.reg c.in-Store.value c.in-Store.address c.in-Store.align) c.in-Store.is c.requires))
 
-pub returns-in_ok-arguments-in-Call : goal.returns-in_ok-arguments-in-Call
-returns-in_ok-arguments-in-Call c =
-    by_kind c.args.self.now c.args.instr.now (kind.Call c.in-Call.result c.in-Call.callee c.in-Call.arguments) _ c.in-Call.is
-    (call_task c.args.self.now c.in-Call.result c.in-Call.callee c.in-Call.arguments c.source-callee.result c.in_ok-arguments-in-Call.arguments c.source-callee.ensures
-    (subst (λ (rest : List Argument). AllZip (IsTyped c.args.self.now) rest c.in_ok-arguments-in-Call.arguments.items) c.as_slice-in-Call.ensures c.in_ok-arguments-in-Call.ensures))
+pub returns-in-Call : goal.returns-in-Call
+returns-in-Call c =
+    IfOk-weaker c.call.result _ _
+    (λ made is.
+    by_kind c.args.self.now c.args.instr.now (kind.Call c.in-Call.result c.in-Call.callee c.in-Call.arguments) made c.in-Call.is
+    (subst (λ (rest : List Argument). IsTask c.args.self.now (kind.Call c.in-Call.result c.in-Call.callee rest) made) c.as_slice-in-Call.ensures is)) c.call.ensures
