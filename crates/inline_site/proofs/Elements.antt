@@ -1,5 +1,5 @@
 -- Elements of lists: of two lists, changed, chosen, and of lists of lists.
-use Rattle.std.proofs.Common.{◌≡◌, ℕ, zero, suc, ◌+◌, ◌⊎◌, inl, inr, List, [], ◌∷◌, ◌++◌, Option, Some, None, map, option_map, length, refl, sym, ◌∙◌, ap, subst, arith, append_assoc, drop, get_or, ◌<◌, ◌≤◌, ◌-◌}
+use Rattle.std.proofs.Common.{◌≡◌, ℕ, zero, suc, ◌+◌, ◌⊎◌, inl, inr, List, [], ◌∷◌, ◌++◌, Option, Some, None, map, option_map, length, refl, sym, ◌∙◌, ap, subst, arith, append_assoc, append-nil, drop, get_or, ◌<◌, ◌≤◌, ◌-◌}
 use Rattle.std.specs.Prelude.{slice_get, filter_map, flat_map}
 use Rattle.std.specs.List.{cons_option}
 use Rattle.std.proofs.lemmas.List.{drop_more}
@@ -142,3 +142,6 @@ next_copy xs i x rows more y less is made pushed =
     ∙ append_assoc rows (y ∷ []) (drop (i + 1) xs)
     ∙ ap (λ z. rows ++ z ∷ drop (i + 1) xs) made
     ∙ ap (λ l. rows ++ l) (sym (read_here xs i x less is))
+
+pub none_left : {X : Type 0} (rows rest all : List X) → rest ≡ [] → rows ++ rest ≡ all → rows ≡ all
+none_left rows rest all none is = sym (append-nil rows) ∙ ap (λ l. rows ++ l) (sym none) ∙ is

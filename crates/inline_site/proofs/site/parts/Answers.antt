@@ -19,3 +19,8 @@ returns c =
       front = length-take-le c.args.block c.args.blocks.now (omega (arith, c.requires.block));
       before = length-take-le c.args.line c.as_slice-lines.result.now (omega (arith, less));
     }
+
+pub bounds-lines-line : goal.bounds-lines-line
+bounds-lines-line c =
+    subst (λ (l : List Line). c.args.line < length l) (ap (λ (b : Block). b.lines) c.index-blocks-block.is ∙ sym c.as_slice-lines.ensures)
+    (c.requires.line c.index-blocks-block.result (slice_get_read c.args.blocks.now (length c.args.blocks.now) c.args.block c.index-blocks-block.result refl c.requires.block c.index-blocks-block.is))
