@@ -7,11 +7,12 @@
 //!
 //! Below this crate stand `ir_tree`, `local_names` and `fold_rules`, and `ir_edit`, `ir_meaning` and `ir_better` for
 //! words of the definitions. Each function is one walk: each entry of a phi is compared once, and whether an operand is a
-//! phi of the same block is looked up in a set that is made once for a block.
+//! phi of the same block is seen by a look at these, where they are few, and else looked up in a set that is made once for
+//! a block.
 #![tactic(auto)]
 
 mod choices;
 mod sources;
 
 pub use choices::settled;
-pub use sources::{candidates, is_local, phi_locals, push_block, push_phis};
+pub use sources::{candidates, is_local, is_phi, phi_locals, push_block, push_phis};

@@ -9,9 +9,12 @@ ghost use Rattle.fact_sources.specs.Candidates.{block_candidates, blocks_candida
 
 use fold_rules::{Folded, is_same, rule};
 use ir_tree::{Block, Duplicate, Function, Incoming, Instr, Line, Operand, Phi};
-use local_names::is_among;
+use local_names::{Locals, is_among};
 use std::alloc::{AllocError, Global};
 use std::collections::HashSet;
+
+/// Of so many phis no set is made: each is asked.
+const FEW_PHIS: usize = 8;
 
 /// Whether an operand is this local.
 pub fn is_local(local: u32, operand: &Operand) -> bool
@@ -47,6 +50,18 @@ fn takes_only(local: u32, value: &Operand, incoming: &[Incoming]) -> bool
     true
 }
 
+/// Whether a phi gives this local its value.
+pub fn is_phi(local: u32, phis: &[Phi]) -> bool
+    ensures { result ≡ is_phi local phis.now }
+{
+    for phi in phis {
+        if phi.local == local {
+            return true;
+        }
+    }
+    false
+}
+
 /// The locals that phis give values.
 pub fn phi_locals(alloc: Global, phis: &[Phi]) -> Result<HashSet<u32>, AllocError>
     ensures { IfOk result (λ set. (x : ℕ) → contains nat_eq set x ≡ is_phi x phis.now) }
@@ -58,9 +73,25 @@ pub fn phi_locals(alloc: Global, phis: &[Phi]) -> Result<HashSet<u32>, AllocErro
     Ok(set)
 }
 
+/// The locals of few phis, for which each phi is asked: no table is made.
+#[derive(Clone, Copy)]
+struct FewPhis<'a> {
+    phis: &'a [Phi],
+}
+
+impl<'a> Locals for FewPhis<'a> {
+    ghost use Rattle.ir_better.specs.Facts.{is_phi};
+
+    ghost members = { λ s x. is_phi x s.phis.now };
+
+    fn has(&self, local: u32) -> bool {
+        is_phi(local, self.phis)
+    }
+}
+
 /// The one operand that a phi takes beside its own local, unless it is a phi of the same block.
-fn phi_source<'a>(among: &HashSet<u32>, phi: &'a Phi) -> Option<&'a Operand>
-    ensures { option_map (λ o. o.now) result ≡ source_beside (contains nat_eq among.now) phi.now }
+fn phi_source<'a, L: Locals>(among: &L, phi: &'a Phi) -> Option<&'a Operand>
+    ensures { option_map (λ o. o.now) result ≡ source_beside (L.members among.now) phi.now }
 {
     let incoming = phi.incoming.as_slice();
     let source = first_other(phi.local, incoming)?;
@@ -71,17 +102,33 @@ fn phi_source<'a>(among: &HashSet<u32>, phi: &'a Phi) -> Option<&'a Operand>
     }
 }
 
-fn push_phi(
+fn push_phi<L: Locals>(
     alloc: Global,
     found: &mut Vec<(u32, Operand)>,
-    among: &HashSet<u32>,
+    among: &L,
     phi: &Phi,
 ) -> Result<(), AllocError>
-    ensures { OnOk result (found.new.items ≡ found.old.items ++ paired phi.now.local (source_beside (contains nat_eq among.now) phi.now)) }
+    ensures { OnOk result (found.new.items ≡ found.old.items ++ paired phi.now.local (source_beside (L.members among.now) phi.now)) }
 {
     if let Some(source) = phi_source(among, phi) {
         let value = source.duplicate(alloc)?;
         found.push((phi.local, value))?;
+    }
+    Ok(())
+}
+
+/// The candidates of the phis of a block, whose locals are this set.
+fn push_phis_among<L: Locals>(
+    alloc: Global,
+    found: &mut Vec<(u32, Operand)>,
+    among: &L,
+    phis: &[Phi],
+) -> Result<(), AllocError>
+    requires own { (x : ℕ) → L.members among.now x ≡ is_phi x phis.now }
+    ensures { OnOk result (found.new.items ≡ found.old.items ++ phi_candidates phis.now phis.now) }
+{
+    for phi in phis {
+        push_phi(alloc, found, among, phi)?;
     }
     Ok(())
 }
@@ -114,6 +161,8 @@ fn push_line(alloc: Global, found: &mut Vec<(u32, Operand)>, line: &Line) -> Res
     Ok(())
 }
 
+/// The candidates of the phis of a block. Whether an operand is one of these phis is looked up in a set, where there are
+/// many.
 pub fn push_phis(
     alloc: Global,
     found: &mut Vec<(u32, Operand)>,
@@ -121,11 +170,11 @@ pub fn push_phis(
 ) -> Result<(), AllocError>
     ensures { OnOk result (found.new.items ≡ found.old.items ++ phi_candidates phis.now phis.now) }
 {
-    let among = phi_locals(alloc, phis)?;
-    for phi in phis {
-        push_phi(alloc, found, &among, phi)?;
+    if phis.len() <= FEW_PHIS {
+        return push_phis_among(alloc, found, &FewPhis { phis }, phis);
     }
-    Ok(())
+    let among = phi_locals(alloc, phis)?;
+    push_phis_among(alloc, found, &among, phis)
 }
 
 fn push_lines(

@@ -1,12 +1,12 @@
 //! The equations of one fact, from block to block.
 ghost use Rattle.std.specs.Prelude.{◌≡◌, ◌<◌, ℕ, false, length, option_map, slice_set};
 ghost use Rattle.lto_sets.specs.Sets.{contains};
-ghost use Rattle.ir_better.specs.Facts.{edge_operand, is_phi, is_phi_operand};
+ghost use Rattle.ir_better.specs.Facts.{edge_operand, is_phi_operand};
 ghost use Rattle.ir_flow.specs.OfFunction.{IsGraphOf};
 ghost use Rattle.ir_facts.specs.FactFlow.{opened, phi_in, phi_of, taken_from};
 ghost use Rattle.ir_facts.specs.Points.{entry_holds, held_along, held_behind};
 
-use fact_sources::is_local;
+use fact_sources::{is_local, is_phi};
 use fold_rules::is_same;
 use ir_flow::{Edges, Equations};
 use ir_tree::{Block, Function, Incoming, Line, Operand, Phi};
@@ -52,17 +52,6 @@ fn taken_from<'a>(from: u32, home: Option<&'a Phi>) -> Option<&'a Operand>
     ensures { option_map (λ o. o.now) result ≡ taken_from from (option_map (λ p. p.now) home.entry) }
 {
     edge_operand(from, home?.incoming.as_slice())
-}
-
-fn is_phi(local: u32, phis: &[Phi]) -> bool
-    ensures { result ≡ is_phi local phis.now }
-{
-    for phi in phis {
-        if phi.local == local {
-            return true;
-        }
-    }
-    false
 }
 
 fn is_phi_operand(operand: &Operand, phis: &[Phi]) -> bool
