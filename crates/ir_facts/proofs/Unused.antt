@@ -1,5 +1,7 @@
 -- A step with candidates of locals that nobody uses changes nothing.
-use Rattle.std.proofs.Common.{◌≡◌, ℕ, Bool, false, ◌||◌, List, [], ◌∷◌, Option, Some, None, refl, sym, ◌∙◌, ap}
+use Rattle.std.proofs.Common.{◌≡◌, ℕ, Bool, false, ◌||◌, List, [], ◌∷◌, Option, Some, None, refl, sym, ◌∙◌}
+use Rattle.std.specs.Prelude.{is_some}
+use Rattle.std.proofs.lemmas.Bool.{false≢true}
 use Rattle.ir_tree.specs.declared.block.Block.{Block}
 use Rattle.ir_tree.specs.declared.function.Function.{Function}
 use Rattle.ir_tree.specs.declared.instr.Incoming.{Incoming}
@@ -8,16 +10,14 @@ use Rattle.ir_tree.specs.declared.instr.Phi.{Phi}
 use Rattle.ir_tree.specs.declared.operand.Operand.{Operand}
 use Rattle.ir_tree.specs.declared.operand.Operand.TheVariants.{Local, Null, Number as Constant, Poison as PoisonOf, Symbol as Named}
 use Rattle.ir_better.specs.Facts.{Facts, behind_local, block_replaced, blocks_replaced, edges_replaced, lines_replaced, phis_replaced, replaced}
-use Rattle.ir_edit.specs.Substituted.{replacement}
-use Rattle.fact_sources.specs.Candidates.{candidates}
 use Rattle.local_names.specs.Membership.{is_member}
-use Rattle.local_names.specs.Naming.{block_names, blocks_name, end_names, entries_name, instr_names, is_key, lines_name, phis_name}
+use Rattle.local_names.specs.Naming.{block_names, blocks_name, end_names, entries_name, instr_names, lines_name, phis_name}
 use Rattle.ir_facts.specs.Steps.{IsSolution, IsStep, candidate_of, ends_of}
 use Rattle.ir_facts.proofs.Holding.{Known, known_one, local_none}
 use Rattle.ir_facts.proofs.Replaced.{end_is, instr_is}
 use Rattle.ir_facts.proofs.StepsSound.{ends_known}
 use Rattle.local_names.proofs.Neither.{neither}
-use Rattle.ir_facts.proofs.Unnamed.{end_same, instr_same, no_key}
+use Rattle.ir_facts.proofs.Unnamed.{end_same, instr_same}
 
 module _ (among : ℕ → Bool) (c : ℕ → Option Operand) (out : (x : ℕ) → among x ≡ false → c x ≡ None) where
   some_none : (v : Operand) (o : Option Operand) → o ≡ Some v → o ≡ None → ⊥
@@ -85,5 +85,10 @@ module _ (among : ℕ → Bool) (c : ℕ → Option Operand) (out : (x : ℕ) �
         };
   }
 
-pub unused_step : (f : Function) (found : Facts) → found ≡ candidates f → blocks_name (λ x. is_key x found) f.blocks ≡ false → IsStep (candidate_of f) f f
-unused_step f found e h = stays (λ x. is_key x found) (replacement (candidates f)) (λ x out. no_key (candidates f) x (ap (is_key x) (sym e) ∙ out)) f h
+nothing : (o : Option Operand) → is_some o ≡ false → o ≡ None
+nothing None h = refl
+nothing (Some v) h = absurd (false≢true (sym h))
+
+pub unused_step : (f : Function) (value : ℕ → Option Operand) → ((x : ℕ) → value x ≡ candidate_of f x) → blocks_name (λ x. is_some (value x)) f.blocks ≡ false
+    → IsStep (candidate_of f) f f
+unused_step f value is h = stays (λ x. is_some (value x)) (candidate_of f) (λ x out. sym (is x) ∙ nothing (value x) out) f h

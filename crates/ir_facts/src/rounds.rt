@@ -5,7 +5,9 @@ ghost use Rattle.ir_tree.specs.Rules.{Sound};
 ghost use Rattle.ir_meaning.specs.Near.{BetterThan};
 ghost use Rattle.ir_meaning.specs.Program.{Program};
 ghost use Rattle.ir_better.specs.Formed.{IsFormed};
-ghost use Rattle.local_names.specs.Apart.{IsApart};
+ghost use Rattle.local_names.specs.Apart.{IsApart, resting};
+ghost use Rattle.local_names.specs.Substitutions.{IsOf};
+ghost use Rattle.fact_sources.specs.Candidates.{candidates};
 ghost use Rattle.fact_sources.specs.Settled.{or_same};
 ghost use Rattle.ir_facts.specs.Steps.{AreRounds, IsApplied, IsRound, IsStep, candidate_of};
 
@@ -13,8 +15,8 @@ use crate::clear::is_clear;
 use crate::points::facts_of;
 use fact_sources::{candidates, settled};
 use ir_edit::substitute;
-use ir_tree::{Duplicate, Function};
-use local_names::{apart, are_used, firm, resting};
+use ir_tree::{Duplicate, Function, Operand};
+use local_names::{Substitution, apart, firm, resting};
 use point_edit::function_at;
 use std::alloc::{AllocError, Global};
 use std::collections::HashSet;
@@ -22,11 +24,62 @@ use std::collections::HashSet;
 /// At most so many rounds are made.
 const ROUNDS: u32 = 16;
 
-/// Each use of a local replaced where its fact holds at the use; none where no local that is used has a candidate.
+/// Each use of a local replaced where its fact holds at the use: of the facts in `some`, whose candidates unreached blocks
+/// give values, as is looked up at each point, and of the others everywhere.
+fn replaced_at_points(
+    alloc: Global,
+    f: &Function,
+    outside: &HashSet<u32>,
+    found: &[(u32, Operand)],
+    some: &[(u32, Operand)],
+) -> Result<Function, AllocError>
+    requires sound { Sound f.now }
+    requires apart { IsApart f.now (contains nat_eq outside.now) }
+    requires found { found.now ≡ candidates f.now }
+    requires some { some.now ≡ resting (contains nat_eq outside.now) found.now }
+    ensures { IfOk result (λ g. IsStep (candidate_of f.now) f.now g) }
+{
+    let others = firm(alloc, found, outside)?;
+    let facts = facts_of(alloc, f, some)?;
+    let h = substitute(alloc, f, others.as_slice())?;
+    let g = function_at(alloc, facts.as_slice(), &h)?;
+    Ok(g)
+}
+
+/// Each use of a local replaced where its fact holds at the use.
 ///
 /// A fact whose candidate no unreached block gives a value holds wherever its local is used, and so does each fact where
 /// blocks are clear of the others. Else it is looked up of the others at each point; `outside` has the locals to which
 /// unreached blocks give values.
+fn replaced(
+    alloc: Global,
+    f: &Function,
+    outside: &HashSet<u32>,
+    found: &[(u32, Operand)],
+    substitution: &Substitution<'_>,
+) -> Result<Function, AllocError>
+    requires sound { Sound f.now }
+    requires apart { IsApart f.now (contains nat_eq outside.now) }
+    requires found { found.now ≡ candidates f.now }
+    requires whole { IsOf found.now substitution.now }
+    ensures { IfOk result (λ g. IsStep (candidate_of f.now) f.now g) }
+{
+    let some = resting(alloc, found, outside)?;
+    let count = some.len();
+    if count == 0 {
+        let g = substitution.applied(alloc, f)?;
+        return Ok(g);
+    }
+    let clear = is_clear(alloc, outside, f)?;
+    if clear {
+        let g = substitution.applied(alloc, f)?;
+        return Ok(g);
+    }
+    let g = replaced_at_points(alloc, f, outside, found, some.as_slice())?;
+    Ok(g)
+}
+
+/// Each use of a local replaced where its fact holds at the use; none where no local that is used has a candidate.
 fn forwarded(
     alloc: Global,
     f: &Function,
@@ -37,25 +90,12 @@ fn forwarded(
     ensures { IfOk result (λ g. IsStep (candidate_of f.now) f.now (or_same f.now g)) }
 {
     let found = candidates(alloc, f)?;
-    let used = are_used(alloc, found.as_slice(), f)?;
+    let substitution = Substitution::of(alloc, found.as_slice())?;
+    let used = substitution.is_used(f);
     if !used {
         return Ok(None);
     }
-    let some = resting(alloc, found.as_slice(), outside)?;
-    let count = some.len();
-    if count == 0 {
-        let g = substitute(alloc, f, found.as_slice())?;
-        return Ok(Some(g));
-    }
-    let clear = is_clear(alloc, outside, f)?;
-    if clear {
-        let g = substitute(alloc, f, found.as_slice())?;
-        return Ok(Some(g));
-    }
-    let others = firm(alloc, found.as_slice(), outside)?;
-    let facts = facts_of(alloc, f, some.as_slice())?;
-    let h = substitute(alloc, f, others.as_slice())?;
-    let g = function_at(alloc, facts.as_slice(), &h)?;
+    let g = replaced(alloc, f, outside, found.as_slice(), &substitution)?;
     Ok(Some(g))
 }
 

@@ -1,3 +1,4 @@
 pub mod Apart
 pub mod Membership
 pub mod Naming
+pub mod Substitutions

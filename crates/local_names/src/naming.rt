@@ -1,23 +1,11 @@
 //! Whether a function uses one of some locals, so that there is something to replace.
-ghost use Rattle.std.specs.Prelude.{◌≡◌, ℕ, Bool, nat_eq, IfOk};
+ghost use Rattle.std.specs.Prelude.{◌≡◌, ℕ, Bool, nat_eq};
 ghost use Rattle.std.specs.HashSet.{contains};
 ghost use Rattle.local_names.specs.Membership.{beside, is_member};
-ghost use Rattle.local_names.specs.Naming.{arguments_name, block_names, blocks_name, end_names, entries_name, instr_names, is_key, lines_name, phis_name};
+ghost use Rattle.local_names.specs.Naming.{arguments_name, block_names, blocks_name, end_names, entries_name, instr_names, lines_name, phis_name};
 
-use ir_tree::{Argument, Block, Function, Incoming, Instr, Line, Operand, Phi, Terminator};
-use std::alloc::{AllocError, Global};
+use ir_tree::{Argument, Block, Incoming, Instr, Line, Operand, Phi, Terminator};
 use std::collections::HashSet;
-
-/// The locals of these facts.
-pub fn keys(alloc: Global, found: &[(u32, Operand)]) -> Result<HashSet<u32>, AllocError>
-    ensures { IfOk result (λ set. (x : ℕ) → contains nat_eq set x ≡ is_key x found.now) }
-{
-    let mut set = HashSet::new(alloc);
-    for fact in found {
-        set.insert(fact.0)?;
-    }
-    Ok(set)
-}
 
 /// A set of locals that is asked for.
 pub trait Locals {
@@ -168,17 +156,4 @@ pub fn blocks_name<L: Locals>(among: &L, blocks: &[Block]) -> bool
         }
     }
     false
-}
-
-/// Whether a function uses a local of these facts.
-pub fn are_used(alloc: Global, found: &[(u32, Operand)], f: &Function) -> Result<bool, AllocError>
-    ensures { IfOk result (λ used. used ≡ blocks_name (λ x. is_key x found.now) f.now.blocks) }
-{
-    let count = found.len();
-    if count == 0 {
-        return Ok(false);
-    }
-    let among = keys(alloc, found)?;
-    let used = blocks_name(&among, f.blocks.as_slice());
-    Ok(used)
 }

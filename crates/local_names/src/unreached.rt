@@ -86,7 +86,7 @@ pub fn apart(alloc: Global, f: &Function) -> Result<HashSet<u32>, AllocError>
     Ok(set)
 }
 
-/// The facts whose operand is a local of the set.
+/// The facts whose operand is a local of the set. With none in the set, none is looked at.
 pub fn resting(
     alloc: Global,
     found: &[(u32, Operand)],
@@ -95,6 +95,10 @@ pub fn resting(
     ensures { IfOk result (λ some. some.items ≡ resting (hash.contains nat_eq set.now) found.now) }
 {
     let mut some = Vec::new(alloc);
+    let none = set.is_empty();
+    if none {
+        return Ok(some);
+    }
     for pair in found {
         if is_among(set, &pair.1) {
             let value = pair.1.duplicate(alloc)?;

@@ -1,0 +1,84 @@
+//! Facts as a table, by which uses of their locals are found and replaced.
+ghost use Rattle.std.specs.Prelude.{◌≡◌, IfOk, is_some};
+ghost use Rattle.ir_edit.specs.Edited.{edited};
+ghost use Rattle.ir_edit.specs.Substituted.{operand_replaced};
+ghost use Rattle.local_names.specs.Naming.{blocks_name};
+ghost use Rattle.local_names.specs.Substitutions.{IsOf, value_in};
+
+use crate::naming::{Locals, blocks_name};
+use ir_edit::{Edit, edited};
+use ir_tree::{Duplicate, Function, Operand};
+use std::alloc::{AllocError, Global};
+use std::collections::HashMap;
+
+/// What stands for locals. The locals are those that have something.
+#[derive(Drop)]
+pub struct Substitution<'a> {
+    values: HashMap<u32, &'a Operand>,
+}
+
+impl<'a> Substitution<'a> {
+    /// Of each pair the operand for its local; of a local that stands twice, the later one.
+    pub fn of(alloc: Global, pairs: &'a [(u32, Operand)]) -> Result<Self, AllocError>
+        ensures { IfOk result (IsOf pairs.now) }
+    {
+        let mut values = HashMap::with_capacity(alloc, pairs.len())?;
+        for pair in pairs {
+            values.insert(pair.0, &pair.1)?;
+        }
+        Ok(Substitution { values })
+    }
+
+    /// Whether a function uses a local that is replaced. The first such use ends it, and where none is replaced, none is
+    /// looked at.
+    pub fn is_used(&self, f: &Function) -> bool
+        ensures { result ≡ blocks_name (λ x. is_some (value_in self.now x)) f.now.blocks }
+    {
+        let none = self.values.is_empty();
+        if none {
+            return false;
+        }
+        blocks_name(self, f.blocks.as_slice())
+    }
+
+    /// The function with each use of such a local replaced, all at once: what is put in isn't looked at again.
+    pub fn applied(&self, alloc: Global, f: &Function) -> Result<Function, AllocError>
+        ensures { IfOk result (λ g. g ≡ edited (λ x. x) (operand_replaced (value_in self.now)) f.now) }
+    {
+        edited(alloc, self, f)
+    }
+}
+
+impl<'a> Locals for Substitution<'a> {
+    ghost use Rattle.std.specs.Prelude.{is_some};
+    ghost use Rattle.local_names.specs.Substitutions.{value_in};
+
+    ghost members = { λ s x. is_some (value_in s x) };
+
+    fn has(&self, local: u32) -> bool {
+        self.values.contains_key(&local)
+    }
+}
+
+impl<'a> Edit for Substitution<'a> {
+    ghost use Rattle.ir_edit.specs.Substituted.{operand_replaced};
+    ghost use Rattle.local_names.specs.Substitutions.{value_in};
+
+    ghost number_of = { λ s x. x };
+
+    ghost operand_of = { λ s. operand_replaced (value_in s) };
+
+    fn number(&self, old: u32) -> Result<u32, AllocError> {
+        Ok(old)
+    }
+
+    fn operand(&self, alloc: Global, old: &Operand) -> Result<Operand, AllocError> {
+        match old {
+            Operand::Local(x) => match self.values.get(x) {
+                Some(value) => value.duplicate(alloc),
+                None => Ok(Operand::Local(*x)),
+            },
+            _ => old.duplicate(alloc),
+        }
+    }
+}
