@@ -1,17 +1,15 @@
 //! One walk over a function that replaces each use of a local where a fact of it holds.
-ghost use Rattle.std.specs.Prelude.{◌≡◌, ◌+◌, ℕ, suc, IfOk, length, map};
+ghost use Rattle.std.specs.Prelude.{◌≡◌, ◌+◌, ℕ, suc, IfOk, length};
 ghost use Rattle.std.specs.BTreeMap as tree;
 ghost use Rattle.std.specs.Ordering.{nat_cmp};
 ghost use Rattle.lto_sets.specs.Sets.{contains};
 ghost use Rattle.ir_better.specs.Facts.{is_local};
-ghost use Rattle.ir_edit.specs.Edited.{argument_edited, incoming_edited, instr_edited};
 ghost use Rattle.point_edit.specs.AtPoints.{block_at, blocks_at, edges_at, end_at, function_at, last_point, lines_at, phis_at, standing, standing_behind};
 
 use crate::fact::Fact;
-use ir_tree::{
-    Argument, BinaryOp, Block, CastOp, Duplicate, Flags, Function, Incoming, Instr, Line, Operand,
-    Phi, Predicate, Reg, Rows, Shape, Terminator,
-};
+use crate::walk::{argument_edited, instr_edited};
+use ir_edit::Edit;
+use ir_tree::{Block, Duplicate, Function, Incoming, Line, Operand, Phi, Rows, Terminator};
 use std::alloc::{AllocError, Global};
 use std::collections::BTreeMap;
 
@@ -100,319 +98,30 @@ fn operand_at(
     standing(facts, point, operand).duplicate(alloc)
 }
 
-fn argument_at(
-    alloc: Global,
-    facts: &[Fact],
+/// Each operand changed to what stands for it at a point.
+#[derive(Clone, Copy)]
+struct At<'a> {
+    facts: &'a [Fact],
     point: u32,
-    argument: &Argument,
-) -> Result<Argument, AllocError>
-    ensures { IfOk result (λ a. a ≡ argument_edited (standing facts.now point) argument.now) }
-{
-    let operand = operand_at(alloc, facts, point, &argument.operand)?;
-    Ok(Argument {
-        reg: argument.reg,
-        operand,
-    })
 }
 
-fn arguments_at(
-    alloc: Global,
-    facts: &[Fact],
-    point: u32,
-    arguments: &[Argument],
-) -> Result<Rows<Argument>, AllocError>
-    ensures { IfOk result (λ rows. rows ≡ map (argument_edited (standing facts.now point)) arguments.now) }
-{
-    let mut rows = Rows::new(alloc);
-    for old in arguments {
-        rows.push(argument_at(alloc, facts, point, old)?)?;
-    }
-    Ok(rows)
-}
+impl<'a> Edit for At<'a> {
+    ghost use Rattle.point_edit.specs.AtPoints.{standing};
 
-fn entries_at(
-    alloc: Global,
-    facts: &[Fact],
-    point: u32,
-    incoming: &[Incoming],
-) -> Result<Rows<Incoming>, AllocError>
-    ensures { IfOk result (λ rows. rows ≡ map (incoming_edited (λ x. x) (standing facts.now point)) incoming.now) }
-{
-    let mut rows = Rows::new(alloc);
-    for edge in incoming {
-        let value = operand_at(alloc, facts, point, &edge.value)?;
-        rows.push(Incoming {
-            from: edge.from,
-            value,
-        })?;
+    ghost number_of = { λ a x. x };
+
+    ghost operand_of = { λ a. standing a.facts.now a.point };
+
+    fn number(&self, old: u32) -> Result<u32, AllocError> {
+        Ok(old)
     }
-    Ok(rows)
+
+    fn operand(&self, alloc: Global, old: &Operand) -> Result<Operand, AllocError> {
+        operand_at(alloc, self.facts, self.point, old)
+    }
 }
 
 // ---- instructions
-
-// Each kind by itself: what stands for its operands at the point.
-
-fn binary_at(
-    alloc: Global,
-    facts: &[Fact],
-    point: u32,
-    op: BinaryOp,
-    flags: Flags,
-    width: u8,
-    left: &Operand,
-    right: &Operand,
-) -> Result<Instr, AllocError>
-    ensures { IfOk result (λ i. i ≡ Instr.Binary op flags width (standing facts.now point left.now) (standing facts.now point right.now)) }
-{
-    let left = operand_at(alloc, facts, point, left)?;
-    let right = operand_at(alloc, facts, point, right)?;
-    Ok(Instr::Binary {
-        op,
-        flags,
-        width,
-        left,
-        right,
-    })
-}
-
-fn icmp_at(
-    alloc: Global,
-    facts: &[Fact],
-    point: u32,
-    predicate: Predicate,
-    reg: Reg,
-    left: &Operand,
-    right: &Operand,
-) -> Result<Instr, AllocError>
-    ensures { IfOk result (λ i. i ≡ Instr.Icmp predicate reg (standing facts.now point left.now) (standing facts.now point right.now)) }
-{
-    let left = operand_at(alloc, facts, point, left)?;
-    let right = operand_at(alloc, facts, point, right)?;
-    Ok(Instr::Icmp {
-        predicate,
-        reg,
-        left,
-        right,
-    })
-}
-
-fn cast_at(
-    alloc: Global,
-    facts: &[Fact],
-    point: u32,
-    op: CastOp,
-    from: Reg,
-    value: &Operand,
-    to: Reg,
-) -> Result<Instr, AllocError>
-    ensures { IfOk result (λ i. i ≡ Instr.Cast op from (standing facts.now point value.now) to) }
-{
-    let value = operand_at(alloc, facts, point, value)?;
-    Ok(Instr::Cast {
-        op,
-        from,
-        value,
-        to,
-    })
-}
-
-fn select_at(
-    alloc: Global,
-    facts: &[Fact],
-    point: u32,
-    condition: &Operand,
-    if_true: &Argument,
-    if_false: &Argument,
-) -> Result<Instr, AllocError>
-    ensures { IfOk result (λ i. i ≡ Instr.Select (standing facts.now point condition.now) (argument_edited (standing facts.now point) if_true.now) (argument_edited (standing facts.now point) if_false.now)) }
-{
-    let condition = operand_at(alloc, facts, point, condition)?;
-    let if_true = argument_at(alloc, facts, point, if_true)?;
-    let if_false = argument_at(alloc, facts, point, if_false)?;
-    Ok(Instr::Select {
-        condition,
-        if_true,
-        if_false,
-    })
-}
-
-fn freeze_at(
-    alloc: Global,
-    facts: &[Fact],
-    point: u32,
-    reg: Reg,
-    value: &Operand,
-) -> Result<Instr, AllocError>
-    ensures { IfOk result (λ i. i ≡ Instr.Freeze reg (standing facts.now point value.now)) }
-{
-    let value = operand_at(alloc, facts, point, value)?;
-    Ok(Instr::Freeze { reg, value })
-}
-
-fn alloca_at(alloc: Global, shape: &Shape, align: u64) -> Result<Instr, AllocError>
-    ensures { IfOk result (λ i. i ≡ Instr.Alloca shape.now align) }
-{
-    let shape = shape.duplicate(alloc)?;
-    Ok(Instr::Alloca { shape, align })
-}
-
-fn load_at(
-    alloc: Global,
-    facts: &[Fact],
-    point: u32,
-    reg: Reg,
-    address: &Operand,
-    align: u64,
-) -> Result<Instr, AllocError>
-    ensures { IfOk result (λ i. i ≡ Instr.Load reg (standing facts.now point address.now) align) }
-{
-    let address = operand_at(alloc, facts, point, address)?;
-    Ok(Instr::Load {
-        reg,
-        address,
-        align,
-    })
-}
-
-fn store_at(
-    alloc: Global,
-    facts: &[Fact],
-    point: u32,
-    reg: Reg,
-    value: &Operand,
-    address: &Operand,
-    align: u64,
-) -> Result<Instr, AllocError>
-    ensures { IfOk result (λ i. i ≡ Instr.Store reg (standing facts.now point value.now) (standing facts.now point address.now) align) }
-{
-    let value = operand_at(alloc, facts, point, value)?;
-    let address = operand_at(alloc, facts, point, address)?;
-    Ok(Instr::Store {
-        reg,
-        value,
-        address,
-        align,
-    })
-}
-
-fn address_at(
-    alloc: Global,
-    facts: &[Fact],
-    point: u32,
-    inbounds: bool,
-    shape: &Shape,
-    base: &Operand,
-    indices: &[Argument],
-) -> Result<Instr, AllocError>
-    ensures { IfOk result (λ i. i ≡ Instr.Address inbounds shape.now (standing facts.now point base.now) (map (argument_edited (standing facts.now point)) indices.now)) }
-{
-    let shape = shape.duplicate(alloc)?;
-    let base = operand_at(alloc, facts, point, base)?;
-    let indices = arguments_at(alloc, facts, point, indices)?;
-    Ok(Instr::Address {
-        inbounds,
-        shape,
-        base,
-        indices,
-    })
-}
-
-fn call_at(
-    alloc: Global,
-    facts: &[Fact],
-    point: u32,
-    answer: Option<Reg>,
-    callee: &Operand,
-    arguments: &[Argument],
-) -> Result<Instr, AllocError>
-    ensures { IfOk result (λ i. i ≡ Instr.Call answer (standing facts.now point callee.now) (map (argument_edited (standing facts.now point)) arguments.now)) }
-{
-    let callee = operand_at(alloc, facts, point, callee)?;
-    let arguments = arguments_at(alloc, facts, point, arguments)?;
-    Ok(Instr::Call {
-        result: answer,
-        callee,
-        arguments,
-    })
-}
-
-fn phi_at(
-    alloc: Global,
-    facts: &[Fact],
-    point: u32,
-    reg: Reg,
-    incoming: &[Incoming],
-) -> Result<Instr, AllocError>
-    ensures { IfOk result (λ i. i ≡ Instr.Phi reg (map (incoming_edited (λ x. x) (standing facts.now point)) incoming.now)) }
-{
-    let incoming = entries_at(alloc, facts, point, incoming)?;
-    Ok(Instr::Phi { reg, incoming })
-}
-
-fn instr_at(alloc: Global, facts: &[Fact], point: u32, instr: &Instr) -> Result<Instr, AllocError>
-    ensures { IfOk result (λ i. i ≡ instr_edited (λ x. x) (standing facts.now point) instr.now) }
-{
-    match instr {
-        Instr::Binary {
-            op,
-            flags,
-            width,
-            left,
-            right,
-        } => binary_at(alloc, facts, point, *op, *flags, *width, left, right),
-        Instr::Icmp {
-            predicate,
-            reg,
-            left,
-            right,
-        } => icmp_at(alloc, facts, point, *predicate, *reg, left, right),
-        Instr::Cast {
-            op,
-            from,
-            value,
-            to,
-        } => cast_at(alloc, facts, point, *op, *from, value, *to),
-        Instr::Select {
-            condition,
-            if_true,
-            if_false,
-        } => select_at(alloc, facts, point, condition, if_true, if_false),
-        Instr::Freeze { reg, value } => freeze_at(alloc, facts, point, *reg, value),
-        Instr::Alloca { shape, align } => alloca_at(alloc, shape, *align),
-        Instr::Load {
-            reg,
-            address,
-            align,
-        } => load_at(alloc, facts, point, *reg, address, *align),
-        Instr::Store {
-            reg,
-            value,
-            address,
-            align,
-        } => store_at(alloc, facts, point, *reg, value, address, *align),
-        Instr::Address {
-            inbounds,
-            shape,
-            base,
-            indices,
-        } => address_at(
-            alloc,
-            facts,
-            point,
-            *inbounds,
-            shape,
-            base,
-            indices.as_slice(),
-        ),
-        Instr::Call {
-            result,
-            callee,
-            arguments,
-        } => call_at(alloc, facts, point, *result, callee, arguments.as_slice()),
-        Instr::Phi { reg, incoming } => phi_at(alloc, facts, point, *reg, incoming.as_slice()),
-    }
-}
 
 fn lines_at(
     alloc: Global,
@@ -425,7 +134,7 @@ fn lines_at(
     let mut rows = Rows::new(alloc);
     let mut point = first;
     for line in lines {
-        let instr = instr_at(alloc, facts, point, &line.instr)?;
+        let instr = instr_edited(alloc, &At { facts, point }, &line.instr)?;
         rows.push(Line {
             local: line.local,
             instr,
@@ -503,7 +212,7 @@ fn end_at(
 {
     match end {
         Terminator::Return(Some(value)) => {
-            let value = argument_at(alloc, facts, point, value)?;
+            let value = argument_edited(alloc, &At { facts, point }, value)?;
             Ok(Terminator::Return(Some(value)))
         }
         Terminator::Return(None) => Ok(Terminator::Return(None)),

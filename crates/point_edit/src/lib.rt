@@ -2,14 +2,16 @@
 //!
 //! A [`Fact`] says at which points of a function an operand may stand for a local. [`function_at`] puts it there, in one
 //! walk: the definition is `specs/AtPoints.antt`, and the contract is equality with it. Whether the facts hold is not
-//! asked here: `ir_facts` finds them.
+//! asked here: `ir_facts` finds them. It is one walk for any change of operands, and [`block_edited`] is that of one block.
 //!
-//! Below this crate stand `ir_tree` and `lto_sets`, and `ir_edit` and `ir_better` for words of the definitions. A use is
-//! looked up in each fact.
+//! Below this crate stand `ir_tree`, `lto_sets` and `ir_edit`, and `ir_better` for words of the definitions. A use is looked
+//! up in each fact.
 #![tactic(auto)]
 
 mod at_points;
 mod fact;
+mod walk;
 
 pub use at_points::function_at;
 pub use fact::Fact;
+pub use walk::block_edited;
