@@ -95,7 +95,8 @@ fn any_choice(lines: &[Line]) -> bool
     false
 }
 
-fn any_choice_in(blocks: &[Block]) -> bool
+/// Whether a row of these blocks rests on a free choice.
+pub fn any_choice_in(blocks: &[Block]) -> bool
     requires sized { BlocksHaveWidths blocks.now }
     ensures { result ≡ any_choice_in blocks.now }
 {

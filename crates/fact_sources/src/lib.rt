@@ -14,5 +14,5 @@
 mod choices;
 mod sources;
 
-pub use choices::settled;
-pub use sources::{candidates, is_local, is_phi, phi_locals, push_block, push_phis};
+pub use choices::{any_choice_in, settled};
+pub use sources::{candidates, is_local, is_phi, phi_locals, push_block, push_blocks, push_phis};

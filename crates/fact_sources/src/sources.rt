@@ -204,7 +204,8 @@ pub fn push_block(
     push_lines(alloc, found, block.lines.as_slice())
 }
 
-fn push_blocks(
+/// The candidates of blocks, in the order of the text.
+pub fn push_blocks(
     alloc: Global,
     found: &mut Vec<(u32, Operand)>,
     blocks: &[Block],

@@ -11,6 +11,7 @@ pub mod EditedItems
 pub mod Editing
 pub mod FactSolutions
 pub mod Holding
+pub mod InPlace
 pub mod InRounds
 pub mod Inner
 pub mod Keys

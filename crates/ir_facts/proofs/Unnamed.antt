@@ -96,13 +96,13 @@ module _ (among : ℕ → Bool) (g : Operand → Operand) (operand_stays : (o : 
   end_same (Switch w o default cases) h = λ i. Switch w (operand_stays o h i) default (cases_same cases i)
   end_same Unreachable h = refl
 
-  block_same : (b : Block) → block_names among b ≡ false → block_by g b ≡ b
+  pub block_same : (b : Block) → block_names among b ≡ false → block_by g b ≡ b
   block_same b h =
       let two = neither (phis_name among b.phis) (lines_name among b.lines || end_names among b.end) h in
       let more = neither (lines_name among b.lines) (end_names among b.end) two.1 in
       λ i. record { number = b.number; phis = phis_same b.phis two.0 i; lines = lines_same b.lines more.0 i; end = end_same b.end more.1 i }
 
-  blocks_same : (bs : List Block) → blocks_name among bs ≡ false → map (block_by g) bs ≡ bs
+  pub blocks_same : (bs : List Block) → blocks_name among bs ≡ false → map (block_by g) bs ≡ bs
   blocks_same [] h = refl
   blocks_same (b ∷ bs) h =
       let two = neither (block_names among b) (blocks_name among bs) h in

@@ -85,7 +85,7 @@ module _ (among : ℕ → Bool) (c : ℕ → Option Operand) (out : (x : ℕ) �
         };
   }
 
-nothing : (o : Option Operand) → is_some o ≡ false → o ≡ None
+pub nothing : (o : Option Operand) → is_some o ≡ false → o ≡ None
 nothing None h = refl
 nothing (Some v) h = absurd (false≢true (sym h))
 

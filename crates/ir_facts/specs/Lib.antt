@@ -1,4 +1,5 @@
 pub mod Agreement
+pub mod Blocks
 pub mod Clear
 pub mod FactFlow
 pub mod FlowLaws

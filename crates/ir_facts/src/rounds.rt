@@ -1,5 +1,5 @@
 //! Copy and constant propagation: substitution by facts, in rounds.
-ghost use Rattle.std.specs.Prelude.{◌≡◌, nat_eq, true, false, IfOk};
+ghost use Rattle.std.specs.Prelude.{◌≡◌, ℕ, nat_eq, true, false, IfOk};
 ghost use Rattle.std.specs.HashSet.{contains};
 ghost use Rattle.ir_tree.specs.Rules.{Sound};
 ghost use Rattle.ir_meaning.specs.Near.{BetterThan};
@@ -9,13 +9,15 @@ ghost use Rattle.local_names.specs.Apart.{IsApart, resting};
 ghost use Rattle.local_names.specs.Substitutions.{IsOf};
 ghost use Rattle.fact_sources.specs.Candidates.{candidates};
 ghost use Rattle.fact_sources.specs.Settled.{or_same};
+ghost use Rattle.ir_facts.specs.Blocks.{with_blocks};
 ghost use Rattle.ir_facts.specs.Steps.{AreRounds, IsApplied, IsRound, IsStep, candidate_of};
 
 use crate::clear::is_clear;
+use crate::in_place::{copied, forward, with_blocks};
 use crate::points::facts_of;
-use fact_sources::{candidates, settled};
+use fact_sources::{any_choice_in, candidates, settled};
 use ir_edit::substitute;
-use ir_tree::{Duplicate, Function, Operand};
+use ir_tree::{Block, Duplicate, Function, Operand};
 use local_names::{Substitution, apart, firm, resting};
 use point_edit::function_at;
 use std::alloc::{AllocError, Global};
@@ -91,7 +93,7 @@ fn forwarded(
 {
     let found = candidates(alloc, f)?;
     let substitution = Substitution::of(alloc, found.as_slice())?;
-    let used = substitution.is_used(f);
+    let used = substitution.is_used(f.blocks.as_slice());
     if !used {
         return Ok(None);
     }
@@ -149,6 +151,59 @@ fn rounds(
     }
 }
 
+/// The function with these blocks after so many rounds, where none of its blocks is out of reach: then each candidate holds
+/// wherever its local is used. A block in which nothing is replaced stays as it is. Behind free choices that are to be
+/// settled it goes on by whole functions.
+fn rounds_in_place(
+    alloc: Global,
+    f: &Function,
+    mut blocks: Vec<Block>,
+    outside: &HashSet<u32>,
+    left: u32,
+) -> Result<Function, AllocError>
+    requires sound { Sound (with_blocks f.now blocks.items) }
+    requires apart { IsApart (with_blocks f.now blocks.items) (contains nat_eq outside.now) }
+    requires none { (x : ℕ) → contains nat_eq outside.now x ≡ false }
+    ensures { IfOk result (λ g. AreRounds left (with_blocks f.now blocks.items) g) }
+{
+    if left == 0 {
+        let g = with_blocks(alloc, f, blocks)?;
+        return Ok(g);
+    }
+    let free = any_choice_in(blocks.as_slice());
+    if free {
+        let whole = with_blocks(alloc, f, blocks)?;
+        let g = rounds(alloc, whole, outside, left)?;
+        return Ok(g);
+    }
+    let changed = forward(alloc, &mut blocks)?;
+    if !changed {
+        let g = with_blocks(alloc, f, blocks)?;
+        return Ok(g);
+    }
+    let g = rounds_in_place(alloc, f, blocks, outside, left - 1)?;
+    Ok(g)
+}
+
+/// A function some of whose blocks are out of reach, after all rounds.
+fn rounds_apart(alloc: Global, f: &Function, outside: &HashSet<u32>) -> Result<Function, AllocError>
+    requires sound { Sound f.now }
+    requires apart { IsApart f.now (contains nat_eq outside.now) }
+    ensures { IfOk result (λ g. IsApplied f.now g) }
+{
+    let first = round(alloc, f, outside)?;
+    match first {
+        Some(g) => {
+            let h = rounds(alloc, g, outside, ROUNDS - 1)?;
+            Ok(h)
+        }
+        None => {
+            let copy = f.duplicate(alloc)?;
+            Ok(copy)
+        }
+    }
+}
+
 /// A sound function with uses of locals replaced by what has their value: the one operand that a phi takes, and
 /// the operand of the rule table, wherever the fact that it has this value holds at the use; sixteen rounds, but none
 /// behind one that changes nothing, which would change nothing either.
@@ -167,15 +222,12 @@ pub fn apply(alloc: Global, f: &Function) -> Result<Function, AllocError>
     ensures sound { IfOk result (λ g. Sound g) }
 {
     let outside = apart(alloc, f)?;
-    let first = round(alloc, f, &outside)?;
-    match first {
-        Some(g) => {
-            let h = rounds(alloc, g, &outside, ROUNDS - 1)?;
-            Ok(h)
-        }
-        None => {
-            let copy = f.duplicate(alloc)?;
-            Ok(copy)
-        }
+    let none = outside.is_empty();
+    if none {
+        let blocks = copied(alloc, f.blocks.as_slice())?;
+        let g = rounds_in_place(alloc, f, blocks, &outside, ROUNDS)?;
+        return Ok(g);
     }
+    let g = rounds_apart(alloc, f, &outside)?;
+    Ok(g)
 }

@@ -1,5 +1,5 @@
 mod LookedUp
 pub mod Neither
 pub mod NoneNamed
-mod NoneResting
+pub mod NoneResting
 pub mod Outside

@@ -11,6 +11,6 @@ mod naming;
 mod substitution;
 mod unreached;
 
-pub use naming::{Beside, Locals, end_names, instr_names, is_among};
+pub use naming::{Beside, Locals, block_names, end_names, instr_names, is_among};
 pub use substitution::Substitution;
 pub use unreached::{apart, defined, firm, resting, set_of};

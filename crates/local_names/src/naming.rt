@@ -138,7 +138,8 @@ pub fn end_names<L: Locals>(among: &L, end: &Terminator) -> bool
     }
 }
 
-fn block_names<L: Locals>(among: &L, block: &Block) -> bool
+/// Whether an operand of a block is a local of the set.
+pub fn block_names<L: Locals>(among: &L, block: &Block) -> bool
     ensures { result ≡ block_names (L.members among.now) block.now }
 {
     phis_name(among, block.phis.as_slice())

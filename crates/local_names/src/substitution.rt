@@ -7,7 +7,7 @@ ghost use Rattle.local_names.specs.Substitutions.{IsOf, value_in};
 
 use crate::naming::{Locals, blocks_name};
 use ir_edit::{Edit, edited};
-use ir_tree::{Duplicate, Function, Operand};
+use ir_tree::{Block, Duplicate, Function, Operand};
 use std::alloc::{AllocError, Global};
 use std::collections::HashMap;
 
@@ -29,16 +29,16 @@ impl<'a> Substitution<'a> {
         Ok(Substitution { values })
     }
 
-    /// Whether a function uses a local that is replaced. The first such use ends it, and where none is replaced, none is
+    /// Whether blocks use a local that is replaced. The first such use ends it, and where none is replaced, none is
     /// looked at.
-    pub fn is_used(&self, f: &Function) -> bool
-        ensures { result ≡ blocks_name (λ x. is_some (value_in self.now x)) f.now.blocks }
+    pub fn is_used(&self, blocks: &[Block]) -> bool
+        ensures { result ≡ blocks_name (λ x. is_some (value_in self.now x)) blocks.now }
     {
         let none = self.values.is_empty();
         if none {
             return false;
         }
-        blocks_name(self, f.blocks.as_slice())
+        blocks_name(self, blocks)
     }
 
     /// The function with each use of such a local replaced, all at once: what is put in isn't looked at again.

@@ -1,6 +1,8 @@
 use Rattle.std.proofs.Common.{ℕ, List, sym, ◌∙◌, ap}
+use Rattle.std.specs.Prelude.{is_some}
 use Rattle.ir_tree.specs.declared.operand.Operand.{Operand}
 use Rattle.ir_edit.specs.Substituted.{replacement}
+use Rattle.local_names.specs.Naming.{blocks_name}
 use Rattle.local_names.specs.Substitutions.{value_in}
 use Rattle.ir_facts.proofs.Unused.{unused_step}
 use Rattle.ir_facts.proofs.Widths.{formed_wide}
@@ -13,4 +15,4 @@ pub returns-then-not-used : goal.returns-then-not-used
 returns-then-not-used c =
     unused_step c.args.f.now (value_in c.in_ok-substitution.substitution)
     (λ x. c.in_ok-substitution.ensures x ∙ ap (λ (rs : List (ℕ × Operand)). replacement rs x) (c.as_slice.ensures.value ∙ c.in_ok-found.ensures))
-    (sym c.is_used-used.ensures ∙ c.if-not-used.true)
+    (ap (blocks_name (λ x. is_some (value_in c.in_ok-substitution.substitution x))) (sym c.as_slice-2.ensures) ∙ sym c.is_used-used.ensures ∙ c.if-not-used.true)

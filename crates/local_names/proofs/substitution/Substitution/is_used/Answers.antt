@@ -13,4 +13,4 @@ pub returns-then-none : goal.returns-then-none
 returns-then-none c =
     let entries = c.args.self.now.values.entries in
     let none = none_in (λ o. o.now) entries (empty_list entries (c.is_empty-none.ensures.0 c.if-none.true)) in
-    sym ((λ i. blocks_name (λ x. none x i) c.args.f.now.blocks) ∙ blocks_none c.args.f.now.blocks)
+    sym ((λ i. blocks_name (λ x. none x i) c.args.blocks.now) ∙ blocks_none c.args.blocks.now)

@@ -1,0 +1,54 @@
+use Rattle.std.proofs.Common.{nat_eq, sym, ◌∙◌, ap, arith, subst}
+use Rattle.std.specs.HashSet.{contains}
+use Rattle.fact_sources.specs.Askable.{BlocksHaveWidths}
+use Rattle.fact_sources.specs.Settled.{any_choice_in}
+use Rattle.ir_facts.specs.Blocks.{with_blocks}
+use Rattle.ir_facts.specs.Steps.{AreRounds}
+use Rattle.ir_facts.proofs.InPlace.{place_last, place_round}
+use Rattle.ir_facts.proofs.InRounds.{no_rounds, one_more, round_sound}
+use Rattle.ir_facts.proofs.StillApart.{round_apart}
+use Rattle.ir_facts.proofs.Widths.{formed_wide}
+use Rattle.ir_facts.proofs.rounds.+rounds_in_place.Goals as goal
+
+pub returns-then-left-eq0 : goal.returns-then-left-eq0
+returns-then-left-eq0 t c =
+    let here = with_blocks c.args.f.now c.args.blocks.items in
+    subst (AreRounds c.args.left here) (sym c.in_ok-g.ensures) (no_rounds c.args.left here c.if-left-eq0.true)
+
+pub any_choice_in-free-requires : goal.any_choice_in-free-requires
+any_choice_in-free-requires t c = record {
+  sized = subst BlocksHaveWidths (sym c.as_slice.ensures.value) (formed_wide (with_blocks c.args.f.now c.args.blocks.items) c.requires.sound.formed);
+}
+
+pub forward-requires : goal.forward-requires
+forward-requires t c = record { sized = formed_wide (with_blocks c.args.f.now c.args.blocks.items) c.requires.sound.formed }
+
+pub returns-then-not-changed : goal.returns-then-not-changed
+returns-then-not-changed t c =
+    let blocks = c.args.blocks.items in
+    let firm = ap any_choice_in (sym c.as_slice.ensures.value) ∙ sym c.any_choice_in-free.ensures ∙ c.if-free.false in
+    subst (AreRounds c.args.left (with_blocks c.args.f.now blocks)) (sym c.in_ok-g-3.ensures)
+    (place_last (contains nat_eq c.args.outside.now) c.requires.none c.args.f.now blocks c.forward.new.blocks.items c.requires.sound c.requires.apart firm c.in_ok-changed.ensures.made
+    c.args.left (c.in_ok-changed.ensures.kept c.if-not-changed.true))
+
+pub rounds_in_place-requires : goal.rounds_in_place-requires
+rounds_in_place-requires t c =
+    let among = contains nat_eq c.args.outside.now in
+    let blocks = c.args.blocks.items in
+    let new = c.forward.new.blocks.items in
+    let firm = ap any_choice_in (sym c.as_slice.ensures.value) ∙ sym c.any_choice_in-free.ensures ∙ c.if-free.false in
+    let round = place_round among c.requires.none c.args.f.now blocks new c.requires.sound c.requires.apart firm c.in_ok-changed.ensures.made in (
+      omega arith,
+      (
+        round_sound (with_blocks c.args.f.now blocks) (with_blocks c.args.f.now new) c.requires.sound round,
+        (round_apart among (with_blocks c.args.f.now blocks) (with_blocks c.args.f.now new) round c.requires.apart, c.requires.none),
+      ),
+    )
+
+pub returns : goal.returns
+returns t c =
+    let blocks = c.args.blocks.items in
+    let new = c.forward.new.blocks.items in
+    let firm = ap any_choice_in (sym c.as_slice.ensures.value) ∙ sym c.any_choice_in-free.ensures ∙ c.if-free.false in
+    let round = place_round (contains nat_eq c.args.outside.now) c.requires.none c.args.f.now blocks new c.requires.sound c.requires.apart firm c.in_ok-changed.ensures.made in
+    one_more c.args.left (with_blocks c.args.f.now blocks) (with_blocks c.args.f.now new) c.in_ok-g-4.g (omega arith) round c.in_ok-g-4.ensures
