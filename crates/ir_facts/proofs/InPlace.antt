@@ -1,4 +1,4 @@
--- Rounds where no block is out of reach and nothing rests on a free choice: each use replaced, block by block.
+-- Rounds where no unreached block gives a local a value and nothing rests on a free choice: each use replaced, block by block.
 use Rattle.std.proofs.Common.{◌≡◌, ℕ, Bool, false, List, None, map, sym, subst}
 use Rattle.ir_tree.specs.Rules.{Sound}
 use Rattle.ir_tree.specs.declared.block.Block.{Block}

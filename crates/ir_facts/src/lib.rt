@@ -22,10 +22,10 @@
 //! `fold_rules`, and `ir_meaning` and `ir_better` for what is proved. A round goes through the function for free choices,
 //! for candidates, once more where there are any, to see whether one is used, and once or twice to replace uses; rounds
 //! end behind one that changes nothing. Whether a use is one of a candidate's local, and by what it is replaced, is looked
-//! up in one table (`Substitution` of `local_names`). Where each block is reached, blocks are copied once for all rounds, and
-//! a round makes anew only those in which a use is replaced. Else it copies the function; where a candidate is a local that
-//! an unreached block defines, it makes tables of places and dominators, and goes through the function to see whether it is
-//! clear. `facts` solves the equations of each fact by itself, and so does a round with each such fact in functions whose
+//! up in one table (`Substitution` of `local_names`). Where no unreached block gives a local a value, blocks are copied
+//! once for all rounds, and a round makes anew only those in which a use is replaced. Else it copies the function; where a
+//! candidate is a local that an unreached block defines, it makes tables of places and dominators, and goes through the
+//! function to see whether it is clear. `facts` solves the equations of each fact by itself, and so does a round with each such fact in functions whose
 //! blocks aren't clear of these.
 #![tactic(auto)]
 

@@ -151,8 +151,8 @@ fn rounds(
     }
 }
 
-/// The function with these blocks after so many rounds, where none of its blocks is out of reach: then each candidate holds
-/// wherever its local is used. A block in which nothing is replaced stays as it is. Behind free choices that are to be
+/// The function with these blocks after so many rounds, where no unreached block gives a local a value: then each candidate
+/// holds wherever its local is used. A block in which nothing is replaced stays as it is. Behind free choices that are to be
 /// settled it goes on by whole functions.
 fn rounds_in_place(
     alloc: Global,
@@ -185,7 +185,7 @@ fn rounds_in_place(
     Ok(g)
 }
 
-/// A function some of whose blocks are out of reach, after all rounds.
+/// A function after all rounds, where unreached blocks may give locals values.
 fn rounds_apart(alloc: Global, f: &Function, outside: &HashSet<u32>) -> Result<Function, AllocError>
     requires sound { Sound f.now }
     requires apart { IsApart f.now (contains nat_eq outside.now) }
