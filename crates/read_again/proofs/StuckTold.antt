@@ -19,7 +19,8 @@ use Rattle.lto_forms.specs.declared.fault.FaultKind.TheVariants.{Syntax, Profile
 use Rattle.lto_forms.proofs.Composed.{cut_is}
 use Rattle.lto_forms.proofs.Places.{one_place}
 use Rattle.lto_forms.proofs.Rules.{apart_from}
-use Rattle.read_again.specs.Refusals.{BeginsVector, FitsToken, REFUSED_EVERYWHERE, StuckFits}
+use Rattle.read_again.specs.Refusals.{BeginsVector, FitsPlace, FitsToken, REFUSED_EVERYWHERE, StuckFits}
+use Rattle.read_again.proofs.ExchangedPlaces.{place_fits}
 use Rattle.read_again.proofs.Told.{Allowed, AllowedAt, MAY, never_class}
 use Rattle.read_again.proofs.ToldModules.{module_kind, module_limit, module_sound, module_stops, module_told}
 
@@ -35,25 +36,30 @@ module _ (front : List Tok) (t : Tok) (rest : List Tok) where
   left = length (t ∷ rest)
 
   -- what is told of a token, by the grammar's kind
+  abbrev Place : told_kind.FaultKind → Type 0
+  Place kind = FitsPlace front t kind
+
   not_everywhere : contains REFUSED_EVERYWHERE (tokens.class t) ≡ false → (kind : told_kind.FaultKind) → among tokens REFUSED_EVERYWHERE t ≡ true → kind ≡ kinds.Profile t.text
   not_everywhere none kind h = absurd (true≢false (sym h ∙ none))
 
   unranged : (kind : told_kind.FaultKind) → NoNumberGoesOn tokens whole_module ts left → (kind ≡ kinds.Number → ⊥) → (kind ≡ kinds.Limit → ⊥) → NoNumberGoesOn tokens whole_module ts left
   unranged kind n a b = n
 
-  left_out : (b : Bool) → among tokens STRING t ≡ b → contains MAY (tokens.class t) ≡ true → NoNumberGoesOn tokens whole_module ts left → NoneGoesOn tokens any_module ts left → FitsToken front t rest (cond b kinds.Layout (kinds.Profile t.text))
-  left_out true e may n l = record {
+  left_out : (b : Bool) → among tokens STRING t ≡ b → contains MAY (tokens.class t) ≡ true → NoNumberGoesOn tokens whole_module ts left → NoneGoesOn tokens any_module ts left → Place (cond b kinds.Layout (kinds.Profile t.text)) → FitsToken front t rest (cond b kinds.Layout (kinds.Profile t.text))
+  left_out true e may n l x = record {
     everywhere = λ h. absurd (apart_from STRING REFUSED_EVERYWHERE refl (tokens.class t) e h);
     only = λ word h. absurd (cc h);
+    place = x;
     layout = λ h. e;
     range = λ h. absurd (cc h);
     no_range = λ a b. n;
     limit = λ h. absurd (cc h);
     no_limit = λ p q. l;
   }
-  left_out false e may n l = record {
+  left_out false e may n l x = record {
     everywhere = λ h. refl;
     only = λ word h. (cc h, inl (behind_first _ _ e may));
+    place = x;
     layout = λ h. absurd (cc h);
     range = λ h. absurd (cc h);
     no_range = λ a b. n;
@@ -62,19 +68,21 @@ module _ (front : List Tok) (t : Tok) (rest : List Tok) where
   }
 
   -- a number directly behind `<`
-  vector : BeginsVector front t → (b : Bool) → among tokens STRING t ≡ b → NoNumberGoesOn tokens whole_module ts left → NoneGoesOn tokens any_module ts left → FitsToken front t rest (cond b kinds.Layout (kinds.Profile t.text))
-  vector v true e n l = record {
+  vector : BeginsVector front t → (b : Bool) → among tokens STRING t ≡ b → NoNumberGoesOn tokens whole_module ts left → NoneGoesOn tokens any_module ts left → Place (cond b kinds.Layout (kinds.Profile t.text)) → FitsToken front t rest (cond b kinds.Layout (kinds.Profile t.text))
+  vector v true e n l x = record {
     everywhere = λ h. absurd (apart_from STRING REFUSED_EVERYWHERE refl (tokens.class t) e h);
     only = λ word h. absurd (cc h);
+    place = x;
     layout = λ h. e;
     range = λ h. absurd (cc h);
     no_range = λ a b. n;
     limit = λ h. absurd (cc h);
     no_limit = λ p q. l;
   }
-  vector v false e n l = record {
+  vector v false e n l x = record {
     everywhere = λ h. refl;
     only = λ word h. (cc h, inr v);
+    place = x;
     layout = λ h. absurd (cc h);
     range = λ h. absurd (cc h);
     no_range = λ a b. n;
@@ -82,46 +90,49 @@ module _ (front : List Tok) (t : Tok) (rest : List Tok) where
     no_limit = λ p q. l;
   }
 
-  by_kind : (k : FaultKind) → Allowed (tokens.class t) k → FitsKind tokens whole_module ts left k → FitsBound tokens any_module ts left k → FitsToken front t rest (grammar_fault t k)
-  by_kind Syntax a n l = record {
+  by_kind : (k : FaultKind) → Allowed (tokens.class t) k → FitsKind tokens whole_module ts left k → FitsBound tokens any_module ts left k → Place (grammar_fault t k) → FitsToken front t rest (grammar_fault t k)
+  by_kind Syntax a n l x = record {
     everywhere = not_everywhere a kinds.Syntax;
     only = λ word h. absurd (cc h);
+    place = x;
     layout = λ h. absurd (cc h);
     range = λ h. absurd (cc h);
     no_range = λ p q. n;
     limit = λ h. absurd (cc h);
     no_limit = λ p q. l;
   }
-  by_kind Number a n l = record {
+  by_kind Number a n l x = record {
     everywhere = not_everywhere a kinds.Number;
     only = λ word h. absurd (cc h);
+    place = x;
     layout = λ h. absurd (cc h);
     range = λ h. n;
     no_range = λ p q. absurd (p refl);
     limit = λ h. absurd (cc h);
     no_limit = λ p q. absurd (p refl);
   }
-  by_kind Limit a n l = record {
+  by_kind Limit a n l x = record {
     everywhere = not_everywhere a kinds.Limit;
     only = λ word h. absurd (cc h);
+    place = x;
     layout = λ h. absurd (cc h);
     range = λ h. absurd (cc h);
     no_range = λ p q. absurd (q refl);
     limit = λ h. l;
     no_limit = λ p q. absurd (q refl);
   }
-  by_kind Profile a n l = left_out (among tokens STRING t) refl a n l
+  by_kind Profile a n l x = left_out (among tokens STRING t) refl a n l x
 
   -- a number is refused nowhere else
   no_word : BeginsVector front t → contains REFUSED_EVERYWHERE (tokens.class t) ≡ false
   no_word v = never_class (number heads.Number) refl (number t.head) v.0
 
-  by_place : (k : FaultKind) → AllowedAt front (t ∷ rest) k → FitsKind tokens whole_module ts left k → FitsBound tokens any_module ts left k → FitsToken front t rest (grammar_fault t k)
-  by_place k (inl a) n l = by_kind k a n l
-  by_place Syntax (inr v) n l = by_kind Syntax (no_word v) n l
-  by_place Number (inr v) n l = by_kind Number (no_word v) n l
-  by_place Limit (inr v) n l = by_kind Limit (no_word v) n l
-  by_place Profile (inr v) n l = vector v (among tokens STRING t) refl n l
+  by_place : (k : FaultKind) → AllowedAt front (t ∷ rest) k → FitsKind tokens whole_module ts left k → FitsBound tokens any_module ts left k → Place (grammar_fault t k) → FitsToken front t rest (grammar_fault t k)
+  by_place k (inl a) n l x = by_kind k a n l x
+  by_place Syntax (inr v) n l x = by_kind Syntax (no_word v) n l x
+  by_place Number (inr v) n l x = by_kind Number (no_word v) n l x
+  by_place Limit (inr v) n l x = by_kind Limit (no_word v) n l x
+  by_place Profile (inr v) n l x = vector v (among tokens STRING t) refl n l x
 
   module _ (before : StopsAt tokens whole_module ts left) (stuck : Extends whole_module (front ++ t ∷ []) → ⊥) where
     by_fault : (f : Fault) → module_of ts ≡ Err f → FitsToken front t rest (grammar_fault t f.kind)
@@ -132,6 +143,7 @@ module _ (front : List Tok) (t : Tok) (rest : List Tok) where
         by_place f.kind (subst (λ (z : List Tok × List Tok). AllowedAt z.0 z.1 f.kind) (λ i. (sym same.0 i, sym same.1 i)) m.4)
         (subst (λ (n : ℕ). FitsKind tokens whole_module ts n f.kind) here (module_kind ts f e))
         (subst (λ (n : ℕ). FitsBound tokens any_module ts n f.kind) here (module_limit ts f e))
+        (place_fits front t rest f.kind (e ∙ ap (λ (n : ℕ). Err (record { left = n; kind = f.kind })) here))
 
     by_result : (r : Result (List Item) Fault) → module_of ts ≡ r → FitsToken front t rest (kind_told t r)
     by_result (Ok is) e = absurd (stuck (rest, is, subst (λ (us : List Tok). whole_module us is) (sym (append_assoc front (t ∷ []) rest)) (module_sound ts is e)))

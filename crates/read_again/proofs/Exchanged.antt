@@ -1,0 +1,753 @@
+-- Readers that tell a token that is left out in some places as such exactly where a token that it stands for goes on. The ways of
+-- putting readers together keep that.
+use Rattle.std.proofs.Common.{◌≡◌, ◌≢◌, ℕ, zero, suc, ◌<◌, Bool, true, false, cond, Some, None, ◌&&◌, List, [], ◌∷◌, ◌++◌, length, Result, Ok, Err, refl, sym, ap, subst, ◌∙◌, append_assoc, arith, ◌⊎◌, inl, inr}
+use Rattle.std.proofs.lemmas.List.{append-nil, length-append}
+use Rattle.ir_lex.specs.Heads.{number}
+use Rattle.ir_lex.specs.Tok.{Tok}
+use Rattle.ir_lex.specs.declared.head.Head.TheVariants as heads
+use Rattle.ir_lex.specs.declared.head.Head.{Head}
+use Rattle.lto_forms.proofs.Composed.{all_real, cut_is, reads, reads_is, wrong, wrong_is}
+use Rattle.lto_forms.proofs.Rules.{apart_from, within_of}
+use Rattle.lto_forms.specs.Alphabet.{AllReal, among, contains}
+use Rattle.lto_forms.specs.Forms as form
+use Rattle.lto_forms.specs.Forms.{Form, Many, Star}
+use Rattle.lto_forms.specs.Lawful.{IsBound, ends}
+use Rattle.lto_forms.specs.Readers.{Reader, fault_at, done, follow, ◌>>=◌, token_means, token_at, pick, many_at, star_at, optional_at}
+use Rattle.lto_forms.specs.Rules.{Rule, disjoint, subset}
+use Rattle.lto_forms.specs.declared.fault.Fault.{Fault}
+use Rattle.lto_forms.specs.declared.fault.FaultKind.TheVariants.{Syntax, Profile, Number, Limit}
+use Rattle.lto_forms.specs.declared.fault.FaultKind.{FaultKind}
+use Rattle.ir_read.specs.Classes.{tokens, IsReal}
+use Rattle.ir_read.specs.FunctionHeads.{GLOBAL}
+use Rattle.ir_read.specs.MetadataAt.{PAREN}
+use Rattle.ir_read.specs.Operands.{REG}
+use Rattle.read_again.specs.Refusals.{MEMORY, WORD, last_is}
+
+-- the classes of the tokens that one of this class stands for
+abbrev pub stands_for : Head → List ℕ
+stands_for heads.RefusedType = REG
+stands_for heads.Target = REG
+stands_for heads.RegisterInteger = MEMORY
+stands_for heads.NumberedGlobal = GLOBAL
+stands_for heads.NumberedDefinition = GLOBAL
+stands_for h = []
+
+-- a plain word goes on where `target` doesn't
+abbrev pub WordGoes : Head → (Tok → Type 0) → Type 0
+WordGoes heads.Target Goes = (w : Tok) × (among tokens WORD w ≡ true) × Goes w
+WordGoes h Goes = ⊥
+
+-- why one of this class isn't told to be left out: no token that it stands for goes on, or not each
+abbrev pub NotTold : Head → (Tok → Type 0) → (Tok → Type 0) → Type 0
+NotTold heads.RefusedType Stuck Goes = (u : Tok) → among tokens REG u ≡ true → Stuck u
+NotTold heads.Target Stuck Goes = ((u : Tok) → among tokens REG u ≡ true → Stuck u) ⊎ ((w : Tok) × (among tokens WORD w ≡ true) × Goes w)
+NotTold heads.RegisterInteger Stuck Goes = (u : Tok) × (among tokens MEMORY u ≡ true) × IsReal u × Stuck u
+NotTold heads.NumberedGlobal Stuck Goes = (u : Tok) → among tokens GLOBAL u ≡ true → Stuck u
+NotTold heads.NumberedDefinition Stuck Goes = (u : Tok) → among tokens GLOBAL u ≡ true → Stuck u
+NotTold h Stuck Goes = Unit {0}
+
+-- why it is: one that it stands for goes on, or each; a type is told behind `(` as well, where arguments may stand
+abbrev pub IsTold : Head → (Tok → Type 0) → Type 0 → Type 0
+IsTold heads.RefusedType Goes Open = ((u : Tok) × (among tokens REG u ≡ true) × Goes u) ⊎ Open
+IsTold heads.Target Goes Open = ((u : Tok) × (among tokens REG u ≡ true) × Goes u) ⊎ Open
+IsTold heads.RegisterInteger Goes Open = (u : Tok) → among tokens MEMORY u ≡ true → IsReal u → Goes u
+IsTold heads.NumberedGlobal Goes Open = (u : Tok) × (among tokens GLOBAL u ≡ true) × Goes u
+IsTold heads.NumberedDefinition Goes Open = (u : Tok) × (among tokens GLOBAL u ≡ true) × Goes u
+IsTold h Goes Open = Unit {0}
+
+-- the last of them is `(`
+abbrev pub Open : List Tok → Type 0
+Open front = last_is (among tokens PAREN) front ≡ true
+
+pub open_behind : (one two : List Tok) → Open two → Open (one ++ two)
+open_behind [] two h = h
+open_behind (t ∷ []) [] h = absurd cc
+open_behind (t ∷ []) (u ∷ two) h = h
+open_behind (t ∷ v ∷ one) two h = open_behind (v ∷ one) two h
+
+-- behind these tokens this one is refused, not only for its range or a limit
+abbrev pub Stuck : {A : Type 0} → Reader Tok A → List Tok → Tok → Type 0
+Stuck f front u = (rest : List Tok) → (k : FaultKind) × (IsBound k → ⊥) × (f (front ++ u ∷ rest) ≡ fault_at k (u ∷ rest))
+
+-- some continuation with it is of the form
+abbrev pub Goes : {A : Type 0} → Form Tok A → List Tok → Tok → Type 0
+Goes {A} wide front u = (more : List Tok) × (a : A) × wide (front ++ u ∷ more) a × AllReal tokens (u ∷ more)
+
+-- a reading ends before it
+abbrev pub Stays : {A : Type 0} → Reader Tok A → List Tok → A → Tok → Type 0
+Stays f front a u = (rest : List Tok) → f (front ++ u ∷ rest) ≡ reads a (u ∷ rest)
+
+-- what a reading says at a token of this class of those that it stands for
+abbrev pub Outcome : {A : Type 0} → Form Tok A → Reader Tok A → List Tok → Head → Result A FaultKind → Type 0
+Outcome wide f front h (Ok a) = ((u : Tok) → among tokens (stands_for h) u ≡ true → Stays f front a u) ⊎ WordGoes h (Goes wide front)
+Outcome wide f front h (Err Syntax) = NotTold h (Stuck f front) (Goes wide front)
+Outcome wide f front h (Err Profile) = IsTold h (Goes wide front) (Open front)
+Outcome wide f front h (Err Number) = Unit {0}
+Outcome wide f front h (Err Limit) = Unit {0}
+
+pub record Exchanges {A : Type 0} (wide : Form Tok A) (f : Reader Tok A) : Type 0 where
+  pub sound : (ts rest : List Tok) (a : A) → f ts ≡ reads a rest → (front : List Tok) × (ts ≡ front ++ rest) × wide front a
+  pub placed : (ts : List Tok) (e : Fault) → f ts ≡ wrong e → (front : List Tok) × (rest : List Tok) × (ts ≡ front ++ rest) × (length rest ≡ e.left)
+  pub local : (front : List Tok) (t : Tok) (rest rest' : List Tok) (o : Result A FaultKind) → f (front ++ t ∷ rest) ≡ ends o (t ∷ rest) → f (front ++ t ∷ rest') ≡ ends o (t ∷ rest')
+  pub some : (ts : List Tok) × (a : A) × wide ts a × AllReal tokens ts
+  pub swap : (front : List Tok) (t : Tok) (rest : List Tok) (o : Result A FaultKind) → f (front ++ t ∷ rest) ≡ ends o (t ∷ rest) → Outcome wide f front t.head o
+
+-- ---- the same of other readings
+
+pub not_told_too : (h : Head) (S S' G G' : Tok → Type 0) → ((u : Tok) → among tokens (stands_for h) u ≡ true → S u → S' u) → ((u : Tok) → G u → G' u) → NotTold h S G → NotTold h S' G'
+not_told_too heads.RefusedType S S' G G' s g n = λ u i. s u i (n u i)
+not_told_too heads.Target S S' G G' s g (inl n) = inl (λ u i. s u i (n u i))
+not_told_too heads.Target S S' G G' s g (inr (w, i, n)) = inr (w, i, g w n)
+not_told_too heads.RegisterInteger S S' G G' s g (u, i, r, n) = (u, i, r, s u i n)
+not_told_too heads.NumberedGlobal S S' G G' s g n = λ u i. s u i (n u i)
+not_told_too heads.NumberedDefinition S S' G G' s g n = λ u i. s u i (n u i)
+not_told_too h S S' G G' s g n = tt
+
+pub told_too : (h : Head) (G G' : Tok → Type 0) (P P' : Type 0) → ((u : Tok) → G u → G' u) → (P → P') → IsTold h G P → IsTold h G' P'
+told_too heads.RefusedType G G' P P' g p (inl (u, i, n)) = inl (u, i, g u n)
+told_too heads.RefusedType G G' P P' g p (inr o) = inr (p o)
+told_too heads.Target G G' P P' g p (inl (u, i, n)) = inl (u, i, g u n)
+told_too heads.Target G G' P P' g p (inr o) = inr (p o)
+told_too heads.RegisterInteger G G' P P' g p n = λ u i r. g u (n u i r)
+told_too heads.NumberedGlobal G G' P P' g p (u, i, n) = (u, i, g u n)
+told_too heads.NumberedDefinition G G' P P' g p (u, i, n) = (u, i, g u n)
+told_too h G G' P P' g p n = tt
+
+pub word_too : (h : Head) (G G' : Tok → Type 0) → ((u : Tok) → G u → G' u) → WordGoes h G → WordGoes h G'
+word_too heads.Target G G' g (w, i, n) = (w, i, g w n)
+word_too h G G' g n = absurd n
+
+-- where a word goes on, `target` isn't told to be left out
+pub word_not_told : (h : Head) (S G : Tok → Type 0) → WordGoes h G → NotTold h S G
+word_not_told heads.Target S G n = inr n
+word_not_told h S G n = absurd n
+
+module _ {A B : Type 0} (wide : Form Tok A) (wide' : Form Tok B) (f : Reader Tok A) (f' : Reader Tok B) (front front' : List Tok) (h : Head) where
+  -- what is said of one reading is said of another
+  pub err_too : (k : FaultKind) → (Open front → Open front') → ((u : Tok) → among tokens (stands_for h) u ≡ true → Stuck f front u → Stuck f' front' u) → ((u : Tok) → Goes wide front u → Goes wide' front' u) → Outcome wide f front h (Err k) → Outcome wide' f' front' h (Err k)
+  err_too Syntax p s g n = not_told_too h (Stuck f front) (Stuck f' front') (Goes wide front) (Goes wide' front') s g n
+  err_too Profile p s g n = told_too h (Goes wide front) (Goes wide' front') (Open front) (Open front') g p n
+  err_too Number p s g n = tt
+  err_too Limit p s g n = tt
+
+  pub ok_too : (a : A) (b : B) → ((u : Tok) → among tokens (stands_for h) u ≡ true → Stays f front a u → Stays f' front' b u) → ((u : Tok) → Goes wide front u → Goes wide' front' u) → Outcome wide f front h (Ok a) → Outcome wide' f' front' h (Ok b)
+  ok_too a b s g (inl n) = inl (λ u i. s u i (n u i))
+  ok_too a b s g (inr w) = inr (word_too h (Goes wide front) (Goes wide' front') g w)
+
+pub outcome_too : {A : Type 0} (wide wide' : Form Tok A) (f f' : Reader Tok A) (front front' : List Tok) (h : Head) (o : Result A FaultKind) → (Open front → Open front') → ((u : Tok) → among tokens (stands_for h) u ≡ true → (rest : List Tok) → f (front ++ u ∷ rest) ≡ f' (front' ++ u ∷ rest)) → ((u : Tok) → Goes wide front u → Goes wide' front' u)
+    → Outcome wide f front h o → Outcome wide' f' front' h o
+outcome_too wide wide' f f' front front' h (Ok a) p same g n = ok_too wide wide' f f' front front' h a a (λ u i s rest. sym (same u i rest) ∙ s rest) g n
+outcome_too wide wide' f f' front front' h (Err k) p same g n = err_too wide wide' f f' front front' h k p (λ u i s rest. let r = s rest in (r.0, r.1, sym (same u i rest) ∙ r.2)) g n
+
+-- ---- one behind another
+
+pub placed_of : {A : Type 0} {wide : Form Tok A} {f : Reader Tok A} → Exchanges wide f → (ts us : List Tok) (o : Result A FaultKind) → f ts ≡ ends o us → (front : List Tok) × (rest : List Tok) × (ts ≡ front ++ rest) × (length rest ≡ length us)
+placed_of law ts us (Ok a) h = let s = law.sound ts us a h in (s.0, us, s.1, refl)
+placed_of law ts us (Err k) h = law.placed ts (record { left = length us; kind = k }) h
+
+-- a reading that ends before some tokens, of which another one stands in the place of a later one
+pub ends_before : {A : Type 0} {wide : Form Tok A} {f : Reader Tok A} → Exchanges wide f → (front : List Tok) (v : Tok) (mid rest rest' : List Tok) (a : A) → f (front ++ v ∷ (mid ++ rest)) ≡ reads a (v ∷ (mid ++ rest)) → f (front ++ v ∷ (mid ++ rest')) ≡ reads a (v ∷ (mid ++ rest'))
+ends_before law front v mid rest rest' a h = law.local front v (mid ++ rest) (mid ++ rest') (Ok a) h
+
+pub err_ends : {B : Type 0} (e : Fault) (o : Result B FaultKind) (us : List Tok) → wrong e ≡ ends o us → (kind : FaultKind) × (o ≡ Err kind) × (e ≡ record { left = length us; kind = kind })
+err_ends e (Ok b) us d = absurd cc
+err_ends e (Err kind) us d = (kind, refl, wrong_is e (record { left = length us; kind = kind }) d)
+
+module _ {A B : Type 0} {wide : Form Tok A} {f : Reader Tok A} {wide' : A → Form Tok B} {h : A → Reader Tok B} (law : Exchanges wide f) (laws : (a : A) → Exchanges (wide' a) (h a)) where
+  abbrev both : Form Tok B
+  both = form.◌>>=◌ wide wide'
+
+  sound_seq : (ts rest : List Tok) (b : B) (r : Result (A × List Tok) Fault) → f ts ≡ r → follow r h ≡ reads b rest → (front : List Tok) × (ts ≡ front ++ rest) × both front b
+  unfolding form.◌>>=◌
+  sound_seq ts rest b (Ok x) e d =
+      let p = law.sound ts x.1 x.0 e in
+      let q = (laws x.0).sound x.1 rest b d in
+      (p.0 ++ q.0, p.1 ∙ ap (λ (y : List Tok). p.0 ++ y) q.1 ∙ sym (append_assoc p.0 q.0 rest), (p.0, q.0, x.0, refl, p.2, q.2))
+  sound_seq ts rest b (Err e') e d = absurd cc
+
+  placed_seq : (ts : List Tok) (e : Fault) (r : Result (A × List Tok) Fault) → f ts ≡ r → follow r h ≡ wrong e → (front : List Tok) × (rest : List Tok) × (ts ≡ front ++ rest) × (length rest ≡ e.left)
+  placed_seq ts e (Ok x) i d =
+      let p = law.sound ts x.1 x.0 i in
+      let v = (laws x.0).placed x.1 e d in
+      (p.0 ++ v.0, v.1, p.1 ∙ ap (λ (y : List Tok). p.0 ++ y) v.2 ∙ sym (append_assoc p.0 v.0 v.1), v.3)
+  placed_seq ts e (Err d') i d = let v = law.placed ts d' i in (v.0, v.1, v.2, v.3 ∙ ap (λ (x : Fault). x.left) (wrong_is d' e d))
+
+  -- the first goes on with it, so do both
+  goes_first : (front : List Tok) (u : Tok) → Goes wide front u → Goes both front u
+  unfolding form.◌>>=◌
+  goes_first front u (more, a, s, r) =
+      let z = (laws a).some in
+      (more ++ z.0, z.1, (front ++ u ∷ more, z.0, a, sym (append_assoc front (u ∷ more) z.0), s, z.2), all_real tokens (u ∷ more) z.0 r z.3)
+
+  -- the second does, behind the first
+  goes_second : (front mid : List Tok) (a : A) → wide front a → (u : Tok) → Goes (wide' a) mid u → Goes both (front ++ mid) u
+  unfolding form.◌>>=◌
+  goes_second front mid a s u (more, b, s', r) = (more, b, (front, mid ++ u ∷ more, a, append_assoc front mid (u ∷ more), s, s'), r)
+
+  stuck_first : (front : List Tok) (u : Tok) → Stuck f front u → Stuck (f >>= h) front u
+  stuck_first front u s rest = let r = s rest in (r.0, r.1, ap (λ (y : Result (A × List Tok) Fault). follow y h) r.2)
+
+  -- behind the first reading the second is the whole
+  whole : (front mid : List Tok) (a : A) (u : Tok) (rest : List Tok) → f (front ++ (mid ++ u ∷ rest)) ≡ reads a (mid ++ u ∷ rest) → (f >>= h) ((front ++ mid) ++ u ∷ rest) ≡ h a (mid ++ u ∷ rest)
+  whole front mid a u rest e = ap (λ (y : List Tok). follow (f y) h) (append_assoc front mid (u ∷ rest)) ∙ ap (λ (y : Result (A × List Tok) Fault). follow y h) e
+
+  -- a cut of what the first reading left
+  record Cut (front : List Tok) (t : Tok) (rest : List Tok) (a : A) (left : List Tok) : Type 0 where
+    one : List Tok
+    two : List Tok
+    front_is : front ≡ one ++ two
+    left_is : left ≡ two ++ t ∷ rest
+    spelled : wide one a
+    first : f (one ++ (two ++ t ∷ rest)) ≡ reads a (two ++ t ∷ rest)
+
+  cut : (front : List Tok) (t : Tok) (rest : List Tok) (o : Result B FaultKind) (a : A) (left : List Tok) → f (front ++ t ∷ rest) ≡ reads a left → h a left ≡ ends o (t ∷ rest) → Cut front t rest a left
+  cut front t rest o a left i d =
+      let p = law.sound (front ++ t ∷ rest) left a i in
+      let q = placed_of (laws a) left (t ∷ rest) o d in
+      let regrouped : front ++ t ∷ rest ≡ (p.0 ++ q.0) ++ q.1 = p.1 ∙ ap (λ (y : List Tok). p.0 ++ y) q.2 ∙ sym (append_assoc p.0 q.0 q.1) in
+      let c = cut_is front (t ∷ rest) (p.0 ++ q.0) q.1 regrouped (sym q.3) in
+      let mid : left ≡ q.0 ++ t ∷ rest = q.2 ∙ ap (λ (y : List Tok). q.0 ++ y) (sym c.1) in
+      let before : front ++ t ∷ rest ≡ p.0 ++ (q.0 ++ t ∷ rest) = ap (λ (y : List Tok). y ++ t ∷ rest) c.0 ∙ append_assoc p.0 q.0 (t ∷ rest) in
+      record { one = p.0; two = q.0; front_is = c.0; left_is = mid; spelled = p.2; first = sym (ap f before) ∙ i ∙ ap (reads a) mid }
+
+  local_first : (front mid : List Tok) (t : Tok) (rest rest' : List Tok) (a : A) → f (front ++ (mid ++ t ∷ rest)) ≡ reads a (mid ++ t ∷ rest) → f (front ++ (mid ++ t ∷ rest')) ≡ reads a (mid ++ t ∷ rest')
+  local_first front [] t rest rest' a h = law.local front t rest rest' (Ok a) h
+  local_first front (u ∷ mid) t rest rest' a h = law.local front u (mid ++ t ∷ rest) (mid ++ t ∷ rest') (Ok a) h
+
+  local_seq : (front : List Tok) (t : Tok) (rest rest' : List Tok) (o : Result B FaultKind) (r : Result (A × List Tok) Fault) → f (front ++ t ∷ rest) ≡ r → follow r h ≡ ends o (t ∷ rest) → (f >>= h) (front ++ t ∷ rest') ≡ ends o (t ∷ rest')
+  local_seq front t rest rest' o (Err e) i d =
+      let w = err_ends e o (t ∷ rest) d in
+      let one : f (front ++ t ∷ rest') ≡ fault_at w.0 (t ∷ rest') = law.local front t rest rest' (Err w.0) (i ∙ ap wrong w.2) in
+      rw w.1 (ap (λ (y : Result (A × List Tok) Fault). follow y h) one)
+  local_seq front t rest rest' o (Ok x) i d =
+      let c = cut front t rest o x.0 x.1 i d in
+      let two : h x.0 (c.two ++ t ∷ rest') ≡ ends o (t ∷ rest') = (laws x.0).local c.two t rest rest' o (ap (h x.0) (sym c.left_is) ∙ d) in
+      ap (λ (y : List Tok). (f >>= h) (y ++ t ∷ rest')) c.front_is ∙ whole c.one c.two x.0 t rest' (local_first c.one c.two t rest rest' x.0 c.first) ∙ two
+
+  -- the second reading, behind a first one that stays
+  behind : (one two : List Tok) (a : A) → wide one a → (k : Head) (o : Result B FaultKind) → ((u : Tok) → among tokens (stands_for k) u ≡ true → (rest : List Tok) → f (one ++ (two ++ u ∷ rest)) ≡ reads a (two ++ u ∷ rest)) → Outcome (wide' a) (h a) two k o → Outcome both (f >>= h) (one ++ two) k o
+  behind one two a s k o stays n = outcome_too (wide' a) both (h a) (f >>= h) two (one ++ two) k o (open_behind one two) (λ u i rest. sym (whole one two a u rest (stays u i rest))) (λ u g. goes_second one two a s u g) n
+
+  -- or behind one where a word goes on
+  behind_word : (one : List Tok) (a : A) → wide one a → (k : Head) (o : Result B FaultKind) → WordGoes k (Goes wide one) → Outcome (wide' a) (h a) [] k o → Outcome both (f >>= h) (one ++ []) k o
+  behind_word one a s k (Ok b) w n = inr (word_too k (Goes wide one) (Goes both (one ++ [])) (λ u g. goes_first (one ++ []) u (subst (λ (y : List Tok). Goes wide y u) (sym (append-nil one)) g)) w)
+  behind_word one a s k (Err Syntax) w n = word_not_told k (Stuck (f >>= h) (one ++ [])) (Goes both (one ++ [])) (word_too k (Goes wide one) (Goes both (one ++ [])) (λ u g. goes_first (one ++ []) u (subst (λ (y : List Tok). Goes wide y u) (sym (append-nil one)) g)) w)
+  behind_word one a s k (Err Profile) w n = told_too k (Goes (wide' a) []) (Goes both (one ++ [])) (Open []) (Open (one ++ [])) (λ u g. goes_second one [] a s u g) (open_behind one []) n
+  behind_word one a s k (Err Number) w n = tt
+  behind_word one a s k (Err Limit) w n = tt
+
+  swap_second : (one two : List Tok) (t : Tok) (rest : List Tok) (o : Result B FaultKind) (a : A) → wide one a → f (one ++ (two ++ t ∷ rest)) ≡ reads a (two ++ t ∷ rest) → Outcome (wide' a) (h a) two t.head o → Outcome both (f >>= h) (one ++ two) t.head o
+  swap_second one (v ∷ mid) t rest o a s e n = behind one (v ∷ mid) a s t.head o (λ u i rest'. law.local one v (mid ++ t ∷ rest) (mid ++ u ∷ rest') (Ok a) e) n
+  swap_second one [] t rest o a s e n = elim (law.swap one t rest (Ok a) e) [ inl stays ↦ behind one [] a s t.head o (λ u i rest'. stays u i rest') n | inr w ↦ behind_word one a s t.head o w n ]
+
+  swap_seq : (front : List Tok) (t : Tok) (rest : List Tok) (o : Result B FaultKind) (r : Result (A × List Tok) Fault) → f (front ++ t ∷ rest) ≡ r → follow r h ≡ ends o (t ∷ rest) → Outcome both (f >>= h) front t.head o
+  swap_seq front t rest o (Err e) i d =
+      let w = err_ends e o (t ∷ rest) d in
+      subst (λ (x : Result B FaultKind). Outcome both (f >>= h) front t.head x) (sym w.1) (err_too wide both f (f >>= h) front front t.head w.0 (λ p. p) (λ u _ s. stuck_first front u s) (λ u g. goes_first front u g) (law.swap front t rest (Err w.0) (i ∙ ap wrong w.2)))
+  swap_seq front t rest o (Ok x) i d =
+      let c = cut front t rest o x.0 x.1 i d in
+      subst (λ (y : List Tok). Outcome both (f >>= h) y t.head o) (sym c.front_is) (swap_second c.one c.two t rest o x.0 c.spelled c.first ((laws x.0).swap c.two t rest o (ap (h x.0) (sym c.left_is) ∙ d)))
+
+  pub seq : Exchanges (form.◌>>=◌ wide wide') (f >>= h)
+  unfolding form.◌>>=◌
+  seq = record {
+    sound = λ ts rest b e. sound_seq ts rest b (f ts) refl e;
+    placed = λ ts e d. placed_seq ts e (f ts) refl d;
+    local = λ front t rest rest' o d. local_seq front t rest rest' o (f (front ++ t ∷ rest)) refl d;
+    some = let one = law.some in let two = (laws one.1).some in (one.0 ++ two.0, two.1, (one.0, two.0, one.1, refl, one.2, two.2), all_real tokens one.0 two.0 one.3 two.3);
+    swap = λ front t rest o d. swap_seq front t rest o (f (front ++ t ∷ rest)) refl d;
+  }
+
+-- ---- no token
+
+module _ {A : Type 0} (a : A) where
+  ends_here : (front : List Tok) (t : Tok) (rest : List Tok) (o : Result A FaultKind) → reads a (front ++ t ∷ rest) ≡ ends o (t ∷ rest) → (front ≡ []) × (o ≡ Ok a)
+  ends_here front t rest (Ok b) h =
+      let p = reads_is a b (front ++ t ∷ rest) (t ∷ rest) h in
+      ((cut_is front (t ∷ rest) [] (t ∷ rest) p.1 refl).0, ap (λ (x : A). Ok x) (sym p.0))
+  ends_here front t rest (Err k) h = absurd cc
+
+  pub nothing : Exchanges (form.gives a) (done a)
+  nothing = record {
+    sound = λ ts rest b e. let h = reads_is a b ts rest e in ([], h.1, (refl, sym h.0));
+    placed = λ ts e d. absurd cc;
+    local = λ front t rest rest' o d. let h = ends_here front t rest o d in rw (h.0, h.1) refl;
+    some = ([], a, (refl, refl), tt);
+    swap = λ front t rest o d. let h = ends_here front t rest o d in subst (λ (y : Result A FaultKind). Outcome (form.gives a) (done a) front t.head y) (sym h.1) (subst (λ (y : List Tok). Outcome (form.gives a) (done a) y t.head (Ok a)) (sym h.0) (inl (λ u i rest'. refl)));
+  }
+
+-- ---- of a reader that is tied to its form
+
+pub of_rule : {A : Type 0} {g wide : Form Tok A} {f : Reader Tok A} {xs ms : List ℕ} {e : Bool} → Rule tokens g wide f xs ms e → ((front : List Tok) (t : Tok) (rest : List Tok) (o : Result A FaultKind) → f (front ++ t ∷ rest) ≡ ends o (t ∷ rest) → Outcome wide f front t.head o) → Exchanges wide f
+of_rule rule swap = record {
+  sound = λ ts rest a e. let s = rule.law.sound ts rest a e in (s.0, s.1, rule.law.contains s.0 a s.2);
+  placed = λ ts e d. let v = rule.law.viable ts e d in (v.front, v.rest, v.whole, v.here);
+  local = rule.law.local;
+  some = let z = rule.law.some in (z.0, z.1, rule.law.contains z.0 z.1 z.2, z.3);
+  swap = swap;
+}
+
+-- what isn't empty
+pub taken : {A : Type 0} {g wide : Form Tok A} {f : Reader Tok A} {xs ms : List ℕ} → Rule tokens g wide f xs ms false → (a : A) → wide [] a → ⊥
+taken rule a s = never (rule.law.broad.nothing a s)
+  where
+    never : false ≡ true → ⊥
+    never e = cc
+
+-- the same reader of a form that has more
+pub recast : {A : Type 0} {wide wide' : Form Tok A} {f : Reader Tok A} → ((ts : List Tok) (a : A) → wide ts a → wide' ts a) → Exchanges wide f → Exchanges wide' f
+recast {wide = wide} {wide' = wide'} {f = f} over law = record {
+  sound = λ ts rest a e. let s = law.sound ts rest a e in (s.0, s.1, over s.0 a s.2);
+  placed = law.placed;
+  local = law.local;
+  some = let z = law.some in (z.0, z.1, over z.0 z.1 z.2, z.3);
+  swap = λ front t rest o d. outcome_too wide wide' f f front front t.head o (λ p. p) (λ u i rest'. refl) (λ u g. (g.0, g.1, over (front ++ u ∷ g.0) g.1 g.2, g.3)) (law.swap front t rest o d);
+}
+
+-- ---- choices by classes
+
+is_false : (b : Bool) → (b ≡ true → ⊥) → b ≡ false
+is_false true never = absurd (never refl)
+is_false false never = refl
+
+and_parts : (a b : Bool) → a && b ≡ true → (a ≡ true) × (b ≡ true)
+and_parts true b h = (refl, h)
+and_parts false b h = absurd cc
+
+-- all that one of this class stands for are of these classes with it, or none
+abbrev pub fair_at : List ℕ → Head → Bool
+fair_at bs h = cond (contains bs (number h)) (subset (stands_for h) bs) (disjoint (stands_for h) bs)
+
+-- but for `target`
+abbrev pub nearly_fair : List ℕ → Bool
+nearly_fair bs = fair_at bs heads.RefusedType && (fair_at bs heads.RegisterInteger && (fair_at bs heads.NumberedGlobal && fair_at bs heads.NumberedDefinition))
+
+abbrev pub fair : List ℕ → Bool
+fair bs = fair_at bs heads.Target && nearly_fair bs
+
+any_test : (b : Bool) → cond b true true ≡ true
+any_test true = refl
+any_test false = refl
+
+pub is_target : Head → Bool
+is_target heads.Target = true
+is_target h = false
+
+parts : (bs : List ℕ) → nearly_fair bs ≡ true → (fair_at bs heads.RefusedType ≡ true) × (fair_at bs heads.RegisterInteger ≡ true) × (fair_at bs heads.NumberedGlobal ≡ true) × (fair_at bs heads.NumberedDefinition ≡ true)
+parts bs e =
+    let one = and_parts (fair_at bs heads.RefusedType) (fair_at bs heads.RegisterInteger && (fair_at bs heads.NumberedGlobal && fair_at bs heads.NumberedDefinition)) e in
+    let two = and_parts (fair_at bs heads.RegisterInteger) (fair_at bs heads.NumberedGlobal && fair_at bs heads.NumberedDefinition) one.1 in
+    let three = and_parts (fair_at bs heads.NumberedGlobal) (fair_at bs heads.NumberedDefinition) two.1 in
+    (one.0, two.0, three.0, three.1)
+
+pub fair_but : (bs : List ℕ) → nearly_fair bs ≡ true → (h : Head) → is_target h ≡ false → fair_at bs h ≡ true
+unfolding is_target
+fair_but bs e heads.RefusedType n = (parts bs e).0
+fair_but bs e heads.RegisterInteger n = (parts bs e).1
+fair_but bs e heads.NumberedGlobal n = (parts bs e).2
+fair_but bs e heads.NumberedDefinition n = (parts bs e).3
+fair_but bs e heads.Target n = absurd cc
+fair_but bs e h n = any_test (contains bs (number h))
+
+pub fair_of : (bs : List ℕ) → fair bs ≡ true → (h : Head) → fair_at bs h ≡ true
+unfolding is_target
+fair_of bs e h = by_test (is_target h) refl
+  where
+    target_is : (k : Head) → is_target k ≡ true → fair_at bs k ≡ true
+    target_is heads.Target q = (and_parts (fair_at bs heads.Target) (nearly_fair bs) e).0
+    target_is k q = absurd cc
+
+    by_test : (b : Bool) → is_target h ≡ b → fair_at bs h ≡ true
+    by_test true q = target_is h q
+    by_test false q = fair_but bs (and_parts (fair_at bs heads.Target) (nearly_fair bs) e).1 h q
+
+-- so a choice by these classes is the same
+pub alike : (bs : List ℕ) (h : Head) → fair_at bs h ≡ true → (u : Tok) → among tokens (stands_for h) u ≡ true → among tokens bs u ≡ contains bs (number h)
+alike bs h e u i = by_test (contains bs (number h)) refl e
+  where
+    by_test : (b : Bool) → contains bs (number h) ≡ b → cond b (subset (stands_for h) bs) (disjoint (stands_for h) bs) ≡ true → among tokens bs u ≡ b
+    by_test true q s = within_of (stands_for h) bs s (number u.head) i
+    by_test false q s = is_false (among tokens bs u) (λ p. apart_from (stands_for h) bs s (number u.head) i p)
+
+pub word_at : (G : Tok → Type 0) (h : Head) → is_target h ≡ true → (w : Tok) → among tokens WORD w ≡ true → G w → WordGoes h G
+unfolding is_target
+word_at G heads.Target e w i g = (w, i, g)
+word_at G h e w i g = absurd cc
+
+-- where these classes don't keep together what stands for one another, a plain word begins one of them
+abbrev pub Turns : {A : Type 0} → List ℕ → Form Tok A → Type 0
+Turns bs wide = (fair bs ≡ true) ⊎ ((nearly_fair bs ≡ true) × (w : Tok) × (among tokens WORD w ≡ true) × Goes wide [] w)
+
+module _ {A : Type 0} {wide wide' : Form Tok A} {f f' : Reader Tok A} (bs : List ℕ) (turns : Turns bs wide) (law : Exchanges wide f) (law' : Exchanges wide' f') where
+  abbrev one_of_two : Reader Tok A
+  one_of_two = pick (among tokens bs) f f'
+
+  abbrev of_two : Form Tok A
+  of_two = form.either wide wide'
+
+  goes_one : (front : List Tok) (u : Tok) → Goes wide front u → Goes of_two front u
+  unfolding form.either
+  goes_one front u (more, a, s, r) = (more, a, inl s, r)
+
+  goes_other : (front : List Tok) (u : Tok) → Goes wide' front u → Goes of_two front u
+  unfolding form.either
+  goes_other front u (more, a, s, r) = (more, a, inr s, r)
+
+  pick_yes : (t : Tok) (ts : List Tok) → among tokens bs t ≡ true → one_of_two (t ∷ ts) ≡ f (t ∷ ts)
+  pick_yes t ts e = rw e refl
+
+  pick_no : (t : Tok) (ts : List Tok) → among tokens bs t ≡ false → one_of_two (t ∷ ts) ≡ f' (t ∷ ts)
+  pick_no t ts e = rw e refl
+
+  sound_alt : (ts rest : List Tok) (a : A) → one_of_two ts ≡ reads a rest → (front : List Tok) × (ts ≡ front ++ rest) × of_two front a
+  unfolding form.either
+  sound_alt [] rest a e = let s = law'.sound [] rest a e in (s.0, s.1, inr s.2)
+  sound_alt (t ∷ ts) rest a e = by_test (among tokens bs t) e
+    where
+      by_test : (b : Bool) → cond b (f (t ∷ ts)) (f' (t ∷ ts)) ≡ reads a rest → (front : List Tok) × (t ∷ ts ≡ front ++ rest) × (wide front a ⊎ wide' front a)
+      by_test true d = let s = law.sound (t ∷ ts) rest a d in (s.0, s.1, inl s.2)
+      by_test false d = let s = law'.sound (t ∷ ts) rest a d in (s.0, s.1, inr s.2)
+
+  placed_alt : (ts : List Tok) (e : Fault) → one_of_two ts ≡ wrong e → (front : List Tok) × (rest : List Tok) × (ts ≡ front ++ rest) × (length rest ≡ e.left)
+  placed_alt [] e d = law'.placed [] e d
+  placed_alt (t ∷ ts) e d = by_test (among tokens bs t) d
+    where
+      by_test : (b : Bool) → cond b (f (t ∷ ts)) (f' (t ∷ ts)) ≡ wrong e → (front : List Tok) × (rest : List Tok) × (t ∷ ts ≡ front ++ rest) × (length rest ≡ e.left)
+      by_test true d = law.placed (t ∷ ts) e d
+      by_test false d = law'.placed (t ∷ ts) e d
+
+  local_alt : (front : List Tok) (t : Tok) (rest rest' : List Tok) (o : Result A FaultKind) → one_of_two (front ++ t ∷ rest) ≡ ends o (t ∷ rest) → one_of_two (front ++ t ∷ rest') ≡ ends o (t ∷ rest')
+  local_alt [] t rest rest' o d = by_test (among tokens bs t) d
+    where
+      by_test : (b : Bool) → cond b (f (t ∷ rest)) (f' (t ∷ rest)) ≡ ends o (t ∷ rest) → cond b (f (t ∷ rest')) (f' (t ∷ rest')) ≡ ends o (t ∷ rest')
+      by_test true d = law.local [] t rest rest' o d
+      by_test false d = law'.local [] t rest rest' o d
+  local_alt (u ∷ front) t rest rest' o d = by_test (among tokens bs u) d
+    where
+      by_test : (b : Bool) → cond b (f (u ∷ (front ++ t ∷ rest))) (f' (u ∷ (front ++ t ∷ rest))) ≡ ends o (t ∷ rest) → cond b (f (u ∷ (front ++ t ∷ rest'))) (f' (u ∷ (front ++ t ∷ rest'))) ≡ ends o (t ∷ rest')
+      by_test true d = law.local (u ∷ front) t rest rest' o d
+      by_test false d = law'.local (u ∷ front) t rest rest' o d
+
+  -- the first token chooses, and it is the same for all that it stands for
+  swap_fair : (t : Tok) (rest : List Tok) (o : Result A FaultKind) → fair_at bs t.head ≡ true → one_of_two (t ∷ rest) ≡ ends o (t ∷ rest) → Outcome of_two one_of_two [] t.head o
+  swap_fair t rest o e d = by_test (among tokens bs t) refl d
+    where
+      by_test : (b : Bool) → among tokens bs t ≡ b → cond b (f (t ∷ rest)) (f' (t ∷ rest)) ≡ ends o (t ∷ rest) → Outcome of_two one_of_two [] t.head o
+      by_test true q d = outcome_too wide of_two f one_of_two [] [] t.head o (λ p. p) (λ u i rest'. sym (pick_yes u rest' (alike bs t.head e u i ∙ q))) (λ u g. goes_one [] u g) (law.swap [] t rest o d)
+      by_test false q d = outcome_too wide' of_two f' one_of_two [] [] t.head o (λ p. p) (λ u i rest'. sym (pick_no u rest' (alike bs t.head e u i ∙ q))) (λ u g. goes_other [] u g) (law'.swap [] t rest o d)
+
+  -- at `target`, where a word goes on
+  swap_word : (h : Head) (o : Result A FaultKind) → WordGoes h (Goes of_two []) → ((k : FaultKind) → o ≡ Err k → k ≡ Profile → IsTold h (Goes of_two []) (Open [])) → Outcome of_two one_of_two [] h o
+  swap_word h (Ok a) w g = inr w
+  swap_word h (Err Syntax) w g = word_not_told h (Stuck one_of_two []) (Goes of_two []) w
+  swap_word h (Err Profile) w g = g Profile refl refl
+  swap_word h (Err Number) w g = tt
+  swap_word h (Err Limit) w g = tt
+
+  told_either : (t : Tok) (rest : List Tok) → one_of_two (t ∷ rest) ≡ ends {A = A} (Err Profile) (t ∷ rest) → IsTold t.head (Goes of_two []) (Open [])
+  told_either t rest d = by_test (among tokens bs t) d
+    where
+      by_test : (b : Bool) → cond b (f (t ∷ rest)) (f' (t ∷ rest)) ≡ ends {A = A} (Err Profile) (t ∷ rest) → IsTold t.head (Goes of_two []) (Open [])
+      by_test true d = told_too t.head (Goes wide []) (Goes of_two []) (Open []) (Open []) (λ u g. goes_one [] u g) (λ p. p) (law.swap [] t rest (Err Profile) d)
+      by_test false d = told_too t.head (Goes wide' []) (Goes of_two []) (Open []) (Open []) (λ u g. goes_other [] u g) (λ p. p) (law'.swap [] t rest (Err Profile) d)
+
+  swap_here : Turns bs wide → (t : Tok) (rest : List Tok) (o : Result A FaultKind) → one_of_two (t ∷ rest) ≡ ends o (t ∷ rest) → Outcome of_two one_of_two [] t.head o
+  swap_here (inl e) t rest o d = swap_fair t rest o (fair_of bs e t.head) d
+  swap_here (inr (e, w, i, g)) t rest o d = by_test (is_target t.head) refl
+    where
+      by_test : (b : Bool) → is_target t.head ≡ b → Outcome of_two one_of_two [] t.head o
+      by_test true q = swap_word t.head o (word_at (Goes of_two []) t.head q w i (goes_one [] w g)) (λ k p p'. told_either t rest (d ∙ ap (λ (x : Result A FaultKind). ends x (t ∷ rest)) (p ∙ ap (λ (x : FaultKind). Err x) p')))
+      by_test false q = swap_fair t rest o (fair_but bs e t.head q) d
+
+  swap_alt : (front : List Tok) (t : Tok) (rest : List Tok) (o : Result A FaultKind) → one_of_two (front ++ t ∷ rest) ≡ ends o (t ∷ rest) → Outcome of_two one_of_two front t.head o
+  swap_alt [] t rest o d = swap_here turns t rest o d
+  swap_alt (v ∷ front) t rest o d = by_test (among tokens bs v) refl d
+    where
+      by_test : (b : Bool) → among tokens bs v ≡ b → cond b (f (v ∷ (front ++ t ∷ rest))) (f' (v ∷ (front ++ t ∷ rest))) ≡ ends o (t ∷ rest) → Outcome of_two one_of_two (v ∷ front) t.head o
+      by_test true q d = outcome_too wide of_two f one_of_two (v ∷ front) (v ∷ front) t.head o (λ p. p) (λ u i rest'. sym (pick_yes v (front ++ u ∷ rest') q)) (λ u g. goes_one (v ∷ front) u g) (law.swap (v ∷ front) t rest o d)
+      by_test false q d = outcome_too wide' of_two f' one_of_two (v ∷ front) (v ∷ front) t.head o (λ p. p) (λ u i rest'. sym (pick_no v (front ++ u ∷ rest') q)) (λ u g. goes_other (v ∷ front) u g) (law'.swap (v ∷ front) t rest o d)
+
+  pub alt_by : Exchanges of_two one_of_two
+  unfolding form.either
+  alt_by = record {
+    sound = sound_alt;
+    placed = placed_alt;
+    local = local_alt;
+    some = (law.some.0, law.some.1, inl law.some.2, law.some.3);
+    swap = swap_alt;
+  }
+
+pub alt : {A : Type 0} {wide wide' : Form Tok A} {f f' : Reader Tok A} (bs : List ℕ) → fair bs ≡ true → Exchanges wide f → Exchanges wide' f' → Exchanges (form.either wide wide') (pick (among tokens bs) f f')
+alt bs e law law' = alt_by bs (inl e) law law'
+
+pub maybe : {A : Type 0} {wide : Form Tok A} {f : Reader Tok A} (bs : List ℕ) → fair bs ≡ true → Exchanges wide f → Exchanges (form.optional wide) (optional_at (among tokens bs) f)
+maybe bs e law = alt bs e (seq law (λ a. nothing (Some a))) (nothing None)
+
+-- ---- a limit
+
+limit_ends : {A : Type 0} (front : List Tok) (t : Tok) (rest : List Tok) (o : Result A FaultKind) → fault_at Limit (front ++ t ∷ rest) ≡ ends o (t ∷ rest) → (front ≡ []) × (o ≡ Err Limit)
+limit_ends front t rest (Ok a) d = absurd cc
+limit_ends [] t rest (Err k) d = (refl, sym (ap (λ (x : Fault). Err x.kind) (wrong_is (record { left = length (t ∷ rest); kind = Limit }) (record { left = length (t ∷ rest); kind = k }) d)))
+limit_ends (u ∷ us) t rest (Err k) d = absurd (omega (arith, ap (λ (x : Fault). x.left) (wrong_is (record { left = length (u ∷ (us ++ t ∷ rest)); kind = Limit }) (record { left = length (t ∷ rest); kind = k }) d), length-append us (t ∷ rest)))
+
+limited : {A : Type 0} (wide : Form Tok A) → (ts : List Tok) × (a : A) × wide ts a × AllReal tokens ts → Exchanges wide (fault_at Limit)
+limited {A} wide some = record {
+  sound = λ ts rest a e. absurd cc;
+  placed = λ ts e d. ([], ts, refl, ap (λ (x : Fault). x.left) (wrong_is (record { left = length ts; kind = Limit }) e d));
+  local = λ front t rest rest' o d. let h = limit_ends front t rest o d in rw (h.0, h.1) refl;
+  some = some;
+  swap = λ front t rest o d. subst (λ (x : Result A FaultKind). Outcome wide (fault_at Limit) front t.head x) (sym (limit_ends front t rest o d).1) tt;
+}
+
+either_same : {A : Type 0} (wide : Form Tok A) (ts : List Tok) (a : A) → form.either wide wide ts a → wide ts a
+unfolding form.either
+either_same wide ts a (inl s) = s
+either_same wide ts a (inr s) = s
+
+-- a limit at one of these tokens
+pub barred : {A : Type 0} {wide : Form Tok A} {f : Reader Tok A} (bs : List ℕ) → fair bs ≡ true → Exchanges wide f → Exchanges wide (pick (among tokens bs) (fault_at Limit) f)
+barred {wide = wide} bs e law = recast (either_same wide) (alt bs e (limited wide law.some) law)
+
+-- ---- as many as there are, or up to a limit
+
+-- what a list of values ended with, without its first
+abbrev pub in_front : {A : Type 0} → A → Result (List A × List Tok) Fault → Result (List A × List Tok) Fault
+in_front a r = follow r (λ m. done (a ∷ m))
+
+abbrev pub joined : {A : Type 0} → A → Result (List A) FaultKind → Result (List A) FaultKind
+joined a (Ok m) = Ok (a ∷ m)
+joined a (Err k) = Err k
+
+pub ends_in_front : {A : Type 0} (a : A) (o : Result (List A) FaultKind) (us : List Tok) → in_front a (ends o us) ≡ ends (joined a o) us
+ends_in_front a (Ok m) us = refl
+ends_in_front a (Err k) us = refl
+
+pub without : {A : Type 0} (a : A) (r : Result (List A × List Tok) Fault) (o : Result (List A) FaultKind) (us : List Tok) → in_front a r ≡ ends o us → (o' : Result (List A) FaultKind) × (r ≡ ends o' us) × (o ≡ joined a o')
+without a (Ok y) (Ok v) us h =
+    let e = reads_is (a ∷ y.0) v y.1 us h in
+    (Ok y.0, ap (λ (x : List Tok). reads y.0 x) e.1, ap (λ (x : List _). Ok x) (sym e.0))
+without a (Ok y) (Err k) us h = absurd cc
+without a (Err e) (Ok v) us h = absurd cc
+without a (Err e) (Err k) us h = (Err k, h, refl)
+
+-- behind a first piece fewer tokens stand before the same rest
+pub fewer : (front us p q r : List Tok) → p ≢ [] → front ++ us ≡ p ++ (q ++ r) → length r ≡ length us → (r ≡ us) × (length q < length front)
+fewer front us [] q r n e l = absurd (n refl)
+fewer front us (v ∷ p) q r n e l =
+    let c = cut_is front us (v ∷ (p ++ q)) r (e ∙ sym (append_assoc (v ∷ p) q r)) (sym l) in
+    (sym c.1, omega (arith, ap length c.0, length-append p q))
+
+module _ {A : Type 0} (wide : Form Tok A) (f : Reader Tok A) (bs : List ℕ) (turns : Turns bs wide) (law : Exchanges wide f) where
+  abbrev one_more : Form Tok (List A)
+  one_more = form.◌>>=◌ wide (λ a. form.◌>>=◌ (Star wide) (λ more. form.gives (a ∷ more)))
+
+  none_is : (ts : List Tok) (as' : List A) → form.gives [] ts as' → Star wide ts as'
+  none_is ts as' n = subst (λ (x : List A). Star wide ts x) (sym n.1) n.0
+
+  over : (ts : List Tok) (as' : List A) → form.either one_more (form.gives []) ts as' → Star wide ts as'
+  unfolding form.either form.◌>>=◌
+  over ts as' (inl (p, q, a, e, s, (q', r, l, e', s', n))) =
+      let whole : ts ≡ p ++ q' = e ∙ ap (λ (x : List Tok). p ++ x) (e' ∙ ap (λ (x : List Tok). q' ++ x) n.0 ∙ append-nil q') in
+      subst (λ (x : List A). Star wide ts x) (sym n.1) (p, q', whole, s, s')
+  over ts as' (inr n) = none_is ts as' n
+
+  one_star : (ts : List Tok) (a : A) → wide ts a → Star wide ts (a ∷ [])
+  one_star ts a s = (ts, [], sym (append-nil ts), s, refl)
+
+  star_turns : Turns bs wide → Turns bs (Star wide)
+  star_turns (inl e) = inl e
+  star_turns (inr (e, w, i, g)) = inr (e, w, i, (g.0, g.1 ∷ [], one_star (w ∷ g.0) g.1 g.2, g.3))
+
+  more_turns : Turns bs wide → Turns bs one_more
+  unfolding form.◌>>=◌
+  more_turns (inl e) = inl e
+  more_turns (inr (e, w, i, g)) = inr (e, w, i, (g.0, g.1 ∷ [], (w ∷ g.0, [], g.1, sym (append-nil (w ∷ g.0)), g.2, ([], [], [], refl, refl, (refl, refl))), g.3))
+
+  pub many : (room : ℕ) → Exchanges (Star wide) (many_at (among tokens bs) f room)
+  many zero = recast (either_same (Star wide)) (alt_by bs (star_turns turns) (limited (Star wide) ([], [], refl, tt)) (recast none_is (nothing [])))
+  many (suc room) = recast over (alt_by bs (more_turns turns) (seq law (λ a. seq (many room) (λ more. nothing (a ∷ more)))) (nothing []))
+
+  module _ (some : (a : A) → wide [] a → ⊥) where
+    abbrev at_most : ℕ → Reader Tok (List A)
+    at_most = many_at (among tokens bs) f
+
+    not_nil : (p : List Tok) (a : A) → wide p a → p ≢ []
+    not_nil p a s e = some a (subst (λ (y : List Tok). wide y a) e s)
+
+    -- with more room than stands before it, a reading that ends here ends so with any such room
+    enough : (n m : ℕ) (ts front us : List Tok) (o : Result (List A) FaultKind) → ts ≡ front ++ us → length front < n → length front < m → at_most n ts ≡ ends o us → at_most m ts ≡ ends o us
+    enough zero m ts front us o w i j d = absurd (omega (arith, i))
+    enough (suc n) zero ts front us o w i j d = absurd (omega (arith, j))
+    enough (suc n) (suc m) [] front us o w i j d = d
+    enough (suc n) (suc m) (t ∷ ts) front us o w i j d = by_test (λ left before o' w' i' j' d'. enough n m left before us o' w' i' j' d') (among tokens bs t) d
+      where
+        Again : Type 0
+        Again = (left before : List Tok) (o' : Result (List A) FaultKind) → left ≡ before ++ us → length before < n → length before < m → at_most n left ≡ ends o' us → at_most m left ≡ ends o' us
+
+        by_more : Again → (x : A × List Tok) → f (t ∷ ts) ≡ reads x.0 x.1 → in_front x.0 (at_most n x.1) ≡ ends o us → in_front x.0 (at_most m x.1) ≡ ends o us
+        by_more again x e d =
+            let w' = without x.0 (at_most n x.1) o us d in
+            let p = law.sound (t ∷ ts) x.1 x.0 e in
+            let q = placed_of (many n) x.1 us w'.0 w'.1 in
+            let c = fewer front us p.0 q.0 q.1 (not_nil p.0 x.0 p.2) (sym w ∙ p.1 ∙ ap (λ (y : List Tok). p.0 ++ y) q.2) q.3 in
+            let two : at_most m x.1 ≡ ends w'.0 us = again x.1 q.0 w'.0 (q.2 ∙ ap (λ (y : List Tok). q.0 ++ y) c.0) (omega (arith, i, c.1)) (omega (arith, j, c.1)) w'.1 in
+            ap (in_front x.0) two ∙ ends_in_front x.0 w'.0 us ∙ ap (λ (y : Result (List A) FaultKind). ends y us) (sym w'.2)
+
+        by_piece : Again → (r : Result (A × List Tok) Fault) → f (t ∷ ts) ≡ r → follow r (λ a. at_most n >>= λ more. done (a ∷ more)) ≡ ends o us → follow r (λ a. at_most m >>= λ more. done (a ∷ more)) ≡ ends o us
+        by_piece again (Err e) q d = d
+        by_piece again (Ok x) q d = by_more again x q d
+
+        by_test : Again → (b : Bool) → cond b ((f >>= λ a. at_most n >>= λ more. done (a ∷ more)) (t ∷ ts)) (reads {A = List A} [] (t ∷ ts)) ≡ ends o us → cond b ((f >>= λ a. at_most m >>= λ more. done (a ∷ more)) (t ∷ ts)) (reads {A = List A} [] (t ∷ ts)) ≡ ends o us
+        by_test again true d = by_piece again (f (t ∷ ts)) refl d
+        by_test again false d = d
+
+    abbrev all_at : Reader Tok (List A)
+    all_at = star_at (among tokens bs) f
+
+    enough_for : (front : List Tok) (n : ℕ) → length front < n → (u : Tok) (rest : List Tok) (o : Result (List A) FaultKind) → at_most n (front ++ u ∷ rest) ≡ ends o (u ∷ rest) → all_at (front ++ u ∷ rest) ≡ ends o (u ∷ rest)
+    enough_for front n i u rest o d = enough n (length (front ++ u ∷ rest)) (front ++ u ∷ rest) front (u ∷ rest) o refl i (omega (arith, length-append front (u ∷ rest))) d
+
+    all_is : (front : List Tok) (u : Tok) (rest : List Tok) (o : Result (List A) FaultKind) → all_at (front ++ u ∷ rest) ≡ ends o (u ∷ rest) → at_most (suc (length front)) (front ++ u ∷ rest) ≡ ends o (u ∷ rest)
+    all_is front u rest o d = enough (length (front ++ u ∷ rest)) (suc (length front)) (front ++ u ∷ rest) front (u ∷ rest) o refl (omega (arith, length-append front (u ∷ rest))) (omega arith) d
+
+    swap_all : (front : List Tok) (h : Head) (o : Result (List A) FaultKind) → Outcome (Star wide) (at_most (suc (length front))) front h o → Outcome (Star wide) all_at front h o
+    swap_all front h (Ok as') n = ok_too (Star wide) (Star wide) (at_most (suc (length front))) all_at front front h as' as' (λ u i s rest. enough_for front (suc (length front)) (omega arith) u rest (Ok as') (s rest)) (λ u g. g) n
+    swap_all front h (Err k) n = err_too (Star wide) (Star wide) (at_most (suc (length front))) all_at front front h k (λ p. p) (λ u i s rest. let r = s rest in (r.0, r.1, enough_for front (suc (length front)) (omega arith) u rest (Err r.0) r.2)) (λ u g. g) n
+
+    pub all : Exchanges (Star wide) all_at
+    all = record {
+      sound = λ ts rest as' e. (many (length ts)).sound ts rest as' e;
+      placed = λ ts e d. (many (length ts)).placed ts e d;
+      local = λ front t rest rest' o d. enough_for front (suc (length front)) (omega arith) t rest' o ((many (suc (length front))).local front t rest rest' o (all_is front t rest o d));
+      some = ([], [], refl, tt);
+      swap = λ front t rest o d. swap_all front t.head o ((many (suc (length front))).swap front t rest o (all_is front t rest o d));
+    }
+
+-- as many as there are of what isn't empty
+pub star : {A : Type 0} {wide : Form Tok A} {f : Reader Tok A} (bs : List ℕ) → fair bs ≡ true → Exchanges wide f → ((a : A) → wide [] a → ⊥) → Exchanges (Star wide) (star_at (among tokens bs) f)
+star {wide = wide} {f = f} bs e law some = all wide f bs (inl e) law some
+
+-- ---- single tokens
+
+-- what a meaning says at a token of this class
+abbrev pub Says : {A : Type 0} → Form Tok A → (Tok → Result A FaultKind) → Head → FaultKind → Type 0
+Says wide meaning h Syntax = NotTold h (λ u. (k : FaultKind) × (IsBound k → ⊥) × (meaning u ≡ Err k)) (Goes wide [])
+Says wide meaning h Profile = IsTold h (Goes wide []) (Open [])
+Says wide meaning h Number = Unit {0}
+Says wide meaning h Limit = Unit {0}
+
+module _ {A : Type 0} (wide : Form Tok A) (meaning : Tok → Result A FaultKind) (right : (t : Tok) (a : A) → meaning t ≡ Ok a → wide (t ∷ []) a) (some : (ts : List Tok) × (a : A) × wide ts a × AllReal tokens ts) (says : (t : Tok) (k : FaultKind) → meaning t ≡ Err k → Says wide meaning t.head k) where
+  sound_means : (t : Tok) (ts rest : List Tok) (a : A) (m : Result A FaultKind) → meaning t ≡ m → token_means t ts m ≡ reads a rest → (front : List Tok) × (t ∷ ts ≡ front ++ rest) × wide front a
+  sound_means t ts rest a (Ok b) d e = let h = reads_is b a ts rest e in (t ∷ [], ap (λ (x : List Tok). t ∷ x) h.1, right t a (d ∙ ap (λ (x : A). Ok x) h.0))
+  sound_means t ts rest a (Err k) d e = absurd cc
+
+  sound_token : (ts rest : List Tok) (a : A) → token_at meaning ts ≡ reads a rest → (front : List Tok) × (ts ≡ front ++ rest) × wide front a
+  sound_token [] rest a e = absurd cc
+  sound_token (t ∷ ts) rest a e = sound_means t ts rest a (meaning t) refl e
+
+  placed_means : (t : Tok) (ts : List Tok) (e : Fault) (m : Result A FaultKind) → token_means t ts m ≡ wrong e → (front : List Tok) × (rest : List Tok) × (t ∷ ts ≡ front ++ rest) × (length rest ≡ e.left)
+  placed_means t ts e (Ok b) d = absurd cc
+  placed_means t ts e (Err k) d = ([], t ∷ ts, refl, ap (λ (x : Fault). x.left) (wrong_is _ e d))
+
+  placed_token : (ts : List Tok) (e : Fault) → token_at meaning ts ≡ wrong e → (front : List Tok) × (rest : List Tok) × (ts ≡ front ++ rest) × (length rest ≡ e.left)
+  placed_token [] e d = ([], [], refl, ap (λ (x : Fault). x.left) (wrong_is _ e d))
+  placed_token (t ∷ ts) e d = placed_means t ts e (meaning t) d
+
+  -- a fault is at the token, and what is read stands before the next one
+  fault_here : (t : Tok) (rest : List Tok) (o m : Result A FaultKind) → token_means t rest m ≡ ends o (t ∷ rest) → (k : FaultKind) × (o ≡ Err k) × (m ≡ Err k)
+  fault_here t rest (Ok a) (Ok b) d = absurd (omega (arith, ap length (reads_is b a rest (t ∷ rest) d).1))
+  fault_here t rest (Ok a) (Err k) d = absurd cc
+  fault_here t rest (Err k) (Ok b) d = absurd cc
+  fault_here t rest (Err k) (Err l) d = (k, refl, ap (λ (x : Fault). Err x.kind) (wrong_is (record { left = length (t ∷ rest); kind = l }) (record { left = length (t ∷ rest); kind = k }) d))
+
+  read_before : (v t : Tok) (front rest : List Tok) (o m : Result A FaultKind) → token_means v (front ++ t ∷ rest) m ≡ ends o (t ∷ rest) → (front ≡ []) × (a : A) × (o ≡ Ok a) × (m ≡ Ok a)
+  read_before v t front rest (Ok a) (Ok b) d =
+      let p = reads_is b a (front ++ t ∷ rest) (t ∷ rest) d in
+      ((cut_is front (t ∷ rest) [] (t ∷ rest) p.1 refl).0, a, refl, ap (λ (x : A). Ok x) p.0)
+  read_before v t front rest (Ok a) (Err k) d = absurd cc
+  read_before v t front rest (Err k) (Ok b) d = absurd cc
+  read_before v t front rest (Err k) (Err l) d =
+      absurd (omega (arith, ap (λ (x : Fault). x.left) (wrong_is (record { left = length (v ∷ (front ++ t ∷ rest)); kind = l }) (record { left = length (t ∷ rest); kind = k }) d), length-append front (t ∷ rest)))
+
+  local_token : (front : List Tok) (t : Tok) (rest rest' : List Tok) (o : Result A FaultKind) → token_at meaning (front ++ t ∷ rest) ≡ ends o (t ∷ rest) → token_at meaning (front ++ t ∷ rest') ≡ ends o (t ∷ rest')
+  local_token [] t rest rest' o d = let h = fault_here t rest o (meaning t) d in ap (token_means t rest') h.2 ∙ ap (λ (x : Result A FaultKind). ends x (t ∷ rest')) (sym h.1)
+  local_token (v ∷ front) t rest rest' o d =
+      let h = read_before v t front rest o (meaning v) d in
+      ap (token_means v (front ++ t ∷ rest')) h.3 ∙ ap (λ (x : List Tok). reads h.1 (x ++ t ∷ rest')) h.0 ∙ ap (λ (x : Result A FaultKind). ends x (t ∷ rest')) (sym h.2)
+
+  by_kind : (h : Head) (k : FaultKind) → Says wide meaning h k → Outcome wide (token_at meaning) [] h (Err k)
+  by_kind h Syntax s = not_told_too h (λ u. (k : FaultKind) × (IsBound k → ⊥) × (meaning u ≡ Err k)) (Stuck (token_at meaning) []) (Goes wide []) (Goes wide []) (λ u i r rest. (r.0, r.1, ap (token_means u rest) r.2)) (λ u g. g) s
+  by_kind h Profile s = s
+  by_kind h Number s = tt
+  by_kind h Limit s = tt
+
+  swap_token : (front : List Tok) (t : Tok) (rest : List Tok) (o : Result A FaultKind) → token_at meaning (front ++ t ∷ rest) ≡ ends o (t ∷ rest) → Outcome wide (token_at meaning) front t.head o
+  swap_token [] t rest o d =
+      let h = fault_here t rest o (meaning t) d in
+      subst (λ (x : Result A FaultKind). Outcome wide (token_at meaning) [] t.head x) (sym h.1) (by_kind t.head h.0 (says t h.0 h.2))
+  swap_token (v ∷ front) t rest o d =
+      let h = read_before v t front rest o (meaning v) d in
+      subst (λ (x : Result A FaultKind). Outcome wide (token_at meaning) (v ∷ front) t.head x) (sym h.2) (inl (λ u i rest'. ap (token_means v (front ++ u ∷ rest')) h.3 ∙ ap (λ (x : List Tok). reads h.1 (x ++ u ∷ rest')) h.0))
+
+  pub single : Exchanges wide (token_at meaning)
+  single = record { sound = sound_token; placed = placed_token; local = local_token; some = some; swap = swap_token }
+
+-- ---- what may end anywhere, but at none that is left out only in some places
+
+abbrev pub SOMEWHERE : List ℕ
+SOMEWHERE = number heads.RefusedType ∷ number heads.Target ∷ number heads.RegisterInteger ∷ number heads.NumberedGlobal ∷ number heads.NumberedDefinition ∷ []
+
+module _ {A : Type 0} {g wide : Form Tok A} {f : Reader Tok A} {xs : List ℕ} {e : Bool} (rule : Rule tokens g wide f xs [] e) (never : (front : List Tok) (t : Tok) (rest : List Tok) (k : FaultKind) → f (front ++ t ∷ rest) ≡ fault_at k (t ∷ rest) → contains SOMEWHERE (number t.head) ≡ true → ⊥) where
+  stuck_nowhere : (h : Head) (k : FaultKind) (front : List Tok) → (contains SOMEWHERE (number h) ≡ true → ⊥) → Outcome wide f front h (Err k)
+  stuck_nowhere h Number front n = tt
+  stuck_nowhere h Limit front n = tt
+  stuck_nowhere heads.RefusedType k front n = absurd (n refl)
+  stuck_nowhere heads.Target k front n = absurd (n refl)
+  stuck_nowhere heads.RegisterInteger k front n = absurd (n refl)
+  stuck_nowhere heads.NumberedGlobal k front n = absurd (n refl)
+  stuck_nowhere heads.NumberedDefinition k front n = absurd (n refl)
+  stuck_nowhere h Syntax front n = tt
+  stuck_nowhere h Profile front n = tt
+
+  ends_anywhere : (front : List Tok) (t : Tok) (rest : List Tok) (o : Result A FaultKind) → f (front ++ t ∷ rest) ≡ ends o (t ∷ rest) → Outcome wide f front t.head o
+  ends_anywhere front t rest (Ok a) d =
+      let s = rule.law.sound (front ++ t ∷ rest) (t ∷ rest) a d in
+      let same = cut_is front (t ∷ rest) s.0 (t ∷ rest) s.1 refl in
+      inl (λ u i rest'. ap (λ (y : List Tok). f (y ++ u ∷ rest')) same.0 ∙ rule.law.complete s.0 (u ∷ rest') a s.2 refl)
+  ends_anywhere front t rest (Err k) d = stuck_nowhere t.head k front (λ p. never front t rest k d p)
+
+  pub anywhere : Exchanges wide f
+  anywhere = of_rule rule ends_anywhere
+
+-- at most so many
+pub up_to : {A : Type 0} {wide : Form Tok A} {f : Reader Tok A} (bs : List ℕ) → fair bs ≡ true → Exchanges wide f → (room : ℕ) → Exchanges (Star wide) (many_at (among tokens bs) f room)
+up_to {wide = wide} {f = f} bs e law room = many wide f bs (inl e) law room
+
+-- a reader that gives the same
+pub same_reader : {A : Type 0} {wide : Form Tok A} {f f' : Reader Tok A} → ((ts : List Tok) → f ts ≡ f' ts) → Exchanges wide f → Exchanges wide f'
+same_reader {wide = wide} {f = f} {f' = f'} same law = record {
+  sound = λ ts rest a e. law.sound ts rest a (same ts ∙ e);
+  placed = λ ts e d. law.placed ts e (same ts ∙ d);
+  local = λ front t rest rest' o d. sym (same (front ++ t ∷ rest')) ∙ law.local front t rest rest' o (same (front ++ t ∷ rest) ∙ d);
+  some = law.some;
+  swap = λ front t rest o d. outcome_too wide wide f f' front front t.head o (λ p. p) (λ u i rest'. same (front ++ u ∷ rest')) (λ u g. g) (law.swap front t rest o (same (front ++ t ∷ rest) ∙ d));
+}
+
+-- what begins with a token isn't empty
+pub token_begins : {A B : Type 0} (meaning : Tok → Result A FaultKind) (k : A → Form Tok B) (b : B) → form.◌>>=◌ (form.token meaning) k [] b → ⊥
+unfolding form.◌>>=◌
+token_begins meaning k b ([], back, a, e, s, r) = s
+token_begins meaning k b (t ∷ front, back, a, e, s, r) = absurd cc
+
+-- a limit, or else it, by a test
+pub tested : {A : Type 0} {wide : Form Tok A} {f : Reader Tok A} (b : Bool) → Exchanges wide f → Exchanges wide (cond b (fault_at Limit) f)
+tested true law = limited _ law.some
+tested false law = law
+
+-- what a reader takes alone goes on
+pub goes_alone : {A : Type 0} {wide : Form Tok A} {f : Reader Tok A} → Exchanges wide f → (w : Tok) → IsReal w → (a : A) → f (w ∷ []) ≡ reads a [] → Goes wide [] w
+goes_alone {wide = wide} law w r a e = let s = law.sound (w ∷ []) [] a e in ([], a, subst (λ (y : List Tok). wide y a) (sym (s.1 ∙ append-nil s.0)) s.2, (r, tt))
+
+-- as many as there are, of which a plain word begins one
+pub star_words : {A : Type 0} {wide : Form Tok A} {f : Reader Tok A} (bs : List ℕ) → nearly_fair bs ≡ true → (w : Tok) → among tokens WORD w ≡ true → Goes wide [] w → Exchanges wide f → ((a : A) → wide [] a → ⊥) → Exchanges (Star wide) (star_at (among tokens bs) f)
+star_words {wide = wide} {f = f} bs e w i g law some = all wide f bs (inr (e, w, i, g)) law some

@@ -1,0 +1,350 @@
+-- The readers of items tell a token that is left out in some places where one that it stands for goes on.
+use Rattle.std.proofs.Common.{◌≡◌, ℕ, ◌-◌, nat_eq, Bool, true, false, cond, ◌||◌, Option, None, List, [], ◌∷◌, ◌++◌, length, Result, Ok, Err, refl, sym, ap, subst, ◌∙◌, inl, inr}
+use Rattle.std.specs.Prelude.{codes}
+use Rattle.ir_lex.specs.Bytes.{has}
+use Rattle.ir_lex.specs.Heads.{number, head_of, word_head, listed_head, words_7}
+use Rattle.ir_lex.specs.Lexing.{is_bad}
+use Rattle.ir_lex.specs.Quotes.{is_zero_name}
+use Rattle.ir_lex.specs.Rows.{best_fit, rest_fit, label_len, number_len, word_len, name_len, meta_len, dots_len, other_len, string_len}
+use Rattle.ir_lex.specs.Tok.{Tok}
+use Rattle.ir_lex.specs.declared.head.Head.TheVariants as heads
+use Rattle.ir_lex.specs.declared.head.Head.{Head}
+use Rattle.lto_forms.proofs.Composed.{wrong, wrong_is}
+use Rattle.lto_forms.proofs.Rules.{apart_from, within_of}
+use Rattle.lto_forms.specs.Alphabet.{among, contains}
+use Rattle.lto_forms.specs.Chained.{Chain, chain_at}
+use Rattle.lto_forms.specs.Forms as form
+use Rattle.lto_forms.specs.Forms.{Form}
+use Rattle.lto_forms.specs.Lawful.{ends}
+use Rattle.lto_forms.specs.Readers.{Reader, done, fault_at, follow, ◌>>=◌, token_means, pick}
+use Rattle.lto_forms.specs.Rules.{in_range, is_class, is_valued, disjoint}
+use Rattle.lto_forms.specs.declared.fault.Fault.{Fault}
+use Rattle.lto_forms.specs.declared.fault.FaultKind.TheVariants.{Profile, Limit}
+use Rattle.lto_forms.specs.declared.fault.FaultKind.{FaultKind}
+use Rattle.ir_read.specs.AttributesAt.{HEAD, attribute_group_at}
+use Rattle.ir_read.specs.Classes.{tokens, IsReal, refusal, the, the_at}
+use Rattle.ir_read.specs.FunctionHeads.{name_refusal}
+use Rattle.ir_read.specs.Metadata.{META}
+use Rattle.ir_read.specs.Operands.{LOCAL, REG, global_named}
+use Rattle.ir_read.specs.ShapeForms.{any_shape}
+use Rattle.ir_read.specs.TargetsAt.{comdat_line_at, source_line_at, target_line_at}
+use Rattle.ir_read.specs.declared.attributes.Attribute.{Attribute}
+use Rattle.ir_read.specs.declared.function_heads.Role.TheVariants as roles
+use Rattle.ir_read.specs.declared.places.Before.TheVariants as befores
+use Rattle.ir_read.specs.declared.places.Before.{Before}
+use Rattle.ir_read.specs.declared.places.Position.{Position}
+use Rattle.ir_read.specs.declared.raw.Item.{Item}
+use Rattle.ir_read.proofs.Nodes.{attached_rule}
+use Rattle.ir_read.proofs.Singles.{word, the_rule}
+use Rattle.ir_bodies.specs.BlocksAt.{definition_at}
+use Rattle.ir_globals.specs.TypeDefinitionsAt.{type_line_at}
+use Rattle.ir_globals.specs.Variables.{NAMES}
+use Rattle.ir_globals.specs.VariablesAt.{variable_line_at, variable_name_at}
+use Rattle.ir_items.specs.Items.{left_out, kept, unnamed, attribute_behind, placed, metadata_there, plainly, beside, attached_before, declaration, any_declaration, any_naming, other, any_named, any_piece, anywhere, at_place, Found}
+use Rattle.ir_items.specs.ItemsAt.{SOURCE, TARGET, COMDAT, DECLARE, NAMING, left_out_at, kept_at, unnamed_at, attribute_behind_at, placed_at, metadata_there_at, plainly_at, beside_at, attached_before_at, declaration_at, other_at, ITEM}
+use Rattle.ir_items.proofs.ItemRules.{there_rule}
+use Rattle.read_again.specs.Refusals.{MEMORY}
+use Rattle.read_again.proofs.Exchanged.{Exchanges, Goes, alt, alt_by, fair, goes_alone, nothing, same_reader, seq, star, taken, tested, Open, Outcome, outcome_too, stands_for, told_too}
+use Rattle.read_again.proofs.ExchangedAttributes.{attribute_group_exchanged, head_attribute_exchanged, word_in_head}
+use Rattle.read_again.proofs.ExchangedBlocks.{definition_exchanged}
+use Rattle.read_again.proofs.ExchangedChains.{chain}
+use Rattle.read_again.proofs.ExchangedFunctionHeads.{head_exchanged}
+use Rattle.read_again.proofs.ExchangedMetadataBehind.{metadata_behind_exchanged, node_yet_exchanged}
+use Rattle.read_again.proofs.ExchangedNodes.{attached_exchanged, metadata_line_exchanged}
+use Rattle.read_again.proofs.ExchangedTargets.{comdat_line_exchanged, source_line_exchanged, target_line_exchanged}
+use Rattle.read_again.proofs.ExchangedTokens.{a_word, a_word_real, plain_class}
+use Rattle.read_again.proofs.ExchangedTypeDefinitions.{type_line_exchanged}
+use Rattle.read_again.proofs.ExchangedVariables.{variable_line_exchanged}
+
+declare_real : IsReal (word heads.Declare (codes "declare"))
+unfolding best_fit rest_fit label_len number_len word_len name_len meta_len dots_len other_len string_len has is_bad is_zero_name head_of word_head listed_head words_7
+declare_real = record { behind = []; some = refl; fits = refl; good = refl; class = refl }
+
+-- types, which begin no item
+abbrev pub TYPES : List ℕ
+TYPES = number heads.RefusedType ∷ REG
+
+abbrev TARGETS : List ℕ
+TARGETS = number heads.Target ∷ TYPES
+
+abbrev behind_targets : Reader Tok Found
+behind_targets = pick (among tokens COMDAT) (left_out_at comdat_line_at) (pick (among tokens LOCAL) (kept_at type_line_at) (kept_at attribute_group_at))
+
+passed : {A : Type 0} (bs : List ℕ) (f g : Reader Tok A) (t : Tok) (ts : List Tok) → among tokens bs t ≡ false → pick (among tokens bs) f g (t ∷ ts) ≡ g (t ∷ ts)
+passed bs f g t ts e = rw e refl
+
+is_false : (b : Bool) → (b ≡ true → ⊥) → b ≡ false
+is_false true never = absurd (never refl)
+is_false false never = refl
+
+apart : (xs bs : List ℕ) → disjoint xs bs ≡ true → (n : ℕ) → contains xs n ≡ true → contains bs n ≡ false
+apart xs bs d n e = is_false (contains bs n) (λ q. apart_from xs bs d n e q)
+
+abbrev fine : Unit {0} → Result (Unit {0}) FaultKind
+fine u = Ok u
+
+abbrev failed : FaultKind → Result (Unit {0}) FaultKind
+failed k = Err k
+
+not_class : (wanted : ℕ) (n : ℕ) → contains (wanted ∷ []) n ≡ false → nat_eq n wanted ≡ false
+not_class wanted n e = by_test (nat_eq n wanted) e
+  where
+    by_test : (b : Bool) → b || false ≡ false → b ≡ false
+    by_test true e = absurd cc
+    by_test false e = refl
+
+refused_first : {B : Type 0} (wanted : Head) (h : Unit {0} → Reader Tok B) (t : Tok) (ts : List Tok) → contains (number wanted ∷ []) (number t.head) ≡ false → (the_at wanted >>= h) (t ∷ ts) ≡ fault_at (refusal (number t.head)) (t ∷ ts)
+unfolding is_class
+refused_first wanted h t ts e = ap (λ (b : Bool). follow (token_means t ts (cond b (fine tt) (failed (refusal (number t.head))))) h) (not_class (number wanted) (number t.head) e)
+
+then_refused : {A B : Type 0} (f : Reader Tok A) (h : A → Reader Tok B) (k : FaultKind) (t : Tok) (ts : List Tok) → f (t ∷ ts) ≡ fault_at k (t ∷ ts) → (f >>= h) (t ∷ ts) ≡ fault_at k (t ∷ ts)
+then_refused {A} f h k t ts e = ap (λ (r : Result (A × List Tok) Fault). follow r h) e
+
+target_refuses : (t : Tok) (ts : List Tok) → contains TYPES (number t.head) ≡ true → kept_at target_line_at (t ∷ ts) ≡ fault_at (refusal (number t.head)) (t ∷ ts)
+unfolding kept_at target_line_at
+target_refuses t ts e = then_refused target_line_at _ (refusal (number t.head)) t ts (refused_first heads.Target _ t ts (apart TYPES (number heads.Target ∷ []) refl (number t.head) e))
+
+group_refuses : (t : Tok) (ts : List Tok) → contains TYPES (number t.head) ≡ true → kept_at attribute_group_at (t ∷ ts) ≡ fault_at (refusal (number t.head)) (t ∷ ts)
+unfolding kept_at attribute_group_at
+group_refuses t ts e = then_refused attribute_group_at _ (refusal (number t.head)) t ts (refused_first heads.Attributes _ t ts (apart TYPES (number heads.Attributes ∷ []) refl (number t.head) e))
+
+behind_refuses : (t : Tok) (ts : List Tok) → contains TYPES (number t.head) ≡ true → behind_targets (t ∷ ts) ≡ fault_at (refusal (number t.head)) (t ∷ ts)
+behind_refuses t ts e =
+    passed COMDAT (left_out_at comdat_line_at) (pick (among tokens LOCAL) (kept_at type_line_at) (kept_at attribute_group_at)) t ts (apart TYPES COMDAT refl (number t.head) e)
+    ∙ passed LOCAL (kept_at type_line_at) (kept_at attribute_group_at) t ts (apart TYPES LOCAL refl (number t.head) e) ∙ group_refuses t ts e
+
+pub unnamed_refuses : (t : Tok) (ts : List Tok) → contains TYPES (number t.head) ≡ true → unnamed_at (t ∷ ts) ≡ fault_at (refusal (number t.head)) (t ∷ ts)
+unfolding unnamed_at
+unnamed_refuses t ts e =
+    passed SOURCE (left_out_at source_line_at) (pick (among tokens TARGET) (kept_at target_line_at) behind_targets) t ts (apart TYPES SOURCE refl (number t.head) e)
+    ∙ passed TARGET (kept_at target_line_at) behind_targets t ts (apart TYPES TARGET refl (number t.head) e) ∙ behind_refuses t ts e
+
+targets_same : (ts : List Tok) → pick (among tokens TARGETS) (kept_at target_line_at) behind_targets ts ≡ pick (among tokens TARGET) (kept_at target_line_at) behind_targets ts
+targets_same [] = refl
+targets_same (t ∷ ts) = by_test (contains TYPES (number t.head)) refl
+  where
+    by_target : (a b : Bool) → b ≡ false → cond (a || b) (kept_at target_line_at (t ∷ ts)) (behind_targets (t ∷ ts)) ≡ cond (a || false) (kept_at target_line_at (t ∷ ts)) (behind_targets (t ∷ ts))
+    by_target a true e = absurd cc
+    by_target a false e = refl
+
+    told : (a : Bool) → contains TYPES (number t.head) ≡ true → cond a (kept_at target_line_at (t ∷ ts)) (behind_targets (t ∷ ts)) ≡ behind_targets (t ∷ ts)
+    told true e = target_refuses t ts e ∙ sym (behind_refuses t ts e)
+    told false e = refl
+
+    by_test : (b : Bool) → contains TYPES (number t.head) ≡ b → cond (among tokens TARGETS t) (kept_at target_line_at (t ∷ ts)) (behind_targets (t ∷ ts)) ≡ cond (among tokens TARGET t) (kept_at target_line_at (t ∷ ts)) (behind_targets (t ∷ ts))
+    by_test true e = told (among tokens TARGETS t) e ∙ sym (told (among tokens TARGET t) e)
+    by_test false e = by_target (nat_eq (number t.head) (number heads.Target)) (contains TYPES (number t.head)) e
+
+unnamed_same : (ts : List Tok) → pick (among tokens SOURCE) (left_out_at source_line_at) (pick (among tokens TARGETS) (kept_at target_line_at) behind_targets) ts ≡ unnamed_at ts
+unfolding unnamed_at
+unnamed_same [] = refl
+unnamed_same (t ∷ ts) = ap (λ (r : Result (Found × List Tok) Fault). cond (among tokens SOURCE t) (left_out_at source_line_at (t ∷ ts)) r) (targets_same (t ∷ ts))
+
+pub unnamed_exchanged : Exchanges (unnamed any_shape) unnamed_at
+unfolding unnamed left_out left_out_at kept kept_at
+unnamed_exchanged = same_reader unnamed_same (alt SOURCE refl (seq source_line_exchanged (λ _. nothing _)) (alt TARGETS refl (seq target_line_exchanged (λ _. nothing _)) (alt COMDAT refl (seq comdat_line_exchanged (λ _. nothing _)) (alt LOCAL refl (seq type_line_exchanged (λ _. nothing _)) (seq attribute_group_exchanged (λ _. nothing _))))))
+
+pub attribute_behind_exchanged : Exchanges attribute_behind attribute_behind_at
+unfolding attribute_behind attribute_behind_at
+attribute_behind_exchanged = seq head_attribute_exchanged (λ _. nothing _)
+
+pub metadata_there_exchanged : (before : Before) → Exchanges (metadata_there before) (metadata_there_at before)
+unfolding left_out left_out_at placed placed_at
+metadata_there_exchanged befores.Item = seq metadata_line_exchanged (λ _. nothing _)
+metadata_there_exchanged befores.Declaration = seq metadata_behind_exchanged (λ _. nothing _)
+metadata_there_exchanged befores.Name = seq node_yet_exchanged (λ _. nothing _)
+
+word_behind : attribute_behind_at (a_word ∷ []) ≡ Ok ((None, befores.Declaration), [])
+unfolding attribute_behind_at
+word_behind = ap (λ (r : Result (Attribute × List Tok) Fault). follow r (λ _. done (None, befores.Declaration))) word_in_head
+
+pub plainly_exchanged : (before : Before) → Exchanges (plainly any_shape before) (plainly_at before)
+plainly_exchanged befores.Item = unnamed_exchanged
+plainly_exchanged befores.Declaration = alt_by HEAD (inr (refl, a_word, refl, goes_alone attribute_behind_exchanged a_word a_word_real (None, befores.Declaration) word_behind)) attribute_behind_exchanged unnamed_exchanged
+plainly_exchanged befores.Name = unnamed_exchanged
+
+pub beside_exchanged : (before : Before) → Exchanges (beside any_shape before) (beside_at before)
+unfolding beside beside_at
+beside_exchanged befores.Item = alt META refl (metadata_there_exchanged befores.Item) (plainly_exchanged befores.Item)
+beside_exchanged befores.Declaration = alt META refl (metadata_there_exchanged befores.Declaration) (plainly_exchanged befores.Declaration)
+beside_exchanged befores.Name = alt META refl (metadata_there_exchanged befores.Name) (plainly_exchanged befores.Name)
+
+pub declare_exchanged : Exchanges (the heads.Declare) (the_at heads.Declare)
+unfolding is_class
+declare_exchanged = plain_class heads.Declare (the_rule heads.Declare (word heads.Declare (codes "declare")) refl declare_real) refl
+
+pub attached_before_exchanged : Exchanges attached_before attached_before_at
+unfolding attached_before attached_before_at
+attached_before_exchanged = seq (star META refl attached_exchanged (taken attached_rule)) (λ _. nothing tt)
+
+pub declaration_exchanged : (room : ℕ) → Exchanges any_declaration (declaration_at room)
+unfolding declaration any_declaration declaration_at
+declaration_exchanged room = seq declare_exchanged (λ _. seq attached_before_exchanged (λ _. seq (head_exchanged roles.Declaration room) (λ h. nothing _)))
+
+pub other_exchanged : (before : Before) (names : ℕ) → Exchanges (other any_shape before names) (other_at before names)
+unfolding other other_at
+other_exchanged befores.Item names = seq (beside_exchanged befores.Item) (λ _. nothing _)
+other_exchanged befores.Declaration names = seq (beside_exchanged befores.Declaration) (λ _. nothing _)
+other_exchanged befores.Name names = seq (beside_exchanged befores.Name) (λ _. nothing _)
+
+-- ---- pieces, with a name that is a number as one that begins a variable
+
+abbrev pub NUMBERED_NAME : List ℕ
+NUMBERED_NAME = number heads.NumberedGlobal ∷ []
+
+abbrev ALL_NAMING : List ℕ
+ALL_NAMING = NUMBERED_NAME ++ NAMING
+
+abbrev ALL_NAMES : List ℕ
+ALL_NAMES = NUMBERED_NAME ++ NAMES
+
+abbrev pub naming_with : ℕ → Reader Tok Found
+naming_with room = pick (among tokens ALL_NAMES) (kept_at variable_line_at) (pick (among tokens DECLARE) (declaration_at room) (kept_at (definition_at room)))
+
+abbrev pub named_with : ℕ → ℕ → Reader Tok (Option Item × Position)
+named_with room names = naming_with room >>= λ x. done (at_place (names - 1) x)
+
+abbrev pub within_at : ℕ → Before → ℕ → Reader Tok (Option Item × Position)
+within_at room before names = pick (among tokens ALL_NAMING) (cond (nat_eq names 0) (fault_at Limit) (named_with room names)) (other_at before names)
+
+abbrev pub piece_with : ℕ → Before → ℕ → Reader Tok (Option Item × Position)
+piece_with room before names = pick (among tokens NUMBERED_NAME) (named_with room names) (within_at room before names)
+
+naming_exchanged : (room : ℕ) → Exchanges any_naming (naming_with room)
+unfolding kept kept_at
+naming_exchanged room = alt ALL_NAMES refl (seq variable_line_exchanged (λ _. nothing _)) (alt DECLARE refl (declaration_exchanged room) (seq (definition_exchanged room) (λ _. nothing _)))
+
+named_exchanged : (room names : ℕ) → Exchanges (any_named names) (named_with room names)
+unfolding any_named
+named_exchanged room names = seq (naming_exchanged room) (λ x. nothing (at_place (names - 1) x))
+
+within_exchanged : (room : ℕ) (before : Before) (names : ℕ) → Exchanges (any_piece before names) (within_at room before names)
+unfolding any_piece
+within_exchanged room before names = alt ALL_NAMING refl (tested (nat_eq names 0) (named_exchanged room names)) (other_exchanged before names)
+
+-- a number can't name a variable that isn't local
+pub numbered_is : (n : ℕ) → contains NUMBERED_NAME n ≡ true → name_refusal n ≡ Profile
+numbered_is n e = by_tests (nat_eq n (number heads.NumberedGlobal)) (nat_eq n (number heads.NumberedDefinition)) (refusal n) e
+  where
+    by_tests : (a b : Bool) (k : FaultKind) → a || false ≡ true → cond (a || (b || false)) Profile k ≡ Profile
+    by_tests true b k e = refl
+    by_tests false b k e = absurd cc
+
+name_told : (t : Tok) (ts : List Tok) → among tokens NUMBERED_NAME t ≡ true → variable_name_at (t ∷ ts) ≡ fault_at Profile (t ∷ ts)
+unfolding is_valued
+name_told t ts e = ap (λ (b : Bool). token_means t ts (cond b (in_range (global_named t)) (Err (name_refusal (number t.head))))) (apart NUMBERED_NAME NAMES refl (number t.head) e) ∙ ap (λ (k : FaultKind). fault_at k (t ∷ ts)) (numbered_is (number t.head) e)
+
+line_told : (t : Tok) (ts : List Tok) → among tokens NUMBERED_NAME t ≡ true → variable_line_at (t ∷ ts) ≡ fault_at Profile (t ∷ ts)
+unfolding variable_line_at
+line_told t ts e = then_refused variable_name_at _ Profile t ts (name_told t ts e)
+
+kept_line_told : (t : Tok) (ts : List Tok) → among tokens NUMBERED_NAME t ≡ true → kept_at variable_line_at (t ∷ ts) ≡ fault_at Profile (t ∷ ts)
+unfolding kept_at
+kept_line_told t ts e = then_refused variable_line_at _ Profile t ts (line_told t ts e)
+
+taken_first : {A : Type 0} (bs : List ℕ) (f g : Reader Tok A) (t : Tok) (ts : List Tok) → among tokens bs t ≡ true → pick (among tokens bs) f g (t ∷ ts) ≡ f (t ∷ ts)
+taken_first bs f g t ts e = rw e refl
+
+naming_told : (room : ℕ) (t : Tok) (ts : List Tok) → among tokens NUMBERED_NAME t ≡ true → naming_with room (t ∷ ts) ≡ fault_at Profile (t ∷ ts)
+naming_told room t ts e = taken_first ALL_NAMES (kept_at variable_line_at) (pick (among tokens DECLARE) (declaration_at room) (kept_at (definition_at room))) t ts (within_of NUMBERED_NAME ALL_NAMES refl (number t.head) e) ∙ kept_line_told t ts e
+
+pub numbered_told : (room names : ℕ) (t : Tok) (ts : List Tok) → among tokens NUMBERED_NAME t ≡ true → named_with room names (t ∷ ts) ≡ fault_at Profile (t ∷ ts)
+numbered_told room names t ts e = then_refused (naming_with room) (λ x. done (at_place (names - 1) x)) Profile t ts (naming_told room t ts e)
+
+-- none stands for another that is a number
+unnumbered : (h : Head) (u : Tok) → among tokens (stands_for h) u ≡ true → among tokens NUMBERED_NAME u ≡ false
+unnumbered heads.RefusedType u i = apart REG NUMBERED_NAME refl (number u.head) i
+unnumbered heads.Target u i = apart REG NUMBERED_NAME refl (number u.head) i
+unnumbered heads.RegisterInteger u i = apart MEMORY NUMBERED_NAME refl (number u.head) i
+unnumbered heads.NumberedGlobal u i = apart (number heads.Global ∷ []) NUMBERED_NAME refl (number u.head) i
+unnumbered heads.NumberedDefinition u i = apart (number heads.Global ∷ []) NUMBERED_NAME refl (number u.head) i
+unnumbered h u i = absurd cc
+
+named_is_piece : (before : Before) (names : ℕ) (front : List Tok) (u : Tok) → Goes (any_named names) front u → Goes (any_piece before names) front u
+unfolding any_piece form.either
+named_is_piece before names front u (more, x, s, r) = (more, x, inl s, r)
+
+named_in_piece : (before : Before) (names : ℕ) (front : List Tok) (x : Option Item × Position) → any_named names front x → any_piece before names front x
+unfolding any_piece form.either
+named_in_piece before names front x s = inl s
+
+end_is : {A : Type 0} (k : FaultKind) (o : Result A FaultKind) (us : List Tok) → fault_at k us ≡ ends o us → o ≡ Err k
+end_is k (Ok a) us e = absurd cc
+end_is {A} k (Err l) us e = ap (λ (x : Fault). Err x.kind) (sym (wrong_is {X = A × List Tok} (record { left = length us; kind = k }) (record { left = length us; kind = l }) e))
+
+module _ (room : ℕ) (before : Before) (names : ℕ) where
+  abbrev whole_piece : Form Tok (Option Item × Position)
+  whole_piece = any_piece before names
+
+  swap_numbered : (t : Tok) (rest : List Tok) (o : Result (Option Item × Position) FaultKind) → among tokens NUMBERED_NAME t ≡ true → named_with room names (t ∷ rest) ≡ ends o (t ∷ rest) → Outcome whole_piece (piece_with room before names) [] t.head o
+  swap_numbered t rest o e d =
+      subst (λ (x : Result (Option Item × Position) FaultKind). Outcome whole_piece (piece_with room before names) [] t.head x) (sym (end_is Profile o (t ∷ rest) (sym (numbered_told room names t rest e) ∙ d)))
+      (told_too t.head (Goes (any_named names) []) (Goes whole_piece []) (Open []) (Open []) (λ u g. named_is_piece before names [] u g) (λ p. p) ((named_exchanged room names).swap [] t rest (Err Profile) (numbered_told room names t rest e)))
+
+  swap_piece : (front : List Tok) (t : Tok) (rest : List Tok) (o : Result (Option Item × Position) FaultKind) → piece_with room before names (front ++ t ∷ rest) ≡ ends o (t ∷ rest) → Outcome whole_piece (piece_with room before names) front t.head o
+  swap_piece [] t rest o d = by_test (among tokens NUMBERED_NAME t) refl d
+    where
+      by_test : (b : Bool) → among tokens NUMBERED_NAME t ≡ b → cond b (named_with room names (t ∷ rest)) (within_at room before names (t ∷ rest)) ≡ ends o (t ∷ rest) → Outcome whole_piece (piece_with room before names) [] t.head o
+      by_test true e d = swap_numbered t rest o e d
+      by_test false e d = outcome_too whole_piece whole_piece (within_at room before names) (piece_with room before names) [] [] t.head o (λ p. p) (λ u i rest'. sym (passed NUMBERED_NAME (named_with room names) (within_at room before names) u rest' (unnumbered t.head u i))) (λ u g. g) ((within_exchanged room before names).swap [] t rest o d)
+  swap_piece (v ∷ front) t rest o d = by_test (among tokens NUMBERED_NAME v) refl d
+    where
+      by_test : (b : Bool) → among tokens NUMBERED_NAME v ≡ b → cond b (named_with room names (v ∷ (front ++ t ∷ rest))) (within_at room before names (v ∷ (front ++ t ∷ rest))) ≡ ends o (t ∷ rest) → Outcome whole_piece (piece_with room before names) (v ∷ front) t.head o
+      by_test true e d = outcome_too (any_named names) whole_piece (named_with room names) (piece_with room before names) (v ∷ front) (v ∷ front) t.head o (λ p. p) (λ u i rest'. sym (taken_first NUMBERED_NAME (named_with room names) (within_at room before names) v (front ++ u ∷ rest') e)) (λ u g. named_is_piece before names (v ∷ front) u g) ((named_exchanged room names).swap (v ∷ front) t rest o d)
+      by_test false e d = outcome_too whole_piece whole_piece (within_at room before names) (piece_with room before names) (v ∷ front) (v ∷ front) t.head o (λ p. p) (λ u i rest'. sym (passed NUMBERED_NAME (named_with room names) (within_at room before names) v (front ++ u ∷ rest') e)) (λ u g. g) ((within_exchanged room before names).swap (v ∷ front) t rest o d)
+
+  sound_piece : (ts rest : List Tok) (x : Option Item × Position) → piece_with room before names ts ≡ Ok (x, rest) → (front : List Tok) × (ts ≡ front ++ rest) × whole_piece front x
+  sound_piece [] rest x d = (within_exchanged room before names).sound [] rest x d
+  sound_piece (t ∷ ts) rest x d = by_test (among tokens NUMBERED_NAME t) d
+    where
+      by_test : (b : Bool) → cond b (named_with room names (t ∷ ts)) (within_at room before names (t ∷ ts)) ≡ Ok (x, rest) → (front : List Tok) × (t ∷ ts ≡ front ++ rest) × whole_piece front x
+      by_test true d = let s = (named_exchanged room names).sound (t ∷ ts) rest x d in (s.0, s.1, named_in_piece before names s.0 x s.2)
+      by_test false d = (within_exchanged room before names).sound (t ∷ ts) rest x d
+
+  placed_piece : (ts : List Tok) (e : Fault) → piece_with room before names ts ≡ wrong e → (front : List Tok) × (rest : List Tok) × (ts ≡ front ++ rest) × (length rest ≡ e.left)
+  placed_piece [] e d = (within_exchanged room before names).placed [] e d
+  placed_piece (t ∷ ts) e d = by_test (among tokens NUMBERED_NAME t) d
+    where
+      by_test : (b : Bool) → cond b (named_with room names (t ∷ ts)) (within_at room before names (t ∷ ts)) ≡ wrong e → (front : List Tok) × (rest : List Tok) × (t ∷ ts ≡ front ++ rest) × (length rest ≡ e.left)
+      by_test true d = (named_exchanged room names).placed (t ∷ ts) e d
+      by_test false d = (within_exchanged room before names).placed (t ∷ ts) e d
+
+  local_piece : (front : List Tok) (t : Tok) (rest rest' : List Tok) (o : Result (Option Item × Position) FaultKind) → piece_with room before names (front ++ t ∷ rest) ≡ ends o (t ∷ rest) → piece_with room before names (front ++ t ∷ rest') ≡ ends o (t ∷ rest')
+  local_piece [] t rest rest' o d = by_test (among tokens NUMBERED_NAME t) d
+    where
+      by_test : (b : Bool) → cond b (named_with room names (t ∷ rest)) (within_at room before names (t ∷ rest)) ≡ ends o (t ∷ rest) → cond b (named_with room names (t ∷ rest')) (within_at room before names (t ∷ rest')) ≡ ends o (t ∷ rest')
+      by_test true d = (named_exchanged room names).local [] t rest rest' o d
+      by_test false d = (within_exchanged room before names).local [] t rest rest' o d
+  local_piece (v ∷ front) t rest rest' o d = by_test (among tokens NUMBERED_NAME v) d
+    where
+      by_test : (b : Bool) → cond b (named_with room names (v ∷ (front ++ t ∷ rest))) (within_at room before names (v ∷ (front ++ t ∷ rest))) ≡ ends o (t ∷ rest) → cond b (named_with room names (v ∷ (front ++ t ∷ rest'))) (within_at room before names (v ∷ (front ++ t ∷ rest'))) ≡ ends o (t ∷ rest')
+      by_test true d = (named_exchanged room names).local (v ∷ front) t rest rest' o d
+      by_test false d = (within_exchanged room before names).local (v ∷ front) t rest rest' o d
+
+  pub piece_exchanged : Exchanges whole_piece (piece_with room before names)
+  piece_exchanged = record { sound = sound_piece; placed = placed_piece; local = local_piece; some = (within_exchanged room before names).some; swap = swap_piece }
+
+-- ---- items one behind another
+
+-- what may begin there, and what is told there
+abbrev pub STARTS : Before → List ℕ
+STARTS befores.Item = NUMBERED_NAME ++ (TYPES ++ ITEM)
+STARTS befores.Declaration = NUMBERED_NAME ++ (HEAD ++ ITEM)
+STARTS befores.Name = NUMBERED_NAME ++ (TYPES ++ ITEM)
+
+abbrev pub starts_there : Position → Tok → Bool
+starts_there at = among tokens (STARTS at.before)
+
+abbrev pub piece_there : ℕ → Position → Reader Tok (Option Item × Position)
+piece_there room at = piece_with room at.before at.names
+
+starts_fair : (before : Before) → fair (STARTS before) ≡ true
+starts_fair befores.Item = refl
+starts_fair befores.Declaration = refl
+starts_fair befores.Name = refl
+
+abbrev pub all_items_at : ℕ → Position → Reader Tok (List (Option Item))
+all_items_at room = chain_at anywhere starts_there (piece_there room)
+
+pub all_items_exchanged : (room : ℕ) (at : Position) → Exchanges (Chain anywhere (λ at. any_piece at.before at.names) at) (all_items_at room at)
+all_items_exchanged room at = chain anywhere (λ at. STARTS at.before) (λ at. any_piece at.before at.names) (piece_there room) (λ at. piece_exchanged room at.before at.names) (λ at x q. taken (there_rule room at) x q) (λ _. ([], [], (refl, refl), tt)) (λ at e. inl (starts_fair at.before)) at

@@ -1,0 +1,104 @@
+-- The readers of metadata that may stand behind a declaration tell a token that is left out in some places against the syntax.
+use Rattle.std.proofs.Common.{◌≡◌, ℕ, Bool, true, false, cond, List, [], Ok, Err, refl}
+use Rattle.std.specs.Prelude.{codes}
+use Rattle.ir_lex.specs.Heads.{number}
+use Rattle.ir_lex.specs.Tok.{Tok}
+use Rattle.ir_lex.specs.declared.head.Head.TheVariants as heads
+use Rattle.ir_lex.specs.declared.token.Kind.TheVariants as kinds
+use Rattle.lto_forms.proofs.Rules.{apart_from}
+use Rattle.lto_forms.specs.Alphabet.{among, contains}
+use Rattle.lto_forms.specs.Forms as form
+use Rattle.lto_forms.specs.Readers.{token_at}
+use Rattle.lto_forms.specs.Rules.{disjoint}
+use Rattle.lto_forms.specs.Runs.{Step, bad, last, onward}
+use Rattle.lto_forms.specs.declared.fault.FaultKind.TheVariants.{Syntax}
+use Rattle.lto_forms.specs.declared.fault.FaultKind.{FaultKind}
+use Rattle.ir_read.specs.Classes.{tokens}
+use Rattle.ir_read.specs.Metadata.{META, ends_line, line_step}
+use Rattle.ir_read.specs.MetadataAt.{PAREN, CURLY, NAMED}
+use Rattle.ir_read.specs.MetadataBehind.{BANG, BRACES, fitting, line_goes_on, line_rest, goes_on_but, named_node, line_end_or, behind_mark, marked, node_yet, node_or_line, behind_name, metadata_behind}
+use Rattle.ir_read.specs.MetadataBehindAt.{line_rest_at, goes_on_but_at, named_node_at, line_end_or_at, behind_mark_at, marked_at, node_yet_at, node_or_line_at, behind_name_at, metadata_behind_at}
+use Rattle.ir_read.specs.declared.brackets.Bracket.TheVariants.{Paren, Curly}
+use Rattle.ir_read.specs.declared.brackets.Bracket.{Bracket}
+use Rattle.ir_read.proofs.Singles.{bang_real, meta_real, number_real, sample}
+use Rattle.read_again.proofs.Exchanged.{Exchanges, SOMEWHERE, alt, maybe, nothing, seq}
+use Rattle.read_again.proofs.ExchangedGroups.{group_exchanged, somewhere_stays}
+use Rattle.read_again.proofs.ExchangedNodes.{line_exchanged, stays_in_line}
+use Rattle.read_again.proofs.ExchangedTokens.{elsewhere_sample, one_sample}
+use Rattle.read_again.proofs.ExchangedWords.{meta_exchanged}
+
+-- what goes on a line may be any token but some, and closes no bracket
+goes_on_never : (apart : List ℕ) → disjoint apart SOMEWHERE ≡ true → (t : Tok) (k : FaultKind) → line_goes_on apart t ≡ Err k → contains SOMEWHERE (number t.head) ≡ true → ⊥
+unfolding line_goes_on
+goes_on_never apart d t k e i = by_test (among tokens apart t) refl e
+  where
+    by_step : (p : Step (List Bracket)) → line_step [] t ≡ p → fitting p ≡ Err k → ⊥
+    by_step bad q e = stays_in_line [] t (somewhere_stays t.head i) q
+    by_step last q e = cc
+    by_step (onward bs) q e = cc
+
+    by_test : (b : Bool) → among tokens apart t ≡ b → cond b (Err Syntax) (fitting (line_step [] t)) ≡ Err k → ⊥
+    by_test true p e = apart_from apart SOMEWHERE d (number t.head) p i
+    by_test false p e = by_step (line_step [] t) refl e
+
+abbrev one : Tok
+one = sample kinds.Number heads.Number (codes "1")
+
+one_goes_on : line_goes_on META one ≡ Ok (onward [])
+unfolding line_goes_on
+one_goes_on = refl
+
+one_goes_behind : line_goes_on BRACES one ≡ Ok (onward [])
+unfolding line_goes_on
+one_goes_behind = refl
+
+first_plainly : Exchanges (form.token (line_goes_on META)) (token_at (line_goes_on META))
+first_plainly = elsewhere_sample (line_goes_on META) (goes_on_never META refl) one (onward []) one_goes_on number_real
+
+first_without : Exchanges (form.token (line_goes_on BRACES)) (token_at (line_goes_on BRACES))
+first_without = elsewhere_sample (line_goes_on BRACES) (goes_on_never BRACES refl) one (onward []) one_goes_behind number_real
+
+pub line_rest_exchanged : (s : Step (List Bracket)) → Exchanges (line_rest s) (line_rest_at s)
+line_rest_exchanged bad = nothing tt
+line_rest_exchanged last = nothing tt
+line_rest_exchanged (onward bs) = line_exchanged bs
+
+pub goes_on_plainly_exchanged : Exchanges (goes_on_but META) (goes_on_but_at META)
+unfolding goes_on_but goes_on_but_at
+goes_on_plainly_exchanged = seq first_plainly line_rest_exchanged
+
+pub goes_on_without_group_exchanged : Exchanges (goes_on_but BRACES) (goes_on_but_at BRACES)
+unfolding goes_on_but goes_on_but_at
+goes_on_without_group_exchanged = seq first_without line_rest_exchanged
+
+pub named_node_exchanged : Exchanges named_node named_node_at
+unfolding named_node named_node_at
+named_node_exchanged = seq meta_exchanged (λ _. seq (maybe PAREN refl (group_exchanged Paren)) (λ _. nothing _))
+
+pub line_end_or_exchanged : (ends : Bool) → Exchanges (line_end_or BRACES ends) (line_end_or_at BRACES ends)
+line_end_or_exchanged true = nothing _
+line_end_or_exchanged false = seq goes_on_without_group_exchanged (λ _. nothing _)
+
+pub behind_mark_exchanged : (ends : Bool) → Exchanges (behind_mark ends) (behind_mark_at ends)
+unfolding behind_mark behind_mark_at
+behind_mark_exchanged ends = alt CURLY refl (seq (group_exchanged Curly) (λ _. nothing _)) (alt PAREN refl (seq (group_exchanged Paren) (λ _. nothing _)) (line_end_or_exchanged ends))
+
+pub marked_exchanged : Exchanges marked marked_at
+unfolding marked marked_at
+marked_exchanged = seq (one_sample BANG ends_line (sample kinds.Meta heads.Bang (codes "!")) refl bang_real refl) behind_mark_exchanged
+
+pub node_yet_exchanged : Exchanges node_yet node_yet_at
+unfolding node_yet node_yet_at
+node_yet_exchanged = alt NAMED refl named_node_exchanged marked_exchanged
+
+pub node_or_line_exchanged : Exchanges node_or_line node_or_line_at
+unfolding node_or_line node_or_line_at
+node_or_line_exchanged = alt NAMED refl named_node_exchanged (alt BANG refl marked_exchanged (seq goes_on_plainly_exchanged (λ _. nothing _)))
+
+pub behind_name_exchanged : (ends : Bool) → Exchanges (behind_name ends) (behind_name_at ends)
+behind_name_exchanged true = nothing _
+behind_name_exchanged false = node_or_line_exchanged
+
+pub metadata_behind_exchanged : Exchanges metadata_behind metadata_behind_at
+unfolding metadata_behind metadata_behind_at
+metadata_behind_exchanged = seq (one_sample META ends_line (sample kinds.Meta heads.Meta (codes "!a")) refl meta_real refl) behind_name_exchanged

@@ -1,0 +1,283 @@
+-- Whole modules tell a token that is left out in some places as such exactly where one that it stands for goes on.
+use Rattle.std.proofs.Common.{◌≡◌, ℕ, zero, suc, ◌<◌, ◌-◌, nat_eq, Bool, true, false, cond, Option, ◌||◌, not, List, [], ◌∷◌, ◌++◌, length, Result, Ok, Err, refl, sym, ap, subst, ◌∙◌, append_assoc, arith, ◌⊎◌, inl, inr}
+use Rattle.std.proofs.lemmas.List.{append-nil, length-append}
+use Rattle.std.specs.List.{fold}
+use Rattle.ir_lex.specs.Heads.{number}
+use Rattle.ir_lex.specs.Tok.{Tok}
+use Rattle.ir_lex.specs.declared.head.Head.TheVariants as heads
+use Rattle.lto_forms.proofs.Composed.{cut_is, reads, reads_is, wrong, wrong_is}
+use Rattle.lto_forms.proofs.Rules.{apart_from, within_of}
+use Rattle.lto_forms.specs.Alphabet.{among, contains}
+use Rattle.lto_forms.specs.Chained.{chain_within, stops_here}
+use Rattle.lto_forms.specs.Faults.{Extends}
+use Rattle.lto_forms.specs.Lawful.{Broad, IsBound, UpTo}
+use Rattle.lto_forms.specs.Readers.{Reader, done, ended, fault_at, follow, ◌>>=◌, pick, whole_of}
+use Rattle.lto_forms.specs.Rules.{disjoint}
+use Rattle.lto_forms.specs.declared.fault.Fault.{Fault}
+use Rattle.lto_forms.specs.declared.fault.FaultKind.TheVariants.{Syntax, Profile, Limit}
+use Rattle.lto_forms.specs.declared.fault.FaultKind.{FaultKind}
+use Rattle.ir_read.specs.AttributesAt.{HEAD}
+use Rattle.ir_read.specs.Classes.{tokens, refusal}
+use Rattle.ir_read.specs.FunctionHeads.{NUMBERED, name_refusal}
+use Rattle.ir_read.specs.Metadata.{META}
+use Rattle.ir_read.specs.declared.places.Before.TheVariants as befores
+use Rattle.ir_read.specs.declared.places.Before.{Before}
+use Rattle.ir_read.specs.declared.places.Position.{Position}
+use Rattle.ir_read.specs.declared.raw.Item.{Item}
+use Rattle.ir_bodies.specs.BlocksAt.{definition_at}
+use Rattle.ir_globals.specs.Variables.{NAMES}
+use Rattle.ir_globals.specs.VariablesAt.{variable_line_at}
+use Rattle.ir_items.specs.Items.{any_items, any_piece, anywhere, at_place, keep}
+use Rattle.ir_items.specs.ItemsAt.{DECLARE, ITEM, NAMING, beginnings, begins_there, beside_at, declaration_at, first_place, items_at, kept_at, metadata_there_at, named_at, naming_at, other_at, piece_at, plainly_at, there_at}
+use Rattle.ir_items.specs.Modules.{FURTHER_PARAMETERS, GLOBAL_NAMES, any_module, item_refusal, module_of}
+use Rattle.ir_items.proofs.ItemRules.{ANY, items_rule, there_rule}
+use Rattle.read_again.proofs.Exchanged.{Exchanges, Outcome, SOMEWHERE, Stuck, nothing, seq, taken}
+use Rattle.read_again.proofs.ExchangedItems.{NUMBERED_NAME, STARTS, TYPES, all_items_at, all_items_exchanged, named_with, naming_with, numbered_is, numbered_told, piece_exchanged, piece_there, piece_with, starts_there, unnamed_refuses, within_at}
+
+-- ---- at each token that begins an item the two are the same
+
+is_false : (b : Bool) → (b ≡ true → ⊥) → b ≡ false
+is_false true never = absurd (never refl)
+is_false false never = refl
+
+split : (xs ys : List ℕ) (n : ℕ) → contains (xs ++ ys) n ≡ true → (contains xs n ≡ true) ⊎ (contains ys n ≡ true)
+split [] ys n h = inr h
+split (x ∷ xs) ys n h = by_test (nat_eq n x) (λ d. split xs ys n d) h
+  where
+    by_test : (b : Bool) → (contains (xs ++ ys) n ≡ true → (contains xs n ≡ true) ⊎ (contains ys n ≡ true)) → b || contains (xs ++ ys) n ≡ true → (b || contains xs n ≡ true) ⊎ (contains ys n ≡ true)
+    by_test true again h = inl refl
+    by_test false again h = again h
+
+both : true ≡ false → ⊥
+both e = cc
+
+taken_first : {A : Type 0} (bs : List ℕ) (f g : Reader Tok A) (t : Tok) (ts : List Tok) → among tokens bs t ≡ true → pick (among tokens bs) f g (t ∷ ts) ≡ f (t ∷ ts)
+taken_first bs f g t ts e = rw e refl
+
+passed : {A : Type 0} (bs : List ℕ) (f g : Reader Tok A) (t : Tok) (ts : List Tok) → among tokens bs t ≡ false → pick (among tokens bs) f g (t ∷ ts) ≡ g (t ∷ ts)
+passed bs f g t ts e = rw e refl
+
+apart : (xs bs : List ℕ) → disjoint xs bs ≡ true → (n : ℕ) → contains xs n ≡ true → contains bs n ≡ false
+apart xs bs d n e = is_false (contains bs n) (λ q. apart_from xs bs d n e q)
+
+-- without a name that is a number
+unnumbered : (bs : List ℕ) (n : ℕ) → contains NUMBERED_NAME n ≡ false → contains (NUMBERED_NAME ++ bs) n ≡ contains bs n
+unnumbered bs n e = by_test (nat_eq n (number heads.NumberedGlobal)) e
+  where
+    by_test : (b : Bool) → b || false ≡ false → b || contains bs n ≡ contains bs n
+    by_test true e = absurd cc
+    by_test false e = refl
+
+module _ (room : ℕ) where
+  naming_same : (t : Tok) (ts : List Tok) → among tokens NUMBERED_NAME t ≡ false → naming_with room (t ∷ ts) ≡ naming_at room (t ∷ ts)
+  naming_same t ts e = ap (λ (b : Bool). cond b (kept_at variable_line_at (t ∷ ts)) (pick (among tokens DECLARE) (declaration_at room) (kept_at (definition_at room)) (t ∷ ts))) (unnumbered NAMES (number t.head) e)
+
+  named_same : (names : ℕ) (t : Tok) (ts : List Tok) → among tokens NUMBERED_NAME t ≡ false → named_with room names (t ∷ ts) ≡ named_at room names (t ∷ ts)
+  unfolding named_at
+  named_same names t ts e = ap (λ r. follow r (λ x. done (at_place (names - 1) x))) (naming_same t ts e)
+
+  named_within_same : (names : ℕ) (t : Tok) (ts : List Tok) (b : Bool) → among tokens NUMBERED_NAME t ≡ false → cond b (fault_at Limit) (named_with room names) (t ∷ ts) ≡ cond b (fault_at Limit) (named_at room names) (t ∷ ts)
+  named_within_same names t ts true e = refl
+  named_within_same names t ts false e = named_same names t ts e
+
+  piece_same : (before : Before) (names : ℕ) (t : Tok) (ts : List Tok) → among tokens NUMBERED_NAME t ≡ false → piece_with room before names (t ∷ ts) ≡ piece_at room before names (t ∷ ts)
+  unfolding piece_at
+  piece_same before names t ts e =
+      passed NUMBERED_NAME (named_with room names) (within_at room before names) t ts e
+      ∙ ap (λ (b : Bool). cond b (cond (nat_eq names 0) (fault_at Limit) (named_with room names) (t ∷ ts)) (other_at before names (t ∷ ts))) (unnumbered NAMING (number t.head) e)
+      ∙ ap (λ r. cond (among tokens NAMING t) r (other_at before names (t ∷ ts))) (named_within_same names t ts (nat_eq names 0) e)
+
+  -- ---- what else is told there
+
+  beside_refuses : (before : Before) (t : Tok) (ts : List Tok) → plainly_at before (t ∷ ts) ≡ fault_at (refusal (number t.head)) (t ∷ ts) → contains TYPES (number t.head) ≡ true → beside_at before (t ∷ ts) ≡ fault_at (refusal (number t.head)) (t ∷ ts)
+  unfolding beside_at
+  beside_refuses before t ts d e = passed META (metadata_there_at before) (plainly_at before) t ts (apart TYPES META refl (number t.head) e) ∙ d
+
+  other_refuses : (before : Before) (names : ℕ) (t : Tok) (ts : List Tok) → plainly_at before (t ∷ ts) ≡ fault_at (refusal (number t.head)) (t ∷ ts) → contains TYPES (number t.head) ≡ true → other_at before names (t ∷ ts) ≡ fault_at (refusal (number t.head)) (t ∷ ts)
+  unfolding other_at
+  other_refuses before names t ts d e = ap (λ r. follow r (λ x. done (at_place names x))) (beside_refuses before t ts d e)
+
+  plain_name : (n : ℕ) → contains TYPES n ≡ true → refusal n ≡ name_refusal n
+  plain_name n e = sym (ap (λ (b : Bool). cond b Profile (refusal n)) (apart TYPES NUMBERED refl n e))
+
+  type_refuses : (before : Before) (names : ℕ) (t : Tok) (ts : List Tok) → plainly_at before (t ∷ ts) ≡ fault_at (refusal (number t.head)) (t ∷ ts) → contains TYPES (number t.head) ≡ true → piece_with room before names (t ∷ ts) ≡ fault_at (item_refusal t) (t ∷ ts)
+  type_refuses before names t ts d e =
+      passed NUMBERED_NAME (named_with room names) (within_at room before names) t ts (apart TYPES NUMBERED_NAME refl (number t.head) e)
+      ∙ passed (NUMBERED_NAME ++ NAMING) (cond (nat_eq names 0) (fault_at Limit) (named_with room names)) (other_at before names) t ts (apart TYPES (NUMBERED_NAME ++ NAMING) refl (number t.head) e)
+      ∙ other_refuses before names t ts d e ∙ ap (λ (k : FaultKind). fault_at k (t ∷ ts)) (plain_name (number t.head) e)
+
+  number_refuses : (before : Before) (names : ℕ) (t : Tok) (ts : List Tok) → contains NUMBERED_NAME (number t.head) ≡ true → piece_with room before names (t ∷ ts) ≡ fault_at (item_refusal t) (t ∷ ts)
+  number_refuses before names t ts e =
+      taken_first NUMBERED_NAME (named_with room names) (within_at room before names) t ts e ∙ numbered_told room names t ts e ∙ ap (λ (k : FaultKind). fault_at k (t ∷ ts)) (sym (numbered_is (number t.head) e))
+
+  extra_told : (before : Before) (names : ℕ) (t : Tok) (ts : List Tok) → contains (STARTS before) (number t.head) ≡ true → contains (beginnings before) (number t.head) ≡ false → piece_with room before names (t ∷ ts) ≡ fault_at (item_refusal t) (t ∷ ts)
+  extra_told befores.Declaration names t ts s b = elim (split NUMBERED_NAME (HEAD ++ ITEM) (number t.head) s) [ inl e ↦ number_refuses befores.Declaration names t ts e | inr e ↦ absurd (both (sym e ∙ b)) ]
+  extra_told befores.Item names t ts s b = elim (split NUMBERED_NAME (TYPES ++ ITEM) (number t.head) s) [
+    | inl e ↦ number_refuses befores.Item names t ts e
+    | inr r ↦ elim (split TYPES ITEM (number t.head) r) [ inl e ↦ type_refuses befores.Item names t ts (unnamed_refuses t ts e) e | inr e ↦ absurd (both (sym e ∙ b)) ]
+  ]
+  extra_told befores.Name names t ts s b = elim (split NUMBERED_NAME (TYPES ++ ITEM) (number t.head) s) [
+    | inl e ↦ number_refuses befores.Name names t ts e
+    | inr r ↦ elim (split TYPES ITEM (number t.head) r) [ inl e ↦ type_refuses befores.Name names t ts (unnamed_refuses t ts e) e | inr e ↦ absurd (both (sym e ∙ b)) ]
+  ]
+
+  no_number : (before : Before) (n : ℕ) → contains (beginnings before) n ≡ true → contains NUMBERED_NAME n ≡ false
+  no_number befores.Item n e = apart (beginnings befores.Item) NUMBERED_NAME refl n e
+  no_number befores.Declaration n e = apart (beginnings befores.Declaration) NUMBERED_NAME refl n e
+  no_number befores.Name n e = apart (beginnings befores.Name) NUMBERED_NAME refl n e
+
+  starts_too : (before : Before) (n : ℕ) → contains (beginnings before) n ≡ true → contains (STARTS before) n ≡ true
+  starts_too befores.Item n e = within_of (beginnings befores.Item) (STARTS befores.Item) refl n e
+  starts_too befores.Declaration n e = within_of (beginnings befores.Declaration) (STARTS befores.Declaration) refl n e
+  starts_too befores.Name n e = within_of (beginnings befores.Name) (STARTS befores.Name) refl n e
+
+  -- ---- the whole
+
+  abbrev finished : (List (Option Item) → List Item) → Result (List (Option Item) × List Tok) Fault → Result (List Item) Fault
+  finished k r = whole_of item_refusal (follow r (λ all. done (k all)))
+
+  abbrev all_within : ℕ → Position → Reader Tok (List (Option Item))
+  all_within = chain_within anywhere starts_there (piece_there room)
+
+  abbrev items_within : ℕ → Position → Reader Tok (List (Option Item))
+  items_within = chain_within anywhere begins_there (there_at room)
+
+  shorter : (at : Position) (ts : List Tok) (x : (Option Item × Position) × List Tok) → piece_there room at ts ≡ Ok x → length x.1 < length ts
+  shorter at ts x e = let s = (piece_exchanged room at.before at.names).sound ts x.1 x.0 e in by_front s.0 s.1 s.2
+    where
+      by_front : (front : List Tok) → ts ≡ front ++ x.1 → any_piece at.before at.names front x.0 → length x.1 < length ts
+      by_front [] e s = absurd (taken (there_rule room at) x.0 s)
+      by_front (u ∷ front) e s = omega (arith, ap length e, length-append front x.1)
+
+  finished_in : (k : List (Option Item) → List Item) (a : Option Item) (r : Result (List (Option Item) × List Tok) Fault) → finished k (follow r (λ more. done (a ∷ more))) ≡ finished (λ m. k (a ∷ m)) r
+  finished_in k a (Ok y) = refl
+  finished_in k a (Err e) = refl
+
+  -- what is read of all items is the same, and so is the fault
+  items_same : (n : ℕ) (at : Position) (ts : List Tok) (k : List (Option Item) → List Item) → length ts < n → finished k (all_within n at ts) ≡ finished k (items_within n at ts)
+  items_same zero at ts k lt = absurd (omega (arith, lt))
+  items_same (suc n) at [] k lt = refl
+  items_same (suc n) at (t ∷ ts) k lt = by_test (λ next mid k' lt'. items_same n next mid k' lt') (contains (beginnings at.before) (number t.head)) refl
+    where
+      Again : Type 0
+      Again = (next : Position) (mid : List Tok) (k' : List (Option Item) → List Item) → length mid < n → finished k' (all_within n next mid) ≡ finished k' (items_within n next mid)
+
+      by_piece : Again → (r : Result ((Option Item × Position) × List Tok) Fault) → piece_there room at (t ∷ ts) ≡ r → finished k (follow r (λ x. all_within n x.1 >>= λ more. done (x.0 ∷ more))) ≡ finished k (follow r (λ x. items_within n x.1 >>= λ more. done (x.0 ∷ more)))
+      by_piece again (Err e) q = refl
+      by_piece again (Ok x) q =
+          finished_in k x.0.0 (all_within n x.0.1 x.1) ∙ again x.0.1 x.1 (λ m. k (x.0.0 ∷ m)) (omega (arith, lt, shorter at (t ∷ ts) x q)) ∙ sym (finished_in k x.0.0 (items_within n x.0.1 x.1))
+
+      by_start : (b : Bool) → contains (STARTS at.before) (number t.head) ≡ b → contains (beginnings at.before) (number t.head) ≡ false → finished k (cond (not b) (reads [] (t ∷ ts)) (follow (piece_there room at (t ∷ ts)) (λ x. all_within n x.1 >>= λ more. done (x.0 ∷ more)))) ≡ finished k (reads [] (t ∷ ts))
+      by_start true q e = ap (λ (r : Result ((Option Item × Position) × List Tok) Fault). finished k (follow r (λ x. all_within n x.1 >>= λ more. done (x.0 ∷ more)))) (extra_told at.before at.names t ts q e)
+      by_start false q e = refl
+
+      by_test : Again → (b : Bool) → contains (beginnings at.before) (number t.head) ≡ b
+          → finished k (cond (not (contains (STARTS at.before) (number t.head))) (reads [] (t ∷ ts)) (follow (piece_there room at (t ∷ ts)) (λ x. all_within n x.1 >>= λ more. done (x.0 ∷ more)))) ≡ finished k (cond (not (contains (beginnings at.before) (number t.head))) (reads [] (t ∷ ts)) (follow (there_at room at (t ∷ ts)) (λ x. items_within n x.1 >>= λ more. done (x.0 ∷ more))))
+      by_test again true e =
+          ap (λ (b : Bool). finished k (cond (not b) (reads [] (t ∷ ts)) (follow (piece_there room at (t ∷ ts)) (λ x. all_within n x.1 >>= λ more. done (x.0 ∷ more))))) (starts_too at.before (number t.head) e)
+          ∙ by_piece again (piece_there room at (t ∷ ts)) refl
+          ∙ ap (λ (r : Result ((Option Item × Position) × List Tok) Fault). finished k (follow r (λ x. items_within n x.1 >>= λ more. done (x.0 ∷ more)))) (piece_same at.before at.names t ts (no_number at.before (number t.head) e))
+          ∙ sym (ap (λ (b : Bool). finished k (cond (not b) (reads [] (t ∷ ts)) (follow (there_at room at (t ∷ ts)) (λ x. items_within n x.1 >>= λ more. done (x.0 ∷ more))))) e)
+      by_test again false e =
+          by_start (contains (STARTS at.before) (number t.head)) refl e
+          ∙ sym (ap (λ (b : Bool). finished k (cond (not b) (reads [] (t ∷ ts)) (follow (there_at room at (t ∷ ts)) (λ x. items_within n x.1 >>= λ more. done (x.0 ∷ more))))) e)
+
+  somewhere_starts : (before : Before) (n : ℕ) → contains SOMEWHERE n ≡ true → contains (STARTS before) n ≡ true
+  somewhere_starts befores.Item n e = within_of SOMEWHERE (STARTS befores.Item) refl n e
+  somewhere_starts befores.Declaration n e = within_of SOMEWHERE (STARTS befores.Declaration) refl n e
+  somewhere_starts befores.Name n e = within_of SOMEWHERE (STARTS befores.Name) refl n e
+
+  never_stops : (at : Position) (t : Tok) (rest : List Tok) → stops_here anywhere starts_there at (t ∷ rest) ≡ true → contains SOMEWHERE (number t.head) ≡ true → ⊥
+  never_stops at t rest q e = stopped (contains (STARTS at.before) (number t.head)) (somewhere_starts at.before (number t.head) e) q
+    where
+      stopped : (b : Bool) → b ≡ true → not b ≡ true → ⊥
+      stopped true p q = cc
+      stopped false p q = cc
+
+  -- they end before none that is left out in some places
+  never_before : (n : ℕ) (at : Position) (ts : List Tok) (m : List (Option Item)) (t : Tok) (rest : List Tok) → all_within n at ts ≡ reads m (t ∷ rest) → contains SOMEWHERE (number t.head) ≡ true → ⊥
+  never_before zero at ts m t rest d e = by_stop (stops_here anywhere starts_there at ts) refl d
+    where
+      by_stop : (b : Bool) → stops_here anywhere starts_there at ts ≡ b → cond b (reads [] ts) (fault_at Syntax ts) ≡ reads m (t ∷ rest) → ⊥
+      by_stop true q d = never_stops at t rest (ap (λ (y : List Tok). stops_here anywhere starts_there at y) (sym (reads_is [] m ts (t ∷ rest) d).1) ∙ q) e
+      by_stop false q d = cc
+  never_before (suc n) at ts m t rest d e = by_stop (λ next mid m' d'. never_before n next mid m' t rest d' e) (stops_here anywhere starts_there at ts) refl d
+    where
+      Again : Type 0
+      Again = (next : Position) (mid : List Tok) (m' : List (Option Item)) → all_within n next mid ≡ reads m' (t ∷ rest) → ⊥
+
+      by_more : Again → (x : (Option Item × Position) × List Tok) → (r : Result (List (Option Item) × List Tok) Fault) → all_within n x.0.1 x.1 ≡ r → follow r (λ more. done (x.0.0 ∷ more)) ≡ reads m (t ∷ rest) → ⊥
+      by_more again x (Ok y) q d = again x.0.1 x.1 y.0 (q ∙ ap (λ (z : List Tok). reads y.0 z) (reads_is (x.0.0 ∷ y.0) m y.1 (t ∷ rest) d).1)
+      by_more again x (Err f) q d = cc
+
+      by_piece : Again → (r : Result ((Option Item × Position) × List Tok) Fault) → follow r (λ x. all_within n x.1 >>= λ more. done (x.0 ∷ more)) ≡ reads m (t ∷ rest) → ⊥
+      by_piece again (Ok x) d = by_more again x (all_within n x.0.1 x.1) refl d
+      by_piece again (Err f) d = cc
+
+      by_stop : Again → (b : Bool) → stops_here anywhere starts_there at ts ≡ b → cond b (reads [] ts) (follow (piece_there room at ts) (λ x. all_within n x.1 >>= λ more. done (x.0 ∷ more))) ≡ reads m (t ∷ rest) → ⊥
+      by_stop again true q d = never_stops at t rest (ap (λ (y : List Tok). stops_here anywhere starts_there at y) (sym (reads_is [] m ts (t ∷ rest) d).1) ∙ q) e
+      by_stop again false q d = by_piece again (piece_there room at ts) d
+
+-- ---- modules
+
+abbrev pub all_at : Reader Tok (List Item)
+all_at = all_items_at FURTHER_PARAMETERS (first_place GLOBAL_NAMES) >>= λ all. done (fold keep [] all)
+
+module_is : (ts : List Tok) → whole_of item_refusal (all_at ts) ≡ module_of ts
+unfolding module_of items_at
+module_is ts = items_same FURTHER_PARAMETERS (suc (length ts)) (first_place GLOBAL_NAMES) ts (λ all. fold keep [] all) (omega arith)
+
+all_exchanged : Exchanges any_module all_at
+unfolding any_module any_items
+all_exchanged = seq (all_items_exchanged FURTHER_PARAMETERS (first_place GLOBAL_NAMES)) (λ all. nothing (fold keep [] all))
+
+-- a module doesn't end before one that is left out in some places
+all_never : (front : List Tok) (t : Tok) (rest : List Tok) (is : List Item) → all_at (front ++ t ∷ rest) ≡ reads is (t ∷ rest) → contains SOMEWHERE (number t.head) ≡ true → ⊥
+all_never front t rest is d e = by_result (all_items_at FURTHER_PARAMETERS (first_place GLOBAL_NAMES) (front ++ t ∷ rest)) refl d
+  where
+    by_result : (r : Result (List (Option Item) × List Tok) Fault) → all_items_at FURTHER_PARAMETERS (first_place GLOBAL_NAMES) (front ++ t ∷ rest) ≡ r → follow r (λ all. done (fold keep [] all)) ≡ reads is (t ∷ rest) → ⊥
+    by_result (Ok y) q d = never_before FURTHER_PARAMETERS (suc (length (front ++ t ∷ rest))) (first_place GLOBAL_NAMES) (front ++ t ∷ rest) y.0 t rest (q ∙ ap (λ (z : List Tok). reads y.0 z) (reads_is (fold keep [] y.0) is y.1 (t ∷ rest) d).1) e
+    by_result (Err f) q d = cc
+
+pub module_exchanged : (front : List Tok) (t : Tok) (rest : List Tok) (k : FaultKind) → module_of (front ++ t ∷ rest) ≡ wrong (record { left = length (t ∷ rest); kind = k }) → contains SOMEWHERE (number t.head) ≡ true → Outcome any_module all_at front t.head (Err k)
+module_exchanged front t rest k d e = by_result (all_at (front ++ t ∷ rest)) refl (module_is (front ++ t ∷ rest) ∙ d)
+  where
+    by_end : (is : List Item) (left : List Tok) → all_at (front ++ t ∷ rest) ≡ reads is left → ended item_refusal is left ≡ wrong (record { left = length (t ∷ rest); kind = k }) → Outcome any_module all_at front t.head (Err k)
+    by_end is [] q h = absurd cc
+    by_end is (u ∷ us) q h =
+        let l : length (u ∷ us) ≡ length (t ∷ rest) = ap (λ (x : Fault). x.left) (wrong_is {X = List Item} (record { left = length (u ∷ us); kind = item_refusal u }) (record { left = length (t ∷ rest); kind = k }) h) in
+        let s = all_exchanged.sound (front ++ t ∷ rest) (u ∷ us) is q in
+        let c = cut_is front (t ∷ rest) s.0 (u ∷ us) s.1 (sym l) in
+        absurd (all_never front t rest is (q ∙ ap (λ (y : List Tok). reads is y) (sym c.1)) e)
+
+    by_result : (r : Result (List Item × List Tok) Fault) → all_at (front ++ t ∷ rest) ≡ r → whole_of item_refusal r ≡ wrong (record { left = length (t ∷ rest); kind = k }) → Outcome any_module all_at front t.head (Err k)
+    by_result (Ok x) q h = by_end x.0 x.1 q h
+    by_result (Err f) q h = all_exchanged.swap front t rest (Err k) (q ∙ ap wrong (wrong_is {X = List Item} f (record { left = length (t ∷ rest); kind = k }) h))
+
+-- ---- where a reading is stuck, none goes on without the limits
+
+module_broad : Broad any_module (items_at FURTHER_PARAMETERS GLOBAL_NAMES) (among tokens ITEM) (among tokens ANY) true
+unfolding any_module
+module_broad = (items_rule FURTHER_PARAMETERS GLOBAL_NAMES).law.broad
+
+module_read : (ts : List Tok) (is : List Item) → any_module ts is → (module_of ts ≡ Ok is) ⊎ ((left : ℕ) × (k : FaultKind) × IsBound k × (module_of ts ≡ Err (record { left = left; kind = k })))
+unfolding module_of
+module_read ts is s = by_up (subst (λ (us : List Tok). UpTo (items_at FURTHER_PARAMETERS GLOBAL_NAMES us) (reads is [])) (append-nil ts) (module_broad.reads ts [] is s tt))
+  where
+    by_up : UpTo (items_at FURTHER_PARAMETERS GLOBAL_NAMES ts) (reads is []) → (whole_of item_refusal (items_at FURTHER_PARAMETERS GLOBAL_NAMES ts) ≡ Ok is) ⊎ ((left : ℕ) × (k : FaultKind) × IsBound k × (whole_of item_refusal (items_at FURTHER_PARAMETERS GLOBAL_NAMES ts) ≡ Err (record { left = left; kind = k })))
+    by_up (inl e) = inl (ap (whole_of item_refusal) e)
+    by_up (inr (left, k, b, e)) = inr (left, k, b, ap (whole_of item_refusal) e)
+
+pub none_goes_on : (front : List Tok) (u : Tok) → Stuck all_at front u → Extends any_module (front ++ u ∷ []) → ⊥
+none_goes_on front u stuck v =
+    let s : any_module (front ++ u ∷ v.0) v.1 = subst (λ (ts : List Tok). any_module ts v.1) (append_assoc front (u ∷ []) v.0) v.2 in
+    let r = stuck v.0 in
+    let d : module_of (front ++ u ∷ v.0) ≡ wrong (record { left = length (u ∷ v.0); kind = r.0 }) = sym (module_is (front ++ u ∷ v.0)) ∙ ap (whole_of item_refusal) r.2 in
+    by_read v.1 (u ∷ v.0) r.0 r.1 d (module_read (front ++ u ∷ v.0) v.1 s)
+  where
+    by_read : (is : List Item) (us : List Tok) (k : FaultKind) → (IsBound k → ⊥) → module_of (front ++ us) ≡ wrong (record { left = length us; kind = k }) → (module_of (front ++ us) ≡ Ok is) ⊎ ((left : ℕ) × (k : FaultKind) × IsBound k × (module_of (front ++ us) ≡ Err (record { left = left; kind = k }))) → ⊥
+    by_read is us k n d (inl e) = never is (record { left = length us; kind = k }) (sym e ∙ d)
+      where
+        never : (is : List Item) (f : Fault) → Ok is ≡ wrong f → ⊥
+        never is f e = cc
+    by_read is us k n d (inr (left, l, b, e)) = n (subst IsBound (ap (λ (x : Fault). x.kind) (wrong_is {X = List Item} (record { left = left; kind = l }) (record { left = length us; kind = k }) (sym e ∙ d))) b)
