@@ -310,6 +310,10 @@ is_false : (b : Bool) → (b ≡ true → ⊥) → b ≡ false
 is_false true never = absurd (never refl)
 is_false false never = refl
 
+-- no class is of two sets that share none
+pub apart : (xs bs : List ℕ) → disjoint xs bs ≡ true → (n : ℕ) → contains xs n ≡ true → contains bs n ≡ false
+apart xs bs d n e = is_false (contains bs n) (λ q. apart_from xs bs d n e q)
+
 and_parts : (a b : Bool) → a && b ≡ true → (a ≡ true) × (b ≡ true)
 and_parts true b h = (refl, h)
 and_parts false b h = absurd cc
@@ -367,7 +371,7 @@ alike bs h e u i = by_test (contains bs (number h)) refl e
   where
     by_test : (b : Bool) → contains bs (number h) ≡ b → cond b (subset (stands_for h) bs) (disjoint (stands_for h) bs) ≡ true → among tokens bs u ≡ b
     by_test true q s = within_of (stands_for h) bs s (number u.head) i
-    by_test false q s = is_false (among tokens bs u) (λ p. apart_from (stands_for h) bs s (number u.head) i p)
+    by_test false q s = apart (stands_for h) bs s (number u.head) i
 
 pub word_at : (G : Tok → Type 0) (h : Head) → is_target h ≡ true → (w : Tok) → among tokens WORD w ≡ true → G w → WordGoes h G
 unfolding is_target
@@ -377,6 +381,12 @@ word_at G h e w i g = absurd cc
 -- where these classes don't keep together what stands for one another, a plain word begins one of them
 abbrev pub Turns : {A : Type 0} → List ℕ → Form Tok A → Type 0
 Turns bs wide = (fair bs ≡ true) ⊎ ((nearly_fair bs ≡ true) × (w : Tok) × (among tokens WORD w ≡ true) × Goes wide [] w)
+
+pub taken_first : {A : Type 0} (bs : List ℕ) (f g : Reader Tok A) (t : Tok) (ts : List Tok) → among tokens bs t ≡ true → pick (among tokens bs) f g (t ∷ ts) ≡ f (t ∷ ts)
+taken_first bs f g t ts e = rw e refl
+
+pub passed : {A : Type 0} (bs : List ℕ) (f g : Reader Tok A) (t : Tok) (ts : List Tok) → among tokens bs t ≡ false → pick (among tokens bs) f g (t ∷ ts) ≡ g (t ∷ ts)
+passed bs f g t ts e = rw e refl
 
 module _ {A : Type 0} {wide wide' : Form Tok A} {f f' : Reader Tok A} (bs : List ℕ) (turns : Turns bs wide) (law : Exchanges wide f) (law' : Exchanges wide' f') where
   abbrev one_of_two : Reader Tok A
@@ -392,12 +402,6 @@ module _ {A : Type 0} {wide wide' : Form Tok A} {f f' : Reader Tok A} (bs : List
   goes_other : (front : List Tok) (u : Tok) → Goes wide' front u → Goes of_two front u
   unfolding form.either
   goes_other front u (more, a, s, r) = (more, a, inr s, r)
-
-  pick_yes : (t : Tok) (ts : List Tok) → among tokens bs t ≡ true → one_of_two (t ∷ ts) ≡ f (t ∷ ts)
-  pick_yes t ts e = rw e refl
-
-  pick_no : (t : Tok) (ts : List Tok) → among tokens bs t ≡ false → one_of_two (t ∷ ts) ≡ f' (t ∷ ts)
-  pick_no t ts e = rw e refl
 
   sound_alt : (ts rest : List Tok) (a : A) → one_of_two ts ≡ reads a rest → (front : List Tok) × (ts ≡ front ++ rest) × of_two front a
   unfolding form.either
@@ -433,8 +437,8 @@ module _ {A : Type 0} {wide wide' : Form Tok A} {f f' : Reader Tok A} (bs : List
   swap_fair t rest o e d = by_test (among tokens bs t) refl d
     where
       by_test : (b : Bool) → among tokens bs t ≡ b → cond b (f (t ∷ rest)) (f' (t ∷ rest)) ≡ ends o (t ∷ rest) → Outcome of_two one_of_two [] t.head o
-      by_test true q d = outcome_too wide of_two f one_of_two [] [] t.head o (λ p. p) (λ u i rest'. sym (pick_yes u rest' (alike bs t.head e u i ∙ q))) (λ u g. goes_one [] u g) (law.swap [] t rest o d)
-      by_test false q d = outcome_too wide' of_two f' one_of_two [] [] t.head o (λ p. p) (λ u i rest'. sym (pick_no u rest' (alike bs t.head e u i ∙ q))) (λ u g. goes_other [] u g) (law'.swap [] t rest o d)
+      by_test true q d = outcome_too wide of_two f one_of_two [] [] t.head o (λ p. p) (λ u i rest'. sym (taken_first bs f f' u rest' (alike bs t.head e u i ∙ q))) (λ u g. goes_one [] u g) (law.swap [] t rest o d)
+      by_test false q d = outcome_too wide' of_two f' one_of_two [] [] t.head o (λ p. p) (λ u i rest'. sym (passed bs f f' u rest' (alike bs t.head e u i ∙ q))) (λ u g. goes_other [] u g) (law'.swap [] t rest o d)
 
   -- at `target`, where a word goes on
   swap_word : (h : Head) (o : Result A FaultKind) → WordGoes h (Goes of_two []) → ((k : FaultKind) → o ≡ Err k → k ≡ Profile → IsTold h (Goes of_two []) (Open [])) → Outcome of_two one_of_two [] h o
@@ -464,8 +468,8 @@ module _ {A : Type 0} {wide wide' : Form Tok A} {f f' : Reader Tok A} (bs : List
   swap_alt (v ∷ front) t rest o d = by_test (among tokens bs v) refl d
     where
       by_test : (b : Bool) → among tokens bs v ≡ b → cond b (f (v ∷ (front ++ t ∷ rest))) (f' (v ∷ (front ++ t ∷ rest))) ≡ ends o (t ∷ rest) → Outcome of_two one_of_two (v ∷ front) t.head o
-      by_test true q d = outcome_too wide of_two f one_of_two (v ∷ front) (v ∷ front) t.head o (λ p. p) (λ u i rest'. sym (pick_yes v (front ++ u ∷ rest') q)) (λ u g. goes_one (v ∷ front) u g) (law.swap (v ∷ front) t rest o d)
-      by_test false q d = outcome_too wide' of_two f' one_of_two (v ∷ front) (v ∷ front) t.head o (λ p. p) (λ u i rest'. sym (pick_no v (front ++ u ∷ rest') q)) (λ u g. goes_other (v ∷ front) u g) (law'.swap (v ∷ front) t rest o d)
+      by_test true q d = outcome_too wide of_two f one_of_two (v ∷ front) (v ∷ front) t.head o (λ p. p) (λ u i rest'. sym (taken_first bs f f' v (front ++ u ∷ rest') q)) (λ u g. goes_one (v ∷ front) u g) (law.swap (v ∷ front) t rest o d)
+      by_test false q d = outcome_too wide' of_two f' one_of_two (v ∷ front) (v ∷ front) t.head o (λ p. p) (λ u i rest'. sym (passed bs f f' v (front ++ u ∷ rest') q)) (λ u g. goes_other (v ∷ front) u g) (law'.swap (v ∷ front) t rest o d)
 
   pub alt_by : Exchanges of_two one_of_two
   unfolding form.either

@@ -13,12 +13,11 @@ use Rattle.ir_lex.specs.declared.head.Head.{Head}
 use Rattle.ir_lex.specs.declared.token.Kind.TheVariants as kinds
 use Rattle.ir_tree.specs.declared.operand.Reg.{Reg}
 use Rattle.lto_forms.proofs.Composed.{all_real, reads}
-use Rattle.lto_forms.proofs.Rules.{apart_from}
 use Rattle.lto_forms.specs.Alphabet.{among, contains, AllReal}
 use Rattle.lto_forms.specs.Chained.{Chain, chain_at, chain_within}
 use Rattle.lto_forms.specs.Forms as form
 use Rattle.lto_forms.specs.Readers.{Reader, done, fault_at, follow, ◌>>=◌, token_means, pick, next_is}
-use Rattle.lto_forms.specs.Rules.{is_class, disjoint}
+use Rattle.lto_forms.specs.Rules.{is_class}
 use Rattle.lto_forms.specs.declared.fault.Fault.{Fault}
 use Rattle.lto_forms.specs.declared.fault.FaultKind.TheVariants.{Syntax, Profile, Limit}
 use Rattle.lto_forms.specs.declared.fault.FaultKind.{FaultKind}
@@ -40,7 +39,7 @@ use Rattle.ir_globals.specs.InitialisersAt.{ZEROS, zeros_at, bytes_at, array_beg
 use Rattle.ir_globals.specs.declared.initialisers.Aggregate.TheVariants as aggregates
 use Rattle.ir_globals.specs.declared.initialisers.Aggregate.{Aggregate}
 use Rattle.ir_globals.proofs.InitialiserRules.{piece_rule}
-use Rattle.read_again.proofs.Exchanged.{Exchanges, alt, fair, nothing, recast, same_reader, seq, taken}
+use Rattle.read_again.proofs.Exchanged.{Exchanges, alt, fair, nothing, recast, same_reader, seq, taken, apart, passed}
 use Rattle.read_again.proofs.ExchangedChains.{chain}
 use Rattle.read_again.proofs.ExchangedConstants.{constant_exchanged}
 use Rattle.read_again.proofs.ExchangedShapes.{memory_shape_exchanged, brace_behind_angle_exchanged, leaf_outside}
@@ -177,13 +176,6 @@ chain_same (suc n) s ts e =
     by_result again (Ok x) q = ap (λ (r : Result (List InitPart × List Tok) Fault). follow r (λ more. done (x.0.0 ∷ more))) (again x.0.1 x.1 (next_fresh s ts x q))
 
 -- at one of those that are told
-is_false : (b : Bool) → (b ≡ true → ⊥) → b ≡ false
-is_false true never = absurd (never refl)
-is_false false never = refl
-
-out_of : (bs : List ℕ) → disjoint OUT bs ≡ true → (n : ℕ) → contains OUT n ≡ true → contains bs n ≡ false
-out_of bs d n e = is_false (contains bs n) (λ q. apart_from OUT bs d n e q)
-
 same : (n m : ℕ) → nat_eq n m ≡ true → n ≡ m
 same n m h = grind arith
 
@@ -205,22 +197,19 @@ out_not n e = by_tests (nat_eq n (number heads.RefusedType)) (nat_eq n (number h
     by_tests false false true k e = absurd cc
     by_tests false false false k e = refl
 
-passed : {A : Type 0} (bs : List ℕ) (f g : Reader Tok A) (t : Tok) (ts : List Tok) → among tokens bs t ≡ false → pick (among tokens bs) f g (t ∷ ts) ≡ g (t ∷ ts)
-passed bs f g t ts e = rw e refl
-
 over_told : (of : ℕ → Reader Tok Typed) (part : Bool → Extent → Reader Tok Typed) (innermost : Reader Tok Typed) (t : Tok) (ts : List Tok) → contains OUT (number t.head) ≡ true → shape_over_at of part innermost (t ∷ ts) ≡ innermost (t ∷ ts)
 unfolding shape_over_at
 over_told of part innermost t ts e =
-    passed OPEN_BRACKET (array_at of) (pick (among tokens OPEN_BRACE) (structure_at (part false)) (pick (among tokens OPEN_ANGLE) (packed_at (part true)) innermost)) t ts (out_of OPEN_BRACKET refl (number t.head) e)
-    ∙ passed OPEN_BRACE (structure_at (part false)) (pick (among tokens OPEN_ANGLE) (packed_at (part true)) innermost) t ts (out_of OPEN_BRACE refl (number t.head) e)
-    ∙ passed OPEN_ANGLE (packed_at (part true)) innermost t ts (out_of OPEN_ANGLE refl (number t.head) e)
+    passed OPEN_BRACKET (array_at of) (pick (among tokens OPEN_BRACE) (structure_at (part false)) (pick (among tokens OPEN_ANGLE) (packed_at (part true)) innermost)) t ts (apart OUT OPEN_BRACKET refl (number t.head) e)
+    ∙ passed OPEN_BRACE (structure_at (part false)) (pick (among tokens OPEN_ANGLE) (packed_at (part true)) innermost) t ts (apart OUT OPEN_BRACE refl (number t.head) e)
+    ∙ passed OPEN_ANGLE (packed_at (part true)) innermost t ts (apart OUT OPEN_ANGLE refl (number t.head) e)
 
 leaf_told : (room : Room) (t : Tok) (ts : List Tok) → contains OUT (number t.head) ≡ true → leaf_at room (t ∷ ts) ≡ fault_at Profile (t ∷ ts)
-leaf_told room t ts e = ap (token_means t ts) (leaf_outside room t (out_of LEAF refl (number t.head) e) ∙ ap (λ (k : FaultKind). Err k) (out_is (number t.head) e))
+leaf_told room t ts e = ap (token_means t ts) (leaf_outside room t (apart OUT LEAF refl (number t.head) e) ∙ ap (λ (k : FaultKind). Err k) (out_is (number t.head) e))
 
 shape_told : (depth : ℕ) (room : Room) (t : Tok) (ts : List Tok) → contains OUT (number t.head) ≡ true → shape_at depth room (t ∷ ts) ≡ fault_at Profile (t ∷ ts)
 unfolding innermost_at
-shape_told zero room t ts e = passed BRACKETS (fault_at Limit) (leaf_at room) t ts (out_of BRACKETS refl (number t.head) e) ∙ leaf_told room t ts e
+shape_told zero room t ts e = passed BRACKETS (fault_at Limit) (leaf_at room) t ts (apart OUT BRACKETS refl (number t.head) e) ∙ leaf_told room t ts e
 shape_told (suc depth) room t ts e = over_told (λ n. shape_at depth (shared n room)) (λ packed s. shape_at depth (left packed room s)) (leaf_at room) t ts e ∙ leaf_told room t ts e
 
 memory_told : (t : Tok) (ts : List Tok) → contains OUT (number t.head) ≡ true → memory_shape_at (t ∷ ts) ≡ fault_at Profile (t ∷ ts)
@@ -326,7 +315,7 @@ module _ (a : Aggregate) where
       by_shape false e = ap (λ (r : Result (Unit {0} × List Tok) Fault). follow r (λ _. done ([] ++ init_parts.End ∷ []))) (closing_same a t ts e)
 
       by_test : (b : Bool) → contains OUT (number t.head) ≡ b → follow (cond (not (contains (OUT ++ SHAPE) (number t.head))) (reads [] (t ∷ ts)) (follow (there_at (true, []) (t ∷ ts)) (some_more (length (t ∷ ts)) begins_with))) (ends_plainly a) ≡ follow (cond (not (contains SHAPE (number t.head))) (reads [] (t ∷ ts)) (follow (there_at (true, []) (t ∷ ts)) (some_more (length (t ∷ ts)) begins_there))) (ends_told a)
-      by_test true e = rw (out_with (number t.head) e, out_of SHAPE refl (number t.head) e, part_told t ts e) (sym (ap (λ (r : Result (Unit {0} × List Tok) Fault). follow r (λ _. done ([] ++ init_parts.End ∷ []))) (closing_told a t ts e)))
+      by_test true e = rw (out_with (number t.head) e, apart OUT SHAPE refl (number t.head) e, part_told t ts e) (sym (ap (λ (r : Result (Unit {0} × List Tok) Fault). follow r (λ _. done ([] ++ init_parts.End ∷ []))) (closing_told a t ts e)))
       by_test false e = rw (out_without (number t.head) e) (by_shape (contains SHAPE (number t.head)) e)
 
 -- ---- the parts of an initialiser

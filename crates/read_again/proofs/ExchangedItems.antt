@@ -10,14 +10,14 @@ use Rattle.ir_lex.specs.Tok.{Tok}
 use Rattle.ir_lex.specs.declared.head.Head.TheVariants as heads
 use Rattle.ir_lex.specs.declared.head.Head.{Head}
 use Rattle.lto_forms.proofs.Composed.{wrong, wrong_is}
-use Rattle.lto_forms.proofs.Rules.{apart_from, within_of}
+use Rattle.lto_forms.proofs.Rules.{within_of}
 use Rattle.lto_forms.specs.Alphabet.{among, contains}
 use Rattle.lto_forms.specs.Chained.{Chain, chain_at}
 use Rattle.lto_forms.specs.Forms as form
 use Rattle.lto_forms.specs.Forms.{Form}
 use Rattle.lto_forms.specs.Lawful.{ends}
 use Rattle.lto_forms.specs.Readers.{Reader, done, fault_at, follow, ◌>>=◌, token_means, pick}
-use Rattle.lto_forms.specs.Rules.{in_range, is_class, is_valued, disjoint}
+use Rattle.lto_forms.specs.Rules.{in_range, is_class, is_valued}
 use Rattle.lto_forms.specs.declared.fault.Fault.{Fault}
 use Rattle.lto_forms.specs.declared.fault.FaultKind.TheVariants.{Profile, Limit}
 use Rattle.lto_forms.specs.declared.fault.FaultKind.{FaultKind}
@@ -44,7 +44,7 @@ use Rattle.ir_items.specs.Items.{left_out, kept, unnamed, attribute_behind, plac
 use Rattle.ir_items.specs.ItemsAt.{SOURCE, TARGET, COMDAT, DECLARE, NAMING, left_out_at, kept_at, unnamed_at, attribute_behind_at, placed_at, metadata_there_at, plainly_at, beside_at, attached_before_at, declaration_at, other_at, ITEM}
 use Rattle.ir_items.proofs.ItemRules.{there_rule}
 use Rattle.read_again.specs.Refusals.{MEMORY}
-use Rattle.read_again.proofs.Exchanged.{Exchanges, Goes, alt, alt_by, fair, goes_alone, nothing, same_reader, seq, star, taken, tested, Open, Outcome, outcome_too, stands_for, told_too}
+use Rattle.read_again.proofs.Exchanged.{Exchanges, Goes, alt, alt_by, fair, goes_alone, nothing, same_reader, seq, star, taken, tested, Open, Outcome, outcome_too, stands_for, told_too, apart, passed, taken_first}
 use Rattle.read_again.proofs.ExchangedAttributes.{attribute_group_exchanged, head_attribute_exchanged, word_in_head}
 use Rattle.read_again.proofs.ExchangedBlocks.{definition_exchanged}
 use Rattle.read_again.proofs.ExchangedChains.{chain}
@@ -69,16 +69,6 @@ TARGETS = number heads.Target ∷ TYPES
 
 abbrev behind_targets : Reader Tok Found
 behind_targets = pick (among tokens COMDAT) (left_out_at comdat_line_at) (pick (among tokens LOCAL) (kept_at type_line_at) (kept_at attribute_group_at))
-
-passed : {A : Type 0} (bs : List ℕ) (f g : Reader Tok A) (t : Tok) (ts : List Tok) → among tokens bs t ≡ false → pick (among tokens bs) f g (t ∷ ts) ≡ g (t ∷ ts)
-passed bs f g t ts e = rw e refl
-
-is_false : (b : Bool) → (b ≡ true → ⊥) → b ≡ false
-is_false true never = absurd (never refl)
-is_false false never = refl
-
-apart : (xs bs : List ℕ) → disjoint xs bs ≡ true → (n : ℕ) → contains xs n ≡ true → contains bs n ≡ false
-apart xs bs d n e = is_false (contains bs n) (λ q. apart_from xs bs d n e q)
 
 abbrev fine : Unit {0} → Result (Unit {0}) FaultKind
 fine u = Ok u
@@ -241,9 +231,6 @@ line_told t ts e = then_refused variable_name_at _ Profile t ts (name_told t ts 
 kept_line_told : (t : Tok) (ts : List Tok) → among tokens NUMBERED_NAME t ≡ true → kept_at variable_line_at (t ∷ ts) ≡ fault_at Profile (t ∷ ts)
 unfolding kept_at
 kept_line_told t ts e = then_refused variable_line_at _ Profile t ts (line_told t ts e)
-
-taken_first : {A : Type 0} (bs : List ℕ) (f g : Reader Tok A) (t : Tok) (ts : List Tok) → among tokens bs t ≡ true → pick (among tokens bs) f g (t ∷ ts) ≡ f (t ∷ ts)
-taken_first bs f g t ts e = rw e refl
 
 naming_told : (room : ℕ) (t : Tok) (ts : List Tok) → among tokens NUMBERED_NAME t ≡ true → naming_with room (t ∷ ts) ≡ fault_at Profile (t ∷ ts)
 naming_told room t ts e = taken_first ALL_NAMES (kept_at variable_line_at) (pick (among tokens DECLARE) (declaration_at room) (kept_at (definition_at room))) t ts (within_of NUMBERED_NAME ALL_NAMES refl (number t.head) e) ∙ kept_line_told t ts e

@@ -6,13 +6,12 @@ use Rattle.ir_lex.specs.Heads.{number}
 use Rattle.ir_lex.specs.Tok.{Tok}
 use Rattle.ir_lex.specs.declared.head.Head.TheVariants as heads
 use Rattle.lto_forms.proofs.Composed.{cut_is, reads, reads_is, wrong, wrong_is}
-use Rattle.lto_forms.proofs.Rules.{apart_from, within_of}
+use Rattle.lto_forms.proofs.Rules.{within_of}
 use Rattle.lto_forms.specs.Alphabet.{among, contains}
 use Rattle.lto_forms.specs.Chained.{chain_within, stops_here}
 use Rattle.lto_forms.specs.Faults.{Extends}
 use Rattle.lto_forms.specs.Lawful.{Broad, IsBound, UpTo}
 use Rattle.lto_forms.specs.Readers.{Reader, done, ended, fault_at, follow, ◌>>=◌, pick, whole_of}
-use Rattle.lto_forms.specs.Rules.{disjoint}
 use Rattle.lto_forms.specs.declared.fault.Fault.{Fault}
 use Rattle.lto_forms.specs.declared.fault.FaultKind.TheVariants.{Syntax, Profile, Limit}
 use Rattle.lto_forms.specs.declared.fault.FaultKind.{FaultKind}
@@ -31,14 +30,10 @@ use Rattle.ir_items.specs.Items.{any_items, any_piece, anywhere, at_place, keep}
 use Rattle.ir_items.specs.ItemsAt.{DECLARE, ITEM, NAMING, beginnings, begins_there, beside_at, declaration_at, first_place, items_at, kept_at, metadata_there_at, named_at, naming_at, other_at, piece_at, plainly_at, there_at}
 use Rattle.ir_items.specs.Modules.{FURTHER_PARAMETERS, GLOBAL_NAMES, any_module, item_refusal, module_of}
 use Rattle.ir_items.proofs.ItemRules.{ANY, items_rule, there_rule}
-use Rattle.read_again.proofs.Exchanged.{Exchanges, Outcome, SOMEWHERE, Stuck, nothing, seq, taken}
+use Rattle.read_again.proofs.Exchanged.{Exchanges, Outcome, SOMEWHERE, Stuck, nothing, seq, taken, apart, passed, taken_first}
 use Rattle.read_again.proofs.ExchangedItems.{NUMBERED_NAME, STARTS, TYPES, all_items_at, all_items_exchanged, named_with, naming_with, numbered_is, numbered_told, piece_exchanged, piece_there, piece_with, starts_there, unnamed_refuses, within_at}
 
 -- ---- at each token that begins an item the two are the same
-
-is_false : (b : Bool) → (b ≡ true → ⊥) → b ≡ false
-is_false true never = absurd (never refl)
-is_false false never = refl
 
 split : (xs ys : List ℕ) (n : ℕ) → contains (xs ++ ys) n ≡ true → (contains xs n ≡ true) ⊎ (contains ys n ≡ true)
 split [] ys n h = inr h
@@ -50,15 +45,6 @@ split (x ∷ xs) ys n h = by_test (nat_eq n x) (λ d. split xs ys n d) h
 
 both : true ≡ false → ⊥
 both e = cc
-
-taken_first : {A : Type 0} (bs : List ℕ) (f g : Reader Tok A) (t : Tok) (ts : List Tok) → among tokens bs t ≡ true → pick (among tokens bs) f g (t ∷ ts) ≡ f (t ∷ ts)
-taken_first bs f g t ts e = rw e refl
-
-passed : {A : Type 0} (bs : List ℕ) (f g : Reader Tok A) (t : Tok) (ts : List Tok) → among tokens bs t ≡ false → pick (among tokens bs) f g (t ∷ ts) ≡ g (t ∷ ts)
-passed bs f g t ts e = rw e refl
-
-apart : (xs bs : List ℕ) → disjoint xs bs ≡ true → (n : ℕ) → contains xs n ≡ true → contains bs n ≡ false
-apart xs bs d n e = is_false (contains bs n) (λ q. apart_from xs bs d n e q)
 
 -- without a name that is a number
 unnumbered : (bs : List ℕ) (n : ℕ) → contains NUMBERED_NAME n ≡ false → contains (NUMBERED_NAME ++ bs) n ≡ contains bs n

@@ -10,7 +10,6 @@ use Rattle.ir_lex.specs.Tok.{Tok}
 use Rattle.ir_lex.specs.declared.head.Head.TheVariants as heads
 use Rattle.ir_lex.specs.declared.head.Head.{Head}
 use Rattle.ir_lex.specs.declared.token.Kind.TheVariants as kinds
-use Rattle.lto_forms.proofs.Rules.{apart_from}
 use Rattle.lto_forms.specs.Alphabet.{among, contains}
 use Rattle.lto_forms.specs.Forms as form
 use Rattle.lto_forms.specs.Lawful.{IsBound}
@@ -25,7 +24,7 @@ use Rattle.ir_read.specs.TargetsAt.{LAYOUT, layout_line_at, triple_line_at, targ
 use Rattle.ir_read.specs.declared.raw.Item.TheVariants.{Datalayout, Triple}
 use Rattle.ir_read.proofs.Singles.{sample, word, the_rule, string_real}
 use Rattle.read_again.specs.Refusals.{MEMORY}
-use Rattle.read_again.proofs.Exchanged.{Exchanges, Says, alt, nothing, seq, single, SOMEWHERE}
+use Rattle.read_again.proofs.Exchanged.{Exchanges, Says, alt, nothing, seq, single, SOMEWHERE, apart}
 use Rattle.read_again.proofs.ExchangedTokens.{elsewhere, i8_real, one_sample, plain_class, not_bound}
 use Rattle.read_again.proofs.ExchangedWords.{equals_exchanged, string_exchanged}
 
@@ -107,12 +106,8 @@ layout_stuck u e = (refusal (number u.head), not_bound (number u.head), by_class
     by_class true e = absurd cc
     by_class false e = refl
 
-is_false : (b : Bool) → (b ≡ true → ⊥) → b ≡ false
-is_false true never = absurd (never refl)
-is_false false never = refl
-
 no_string : (bs : List ℕ) → disjoint bs STRING ≡ true → (u : Tok) → among tokens bs u ≡ true → (k : FaultKind) × (IsBound k → ⊥) × (is_layout u ≡ Err k)
-no_string bs d u i = layout_stuck u (is_false (among tokens STRING u) (λ q. apart_from bs STRING d (number u.head) i q))
+no_string bs d u i = layout_stuck u (apart bs STRING d (number u.head) i)
 
 layout_class : (h : Head) → Says (form.token is_layout) is_layout h (refusal (number h))
 layout_class heads.RefusedType = no_string REG refl

@@ -9,7 +9,7 @@ use Rattle.ir_lex.specs.Rows.{best_fit, rest_fit, label_len, number_len, word_le
 use Rattle.ir_lex.specs.Tok.{Tok}
 use Rattle.ir_lex.specs.declared.head.Head.TheVariants as heads
 use Rattle.ir_lex.specs.declared.head.Head.{Head}
-use Rattle.lto_forms.proofs.Rules.{apart_from, within_of}
+use Rattle.lto_forms.proofs.Rules.{within_of}
 use Rattle.lto_forms.specs.Alphabet.{among, contains}
 use Rattle.lto_forms.specs.Forms as form
 use Rattle.lto_forms.specs.Forms.{Form}
@@ -26,7 +26,7 @@ use Rattle.ir_read.proofs.FunctionHeadRules.{name_not_number, name_not_limit}
 use Rattle.ir_read.proofs.OperandRules.{type_not_number, type_not_limit, memory_not_number, memory_not_limit}
 use Rattle.ir_read.proofs.Singles.{word, not_number, not_limit}
 use Rattle.read_again.specs.Refusals.{MEMORY}
-use Rattle.read_again.proofs.Exchanged.{Exchanges, Goes, SOMEWHERE, Says, single, stands_for}
+use Rattle.read_again.proofs.Exchanged.{Exchanges, Goes, SOMEWHERE, Says, single, stands_for, apart}
 
 pub i8_real : IsReal (word heads.MemoryInteger (codes "i8"))
 unfolding best_fit rest_fit label_len number_len word_len name_len meta_len dots_len other_len string_len has is_bad is_zero_name head_of word_head listed_head words_2
@@ -35,10 +35,6 @@ i8_real = record { behind = []; some = refl; fits = refl; good = refl; class = r
 pub i16_real : IsReal (word heads.MemoryInteger (codes "i16"))
 unfolding best_fit rest_fit label_len number_len word_len name_len meta_len dots_len other_len string_len has is_bad is_zero_name head_of word_head listed_head words_3
 i16_real = record { behind = []; some = refl; fits = refl; good = refl; class = refl }
-
-is_false : (b : Bool) → (b ≡ true → ⊥) → b ≡ false
-is_false true never = absurd (never refl)
-is_false false never = refl
 
 and_parts : (a b : Bool) → a && b ≡ true → (a ≡ true) × (b ≡ true)
 and_parts true b h = (refl, h)
@@ -95,7 +91,7 @@ module _ {A : Type 0} (wide : Form Tok A) (meaning : Tok → Result A FaultKind)
     stuck_outside u e = (refuse (number u.head), unbound (number u.head), outside u e)
 
     pub none_taken : (h : Head) → plain_at wanted h ≡ true → contains wanted (number h) ≡ false → (u : Tok) → among tokens (stands_for h) u ≡ true → (k : FaultKind) × (IsBound k → ⊥) × (meaning u ≡ Err k)
-    none_taken h p n u i = stuck_outside u (is_false (among tokens wanted u) (λ q. apart_from (stands_for h) wanted (left_false (contains wanted (number h)) (disjoint (stands_for h) wanted) p n) (number u.head) i q))
+    none_taken h p n u i = stuck_outside u (apart (stands_for h) wanted (left_false (contains wanted (number h)) (disjoint (stands_for h) wanted) p n) (number u.head) i)
 
     same_kind : (k l : FaultKind) → (m : Result A FaultKind) → m ≡ Err k → m ≡ Err l → k ≡ l
     same_kind k l m d e = cc
@@ -311,7 +307,7 @@ module _ {A : Type 0} (wanted : List ℕ) (passes : Tok → Bool) (value : Tok �
   kind_of true a k l e = absurd cc
   kind_of false a k l e = err_is k l e
 
-  module _ (apart : disjoint APART wanted ≡ true) (u : Tok) (i : among tokens REG u ≡ true) (j : among tokens wanted u ≡ true) (q : passes u ≡ true) (r : IsReal u) (v : Tok) (k : among tokens MEMORY v ≡ true) (n : passes v ≡ false) (r' : IsReal v) where
+  module _ (none : disjoint APART wanted ≡ true) (u : Tok) (i : among tokens REG u ≡ true) (j : among tokens wanted u ≡ true) (q : passes u ≡ true) (r : IsReal u) (v : Tok) (k : among tokens MEMORY v ≡ true) (n : passes v ≡ false) (r' : IsReal v) where
     passing : (u : Tok) × (among tokens REG u ≡ true) × Goes (form.token tested) [] u
     unfolding is_exact
     passing = (u, i, ([], value u, both_true (among tokens wanted u) (passes u) (value u) (type_refusal (number u.head)) j q, (r, tt)))
@@ -321,7 +317,7 @@ module _ {A : Type 0} (wanted : List ℕ) (passes : Tok → Bool) (value : Tok �
     failing = (v, k, r', (type_refusal (number v.head), type_not_bound (number v.head), right_no (among tokens wanted v) (passes v) (value v) (type_refusal (number v.head)) n))
 
     no_global : (n : ℕ) → contains (number heads.Global ∷ []) n ≡ true → contains wanted n ≡ false
-    no_global n p = is_false (contains wanted n) (λ w. apart_from APART wanted apart n (within_of (number heads.Global ∷ []) APART refl n p) w)
+    no_global n p = apart APART wanted none n (within_of (number heads.Global ∷ []) APART refl n p)
 
     stuck_global : (g : Tok) → among tokens (number heads.Global ∷ []) g ≡ true → (k : FaultKind) × (IsBound k → ⊥) × (tested g ≡ Err k)
     unfolding is_exact

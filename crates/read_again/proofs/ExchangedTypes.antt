@@ -4,7 +4,6 @@ use Rattle.std.proofs.lemmas.List.{length-append}
 use Rattle.ir_lex.specs.Heads.{number}
 use Rattle.ir_lex.specs.Tok.{Tok}
 use Rattle.ir_lex.specs.declared.head.Head.{Head}
-use Rattle.lto_forms.proofs.Rules.{apart_from}
 use Rattle.lto_forms.specs.Alphabet.{among, contains}
 use Rattle.lto_forms.specs.Forms as form
 use Rattle.lto_forms.specs.Forms.{Form, Star}
@@ -15,15 +14,11 @@ use Rattle.lto_forms.specs.declared.fault.FaultKind.TheVariants.{Profile}
 use Rattle.lto_forms.specs.declared.fault.FaultKind.{FaultKind}
 use Rattle.ir_read.specs.Classes.{tokens, refusal, the, the_at}
 use Rattle.ir_read.specs.Operands.{REFUSED_TYPES, REG, type_refusal}
-use Rattle.read_again.proofs.Exchanged.{Exchanges, alt, nothing, recast, same_reader, seq, star}
+use Rattle.read_again.proofs.Exchanged.{Exchanges, alt, nothing, recast, same_reader, seq, star, apart}
 
 -- types of registers, and types that are left out
 abbrev pub ANY_TYPES : List ℕ
 ANY_TYPES = REFUSED_TYPES ++ REG
-
-is_false : (b : Bool) → (b ≡ true → ⊥) → b ≡ false
-is_false true never = absurd (never refl)
-is_false false never = refl
 
 same : (n m : ℕ) → nat_eq n m ≡ true → n ≡ m
 same n m h = grind arith
@@ -49,7 +44,7 @@ any_type_too n e = by_tests _ _ e
     by_tests false false e = absurd cc
 
 no_reg : (n : ℕ) → contains REFUSED_TYPES n ≡ true → contains REG n ≡ false
-no_reg n e = is_false (contains REG n) (λ q. apart_from REFUSED_TYPES REG refl n e q)
+no_reg n e = apart REFUSED_TYPES REG refl n e
 
 -- a type is told there
 pub type_told : {A : Type 0} (value : Tok → A) (t : Tok) (ts : List Tok) → contains REFUSED_TYPES (number t.head) ≡ true → token_at (is_among tokens type_refusal REG value) (t ∷ ts) ≡ fault_at Profile (t ∷ ts)
@@ -61,7 +56,7 @@ type_told {A} value t ts e = by_tests (among tokens REG t) (contains REFUSED_TYP
     by_tests false true p q = refl
     by_tests false false p q = absurd cc
 
-module _ (closer : Head) (apart : contains REFUSED_TYPES (number closer) ≡ false) where
+module _ (closer : Head) (other : contains REFUSED_TYPES (number closer) ≡ false) where
   abbrev pub typed_end : Tok → Result (Unit {0}) FaultKind
   typed_end = is_class tokens type_refusal (number closer)
 
@@ -83,7 +78,7 @@ module _ (closer : Head) (apart : contains REFUSED_TYPES (number closer) ≡ fal
       differ e = cc
 
       by_tests : (b c : Bool) → nat_eq (number t.head) (number closer) ≡ b → contains REFUSED_TYPES (number t.head) ≡ c → c ≡ true → cond b (fine tt) (refuse (cond c Profile (refusal (number t.head)))) ≡ refuse Profile
-      by_tests true c p r q = absurd (differ (sym (r ∙ q) ∙ ap (contains REFUSED_TYPES) (same (number t.head) (number closer) p) ∙ apart))
+      by_tests true c p r q = absurd (differ (sym (r ∙ q) ∙ ap (contains REFUSED_TYPES) (same (number t.head) (number closer) p) ∙ other))
       by_tests false true p r q = refl
       by_tests false false p r q = absurd cc
 
@@ -171,31 +166,31 @@ Types f = (t : Tok) (ts : List Tok) → contains REFUSED_TYPES (number t.head) �
 pub types_first : {A B : Type 0} (f : Reader Tok A) → Types f → (h : A → Reader Tok B) → Types (f >>= h)
 types_first {A} f told h t ts e = ap (λ (r : Result (A × List Tok) Fault). follow r h) (told t ts e)
 
-module _ (closer : Head) (apart : contains REFUSED_TYPES (number closer) ≡ false) (law : Exchanges (the closer) (the_at closer)) where
-  pub end_form : (ts : List Tok) (u : Unit {0}) → the closer ts u → form.token (typed_end closer apart) ts u
+module _ (closer : Head) (other : contains REFUSED_TYPES (number closer) ≡ false) (law : Exchanges (the closer) (the_at closer)) where
+  pub end_form : (ts : List Tok) (u : Unit {0}) → the closer ts u → form.token (typed_end closer other) ts u
   unfolding is_class
   end_form [] u s = absurd s
   end_form (t ∷ []) u s = by_test (nat_eq (number t.head) (number closer)) s
     where
-      by_test : (b : Bool) → cond b (fine closer apart tt) (refuse (refusal (number t.head))) ≡ Ok u → cond b (fine closer apart tt) (refuse (type_refusal (number t.head))) ≡ Ok u
+      by_test : (b : Bool) → cond b (fine closer other tt) (refuse (refusal (number t.head))) ≡ Ok u → cond b (fine closer other tt) (refuse (type_refusal (number t.head))) ≡ Ok u
       by_test true s = s
       by_test false s = absurd cc
   end_form (t ∷ v ∷ ts) u s = absurd s
 
-  closed_too : {A : Type 0} (wide : Form Tok A) (a : A) (ts : List Tok) (b : A) → form.either wide (form.◌>>=◌ (the closer) (λ _. form.gives a)) ts b → form.either wide (form.◌>>=◌ (form.token (typed_end closer apart)) (λ _. form.gives a)) ts b
+  closed_too : {A : Type 0} (wide : Form Tok A) (a : A) (ts : List Tok) (b : A) → form.either wide (form.◌>>=◌ (the closer) (λ _. form.gives a)) ts b → form.either wide (form.◌>>=◌ (form.token (typed_end closer other)) (λ _. form.gives a)) ts b
   unfolding form.either form.◌>>=◌
   closed_too wide a ts b (inl s) = inl s
   closed_too wide a ts b (inr (front, back, u, e, c, r)) = inr (front, back, u, e, end_form front u c, r)
 
-  all_closed_too : {A B : Type 0} (wide : Form Tok A) (k : List A → B) (ts : List Tok) (b : B) → form.◌>>=◌ (Star wide) (λ as'. form.◌>>=◌ (the closer) (λ _. form.gives (k as'))) ts b → form.◌>>=◌ (Star wide) (λ as'. form.◌>>=◌ (form.token (typed_end closer apart)) (λ _. form.gives (k as'))) ts b
+  all_closed_too : {A B : Type 0} (wide : Form Tok A) (k : List A → B) (ts : List Tok) (b : B) → form.◌>>=◌ (Star wide) (λ as'. form.◌>>=◌ (the closer) (λ _. form.gives (k as'))) ts b → form.◌>>=◌ (Star wide) (λ as'. form.◌>>=◌ (form.token (typed_end closer other)) (λ _. form.gives (k as'))) ts b
   unfolding form.◌>>=◌
   all_closed_too wide k ts b (front, back, as', e, s, (front', back', u, e', c, r)) = (front, back, as', e, s, (front', back', u, e', end_form front' u c, r))
 
   -- what begins with a type, or nothing before what closes it
-  pub listed_exchanged : {A : Type 0} {wide : Form Tok A} {f : Reader Tok A} (a : A) → Exchanges wide f → Types f → Exchanges (form.either wide (form.◌>>=◌ (form.token (typed_end closer apart)) (λ _. form.gives a))) (pick (among tokens REG) f (token_at (typed_end closer apart) >>= λ _. done a))
-  listed_exchanged {wide = wide} {f = f} a one told = recast (closed_too wide a) (same_reader (types_same closer apart (λ _. done a) f told) (alt ANY_TYPES refl one (seq law (λ _. nothing a))))
+  pub listed_exchanged : {A : Type 0} {wide : Form Tok A} {f : Reader Tok A} (a : A) → Exchanges wide f → Types f → Exchanges (form.either wide (form.◌>>=◌ (form.token (typed_end closer other)) (λ _. form.gives a))) (pick (among tokens REG) f (token_at (typed_end closer other) >>= λ _. done a))
+  listed_exchanged {wide = wide} {f = f} a one told = recast (closed_too wide a) (same_reader (types_same closer other (λ _. done a) f told) (alt ANY_TYPES refl one (seq law (λ _. nothing a))))
 
   -- any number of what begins with a type, up to what closes them
   pub all_exchanged : {A B : Type 0} {wide : Form Tok A} {f : Reader Tok A} (k : List A → B) → Exchanges wide f → ((a : A) → wide [] a → ⊥) → Types f
-      → Exchanges (form.◌>>=◌ (Star wide) (λ as'. form.◌>>=◌ (form.token (typed_end closer apart)) (λ _. form.gives (k as')))) (star_at (among tokens REG) f >>= λ as'. token_at (typed_end closer apart) >>= λ _. done (k as'))
-  all_exchanged {wide = wide} k one some told = recast (all_closed_too wide k) (same_reader (star_same closer apart one some told (λ as' _. done (k as'))) (seq (star ANY_TYPES refl one some) (λ as'. seq law (λ _. nothing (k as')))))
+      → Exchanges (form.◌>>=◌ (Star wide) (λ as'. form.◌>>=◌ (form.token (typed_end closer other)) (λ _. form.gives (k as')))) (star_at (among tokens REG) f >>= λ as'. token_at (typed_end closer other) >>= λ _. done (k as'))
+  all_exchanged {wide = wide} k one some told = recast (all_closed_too wide k) (same_reader (star_same closer other one some told (λ as' _. done (k as'))) (seq (star ANY_TYPES refl one some) (λ as'. seq law (λ _. nothing (k as')))))
