@@ -26,7 +26,7 @@ use Rattle.read_again.specs.Refusals.{MEMORY, WORD, last_is}
 -- the classes of the tokens that one of this class stands for
 abbrev pub stands_for : Head → List ℕ
 stands_for heads.RefusedType = REG
-stands_for heads.Target = REG
+stands_for heads.Target = REG ++ WORD
 stands_for heads.RegisterInteger = MEMORY
 stands_for heads.NumberedGlobal = GLOBAL
 stands_for heads.NumberedDefinition = GLOBAL
@@ -46,14 +46,15 @@ NotTold heads.NumberedGlobal Stuck Goes = (u : Tok) → among tokens GLOBAL u �
 NotTold heads.NumberedDefinition Stuck Goes = (u : Tok) → among tokens GLOBAL u ≡ true → Stuck u
 NotTold h Stuck Goes = Unit {0}
 
--- why it is: one that it stands for goes on, or each; a type is told behind `(` as well, where arguments may stand
-abbrev pub IsTold : Head → (Tok → Type 0) → Type 0 → Type 0
-IsTold heads.RefusedType Goes Open = ((u : Tok) × (among tokens REG u ≡ true) × Goes u) ⊎ Open
-IsTold heads.Target Goes Open = ((u : Tok) × (among tokens REG u ≡ true) × Goes u) ⊎ Open
-IsTold heads.RegisterInteger Goes Open = (u : Tok) → among tokens MEMORY u ≡ true → IsReal u → Goes u
-IsTold heads.NumberedGlobal Goes Open = (u : Tok) × (among tokens GLOBAL u ≡ true) × Goes u
-IsTold heads.NumberedDefinition Goes Open = (u : Tok) × (among tokens GLOBAL u ≡ true) × Goes u
-IsTold h Goes Open = Unit {0}
+-- why it is: one that it stands for goes on, or each; a type is told behind `(` as well, where arguments may stand; and where `target`
+-- is told no plain word goes on
+abbrev pub IsTold : Head → (Tok → Type 0) → (Tok → Type 0) → Type 0 → Type 0
+IsTold heads.RefusedType Stuck Goes Open = ((u : Tok) × (among tokens REG u ≡ true) × Goes u) ⊎ Open
+IsTold heads.Target Stuck Goes Open = (((u : Tok) × (among tokens REG u ≡ true) × Goes u) ⊎ Open) × ((w : Tok) → among tokens WORD w ≡ true → Stuck w)
+IsTold heads.RegisterInteger Stuck Goes Open = (u : Tok) → among tokens MEMORY u ≡ true → IsReal u → Goes u
+IsTold heads.NumberedGlobal Stuck Goes Open = (u : Tok) × (among tokens GLOBAL u ≡ true) × Goes u
+IsTold heads.NumberedDefinition Stuck Goes Open = (u : Tok) × (among tokens GLOBAL u ≡ true) × Goes u
+IsTold h Stuck Goes Open = Unit {0}
 
 -- the last of them is `(`
 abbrev pub Open : List Tok → Type 0
@@ -77,41 +78,51 @@ Goes {A} wide front u = (more : List Tok) × (a : A) × wide (front ++ u ∷ mor
 abbrev pub Stays : {A : Type 0} → Reader Tok A → List Tok → A → Tok → Type 0
 Stays f front a u = (rest : List Tok) → f (front ++ u ∷ rest) ≡ reads a (u ∷ rest)
 
--- what a reading says at a token of this class of those that it stands for
-abbrev pub Outcome : {A : Type 0} → Form Tok A → Reader Tok A → List Tok → Head → Result A FaultKind → Type 0
-Outcome wide f front h (Ok a) = ((u : Tok) → among tokens (stands_for h) u ≡ true → Stays f front a u) ⊎ WordGoes h (Goes wide front)
-Outcome wide f front h (Err Syntax) = NotTold h (Stuck f front) (Goes wide front)
-Outcome wide f front h (Err Profile) = IsTold h (Goes wide front) (Open front)
-Outcome wide f front h (Err Number) = Unit {0}
-Outcome wide f front h (Err Limit) = Unit {0}
+-- what a reading says at a token of this class of those that it stands for; only some readings end where a plain word goes on and
+-- `target` doesn't
+abbrev pub Outcome : {A : Type 0} → Bool → Form Tok A → Reader Tok A → List Tok → Head → Result A FaultKind → Type 0
+Outcome words wide f front h (Ok a) = ((u : Tok) → among tokens (stands_for h) u ≡ true → Stays f front a u) ⊎ ((words ≡ true) × WordGoes h (Goes wide front))
+Outcome words wide f front h (Err Syntax) = NotTold h (Stuck f front) (Goes wide front)
+Outcome words wide f front h (Err Profile) = IsTold h (Stuck f front) (Goes wide front) (Open front)
+Outcome words wide f front h (Err Number) = Unit {0}
+Outcome words wide f front h (Err Limit) = Unit {0}
 
-pub record Exchanges {A : Type 0} (wide : Form Tok A) (f : Reader Tok A) : Type 0 where
+pub record Exchanging {A : Type 0} (words : Bool) (wide : Form Tok A) (f : Reader Tok A) : Type 0 where
   pub sound : (ts rest : List Tok) (a : A) → f ts ≡ reads a rest → (front : List Tok) × (ts ≡ front ++ rest) × wide front a
   pub placed : (ts : List Tok) (e : Fault) → f ts ≡ wrong e → (front : List Tok) × (rest : List Tok) × (ts ≡ front ++ rest) × (length rest ≡ e.left)
   pub local : (front : List Tok) (t : Tok) (rest rest' : List Tok) (o : Result A FaultKind) → f (front ++ t ∷ rest) ≡ ends o (t ∷ rest) → f (front ++ t ∷ rest') ≡ ends o (t ∷ rest')
   pub some : (ts : List Tok) × (a : A) × wide ts a × AllReal tokens ts
-  pub swap : (front : List Tok) (t : Tok) (rest : List Tok) (o : Result A FaultKind) → f (front ++ t ∷ rest) ≡ ends o (t ∷ rest) → Outcome wide f front t.head o
+  pub swap : (front : List Tok) (t : Tok) (rest : List Tok) (o : Result A FaultKind) → f (front ++ t ∷ rest) ≡ ends o (t ∷ rest) → Outcome words wide f front t.head o
+
+abbrev pub Exchanges : {A : Type 0} → Form Tok A → Reader Tok A → Type 0
+Exchanges wide f = Exchanging false wide f
 
 -- ---- the same of other readings
 
+pub a_type : (u : Tok) → among tokens REG u ≡ true → among tokens (REG ++ WORD) u ≡ true
+a_type u i = within_of REG (REG ++ WORD) refl (number u.head) i
+
+pub a_plain_word : (w : Tok) → among tokens WORD w ≡ true → among tokens (REG ++ WORD) w ≡ true
+a_plain_word w i = within_of WORD (REG ++ WORD) refl (number w.head) i
+
 pub not_told_too : (h : Head) (S S' G G' : Tok → Type 0) → ((u : Tok) → among tokens (stands_for h) u ≡ true → S u → S' u) → ((u : Tok) → G u → G' u) → NotTold h S G → NotTold h S' G'
 not_told_too heads.RefusedType S S' G G' s g n = λ u i. s u i (n u i)
-not_told_too heads.Target S S' G G' s g (inl n) = inl (λ u i. s u i (n u i))
+not_told_too heads.Target S S' G G' s g (inl n) = inl (λ u i. s u (a_type u i) (n u i))
 not_told_too heads.Target S S' G G' s g (inr (w, i, n)) = inr (w, i, g w n)
 not_told_too heads.RegisterInteger S S' G G' s g (u, i, r, n) = (u, i, r, s u i n)
 not_told_too heads.NumberedGlobal S S' G G' s g n = λ u i. s u i (n u i)
 not_told_too heads.NumberedDefinition S S' G G' s g n = λ u i. s u i (n u i)
 not_told_too h S S' G G' s g n = tt
 
-pub told_too : (h : Head) (G G' : Tok → Type 0) (P P' : Type 0) → ((u : Tok) → G u → G' u) → (P → P') → IsTold h G P → IsTold h G' P'
-told_too heads.RefusedType G G' P P' g p (inl (u, i, n)) = inl (u, i, g u n)
-told_too heads.RefusedType G G' P P' g p (inr o) = inr (p o)
-told_too heads.Target G G' P P' g p (inl (u, i, n)) = inl (u, i, g u n)
-told_too heads.Target G G' P P' g p (inr o) = inr (p o)
-told_too heads.RegisterInteger G G' P P' g p n = λ u i r. g u (n u i r)
-told_too heads.NumberedGlobal G G' P P' g p (u, i, n) = (u, i, g u n)
-told_too heads.NumberedDefinition G G' P P' g p (u, i, n) = (u, i, g u n)
-told_too h G G' P P' g p n = tt
+pub told_too : (h : Head) (S S' G G' : Tok → Type 0) (P P' : Type 0) → ((u : Tok) → among tokens (stands_for h) u ≡ true → S u → S' u) → ((u : Tok) → G u → G' u) → (P → P') → IsTold h S G P → IsTold h S' G' P'
+told_too heads.RefusedType S S' G G' P P' s g p (inl (u, i, n)) = inl (u, i, g u n)
+told_too heads.RefusedType S S' G G' P P' s g p (inr o) = inr (p o)
+told_too heads.Target S S' G G' P P' s g p (inl (u, i, n), m) = (inl (u, i, g u n), λ w j. s w (a_plain_word w j) (m w j))
+told_too heads.Target S S' G G' P P' s g p (inr o, m) = (inr (p o), λ w j. s w (a_plain_word w j) (m w j))
+told_too heads.RegisterInteger S S' G G' P P' s g p n = λ u i r. g u (n u i r)
+told_too heads.NumberedGlobal S S' G G' P P' s g p (u, i, n) = (u, i, g u n)
+told_too heads.NumberedDefinition S S' G G' P P' s g p (u, i, n) = (u, i, g u n)
+told_too h S S' G G' P P' s g p n = tt
 
 pub word_too : (h : Head) (G G' : Tok → Type 0) → ((u : Tok) → G u → G' u) → WordGoes h G → WordGoes h G'
 word_too heads.Target G G' g (w, i, n) = (w, i, g w n)
@@ -122,38 +133,65 @@ pub word_not_told : (h : Head) (S G : Tok → Type 0) → WordGoes h G → NotTo
 word_not_told heads.Target S G n = inr n
 word_not_told h S G n = absurd n
 
-module _ {A B : Type 0} (wide : Form Tok A) (wide' : Form Tok B) (f : Reader Tok A) (f' : Reader Tok B) (front front' : List Tok) (h : Head) where
+module _ {A B : Type 0} (words words' : Bool) (wide : Form Tok A) (wide' : Form Tok B) (f : Reader Tok A) (f' : Reader Tok B) (front front' : List Tok) (h : Head) where
   -- what is said of one reading is said of another
-  pub err_too : (k : FaultKind) → (Open front → Open front') → ((u : Tok) → among tokens (stands_for h) u ≡ true → Stuck f front u → Stuck f' front' u) → ((u : Tok) → Goes wide front u → Goes wide' front' u) → Outcome wide f front h (Err k) → Outcome wide' f' front' h (Err k)
+  pub err_too : (k : FaultKind) → (Open front → Open front') → ((u : Tok) → among tokens (stands_for h) u ≡ true → Stuck f front u → Stuck f' front' u) → ((u : Tok) → Goes wide front u → Goes wide' front' u) → Outcome words wide f front h (Err k) → Outcome words' wide' f' front' h (Err k)
   err_too Syntax p s g n = not_told_too h (Stuck f front) (Stuck f' front') (Goes wide front) (Goes wide' front') s g n
-  err_too Profile p s g n = told_too h (Goes wide front) (Goes wide' front') (Open front) (Open front') g p n
+  err_too Profile p s g n = told_too h (Stuck f front) (Stuck f' front') (Goes wide front) (Goes wide' front') (Open front) (Open front') s g p n
   err_too Number p s g n = tt
   err_too Limit p s g n = tt
 
-  pub ok_too : (a : A) (b : B) → ((u : Tok) → among tokens (stands_for h) u ≡ true → Stays f front a u → Stays f' front' b u) → ((u : Tok) → Goes wide front u → Goes wide' front' u) → Outcome wide f front h (Ok a) → Outcome wide' f' front' h (Ok b)
-  ok_too a b s g (inl n) = inl (λ u i. s u i (n u i))
-  ok_too a b s g (inr w) = inr (word_too h (Goes wide front) (Goes wide' front') g w)
+  pub ok_too : (words ≡ true → words' ≡ true) → (a : A) (b : B) → ((u : Tok) → among tokens (stands_for h) u ≡ true → Stays f front a u → Stays f' front' b u) → ((u : Tok) → Goes wide front u → Goes wide' front' u) → Outcome words wide f front h (Ok a) → Outcome words' wide' f' front' h (Ok b)
+  ok_too q a b s g (inl n) = inl (λ u i. s u i (n u i))
+  ok_too q a b s g (inr (e, w)) = inr (q e, word_too h (Goes wide front) (Goes wide' front') g w)
 
-pub outcome_too : {A : Type 0} (wide wide' : Form Tok A) (f f' : Reader Tok A) (front front' : List Tok) (h : Head) (o : Result A FaultKind) → (Open front → Open front') → ((u : Tok) → among tokens (stands_for h) u ≡ true → (rest : List Tok) → f (front ++ u ∷ rest) ≡ f' (front' ++ u ∷ rest)) → ((u : Tok) → Goes wide front u → Goes wide' front' u)
-    → Outcome wide f front h o → Outcome wide' f' front' h o
-outcome_too wide wide' f f' front front' h (Ok a) p same g n = ok_too wide wide' f f' front front' h a a (λ u i s rest. sym (same u i rest) ∙ s rest) g n
-outcome_too wide wide' f f' front front' h (Err k) p same g n = err_too wide wide' f f' front front' h k p (λ u i s rest. let r = s rest in (r.0, r.1, sym (same u i rest) ∙ r.2)) g n
+pub outcome_too : {A : Type 0} (words words' : Bool) (wide wide' : Form Tok A) (f f' : Reader Tok A) (front front' : List Tok) (h : Head) (o : Result A FaultKind) → (words ≡ true → words' ≡ true) → (Open front → Open front') → ((u : Tok) → among tokens (stands_for h) u ≡ true → (rest : List Tok) → f (front ++ u ∷ rest) ≡ f' (front' ++ u ∷ rest)) → ((u : Tok) → Goes wide front u → Goes wide' front' u)
+    → Outcome words wide f front h o → Outcome words' wide' f' front' h o
+outcome_too words words' wide wide' f f' front front' h (Ok a) q p same g n = ok_too words words' wide wide' f f' front front' h q a a (λ u i s rest. sym (same u i rest) ∙ s rest) g n
+outcome_too words words' wide wide' f f' front front' h (Err k) q p same g n = err_too words words' wide wide' f f' front front' h k p (λ u i s rest. let r = s rest in (r.0, r.1, sym (same u i rest) ∙ r.2)) g n
+
+-- ---- no token
+
+module _ {A : Type 0} (a : A) where
+  ends_here : (front : List Tok) (t : Tok) (rest : List Tok) (o : Result A FaultKind) → reads a (front ++ t ∷ rest) ≡ ends o (t ∷ rest) → (front ≡ []) × (o ≡ Ok a)
+  ends_here front t rest (Ok b) h =
+      let p = reads_is a b (front ++ t ∷ rest) (t ∷ rest) h in
+      ((cut_is front (t ∷ rest) [] (t ∷ rest) p.1 refl).0, ap (λ (x : A). Ok x) (sym p.0))
+  ends_here front t rest (Err k) h = absurd cc
+
+  pub nothing : Exchanges (form.gives a) (done a)
+  nothing = record {
+    sound = λ ts rest b e. let h = reads_is a b ts rest e in ([], h.1, (refl, sym h.0));
+    placed = λ ts e d. absurd cc;
+    local = λ front t rest rest' o d. let h = ends_here front t rest o d in rw (h.0, h.1) refl;
+    some = ([], a, (refl, refl), tt);
+    swap = λ front t rest o d. let h = ends_here front t rest o d in subst (λ (y : Result A FaultKind). Outcome false (form.gives a) (done a) front t.head y) (sym h.1) (subst (λ (y : List Tok). Outcome false (form.gives a) (done a) y t.head (Ok a)) (sym h.0) (inl (λ u i rest'. refl)));
+  }
 
 -- ---- one behind another
 
-pub placed_of : {A : Type 0} {wide : Form Tok A} {f : Reader Tok A} → Exchanges wide f → (ts us : List Tok) (o : Result A FaultKind) → f ts ≡ ends o us → (front : List Tok) × (rest : List Tok) × (ts ≡ front ++ rest) × (length rest ≡ length us)
+pub placed_of : {A : Type 0} {words : Bool} {wide : Form Tok A} {f : Reader Tok A} → Exchanging words wide f → (ts us : List Tok) (o : Result A FaultKind) → f ts ≡ ends o us → (front : List Tok) × (rest : List Tok) × (ts ≡ front ++ rest) × (length rest ≡ length us)
 placed_of law ts us (Ok a) h = let s = law.sound ts us a h in (s.0, us, s.1, refl)
 placed_of law ts us (Err k) h = law.placed ts (record { left = length us; kind = k }) h
-
--- a reading that ends before some tokens, of which another one stands in the place of a later one
-pub ends_before : {A : Type 0} {wide : Form Tok A} {f : Reader Tok A} → Exchanges wide f → (front : List Tok) (v : Tok) (mid rest rest' : List Tok) (a : A) → f (front ++ v ∷ (mid ++ rest)) ≡ reads a (v ∷ (mid ++ rest)) → f (front ++ v ∷ (mid ++ rest')) ≡ reads a (v ∷ (mid ++ rest'))
-ends_before law front v mid rest rest' a h = law.local front v (mid ++ rest) (mid ++ rest') (Ok a) h
 
 pub err_ends : {B : Type 0} (e : Fault) (o : Result B FaultKind) (us : List Tok) → wrong e ≡ ends o us → (kind : FaultKind) × (o ≡ Err kind) × (e ≡ record { left = length us; kind = kind })
 err_ends e (Ok b) us d = absurd cc
 err_ends e (Err kind) us d = (kind, refl, wrong_is e (record { left = length us; kind = kind }) d)
 
-module _ {A B : Type 0} {wide : Form Tok A} {f : Reader Tok A} {wide' : A → Form Tok B} {h : A → Reader Tok B} (law : Exchanges wide f) (laws : (a : A) → Exchanges (wide' a) (h a)) where
+-- how a reading may end that follows one which ended where a plain word goes on: not by telling `target`
+abbrev pub MayFollow : {B : Type 0} → Bool → Result B FaultKind → Type 0
+MayFollow words (Ok b) = words ≡ true
+MayFollow words (Err Profile) = ⊥
+MayFollow words (Err Syntax) = Unit {0}
+MayFollow words (Err Number) = Unit {0}
+MayFollow words (Err Limit) = Unit {0}
+
+pub is_target : Head → Bool
+is_target heads.Target = true
+is_target h = false
+
+module _ {A B : Type 0} {words words' : Bool} (result : Bool) {wide : Form Tok A} {f : Reader Tok A} {wide' : A → Form Tok B} {h : A → Reader Tok B} (law : Exchanging words wide f) (laws : (a : A) → Exchanging words' (wide' a) (h a)) (into : words' ≡ true → result ≡ true)
+    (follows : words ≡ true → (a : A) (t : Tok) (rest : List Tok) (o : Result B FaultKind) → is_target t.head ≡ true → h a (t ∷ rest) ≡ ends o (t ∷ rest) → MayFollow result o) where
   abbrev both : Form Tok B
   both = form.◌>>=◌ wide wide'
 
@@ -225,32 +263,40 @@ module _ {A B : Type 0} {wide : Form Tok A} {f : Reader Tok A} {wide' : A → Fo
       ap (λ (y : List Tok). (f >>= h) (y ++ t ∷ rest')) c.front_is ∙ whole c.one c.two x.0 t rest' (local_first c.one c.two t rest rest' x.0 c.first) ∙ two
 
   -- the second reading, behind a first one that stays
-  behind : (one two : List Tok) (a : A) → wide one a → (k : Head) (o : Result B FaultKind) → ((u : Tok) → among tokens (stands_for k) u ≡ true → (rest : List Tok) → f (one ++ (two ++ u ∷ rest)) ≡ reads a (two ++ u ∷ rest)) → Outcome (wide' a) (h a) two k o → Outcome both (f >>= h) (one ++ two) k o
-  behind one two a s k o stays n = outcome_too (wide' a) both (h a) (f >>= h) two (one ++ two) k o (open_behind one two) (λ u i rest. sym (whole one two a u rest (stays u i rest))) (λ u g. goes_second one two a s u g) n
+  behind : (one two : List Tok) (a : A) → wide one a → (k : Head) (o : Result B FaultKind) → ((u : Tok) → among tokens (stands_for k) u ≡ true → (rest : List Tok) → f (one ++ (two ++ u ∷ rest)) ≡ reads a (two ++ u ∷ rest)) → Outcome words' (wide' a) (h a) two k o → Outcome result both (f >>= h) (one ++ two) k o
+  behind one two a s k o stays n = outcome_too words' result (wide' a) both (h a) (f >>= h) two (one ++ two) k o into (open_behind one two) (λ u i rest. sym (whole one two a u rest (stays u i rest))) (λ u g. goes_second one two a s u g) n
+
+  word_is : (k : Head) (G : Tok → Type 0) → WordGoes k G → is_target k ≡ true
+  unfolding is_target
+  word_is heads.Target G w = refl
+  word_is k G w = absurd w
 
   -- or behind one where a word goes on
-  behind_word : (one : List Tok) (a : A) → wide one a → (k : Head) (o : Result B FaultKind) → WordGoes k (Goes wide one) → Outcome (wide' a) (h a) [] k o → Outcome both (f >>= h) (one ++ []) k o
-  behind_word one a s k (Ok b) w n = inr (word_too k (Goes wide one) (Goes both (one ++ [])) (λ u g. goes_first (one ++ []) u (subst (λ (y : List Tok). Goes wide y u) (sym (append-nil one)) g)) w)
-  behind_word one a s k (Err Syntax) w n = word_not_told k (Stuck (f >>= h) (one ++ [])) (Goes both (one ++ [])) (word_too k (Goes wide one) (Goes both (one ++ [])) (λ u g. goes_first (one ++ []) u (subst (λ (y : List Tok). Goes wide y u) (sym (append-nil one)) g)) w)
-  behind_word one a s k (Err Profile) w n = told_too k (Goes (wide' a) []) (Goes both (one ++ [])) (Open []) (Open (one ++ [])) (λ u g. goes_second one [] a s u g) (open_behind one []) n
-  behind_word one a s k (Err Number) w n = tt
-  behind_word one a s k (Err Limit) w n = tt
+  behind_word : (one : List Tok) (k : Head) (o : Result B FaultKind) → WordGoes k (Goes wide one) → MayFollow result o → Outcome result both (f >>= h) (one ++ []) k o
+  behind_word one k (Ok b) w n = inr (n, word_too k (Goes wide one) (Goes both (one ++ [])) (λ u g. goes_first (one ++ []) u (subst (λ (y : List Tok). Goes wide y u) (sym (append-nil one)) g)) w)
+  behind_word one k (Err Syntax) w n = word_not_told k (Stuck (f >>= h) (one ++ [])) (Goes both (one ++ [])) (word_too k (Goes wide one) (Goes both (one ++ [])) (λ u g. goes_first (one ++ []) u (subst (λ (y : List Tok). Goes wide y u) (sym (append-nil one)) g)) w)
+  behind_word one k (Err Profile) w n = absurd n
+  behind_word one k (Err Number) w n = tt
+  behind_word one k (Err Limit) w n = tt
 
-  swap_second : (one two : List Tok) (t : Tok) (rest : List Tok) (o : Result B FaultKind) (a : A) → wide one a → f (one ++ (two ++ t ∷ rest)) ≡ reads a (two ++ t ∷ rest) → Outcome (wide' a) (h a) two t.head o → Outcome both (f >>= h) (one ++ two) t.head o
-  swap_second one (v ∷ mid) t rest o a s e n = behind one (v ∷ mid) a s t.head o (λ u i rest'. law.local one v (mid ++ t ∷ rest) (mid ++ u ∷ rest') (Ok a) e) n
-  swap_second one [] t rest o a s e n = elim (law.swap one t rest (Ok a) e) [ inl stays ↦ behind one [] a s t.head o (λ u i rest'. stays u i rest') n | inr w ↦ behind_word one a s t.head o w n ]
+  swap_second : (one two : List Tok) (t : Tok) (rest : List Tok) (o : Result B FaultKind) (a : A) → wide one a → f (one ++ (two ++ t ∷ rest)) ≡ reads a (two ++ t ∷ rest) → h a (two ++ t ∷ rest) ≡ ends o (t ∷ rest) → Outcome result both (f >>= h) (one ++ two) t.head o
+  swap_second one (v ∷ mid) t rest o a s e d = behind one (v ∷ mid) a s t.head o (λ u i rest'. law.local one v (mid ++ t ∷ rest) (mid ++ u ∷ rest') (Ok a) e) ((laws a).swap (v ∷ mid) t rest o d)
+  swap_second one [] t rest o a s e d = elim (law.swap one t rest (Ok a) e) [
+    | inl stays ↦ behind one [] a s t.head o (λ u i rest'. stays u i rest') ((laws a).swap [] t rest o d)
+    | inr w ↦ behind_word one t.head o w.1 (follows w.0 a t rest o (word_is t.head (Goes wide one) w.1) d)
+  ]
 
-  swap_seq : (front : List Tok) (t : Tok) (rest : List Tok) (o : Result B FaultKind) (r : Result (A × List Tok) Fault) → f (front ++ t ∷ rest) ≡ r → follow r h ≡ ends o (t ∷ rest) → Outcome both (f >>= h) front t.head o
+  swap_seq : (front : List Tok) (t : Tok) (rest : List Tok) (o : Result B FaultKind) (r : Result (A × List Tok) Fault) → f (front ++ t ∷ rest) ≡ r → follow r h ≡ ends o (t ∷ rest) → Outcome result both (f >>= h) front t.head o
   swap_seq front t rest o (Err e) i d =
       let w = err_ends e o (t ∷ rest) d in
-      subst (λ (x : Result B FaultKind). Outcome both (f >>= h) front t.head x) (sym w.1) (err_too wide both f (f >>= h) front front t.head w.0 (λ p. p) (λ u _ s. stuck_first front u s) (λ u g. goes_first front u g) (law.swap front t rest (Err w.0) (i ∙ ap wrong w.2)))
+      subst (λ (x : Result B FaultKind). Outcome result both (f >>= h) front t.head x) (sym w.1) (err_too words result wide both f (f >>= h) front front t.head w.0 (λ p. p) (λ u _ s. stuck_first front u s) (λ u g. goes_first front u g) (law.swap front t rest (Err w.0) (i ∙ ap wrong w.2)))
   swap_seq front t rest o (Ok x) i d =
       let c = cut front t rest o x.0 x.1 i d in
-      subst (λ (y : List Tok). Outcome both (f >>= h) y t.head o) (sym c.front_is) (swap_second c.one c.two t rest o x.0 c.spelled c.first ((laws x.0).swap c.two t rest o (ap (h x.0) (sym c.left_is) ∙ d)))
+      subst (λ (y : List Tok). Outcome result both (f >>= h) y t.head o) (sym c.front_is) (swap_second c.one c.two t rest o x.0 c.spelled c.first (ap (h x.0) (sym c.left_is) ∙ d))
 
-  pub seq : Exchanges (form.◌>>=◌ wide wide') (f >>= h)
+  pub seq_by : Exchanging result (form.◌>>=◌ wide wide') (f >>= h)
   unfolding form.◌>>=◌
-  seq = record {
+  seq_by = record {
     sound = λ ts rest b e. sound_seq ts rest b (f ts) refl e;
     placed = λ ts e d. placed_seq ts e (f ts) refl d;
     local = λ front t rest rest' o d. local_seq front t rest rest' o (f (front ++ t ∷ rest)) refl d;
@@ -258,27 +304,46 @@ module _ {A B : Type 0} {wide : Form Tok A} {f : Reader Tok A} {wide' : A → Fo
     swap = λ front t rest o d. swap_seq front t rest o (f (front ++ t ∷ rest)) refl d;
   }
 
--- ---- no token
+differ : false ≡ true → ⊥
+differ e = cc
 
-module _ {A : Type 0} (a : A) where
-  ends_here : (front : List Tok) (t : Tok) (rest : List Tok) (o : Result A FaultKind) → reads a (front ++ t ∷ rest) ≡ ends o (t ∷ rest) → (front ≡ []) × (o ≡ Ok a)
-  ends_here front t rest (Ok b) h =
-      let p = reads_is a b (front ++ t ∷ rest) (t ∷ rest) h in
-      ((cut_is front (t ∷ rest) [] (t ∷ rest) p.1 refl).0, ap (λ (x : A). Ok x) (sym p.0))
-  ends_here front t rest (Err k) h = absurd cc
+valued_end : {B : Type 0} (b : B) (us : List Tok) (o : Result B FaultKind) → reads b us ≡ ends o us → MayFollow true o
+valued_end b us (Ok c) d = refl
+valued_end b us (Err k) d = absurd cc
 
-  pub nothing : Exchanges (form.gives a) (done a)
-  nothing = record {
-    sound = λ ts rest b e. let h = reads_is a b ts rest e in ([], h.1, (refl, sym h.0));
-    placed = λ ts e d. absurd cc;
-    local = λ front t rest rest' o d. let h = ends_here front t rest o d in rw (h.0, h.1) refl;
-    some = ([], a, (refl, refl), tt);
-    swap = λ front t rest o d. let h = ends_here front t rest o d in subst (λ (y : Result A FaultKind). Outcome (form.gives a) (done a) front t.head y) (sym h.1) (subst (λ (y : List Tok). Outcome (form.gives a) (done a) y t.head (Ok a)) (sym h.0) (inl (λ u i rest'. refl)));
-  }
+pub seq : {A B : Type 0} {wide : Form Tok A} {f : Reader Tok A} {wide' : A → Form Tok B} {h : A → Reader Tok B} → Exchanges wide f → ((a : A) → Exchanges (wide' a) (h a)) → Exchanges (form.◌>>=◌ wide wide') (f >>= h)
+seq law laws = seq_by false law laws (λ e. e) (λ e. absurd (differ e))
+
+-- of which the second may end where a plain word goes on
+pub seq_into : {A B : Type 0} {wide : Form Tok A} {f : Reader Tok A} {wide' : A → Form Tok B} {h : A → Reader Tok B} → Exchanges wide f → ((a : A) → Exchanging true (wide' a) (h a)) → Exchanging true (form.◌>>=◌ wide wide') (f >>= h)
+seq_into law laws = seq_by true law laws (λ e. e) (λ e. absurd (differ e))
+
+-- of which the first may, and the second reads nothing
+pub with_value : {A B : Type 0} {wide : Form Tok A} {f : Reader Tok A} (value : A → B) → Exchanging true wide f → Exchanging true (form.◌>>=◌ wide (λ a. form.gives (value a))) (f >>= λ a. done (value a))
+with_value value law = seq_by true law (λ a. nothing (value a)) (λ e. refl) (λ e a t rest o i d. valued_end (value a) (t ∷ rest) o d)
+
+-- ---- behind what may end where a plain word goes on
+
+syntax_follows : {B : Type 0} (o : Result B FaultKind) (us : List Tok) → fault_at Syntax us ≡ ends o us → MayFollow false o
+syntax_follows (Ok b) us d = absurd cc
+syntax_follows {B} (Err k) us d = subst (λ (x : FaultKind). MayFollow {B = B} false (Err x)) (ap (λ (x : Fault). x.kind) (wrong_is {X = B × List Tok} (record { left = length us; kind = Syntax }) (record { left = length us; kind = k }) d)) tt
+
+-- the second refuses `target`
+pub seq_closing : {A B : Type 0} {wide : Form Tok A} {f : Reader Tok A} {wide' : A → Form Tok B} {h : A → Reader Tok B} → Exchanging true wide f → ((a : A) → Exchanges (wide' a) (h a)) → ((a : A) (t : Tok) (rest : List Tok) → is_target t.head ≡ true → h a (t ∷ rest) ≡ fault_at Syntax (t ∷ rest)) → Exchanges (form.◌>>=◌ wide wide') (f >>= h)
+seq_closing law laws closes = seq_by false law laws (λ e. e) (λ v a t rest o q d. syntax_follows o (t ∷ rest) (sym (closes a t rest q) ∙ d))
+
+-- the second may read nothing before it
+pub seq_passing : {A B : Type 0} {wide : Form Tok A} {f : Reader Tok A} {wide' : A → Form Tok B} {h : A → Reader Tok B} → Exchanging true wide f → ((a : A) → Exchanges (wide' a) (h a)) → ((a : A) (t : Tok) (rest : List Tok) → is_target t.head ≡ true → (b : B) × (h a (t ∷ rest) ≡ reads b (t ∷ rest))) → Exchanging true (form.◌>>=◌ wide wide') (f >>= h)
+seq_passing law laws passes = seq_by true law laws (λ e. absurd (differ e)) (λ v a t rest o q d. let p = passes a t rest q in valued_end p.0 (t ∷ rest) o (sym p.1 ∙ d))
+
+pub target_is : (h : Head) → is_target h ≡ true → number h ≡ number heads.Target
+unfolding is_target
+target_is heads.Target e = refl
+target_is h e = absurd cc
 
 -- ---- of a reader that is tied to its form
 
-pub of_rule : {A : Type 0} {g wide : Form Tok A} {f : Reader Tok A} {xs ms : List ℕ} {e : Bool} → Rule tokens g wide f xs ms e → ((front : List Tok) (t : Tok) (rest : List Tok) (o : Result A FaultKind) → f (front ++ t ∷ rest) ≡ ends o (t ∷ rest) → Outcome wide f front t.head o) → Exchanges wide f
+pub of_rule : {A : Type 0} {g wide : Form Tok A} {f : Reader Tok A} {xs ms : List ℕ} {e : Bool} → Rule tokens g wide f xs ms e → ((front : List Tok) (t : Tok) (rest : List Tok) (o : Result A FaultKind) → f (front ++ t ∷ rest) ≡ ends o (t ∷ rest) → Outcome false wide f front t.head o) → Exchanges wide f
 of_rule rule swap = record {
   sound = λ ts rest a e. let s = rule.law.sound ts rest a e in (s.0, s.1, rule.law.contains s.0 a s.2);
   placed = λ ts e d. let v = rule.law.viable ts e d in (v.front, v.rest, v.whole, v.here);
@@ -295,14 +360,28 @@ taken rule a s = never (rule.law.broad.nothing a s)
     never e = cc
 
 -- the same reader of a form that has more
-pub recast : {A : Type 0} {wide wide' : Form Tok A} {f : Reader Tok A} → ((ts : List Tok) (a : A) → wide ts a → wide' ts a) → Exchanges wide f → Exchanges wide' f
-recast {wide = wide} {wide' = wide'} {f = f} over law = record {
+pub recast : {A : Type 0} {words : Bool} {wide wide' : Form Tok A} {f : Reader Tok A} → ((ts : List Tok) (a : A) → wide ts a → wide' ts a) → Exchanging words wide f → Exchanging words wide' f
+recast {words = words} {wide = wide} {wide' = wide'} {f = f} over law = record {
   sound = λ ts rest a e. let s = law.sound ts rest a e in (s.0, s.1, over s.0 a s.2);
   placed = law.placed;
   local = law.local;
   some = let z = law.some in (z.0, z.1, over z.0 z.1 z.2, z.3);
-  swap = λ front t rest o d. outcome_too wide wide' f f front front t.head o (λ p. p) (λ u i rest'. refl) (λ u g. (g.0, g.1, over (front ++ u ∷ g.0) g.1 g.2, g.3)) (law.swap front t rest o d);
+  swap = λ front t rest o d. outcome_too words words wide wide' f f front front t.head o (λ e. e) (λ p. p) (λ u i rest'. refl) (λ u g. (g.0, g.1, over (front ++ u ∷ g.0) g.1 g.2, g.3)) (law.swap front t rest o d);
 }
+
+-- what never ends so may as well
+pub loosened : {A : Type 0} {wide : Form Tok A} {f : Reader Tok A} → Exchanges wide f → Exchanging true wide f
+loosened {wide = wide} {f = f} law = record {
+  sound = law.sound;
+  placed = law.placed;
+  local = law.local;
+  some = law.some;
+  swap = λ front t rest o d. outcome_too false true wide wide f f front front t.head o (λ e. absurd (differ e)) (λ p. p) (λ u i rest'. refl) (λ u g. g) (law.swap front t rest o d);
+}
+
+pub tight : {A : Type 0} {words : Bool} {wide : Form Tok A} {f : Reader Tok A} → Exchanges wide f → Exchanging words wide f
+tight {words = true} law = loosened law
+tight {words = false} law = law
 
 -- ---- choices by classes
 
@@ -332,10 +411,6 @@ fair bs = fair_at bs heads.Target && nearly_fair bs
 any_test : (b : Bool) → cond b true true ≡ true
 any_test true = refl
 any_test false = refl
-
-pub is_target : Head → Bool
-is_target heads.Target = true
-is_target h = false
 
 parts : (bs : List ℕ) → nearly_fair bs ≡ true → (fair_at bs heads.RefusedType ≡ true) × (fair_at bs heads.RegisterInteger ≡ true) × (fair_at bs heads.NumberedGlobal ≡ true) × (fair_at bs heads.NumberedDefinition ≡ true)
 parts bs e =
@@ -378,9 +453,17 @@ unfolding is_target
 word_at G heads.Target e w i g = (w, i, g)
 word_at G h e w i g = absurd cc
 
--- where these classes don't keep together what stands for one another, a plain word begins one of them
-abbrev pub Turns : {A : Type 0} → List ℕ → Form Tok A → Type 0
-Turns bs wide = (fair bs ≡ true) ⊎ ((nearly_fair bs ≡ true) × (w : Tok) × (among tokens WORD w ≡ true) × Goes wide [] w)
+-- where these classes don't keep together what stands for one another, a plain word begins one of them, and no other reader tells
+-- `target`; or no other ends at it
+abbrev pub Turns : {A : Type 0} → Bool → List ℕ → Form Tok A → Reader Tok A → Type 0
+Turns {A} words bs wide f' =
+    (fair bs ≡ true) ⊎ ((nearly_fair bs ≡ true) × (contains bs (number heads.Target) ≡ false)
+    × (((words ≡ true) × (w : Tok) × (among tokens WORD w ≡ true) × Goes wide [] w × ((t : Tok) (rest : List Tok) → is_target t.head ≡ true → f' (t ∷ rest) ≡ fault_at Profile (t ∷ rest) → ⊥)) ⊎ ((t : Tok) (rest : List Tok) (o : Result A FaultKind) → is_target t.head ≡ true → f' (t ∷ rest) ≡ ends o (t ∷ rest) → ⊥)))
+
+pub target_apart : (bs : List ℕ) (h : Head) → contains bs (number heads.Target) ≡ false → is_target h ≡ true → contains bs (number h) ≡ false
+unfolding is_target
+target_apart bs heads.Target n e = n
+target_apart bs h n e = absurd cc
 
 pub taken_first : {A : Type 0} (bs : List ℕ) (f g : Reader Tok A) (t : Tok) (ts : List Tok) → among tokens bs t ≡ true → pick (among tokens bs) f g (t ∷ ts) ≡ f (t ∷ ts)
 taken_first bs f g t ts e = rw e refl
@@ -388,7 +471,7 @@ taken_first bs f g t ts e = rw e refl
 pub passed : {A : Type 0} (bs : List ℕ) (f g : Reader Tok A) (t : Tok) (ts : List Tok) → among tokens bs t ≡ false → pick (among tokens bs) f g (t ∷ ts) ≡ g (t ∷ ts)
 passed bs f g t ts e = rw e refl
 
-module _ {A : Type 0} {wide wide' : Form Tok A} {f f' : Reader Tok A} (bs : List ℕ) (turns : Turns bs wide) (law : Exchanges wide f) (law' : Exchanges wide' f') where
+module _ {A : Type 0} {wide wide' : Form Tok A} {f f' : Reader Tok A} {words : Bool} (bs : List ℕ) (turns : Turns words bs wide f') (law : Exchanging words wide f) (law' : Exchanging words wide' f') where
   abbrev one_of_two : Reader Tok A
   one_of_two = pick (among tokens bs) f f'
 
@@ -433,45 +516,45 @@ module _ {A : Type 0} {wide wide' : Form Tok A} {f f' : Reader Tok A} (bs : List
       by_test false d = law'.local (u ∷ front) t rest rest' o d
 
   -- the first token chooses, and it is the same for all that it stands for
-  swap_fair : (t : Tok) (rest : List Tok) (o : Result A FaultKind) → fair_at bs t.head ≡ true → one_of_two (t ∷ rest) ≡ ends o (t ∷ rest) → Outcome of_two one_of_two [] t.head o
+  swap_fair : (t : Tok) (rest : List Tok) (o : Result A FaultKind) → fair_at bs t.head ≡ true → one_of_two (t ∷ rest) ≡ ends o (t ∷ rest) → Outcome words of_two one_of_two [] t.head o
   swap_fair t rest o e d = by_test (among tokens bs t) refl d
     where
-      by_test : (b : Bool) → among tokens bs t ≡ b → cond b (f (t ∷ rest)) (f' (t ∷ rest)) ≡ ends o (t ∷ rest) → Outcome of_two one_of_two [] t.head o
-      by_test true q d = outcome_too wide of_two f one_of_two [] [] t.head o (λ p. p) (λ u i rest'. sym (taken_first bs f f' u rest' (alike bs t.head e u i ∙ q))) (λ u g. goes_one [] u g) (law.swap [] t rest o d)
-      by_test false q d = outcome_too wide' of_two f' one_of_two [] [] t.head o (λ p. p) (λ u i rest'. sym (passed bs f f' u rest' (alike bs t.head e u i ∙ q))) (λ u g. goes_other [] u g) (law'.swap [] t rest o d)
+      by_test : (b : Bool) → among tokens bs t ≡ b → cond b (f (t ∷ rest)) (f' (t ∷ rest)) ≡ ends o (t ∷ rest) → Outcome words of_two one_of_two [] t.head o
+      by_test true q d = outcome_too words words wide of_two f one_of_two [] [] t.head o (λ e. e) (λ p. p) (λ u i rest'. sym (taken_first bs f f' u rest' (alike bs t.head e u i ∙ q))) (λ u g. goes_one [] u g) (law.swap [] t rest o d)
+      by_test false q d = outcome_too words words wide' of_two f' one_of_two [] [] t.head o (λ e. e) (λ p. p) (λ u i rest'. sym (passed bs f f' u rest' (alike bs t.head e u i ∙ q))) (λ u g. goes_other [] u g) (law'.swap [] t rest o d)
 
   -- at `target`, where a word goes on
-  swap_word : (h : Head) (o : Result A FaultKind) → WordGoes h (Goes of_two []) → ((k : FaultKind) → o ≡ Err k → k ≡ Profile → IsTold h (Goes of_two []) (Open [])) → Outcome of_two one_of_two [] h o
-  swap_word h (Ok a) w g = inr w
-  swap_word h (Err Syntax) w g = word_not_told h (Stuck one_of_two []) (Goes of_two []) w
-  swap_word h (Err Profile) w g = g Profile refl refl
-  swap_word h (Err Number) w g = tt
-  swap_word h (Err Limit) w g = tt
+  swap_word : words ≡ true → (h : Head) (o : Result A FaultKind) → WordGoes h (Goes of_two []) → (o ≡ Err Profile → ⊥) → Outcome words of_two one_of_two [] h o
+  swap_word e h (Ok a) w n = inr (e, w)
+  swap_word e h (Err Syntax) w n = word_not_told h (Stuck one_of_two []) (Goes of_two []) w
+  swap_word e h (Err Profile) w n = absurd (n refl)
+  swap_word e h (Err Number) w n = tt
+  swap_word e h (Err Limit) w n = tt
 
-  told_either : (t : Tok) (rest : List Tok) → one_of_two (t ∷ rest) ≡ ends {A = A} (Err Profile) (t ∷ rest) → IsTold t.head (Goes of_two []) (Open [])
-  told_either t rest d = by_test (among tokens bs t) d
-    where
-      by_test : (b : Bool) → cond b (f (t ∷ rest)) (f' (t ∷ rest)) ≡ ends {A = A} (Err Profile) (t ∷ rest) → IsTold t.head (Goes of_two []) (Open [])
-      by_test true d = told_too t.head (Goes wide []) (Goes of_two []) (Open []) (Open []) (λ u g. goes_one [] u g) (λ p. p) (law.swap [] t rest (Err Profile) d)
-      by_test false d = told_too t.head (Goes wide' []) (Goes of_two []) (Open []) (Open []) (λ u g. goes_other [] u g) (λ p. p) (law'.swap [] t rest (Err Profile) d)
+  is_other : (t : Tok) (rest : List Tok) → contains bs (number heads.Target) ≡ false → is_target t.head ≡ true → one_of_two (t ∷ rest) ≡ f' (t ∷ rest)
+  is_other t rest n q = passed bs f f' t rest (target_apart bs t.head n q)
 
-  swap_here : Turns bs wide → (t : Tok) (rest : List Tok) (o : Result A FaultKind) → one_of_two (t ∷ rest) ≡ ends o (t ∷ rest) → Outcome of_two one_of_two [] t.head o
+  swap_here : Turns words bs wide f' → (t : Tok) (rest : List Tok) (o : Result A FaultKind) → one_of_two (t ∷ rest) ≡ ends o (t ∷ rest) → Outcome words of_two one_of_two [] t.head o
   swap_here (inl e) t rest o d = swap_fair t rest o (fair_of bs e t.head) d
-  swap_here (inr (e, w, i, g)) t rest o d = by_test (is_target t.head) refl
+  swap_here (inr (e, n, turn)) t rest o d = by_test (is_target t.head) refl
     where
-      by_test : (b : Bool) → is_target t.head ≡ b → Outcome of_two one_of_two [] t.head o
-      by_test true q = swap_word t.head o (word_at (Goes of_two []) t.head q w i (goes_one [] w g)) (λ k p p'. told_either t rest (d ∙ ap (λ (x : Result A FaultKind). ends x (t ∷ rest)) (p ∙ ap (λ (x : FaultKind). Err x) p')))
+      by_turn : is_target t.head ≡ true → ((words ≡ true) × (w : Tok) × (among tokens WORD w ≡ true) × Goes wide [] w × ((t : Tok) (rest : List Tok) → is_target t.head ≡ true → f' (t ∷ rest) ≡ fault_at Profile (t ∷ rest) → ⊥)) ⊎ ((t : Tok) (rest : List Tok) (o : Result A FaultKind) → is_target t.head ≡ true → f' (t ∷ rest) ≡ ends o (t ∷ rest) → ⊥) → Outcome words of_two one_of_two [] t.head o
+      by_turn q (inl (v, w, i, g, quiet)) = swap_word v t.head o (word_at (Goes of_two []) t.head q w i (goes_one [] w g)) (λ p. quiet t rest q (sym (is_other t rest n q) ∙ d ∙ ap (λ (x : Result A FaultKind). ends x (t ∷ rest)) p))
+      by_turn q (inr never) = absurd (never t rest o q (sym (is_other t rest n q) ∙ d))
+
+      by_test : (b : Bool) → is_target t.head ≡ b → Outcome words of_two one_of_two [] t.head o
+      by_test true q = by_turn q turn
       by_test false q = swap_fair t rest o (fair_but bs e t.head q) d
 
-  swap_alt : (front : List Tok) (t : Tok) (rest : List Tok) (o : Result A FaultKind) → one_of_two (front ++ t ∷ rest) ≡ ends o (t ∷ rest) → Outcome of_two one_of_two front t.head o
+  swap_alt : (front : List Tok) (t : Tok) (rest : List Tok) (o : Result A FaultKind) → one_of_two (front ++ t ∷ rest) ≡ ends o (t ∷ rest) → Outcome words of_two one_of_two front t.head o
   swap_alt [] t rest o d = swap_here turns t rest o d
   swap_alt (v ∷ front) t rest o d = by_test (among tokens bs v) refl d
     where
-      by_test : (b : Bool) → among tokens bs v ≡ b → cond b (f (v ∷ (front ++ t ∷ rest))) (f' (v ∷ (front ++ t ∷ rest))) ≡ ends o (t ∷ rest) → Outcome of_two one_of_two (v ∷ front) t.head o
-      by_test true q d = outcome_too wide of_two f one_of_two (v ∷ front) (v ∷ front) t.head o (λ p. p) (λ u i rest'. sym (taken_first bs f f' v (front ++ u ∷ rest') q)) (λ u g. goes_one (v ∷ front) u g) (law.swap (v ∷ front) t rest o d)
-      by_test false q d = outcome_too wide' of_two f' one_of_two (v ∷ front) (v ∷ front) t.head o (λ p. p) (λ u i rest'. sym (passed bs f f' v (front ++ u ∷ rest') q)) (λ u g. goes_other (v ∷ front) u g) (law'.swap (v ∷ front) t rest o d)
+      by_test : (b : Bool) → among tokens bs v ≡ b → cond b (f (v ∷ (front ++ t ∷ rest))) (f' (v ∷ (front ++ t ∷ rest))) ≡ ends o (t ∷ rest) → Outcome words of_two one_of_two (v ∷ front) t.head o
+      by_test true q d = outcome_too words words wide of_two f one_of_two (v ∷ front) (v ∷ front) t.head o (λ e. e) (λ p. p) (λ u i rest'. sym (taken_first bs f f' v (front ++ u ∷ rest') q)) (λ u g. goes_one (v ∷ front) u g) (law.swap (v ∷ front) t rest o d)
+      by_test false q d = outcome_too words words wide' of_two f' one_of_two (v ∷ front) (v ∷ front) t.head o (λ e. e) (λ p. p) (λ u i rest'. sym (passed bs f f' v (front ++ u ∷ rest') q)) (λ u g. goes_other (v ∷ front) u g) (law'.swap (v ∷ front) t rest o d)
 
-  pub alt_by : Exchanges of_two one_of_two
+  pub alt_by : Exchanging words of_two one_of_two
   unfolding form.either
   alt_by = record {
     sound = sound_alt;
@@ -481,7 +564,7 @@ module _ {A : Type 0} {wide wide' : Form Tok A} {f f' : Reader Tok A} (bs : List
     swap = swap_alt;
   }
 
-pub alt : {A : Type 0} {wide wide' : Form Tok A} {f f' : Reader Tok A} (bs : List ℕ) → fair bs ≡ true → Exchanges wide f → Exchanges wide' f' → Exchanges (form.either wide wide') (pick (among tokens bs) f f')
+pub alt : {A : Type 0} {words : Bool} {wide wide' : Form Tok A} {f f' : Reader Tok A} (bs : List ℕ) → fair bs ≡ true → Exchanging words wide f → Exchanging words wide' f' → Exchanging words (form.either wide wide') (pick (among tokens bs) f f')
 alt bs e law law' = alt_by bs (inl e) law law'
 
 pub maybe : {A : Type 0} {wide : Form Tok A} {f : Reader Tok A} (bs : List ℕ) → fair bs ≡ true → Exchanges wide f → Exchanges (form.optional wide) (optional_at (among tokens bs) f)
@@ -494,13 +577,13 @@ limit_ends front t rest (Ok a) d = absurd cc
 limit_ends [] t rest (Err k) d = (refl, sym (ap (λ (x : Fault). Err x.kind) (wrong_is (record { left = length (t ∷ rest); kind = Limit }) (record { left = length (t ∷ rest); kind = k }) d)))
 limit_ends (u ∷ us) t rest (Err k) d = absurd (omega (arith, ap (λ (x : Fault). x.left) (wrong_is (record { left = length (u ∷ (us ++ t ∷ rest)); kind = Limit }) (record { left = length (t ∷ rest); kind = k }) d), length-append us (t ∷ rest)))
 
-limited : {A : Type 0} (wide : Form Tok A) → (ts : List Tok) × (a : A) × wide ts a × AllReal tokens ts → Exchanges wide (fault_at Limit)
-limited {A} wide some = record {
+limited : {A : Type 0} {words : Bool} (wide : Form Tok A) → (ts : List Tok) × (a : A) × wide ts a × AllReal tokens ts → Exchanging words wide (fault_at Limit)
+limited {A} {words} wide some = record {
   sound = λ ts rest a e. absurd cc;
   placed = λ ts e d. ([], ts, refl, ap (λ (x : Fault). x.left) (wrong_is (record { left = length ts; kind = Limit }) e d));
   local = λ front t rest rest' o d. let h = limit_ends front t rest o d in rw (h.0, h.1) refl;
   some = some;
-  swap = λ front t rest o d. subst (λ (x : Result A FaultKind). Outcome wide (fault_at Limit) front t.head x) (sym (limit_ends front t rest o d).1) tt;
+  swap = λ front t rest o d. subst (λ (x : Result A FaultKind). Outcome words wide (fault_at Limit) front t.head x) (sym (limit_ends front t rest o d).1) tt;
 }
 
 either_same : {A : Type 0} (wide : Form Tok A) (ts : List Tok) (a : A) → form.either wide wide ts a → wide ts a
@@ -541,7 +624,11 @@ fewer front us (v ∷ p) q r n e l =
     let c = cut_is front us (v ∷ (p ++ q)) r (e ∙ sym (append_assoc (v ∷ p) q r)) (sym l) in
     (sym c.1, omega (arith, ap length c.0, length-append p q))
 
-module _ {A : Type 0} (wide : Form Tok A) (f : Reader Tok A) (bs : List ℕ) (turns : Turns bs wide) (law : Exchanges wide f) where
+-- what begins one of them, where it may be followed by a plain word and not by `target`
+abbrev pub Begins : {A : Type 0} → Bool → List ℕ → Form Tok A → Type 0
+Begins words bs wide = (fair bs ≡ true) ⊎ ((nearly_fair bs ≡ true) × (words ≡ true) × (w : Tok) × (among tokens WORD w ≡ true) × Goes wide [] w)
+
+module _ {A : Type 0} {words : Bool} (wide : Form Tok A) (f : Reader Tok A) (bs : List ℕ) (begins : Begins words bs wide) (outside : words ≡ true → contains bs (number heads.Target) ≡ false) (law : Exchanging words wide f) where
   abbrev one_more : Form Tok (List A)
   one_more = form.◌>>=◌ wide (λ a. form.◌>>=◌ (Star wide) (λ more. form.gives (a ∷ more)))
 
@@ -558,18 +645,34 @@ module _ {A : Type 0} (wide : Form Tok A) (f : Reader Tok A) (bs : List ℕ) (tu
   one_star : (ts : List Tok) (a : A) → wide ts a → Star wide ts (a ∷ [])
   one_star ts a s = (ts, [], sym (append-nil ts), s, refl)
 
-  star_turns : Turns bs wide → Turns bs (Star wide)
-  star_turns (inl e) = inl e
-  star_turns (inr (e, w, i, g)) = inr (e, w, i, (g.0, g.1 ∷ [], one_star (w ∷ g.0) g.1 g.2, g.3))
+  never_told : {B : Type 0} (b : B) (t : Tok) (rest : List Tok) → reads b (t ∷ rest) ≡ fault_at Profile (t ∷ rest) → ⊥
+  never_told b t rest d = cc
 
-  more_turns : Turns bs wide → Turns bs one_more
+  star_turns : Begins words bs wide → Turns words bs (Star wide) (done [])
+  star_turns (inl e) = inl e
+  star_turns (inr (e, v, w, i, g)) = inr (e, outside v, inl (v, w, i, (g.0, g.1 ∷ [], one_star (w ∷ g.0) g.1 g.2, g.3), λ t rest _ d. never_told [] t rest d))
+
+  more_turns : Begins words bs wide → Turns words bs one_more (done [])
   unfolding form.◌>>=◌
   more_turns (inl e) = inl e
-  more_turns (inr (e, w, i, g)) = inr (e, w, i, (g.0, g.1 ∷ [], (w ∷ g.0, [], g.1, sym (append-nil (w ∷ g.0)), g.2, ([], [], [], refl, refl, (refl, refl))), g.3))
+  more_turns (inr (e, v, w, i, g)) = inr (e, outside v, inl (v, w, i, (g.0, g.1 ∷ [], (w ∷ g.0, [], g.1, sym (append-nil (w ∷ g.0)), g.2, ([], [], [], refl, refl, (refl, refl))), g.3), λ t rest _ d. never_told [] t rest d))
 
-  pub many : (room : ℕ) → Exchanges (Star wide) (many_at (among tokens bs) f room)
-  many zero = recast (either_same (Star wide)) (alt_by bs (star_turns turns) (limited (Star wide) ([], [], refl, tt)) (recast none_is (nothing [])))
-  many (suc room) = recast over (alt_by bs (more_turns turns) (seq law (λ a. seq (many room) (λ more. nothing (a ∷ more)))) (nothing []))
+  none_at : (room : ℕ) (t : Tok) (rest : List Tok) → contains bs (number t.head) ≡ false → many_at (among tokens bs) f room (t ∷ rest) ≡ reads [] (t ∷ rest)
+  none_at zero t rest e = rw e refl
+  none_at (suc room) t rest e = rw e refl
+
+  follows_one : (room : ℕ) → words ≡ true → (a : A) (t : Tok) (rest : List Tok) (o : Result (List A) FaultKind) → is_target t.head ≡ true → (many_at (among tokens bs) f room >>= λ more. done (a ∷ more)) (t ∷ rest) ≡ ends o (t ∷ rest) → MayFollow words o
+  follows_one room v a t rest o q d = subst (λ (b : Bool). MayFollow b o) (sym v) (valued_end (a ∷ []) (t ∷ rest) o (sym (ap (λ (r : Result (List A × List Tok) Fault). follow r (λ more. done (a ∷ more))) (none_at room t rest (target_apart bs t.head (outside v) q))) ∙ d))
+
+  follows_all : words ≡ true → (more : List A) (a : A) (t : Tok) (rest : List Tok) (o : Result (List A) FaultKind) → reads (a ∷ more) (t ∷ rest) ≡ ends o (t ∷ rest) → MayFollow words o
+  follows_all v more a t rest o d = subst (λ (b : Bool). MayFollow b o) (sym v) (valued_end (a ∷ more) (t ∷ rest) o d)
+
+  pub many : (room : ℕ) → Exchanging words (Star wide) (many_at (among tokens bs) f room)
+  many zero = recast (either_same (Star wide)) (alt_by bs (star_turns begins) (limited (Star wide) ([], [], refl, tt)) (recast none_is (tight (nothing []))))
+  many (suc room) =
+      recast over (alt_by bs (more_turns begins)
+      (seq_by words law (λ a. seq_by words (many room) (λ more. tight (nothing (a ∷ more))) (λ e. e) (λ v more t rest o q d. follows_all v more a t rest o d)) (λ e. e) (λ v a t rest o q d. follows_one room v a t rest o q d))
+      (tight (nothing [])))
 
   module _ (some : (a : A) → wide [] a → ⊥) where
     abbrev at_most : ℕ → Reader Tok (List A)
@@ -614,11 +717,11 @@ module _ {A : Type 0} (wide : Form Tok A) (f : Reader Tok A) (bs : List ℕ) (tu
     all_is : (front : List Tok) (u : Tok) (rest : List Tok) (o : Result (List A) FaultKind) → all_at (front ++ u ∷ rest) ≡ ends o (u ∷ rest) → at_most (suc (length front)) (front ++ u ∷ rest) ≡ ends o (u ∷ rest)
     all_is front u rest o d = enough (length (front ++ u ∷ rest)) (suc (length front)) (front ++ u ∷ rest) front (u ∷ rest) o refl (omega (arith, length-append front (u ∷ rest))) (omega arith) d
 
-    swap_all : (front : List Tok) (h : Head) (o : Result (List A) FaultKind) → Outcome (Star wide) (at_most (suc (length front))) front h o → Outcome (Star wide) all_at front h o
-    swap_all front h (Ok as') n = ok_too (Star wide) (Star wide) (at_most (suc (length front))) all_at front front h as' as' (λ u i s rest. enough_for front (suc (length front)) (omega arith) u rest (Ok as') (s rest)) (λ u g. g) n
-    swap_all front h (Err k) n = err_too (Star wide) (Star wide) (at_most (suc (length front))) all_at front front h k (λ p. p) (λ u i s rest. let r = s rest in (r.0, r.1, enough_for front (suc (length front)) (omega arith) u rest (Err r.0) r.2)) (λ u g. g) n
+    swap_all : (front : List Tok) (h : Head) (o : Result (List A) FaultKind) → Outcome words (Star wide) (at_most (suc (length front))) front h o → Outcome words (Star wide) all_at front h o
+    swap_all front h (Ok as') n = ok_too words words (Star wide) (Star wide) (at_most (suc (length front))) all_at front front h (λ e. e) as' as' (λ u i s rest. enough_for front (suc (length front)) (omega arith) u rest (Ok as') (s rest)) (λ u g. g) n
+    swap_all front h (Err k) n = err_too words words (Star wide) (Star wide) (at_most (suc (length front))) all_at front front h k (λ p. p) (λ u i s rest. let r = s rest in (r.0, r.1, enough_for front (suc (length front)) (omega arith) u rest (Err r.0) r.2)) (λ u g. g) n
 
-    pub all : Exchanges (Star wide) all_at
+    pub all : Exchanging words (Star wide) all_at
     all = record {
       sound = λ ts rest as' e. (many (length ts)).sound ts rest as' e;
       placed = λ ts e d. (many (length ts)).placed ts e d;
@@ -629,14 +732,14 @@ module _ {A : Type 0} (wide : Form Tok A) (f : Reader Tok A) (bs : List ℕ) (tu
 
 -- as many as there are of what isn't empty
 pub star : {A : Type 0} {wide : Form Tok A} {f : Reader Tok A} (bs : List ℕ) → fair bs ≡ true → Exchanges wide f → ((a : A) → wide [] a → ⊥) → Exchanges (Star wide) (star_at (among tokens bs) f)
-star {wide = wide} {f = f} bs e law some = all wide f bs (inl e) law some
+star {wide = wide} {f = f} bs e law some = all wide f bs (inl e) (λ v. absurd (differ v)) law some
 
 -- ---- single tokens
 
 -- what a meaning says at a token of this class
 abbrev pub Says : {A : Type 0} → Form Tok A → (Tok → Result A FaultKind) → Head → FaultKind → Type 0
 Says wide meaning h Syntax = NotTold h (λ u. (k : FaultKind) × (IsBound k → ⊥) × (meaning u ≡ Err k)) (Goes wide [])
-Says wide meaning h Profile = IsTold h (Goes wide []) (Open [])
+Says wide meaning h Profile = IsTold h (λ u. (k : FaultKind) × (IsBound k → ⊥) × (meaning u ≡ Err k)) (Goes wide []) (Open [])
 Says wide meaning h Number = Unit {0}
 Says wide meaning h Limit = Unit {0}
 
@@ -679,19 +782,19 @@ module _ {A : Type 0} (wide : Form Tok A) (meaning : Tok → Result A FaultKind)
       let h = read_before v t front rest o (meaning v) d in
       ap (token_means v (front ++ t ∷ rest')) h.3 ∙ ap (λ (x : List Tok). reads h.1 (x ++ t ∷ rest')) h.0 ∙ ap (λ (x : Result A FaultKind). ends x (t ∷ rest')) (sym h.2)
 
-  by_kind : (h : Head) (k : FaultKind) → Says wide meaning h k → Outcome wide (token_at meaning) [] h (Err k)
+  by_kind : (h : Head) (k : FaultKind) → Says wide meaning h k → Outcome false wide (token_at meaning) [] h (Err k)
   by_kind h Syntax s = not_told_too h (λ u. (k : FaultKind) × (IsBound k → ⊥) × (meaning u ≡ Err k)) (Stuck (token_at meaning) []) (Goes wide []) (Goes wide []) (λ u i r rest. (r.0, r.1, ap (token_means u rest) r.2)) (λ u g. g) s
-  by_kind h Profile s = s
+  by_kind h Profile s = told_too h (λ u. (k : FaultKind) × (IsBound k → ⊥) × (meaning u ≡ Err k)) (Stuck (token_at meaning) []) (Goes wide []) (Goes wide []) (Open []) (Open []) (λ u i r rest. (r.0, r.1, ap (token_means u rest) r.2)) (λ u g. g) (λ p. p) s
   by_kind h Number s = tt
   by_kind h Limit s = tt
 
-  swap_token : (front : List Tok) (t : Tok) (rest : List Tok) (o : Result A FaultKind) → token_at meaning (front ++ t ∷ rest) ≡ ends o (t ∷ rest) → Outcome wide (token_at meaning) front t.head o
+  swap_token : (front : List Tok) (t : Tok) (rest : List Tok) (o : Result A FaultKind) → token_at meaning (front ++ t ∷ rest) ≡ ends o (t ∷ rest) → Outcome false wide (token_at meaning) front t.head o
   swap_token [] t rest o d =
       let h = fault_here t rest o (meaning t) d in
-      subst (λ (x : Result A FaultKind). Outcome wide (token_at meaning) [] t.head x) (sym h.1) (by_kind t.head h.0 (says t h.0 h.2))
+      subst (λ (x : Result A FaultKind). Outcome false wide (token_at meaning) [] t.head x) (sym h.1) (by_kind t.head h.0 (says t h.0 h.2))
   swap_token (v ∷ front) t rest o d =
       let h = read_before v t front rest o (meaning v) d in
-      subst (λ (x : Result A FaultKind). Outcome wide (token_at meaning) (v ∷ front) t.head x) (sym h.2) (inl (λ u i rest'. ap (token_means v (front ++ u ∷ rest')) h.3 ∙ ap (λ (x : List Tok). reads h.1 (x ++ u ∷ rest')) h.0))
+      subst (λ (x : Result A FaultKind). Outcome false wide (token_at meaning) (v ∷ front) t.head x) (sym h.2) (inl (λ u i rest'. ap (token_means v (front ++ u ∷ rest')) h.3 ∙ ap (λ (x : List Tok). reads h.1 (x ++ u ∷ rest')) h.0))
 
   pub single : Exchanges wide (token_at meaning)
   single = record { sound = sound_token; placed = placed_token; local = local_token; some = some; swap = swap_token }
@@ -702,7 +805,7 @@ abbrev pub SOMEWHERE : List ℕ
 SOMEWHERE = number heads.RefusedType ∷ number heads.Target ∷ number heads.RegisterInteger ∷ number heads.NumberedGlobal ∷ number heads.NumberedDefinition ∷ []
 
 module _ {A : Type 0} {g wide : Form Tok A} {f : Reader Tok A} {xs : List ℕ} {e : Bool} (rule : Rule tokens g wide f xs [] e) (never : (front : List Tok) (t : Tok) (rest : List Tok) (k : FaultKind) → f (front ++ t ∷ rest) ≡ fault_at k (t ∷ rest) → contains SOMEWHERE (number t.head) ≡ true → ⊥) where
-  stuck_nowhere : (h : Head) (k : FaultKind) (front : List Tok) → (contains SOMEWHERE (number h) ≡ true → ⊥) → Outcome wide f front h (Err k)
+  stuck_nowhere : (h : Head) (k : FaultKind) (front : List Tok) → (contains SOMEWHERE (number h) ≡ true → ⊥) → Outcome false wide f front h (Err k)
   stuck_nowhere h Number front n = tt
   stuck_nowhere h Limit front n = tt
   stuck_nowhere heads.RefusedType k front n = absurd (n refl)
@@ -713,7 +816,7 @@ module _ {A : Type 0} {g wide : Form Tok A} {f : Reader Tok A} {xs : List ℕ} {
   stuck_nowhere h Syntax front n = tt
   stuck_nowhere h Profile front n = tt
 
-  ends_anywhere : (front : List Tok) (t : Tok) (rest : List Tok) (o : Result A FaultKind) → f (front ++ t ∷ rest) ≡ ends o (t ∷ rest) → Outcome wide f front t.head o
+  ends_anywhere : (front : List Tok) (t : Tok) (rest : List Tok) (o : Result A FaultKind) → f (front ++ t ∷ rest) ≡ ends o (t ∷ rest) → Outcome false wide f front t.head o
   ends_anywhere front t rest (Ok a) d =
       let s = rule.law.sound (front ++ t ∷ rest) (t ∷ rest) a d in
       let same = cut_is front (t ∷ rest) s.0 (t ∷ rest) s.1 refl in
@@ -725,16 +828,20 @@ module _ {A : Type 0} {g wide : Form Tok A} {f : Reader Tok A} {xs : List ℕ} {
 
 -- at most so many
 pub up_to : {A : Type 0} {wide : Form Tok A} {f : Reader Tok A} (bs : List ℕ) → fair bs ≡ true → Exchanges wide f → (room : ℕ) → Exchanges (Star wide) (many_at (among tokens bs) f room)
-up_to {wide = wide} {f = f} bs e law room = many wide f bs (inl e) law room
+up_to {wide = wide} {f = f} bs e law room = many wide f bs (inl e) (λ v. absurd (differ v)) law room
+
+-- of what may end where a plain word goes on
+pub up_to_words : {A : Type 0} {wide : Form Tok A} {f : Reader Tok A} (bs : List ℕ) → fair bs ≡ true → contains bs (number heads.Target) ≡ false → Exchanging true wide f → (room : ℕ) → Exchanging true (Star wide) (many_at (among tokens bs) f room)
+up_to_words {wide = wide} {f = f} bs e n law room = many wide f bs (inl e) (λ _. n) law room
 
 -- a reader that gives the same
-pub same_reader : {A : Type 0} {wide : Form Tok A} {f f' : Reader Tok A} → ((ts : List Tok) → f ts ≡ f' ts) → Exchanges wide f → Exchanges wide f'
-same_reader {wide = wide} {f = f} {f' = f'} same law = record {
+pub same_reader : {A : Type 0} {words : Bool} {wide : Form Tok A} {f f' : Reader Tok A} → ((ts : List Tok) → f ts ≡ f' ts) → Exchanging words wide f → Exchanging words wide f'
+same_reader {words = words} {wide = wide} {f = f} {f' = f'} same law = record {
   sound = λ ts rest a e. law.sound ts rest a (same ts ∙ e);
   placed = λ ts e d. law.placed ts e (same ts ∙ d);
   local = λ front t rest rest' o d. sym (same (front ++ t ∷ rest')) ∙ law.local front t rest rest' o (same (front ++ t ∷ rest) ∙ d);
   some = law.some;
-  swap = λ front t rest o d. outcome_too wide wide f f' front front t.head o (λ p. p) (λ u i rest'. same (front ++ u ∷ rest')) (λ u g. g) (law.swap front t rest o (same (front ++ t ∷ rest) ∙ d));
+  swap = λ front t rest o d. outcome_too words words wide wide f f' front front t.head o (λ e. e) (λ p. p) (λ u i rest'. same (front ++ u ∷ rest')) (λ u g. g) (law.swap front t rest o (same (front ++ t ∷ rest) ∙ d));
 }
 
 -- what begins with a token isn't empty
@@ -753,5 +860,5 @@ pub goes_alone : {A : Type 0} {wide : Form Tok A} {f : Reader Tok A} → Exchang
 goes_alone {wide = wide} law w r a e = let s = law.sound (w ∷ []) [] a e in ([], a, subst (λ (y : List Tok). wide y a) (sym (s.1 ∙ append-nil s.0)) s.2, (r, tt))
 
 -- as many as there are, of which a plain word begins one
-pub star_words : {A : Type 0} {wide : Form Tok A} {f : Reader Tok A} (bs : List ℕ) → nearly_fair bs ≡ true → (w : Tok) → among tokens WORD w ≡ true → Goes wide [] w → Exchanges wide f → ((a : A) → wide [] a → ⊥) → Exchanges (Star wide) (star_at (among tokens bs) f)
-star_words {wide = wide} {f = f} bs e w i g law some = all wide f bs (inr (e, w, i, g)) law some
+pub star_words : {A : Type 0} {wide : Form Tok A} {f : Reader Tok A} (bs : List ℕ) → nearly_fair bs ≡ true → (w : Tok) → among tokens WORD w ≡ true → Goes wide [] w → contains bs (number heads.Target) ≡ false → Exchanges wide f → ((a : A) → wide [] a → ⊥) → Exchanging true (Star wide) (star_at (among tokens bs) f)
+star_words {wide = wide} {f = f} bs e w i g n law some = all wide f bs (inr (e, refl, w, i, g)) (λ _. n) (loosened law) some

@@ -1,5 +1,5 @@
 -- The readers of allocations and of addresses tell a token that is left out in some places where one that it stands for goes on.
-use Rattle.std.proofs.Common.{◌≡◌, ℕ, ◌≤◌, ◌^◌, nat_lt, max, Bool, true, false, cond, ◌&&◌, not, Option, Some, None, [], ◌∷◌, Result, Ok, Err, refl, ap, subst, inl, arith}
+use Rattle.std.proofs.Common.{◌≡◌, ℕ, ◌≤◌, ◌^◌, nat_lt, max, Bool, true, false, cond, ◌&&◌, not, Option, Some, None, [], ◌∷◌, Result, Ok, Err, refl, ap, subst, arith}
 use Rattle.std.proofs.Math.Nat.{pow-le-pow_right}
 use Rattle.std.specs.Prelude.{codes}
 use Rattle.ir_lex.specs.Heads.{number}
@@ -128,7 +128,7 @@ unfolding further
 further_some s x q = token_begins (is_class tokens refusal (number heads.Comma)) _ x q
 
 pub more_exchanged : Exchanges (Chain phis.anywhere (further any_shape) false) (chain_at phis.anywhere begins further_at false)
-more_exchanged = chain phis.anywhere (λ _. COMMA) (further any_shape) further_at further_exchanged further_some (λ _. ([], [], (refl, refl), tt)) (λ _ _. inl refl) false
+more_exchanged = chain phis.anywhere (λ _. COMMA) (further any_shape) further_at further_exchanged further_some (λ _. ([], [], (refl, refl), tt)) (λ _ _. refl) false
 
 pub indices_exchanged : Exchanges (indices any_shape) indices_at
 unfolding indices indices_at

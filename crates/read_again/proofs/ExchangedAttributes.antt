@@ -26,10 +26,10 @@ use Rattle.ir_read.specs.declared.attributes.Attribute.TheVariants.{Dropped}
 use Rattle.ir_read.specs.declared.brackets.Bracket.TheVariants.{Paren}
 use Rattle.ir_read.proofs.AttributeRules.{alignment_rule, call_attribute_rule, definition_attribute_rule, grouped_attribute_rule, parameter_attribute_rule}
 use Rattle.ir_read.proofs.Singles.{group_name_real, sample}
-use Rattle.read_again.proofs.Exchanged.{Exchanges, alt, goes_alone, maybe, nothing, seq, star, star_words, taken}
+use Rattle.read_again.proofs.Exchanged.{Exchanges, alt, goes_alone, maybe, nothing, seq, star, star_words, taken, Exchanging, seq_closing, with_value}
 use Rattle.read_again.proofs.ExchangedGroups.{group_exchanged}
 use Rattle.read_again.proofs.ExchangedNodes.{attached_exchanged}
-use Rattle.read_again.proofs.ExchangedTokens.{a_word, a_word_real, of_token, says_plainly, valued_sample, word_one, worded}
+use Rattle.read_again.proofs.ExchangedTokens.{a_word, a_word_real, of_token, says_plainly, valued_sample, word_one, worded, refused_class}
 use Rattle.read_again.proofs.ExchangedWords.{align_exchanged, attributes_exchanged, close_brace_exchanged, equals_exchanged, number_exchanged, open_brace_exchanged, parameter_group_exchanged, parameter_word_exchanged, string_exchanged}
 
 abbrev zero_group : Tok
@@ -130,9 +130,9 @@ word_called : call_attribute_at (a_word ∷ []) ≡ Ok (Dropped, [])
 unfolding call_attribute_at function_attribute_at word_attribute_at word_tail_at is_among
 word_called = refl
 
-pub call_attributes_exchanged : Exchanges call_attributes call_attributes_at
+pub call_attributes_exchanged : Exchanging true call_attributes call_attributes_at
 unfolding call_attributes call_attributes_at
-call_attributes_exchanged = seq (star_words CALL refl a_word refl (goes_alone call_attribute_exchanged a_word a_word_real Dropped word_called) call_attribute_exchanged (taken call_attribute_rule)) (λ _. nothing tt)
+call_attributes_exchanged = with_value (λ _. tt) (star_words CALL refl a_word refl (goes_alone call_attribute_exchanged a_word a_word_real Dropped word_called) refl call_attribute_exchanged (taken call_attribute_rule))
 
 pub alignment_tail_exchanged : Exchanges (form.either (form.◌>>=◌ (form.token is_alignment) (λ _. form.gives tt)) word_tail) (reader.pick (among tokens NUMBER) (reader.◌>>=◌ (token_at is_alignment) (λ _. reader.done tt)) word_tail_at)
 alignment_tail_exchanged = alt NUMBER refl (seq alignment_exchanged (λ _. nothing tt)) word_tail_exchanged
@@ -161,18 +161,18 @@ word_behind_head : definition_attribute_at (a_word ∷ []) ≡ Ok (Dropped, [])
 unfolding definition_attribute_at head_attribute_at function_attribute_at word_attribute_at word_tail_at is_among
 word_behind_head = refl
 
-pub definition_attributes_exchanged : Exchanges definition_attributes definition_attributes_at
+pub definition_attributes_exchanged : Exchanging true definition_attributes definition_attributes_at
 unfolding definition_attributes definition_attributes_at
-definition_attributes_exchanged = seq (star_words DEFINITION refl a_word refl (goes_alone definition_attribute_exchanged a_word a_word_real Dropped word_behind_head) definition_attribute_exchanged (taken definition_attribute_rule)) (λ all. nothing (fold with_attribute none_kept all))
+definition_attributes_exchanged = with_value (λ all. (fold with_attribute none_kept all)) (star_words DEFINITION refl a_word refl (goes_alone definition_attribute_exchanged a_word a_word_real Dropped word_behind_head) refl definition_attribute_exchanged (taken definition_attribute_rule))
 
 word_grouped : function_attribute_at GROUP_WORDS (a_word ∷ []) ≡ Ok (Dropped, [])
 unfolding function_attribute_at word_attribute_at word_tail_at is_among
 word_grouped = refl
 
-pub grouped_exchanged : Exchanges grouped grouped_at
+pub grouped_exchanged : Exchanging true grouped grouped_at
 unfolding grouped grouped_at
-grouped_exchanged = seq (star_words GROUPED refl a_word refl (goes_alone grouped_attribute_exchanged a_word a_word_real Dropped word_grouped) grouped_attribute_exchanged (taken grouped_attribute_rule)) (λ all. nothing (fold with_attribute none_kept all))
+grouped_exchanged = with_value (λ all. (fold with_attribute none_kept all)) (star_words GROUPED refl a_word refl (goes_alone grouped_attribute_exchanged a_word a_word_real Dropped word_grouped) refl grouped_attribute_exchanged (taken grouped_attribute_rule))
 
 pub attribute_group_exchanged : Exchanges attribute_group attribute_group_at
 unfolding attribute_group attribute_group_at
-attribute_group_exchanged = seq attributes_exchanged (λ _. seq group_name_exchanged (λ name. seq equals_exchanged (λ _. seq open_brace_exchanged (λ _. seq grouped_exchanged (λ kept. seq close_brace_exchanged (λ _. nothing (group_item name kept)))))))
+attribute_group_exchanged = seq attributes_exchanged (λ _. seq group_name_exchanged (λ name. seq equals_exchanged (λ _. seq open_brace_exchanged (λ _. seq_closing grouped_exchanged (λ kept. seq close_brace_exchanged (λ _. nothing (group_item name kept))) (λ kept t rest q. refused_class _ heads.CloseBrace refl t rest q)))))

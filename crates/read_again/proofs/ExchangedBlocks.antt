@@ -1,5 +1,5 @@
 -- The readers of blocks and definitions tell a token that is left out in some places where one that it stands for goes on.
-use Rattle.std.proofs.Common.{◌≡◌, ℕ, zero, suc, ◌-◌, Option, Some, None, List, [], ◌∷◌, ◌++◌, length, Ok, refl, sym, ap, subst, ◌∙◌, inl, inr}
+use Rattle.std.proofs.Common.{◌≡◌, ℕ, zero, suc, ◌-◌, Option, Some, None, List, [], ◌∷◌, ◌++◌, length, Ok, refl, sym, ap, subst, ◌∙◌, inl, inr, true}
 use Rattle.std.proofs.lemmas.List.{append-nil}
 use Rattle.std.specs.List.{fold}
 use Rattle.std.specs.Prelude.{codes}
@@ -19,12 +19,12 @@ use Rattle.ir_bodies.specs.BlocksAt.{BLOCK, label_at, lines_at, block_behind_at,
 use Rattle.ir_bodies.specs.LinesAt.{LINE}
 use Rattle.ir_bodies.proofs.LineRules.{any_name}
 use Rattle.ir_bodies.proofs.Samples.{label_real, define_word_rule}
-use Rattle.read_again.proofs.Exchanged.{Exchanges, alt, barred, nothing, recast, seq, up_to}
+use Rattle.read_again.proofs.Exchanged.{Exchanges, alt, barred, nothing, recast, seq, Exchanging, seq_closing, up_to_words, with_value}
 use Rattle.read_again.proofs.ExchangedAttributes.{definition_attributes_exchanged}
 use Rattle.read_again.proofs.ExchangedFunctionHeads.{head_exchanged}
 use Rattle.read_again.proofs.ExchangedLines.{line_exchanged}
-use Rattle.read_again.proofs.ExchangedTerminators.{terminator_exchanged}
-use Rattle.read_again.proofs.ExchangedTokens.{plain_class, valued_sample}
+use Rattle.read_again.proofs.ExchangedTerminators.{terminator_exchanged, terminator_closes}
+use Rattle.read_again.proofs.ExchangedTokens.{plain_class, valued_sample, refused_class}
 use Rattle.read_again.proofs.ExchangedWords.{close_brace_exchanged, open_brace_exchanged}
 
 define_word_exchanged : Exchanges (the heads.Define) (the_at heads.Define)
@@ -44,13 +44,13 @@ zero_is = ap in_range zero_named
 label_exchanged : Exchanges any_label label_at
 label_exchanged = recast (λ ts a s. any_name LABEL ts a s) (valued_sample LABEL named zero_label zero_label zero_is label_real refl)
 
-pub lines_exchanged : (room : ℕ) → Exchanges (any_lines room) (lines_at room)
+pub lines_exchanged : (room : ℕ) → Exchanging true (any_lines room) (lines_at room)
 unfolding lines any_lines lines_at
-lines_exchanged room = seq (up_to LINE refl line_exchanged room) (λ ls. nothing (fold keep [] ls, room - length ls))
+lines_exchanged room = with_value (λ ls. (fold keep [] ls, room - length ls)) (up_to_words LINE refl refl line_exchanged room)
 
 pub block_behind_exchanged : (room : ℕ) (name : Option Tok) → Exchanges (any_block_behind room name) (block_behind_at room name)
 unfolding block_behind any_block_behind block_behind_at
-block_behind_exchanged room name = seq (lines_exchanged room) (λ ls. seq terminator_exchanged (λ e. nothing (block_of name ls.0 e, ls.1)))
+block_behind_exchanged room name = seq_closing (lines_exchanged room) (λ ls. seq terminator_exchanged (λ e. nothing (block_of name ls.0 e, ls.1))) (λ ls t rest q. terminator_closes _ t rest q)
 
 pub block_exchanged : (room : ℕ) → Exchanges (any_block room) (block_at room)
 unfolding block any_block block_at
@@ -78,4 +78,4 @@ blocks_exchanged further instructions = seq (block_exchanged instructions) (λ f
 
 pub definition_exchanged : (room : ℕ) → Exchanges any_definition (definition_at room)
 unfolding definition any_definition definition_at
-definition_exchanged room = seq define_word_exchanged (λ _. seq (head_exchanged roles.Definition room) (λ h. seq definition_attributes_exchanged (λ k. seq open_brace_exchanged (λ _. seq (blocks_exchanged FURTHER_BLOCKS INSTRUCTIONS) (λ bs. seq close_brace_exchanged (λ _. nothing _))))))
+definition_exchanged room = seq define_word_exchanged (λ _. seq (head_exchanged roles.Definition room) (λ h. seq_closing definition_attributes_exchanged (λ k. seq open_brace_exchanged (λ _. seq (blocks_exchanged FURTHER_BLOCKS INSTRUCTIONS) (λ bs. seq close_brace_exchanged (λ _. nothing _)))) (λ k t rest q. refused_class _ heads.OpenBrace refl t rest q)))

@@ -19,10 +19,13 @@ use Rattle.lto_forms.specs.Rules.{is_class, is_valued, Rule}
 use Rattle.lto_forms.specs.declared.fault.Fault.{Fault}
 use Rattle.lto_forms.specs.declared.fault.FaultKind.TheVariants.{Syntax, Profile, Number, Limit}
 use Rattle.lto_forms.specs.declared.fault.FaultKind.{FaultKind}
+use Rattle.ir_read.specs.Attributes.{call_attributes}
+use Rattle.ir_read.specs.AttributesAt.{call_attributes_at}
 use Rattle.ir_read.specs.Classes.{tokens, IsReal, refusal, the, the_at, itself, REFUSED}
 use Rattle.ir_read.specs.FunctionHeads.{end_of_none}
 use Rattle.ir_read.specs.FunctionHeadsAt.{end_of_none_at}
-use Rattle.ir_read.specs.MetadataAt.{COMMA, PAREN}
+use Rattle.ir_read.specs.Metadata.{attachments}
+use Rattle.ir_read.specs.MetadataAt.{COMMA, PAREN, attachments_at}
 use Rattle.ir_read.specs.Operands.{REG, POINTER_OPERAND, type_refusal, reg_of, operand_of, REFUSED_TYPES}
 use Rattle.ir_read.specs.OperandsAt.{reg_at}
 use Rattle.ir_read.specs.ShapeForms.{any_shape}
@@ -37,10 +40,10 @@ use Rattle.ir_bodies.specs.CallsAt.{CONVENTION, CONVENTIONS, MARKER, convention_
 use Rattle.ir_bodies.proofs.CallRules.{convention_rule, further_argument_rule, further_type_rule}
 use Rattle.ir_bodies.proofs.Samples.{convention_word_rule, marker_name_rule, call_word_rule}
 use Rattle.ir_bodies.proofs.WrittenTypes.{writes}
-use Rattle.read_again.specs.Refusals.{MEMORY}
-use Rattle.read_again.proofs.Exchanged.{Exchanges, Goes, Says, alt, maybe, nothing, of_rule, recast, same_reader, seq, star, taken, IsTold, Open, Outcome, Stays, Stuck, err_too, ok_too, stands_for}
+use Rattle.read_again.specs.Refusals.{MEMORY, WORD}
+use Rattle.read_again.proofs.Exchanged.{Exchanges, Goes, Says, alt, maybe, nothing, of_rule, recast, same_reader, seq, star, taken, IsTold, Open, Outcome, Stays, Stuck, err_too, ok_too, stands_for, Exchanging, a_type, seq_into, seq_passing}
 use Rattle.read_again.proofs.ExchangedAttributes.{call_attributes_exchanged, parameter_attribute_exchanged, parameter_attributes_exchanged}
-use Rattle.read_again.proofs.ExchangedNodes.{attachments_exchanged}
+use Rattle.read_again.proofs.ExchangedNodes.{attachments_exchanged, no_attachments}
 use Rattle.read_again.proofs.ExchangedOperands.{reg_exchanged, result_exchanged}
 use Rattle.read_again.proofs.ExchangedTokens.{elsewhere, exact_type, i16_real, i8_real, of_token, plain_class, type_one, none_taken, not_bound, plain_at, says_by, valued_inside, valued_outside}
 use Rattle.read_again.proofs.ExchangedTypes.{Types, listed_exchanged as typed_list, type_told, types_first, end_form}
@@ -65,7 +68,7 @@ unfolding conventions conventions_at
 conventions_exchanged = seq (star CONVENTIONS refl convention_exchanged (taken convention_rule)) (λ _. nothing tt)
 
 pub written_type_exchanged : Exchanges written_type written_type_at
-written_type_exchanged = type_one REG itself (rules.among_rule tokens type_refusal type_not_number type_not_limit REG itself (word heads.MemoryInteger (codes "i32")) refl int_32_real) refl (word heads.MemoryInteger (codes "i32")) refl int_32_real refl
+written_type_exchanged = type_one REG itself (rules.among_rule tokens type_refusal type_not_number type_not_limit REG itself (word heads.MemoryInteger (codes "i32")) refl int_32_real) refl refl (word heads.MemoryInteger (codes "i32")) refl int_32_real refl
 
 pub further_type_exchanged : Exchanges further_type further_type_at
 unfolding further_type further_type_at
@@ -195,7 +198,7 @@ unmarked_rule = rules.valued_rule tokens marker_refusal marker_not_number marker
 
 unmarked_class : (h : Head) → contains POINTER_OPERAND (number h) ≡ false → Says unmarked (is_valued tokens marker_refusal POINTER_OPERAND (operand_of Ptr)) h (marker_refusal (number h))
 unmarked_class heads.RefusedType n = unmarked_none heads.RefusedType refl n
-unmarked_class heads.Target n = inl (unmarked_none heads.Target refl n)
+unmarked_class heads.Target n = inl (λ u i. unmarked_none heads.Target refl n u (a_type u i))
 unmarked_class heads.RegisterInteger n = (i8, refl, i8_real, unmarked_none heads.RegisterInteger refl n i8 refl)
 unmarked_class heads.NumberedGlobal n = absurd cc
 unmarked_class heads.NumberedDefinition n = absurd cc
@@ -299,10 +302,33 @@ same_or_differs (v ∷ ts) = by_first (opens v) refl ts
 fault_is : {A : Type 0} (k l : FaultKind) (us vs : List Tok) → fault_at {A = A} k us ≡ fault_at l vs → (k ≡ l) × (length us ≡ length vs)
 fault_is {A} k l us vs e = let d = wrong_is {X = A × List Tok} (record { left = length us; kind = k }) (record { left = length vs; kind = l }) e in (ap (λ (x : Fault). x.kind) d, ap (λ (x : Fault). x.left) d)
 
-told_open : (h : Head) (G : Tok → Type 0) (P : Type 0) → contains REFUSED_TYPES (number h) ≡ true → P → IsTold h G P
-told_open heads.RefusedType G P e p = inr p
-told_open heads.Target G P e p = inr p
-told_open h G P e p = absurd cc
+word_is : (n : ℕ) → contains WORD n ≡ true → n ≡ number heads.Word
+word_is n e = by_test (nat_eq n (number heads.Word)) refl e
+  where
+    by_test : (b : Bool) → nat_eq n (number heads.Word) ≡ b → b || false ≡ true → n ≡ number heads.Word
+    by_test true p e = same n (number heads.Word) p
+    by_test false p e = absurd cc
+
+word_refused : (w : Tok) (rest : List Tok) → among tokens WORD w ≡ true → none_behind (w ∷ rest) ≡ fault_at Syntax (w ∷ rest)
+unfolding is_class
+word_refused w rest i = ap (λ (n : ℕ). follow (token_means w rest (cond (nat_eq n (number heads.CloseParen)) (fine tt) (failed (type_refusal n)))) (λ _. done [])) (word_is (number w.head) i)
+
+paren_opens : (v : Tok) → among tokens PAREN v ≡ true → opens v ≡ fine tt
+unfolding is_class
+paren_opens v p = by_test (nat_eq (number v.head) (number heads.OpenParen)) p
+  where
+    by_test : (b : Bool) → b || false ≡ true → cond b (fine tt) (failed (refusal (number v.head))) ≡ fine tt
+    by_test true p = refl
+    by_test false p = absurd cc
+
+-- no plain word stands directly behind it
+no_word_behind : (v w : Tok) → among tokens PAREN v ≡ true → among tokens WORD w ≡ true → Stuck opened_none (v ∷ []) w
+no_word_behind v w p i rest = (Syntax, λ b. b, ap (λ (m : Result (Unit {0}) FaultKind). follow (token_means v (w ∷ rest) m) (λ _. none_behind)) (paren_opens v p) ∙ word_refused w rest i)
+
+told_open : (h : Head) (S G : Tok → Type 0) (P : Type 0) → contains REFUSED_TYPES (number h) ≡ true → P → ((w : Tok) → among tokens WORD w ≡ true → S w) → IsTold h S G P
+told_open heads.RefusedType S G P e p n = inr p
+told_open heads.Target S G P e p n = (inr p, n)
+told_open h S G P e p n = absurd cc
 
 none_over : (ts : List Tok) (as' : List Argument) → form.◌>>=◌ (the heads.OpenParen) (λ _. form.◌>>=◌ (the heads.CloseParen) (λ _. form.gives [])) ts as' → of_none ts as'
 unfolding form.◌>>=◌
@@ -323,22 +349,22 @@ none_stays front as' u s rest = elim (same_or_differs (front ++ u ∷ rest)) [ i
     never : (t : Tok) (more : List Tok) → fault_at Syntax (t ∷ more) ≡ reads as' (u ∷ rest) → ⊥
     never t more e = cc
 
-none_plain : (front : List Tok) (h : Head) (o : Result (List Argument) FaultKind) → Outcome of_none opened_plainly front h o → Outcome of_none opened_none front h o
-none_plain front h (Ok as') n = ok_too of_none of_none opened_plainly opened_none front front h as' as' (λ u i s. none_stays front as' u s) (λ u g. g) n
-none_plain front h (Err k) n = err_too of_none of_none opened_plainly opened_none front front h k (λ p. p) (λ u i s. none_stuck front u s) (λ u g. g) n
+none_plain : (front : List Tok) (h : Head) (o : Result (List Argument) FaultKind) → Outcome false of_none opened_plainly front h o → Outcome false of_none opened_none front h o
+none_plain front h (Ok as') n = ok_too false false of_none of_none opened_plainly opened_none front front h (λ e. e) as' as' (λ u i s. none_stays front as' u s) (λ u g. g) n
+none_plain front h (Err k) n = err_too false false of_none of_none opened_plainly opened_none front front h k (λ p. p) (λ u i s. none_stuck front u s) (λ u g. g) n
 
-none_swap : (front : List Tok) (t : Tok) (rest : List Tok) (o : Result (List Argument) FaultKind) → opened_none (front ++ t ∷ rest) ≡ ends o (t ∷ rest) → Outcome of_none opened_none front t.head o
+none_swap : (front : List Tok) (t : Tok) (rest : List Tok) (o : Result (List Argument) FaultKind) → opened_none (front ++ t ∷ rest) ≡ ends o (t ∷ rest) → Outcome false of_none opened_none front t.head o
 none_swap front t rest o d = elim (same_or_differs (front ++ t ∷ rest)) [ inl e ↦ none_plain front t.head o (plainly_exchanged.swap front t rest o (sym e ∙ d)) | inr x ↦ differing x.0 x.1 x.2 x.3 x.4 x.5 (sym x.6 ∙ d) ]
   where
-    by_end : (v t' : Tok) (more : List Tok) → front ++ t ∷ rest ≡ v ∷ t' ∷ more → among tokens PAREN v ≡ true → contains REFUSED_TYPES (number t'.head) ≡ true → (o : Result (List Argument) FaultKind) → fault_at Profile (t' ∷ more) ≡ ends o (t ∷ rest) → Outcome of_none opened_none front t.head o
+    by_end : (v t' : Tok) (more : List Tok) → front ++ t ∷ rest ≡ v ∷ t' ∷ more → among tokens PAREN v ≡ true → contains REFUSED_TYPES (number t'.head) ≡ true → (o : Result (List Argument) FaultKind) → fault_at Profile (t' ∷ more) ≡ ends o (t ∷ rest) → Outcome false of_none opened_none front t.head o
     by_end v t' more e p c (Ok as') q = absurd cc
     by_end v t' more e p c (Err k) q =
         let f = fault_is {A = List Argument} Profile k (t' ∷ more) (t ∷ rest) q in
         let s = cut_is front (t ∷ rest) (v ∷ []) (t' ∷ more) e (sym f.1) in
         let same_token : t ≡ t' = (cons_is t t' rest more s.1).0 in
-        subst (λ (x : FaultKind). Outcome of_none opened_none front t.head (Err x)) f.0 (subst (λ (y : List Tok). IsTold t.head (Goes of_none y) (Open y)) (sym s.0) (told_open t.head (Goes of_none (v ∷ [])) (Open (v ∷ [])) (ap (λ (x : Tok). contains REFUSED_TYPES (number x.head)) same_token ∙ c) p))
+        subst (λ (x : FaultKind). Outcome false of_none opened_none front t.head (Err x)) f.0 (subst (λ (y : List Tok). IsTold t.head (Stuck opened_none y) (Goes of_none y) (Open y)) (sym s.0) (told_open t.head (Stuck opened_none (v ∷ [])) (Goes of_none (v ∷ [])) (Open (v ∷ [])) (ap (λ (x : Tok). contains REFUSED_TYPES (number x.head)) same_token ∙ c) p (λ w i. no_word_behind v w p i)))
 
-    differing : (v t' : Tok) (more : List Tok) → front ++ t ∷ rest ≡ v ∷ t' ∷ more → among tokens PAREN v ≡ true → contains REFUSED_TYPES (number t'.head) ≡ true → fault_at Profile (t' ∷ more) ≡ ends o (t ∷ rest) → Outcome of_none opened_none front t.head o
+    differing : (v t' : Tok) (more : List Tok) → front ++ t ∷ rest ≡ v ∷ t' ∷ more → among tokens PAREN v ≡ true → contains REFUSED_TYPES (number t'.head) ≡ true → fault_at Profile (t' ∷ more) ≡ ends o (t ∷ rest) → Outcome false of_none opened_none front t.head o
     differing v t' more e p c q = by_end v t' more e p c o q
 
 end_of_none_rule : Rule tokens end_of_none end_of_none end_of_none_at (number heads.CloseParen ∷ []) [] false
@@ -362,19 +388,25 @@ unfolding form.◌>>=◌
 regrouped_form f g k ts b (front, back, a, e, (front', back', u, e', s, s'), r) = (front', back' ++ back, u, e ∙ ap (λ (y : List Tok). y ++ back) e' ∙ append_assoc front' back' back, s, (back', back, a, refl, s', r))
 
 -- arguments of the types that are written, and what stands behind them
-opened_of_exchanged : {B : Type 0} (ws : List Tok) (k : List Argument → Form Tok B) (h : List Argument → Reader Tok B) → ((as' : List Argument) → Exchanges (k as') (h as')) → Exchanges (form.◌>>=◌ (the heads.OpenParen) (λ _. form.◌>>=◌ (arguments_of any_shape ws) k)) (the_at heads.OpenParen >>= λ _. arguments_of_at ws >>= h)
-opened_of_exchanged [] k h each = recast (regrouped_form (the heads.OpenParen) (form.◌>>=◌ end_of_none (λ _. form.gives [])) k) (same_reader (regrouped (the_at heads.OpenParen) none_behind h) (seq opened_none_exchanged each))
-opened_of_exchanged (w ∷ ws) k h each = seq open_paren_exchanged (λ _. seq (seq (some_of_exchanged w ws) (λ as'. seq close_paren_exchanged (λ _. nothing as'))) each)
+opened_of_exchanged : {B : Type 0} (ws : List Tok) (k : List Argument → Form Tok B) (h : List Argument → Reader Tok B) → ((as' : List Argument) → Exchanging true (k as') (h as')) → Exchanging true (form.◌>>=◌ (the heads.OpenParen) (λ _. form.◌>>=◌ (arguments_of any_shape ws) k)) (the_at heads.OpenParen >>= λ _. arguments_of_at ws >>= h)
+opened_of_exchanged [] k h each = recast (regrouped_form (the heads.OpenParen) (form.◌>>=◌ end_of_none (λ _. form.gives [])) k) (same_reader (regrouped (the_at heads.OpenParen) none_behind h) (seq_into opened_none_exchanged each))
+opened_of_exchanged (w ∷ ws) k h each = seq_into open_paren_exchanged (λ _. seq_into (seq (some_of_exchanged w ws) (λ as'. seq close_paren_exchanged (λ _. nothing as'))) each)
 
-opened_exchanged : {B : Type 0} (ws : Option (List Tok)) (k : List Argument → Form Tok B) (h : List Argument → Reader Tok B) → ((as' : List Argument) → Exchanges (k as') (h as')) → Exchanges (form.◌>>=◌ (the heads.OpenParen) (λ _. form.◌>>=◌ (arguments any_shape ws) k)) (the_at heads.OpenParen >>= λ _. arguments_at ws >>= h)
-opened_exchanged None k h each = seq open_paren_exchanged (λ _. seq any_arguments_exchanged each)
+opened_exchanged : {B : Type 0} (ws : Option (List Tok)) (k : List Argument → Form Tok B) (h : List Argument → Reader Tok B) → ((as' : List Argument) → Exchanging true (k as') (h as')) → Exchanging true (form.◌>>=◌ (the heads.OpenParen) (λ _. form.◌>>=◌ (arguments any_shape ws) k)) (the_at heads.OpenParen >>= λ _. arguments_at ws >>= h)
+opened_exchanged None k h each = seq_into open_paren_exchanged (λ _. seq_into any_arguments_exchanged each)
 opened_exchanged (Some ws) k h each = opened_of_exchanged ws k h each
 
-pub calling_exchanged : (named : Bool) → Exchanges (calling any_shape named) (calling_at named)
+-- ---- calls
+
+-- what stands behind the arguments
+behind_arguments : {B : Type 0} (b : B) → Exchanging true (form.◌>>=◌ call_attributes (λ _. form.◌>>=◌ attachments (λ _. form.gives b))) (call_attributes_at >>= λ _. attachments_at >>= λ _. done b)
+behind_arguments b = seq_passing call_attributes_exchanged (λ _. seq attachments_exchanged (λ _. nothing b)) (λ _ t rest q. (b, ap (λ r. follow r (λ _. done b)) (no_attachments t rest q)))
+
+pub calling_exchanged : (named : Bool) → Exchanging true (calling any_shape named) (calling_at named)
 unfolding calling calling_at
 calling_exchanged named =
-    seq conventions_exchanged (λ _. seq result_exchanged (λ r. seq (maybe PAREN refl types_exchanged) (λ ws. seq (callee_exchanged named r) (λ f. opened_exchanged ws _ _ (λ as'. seq call_attributes_exchanged (λ _. seq attachments_exchanged (λ _. nothing (called r f as'))))))))
+    seq_into conventions_exchanged (λ _. seq_into result_exchanged (λ r. seq_into (maybe PAREN refl types_exchanged) (λ ws. seq_into (callee_exchanged named r) (λ f. opened_exchanged ws _ _ (λ as'. behind_arguments (called r f as'))))))
 
-pub tail_calling_exchanged : (named : Bool) → Exchanges (tail_calling any_shape named) (tail_calling_at named)
+pub tail_calling_exchanged : (named : Bool) → Exchanging true (tail_calling any_shape named) (tail_calling_at named)
 unfolding tail_calling tail_calling_at
-tail_calling_exchanged named = seq call_word_exchanged (λ _. calling_exchanged named)
+tail_calling_exchanged named = seq_into call_word_exchanged (λ _. calling_exchanged named)

@@ -1,6 +1,6 @@
 -- Pieces one behind another tell a token that is left out in some places as such exactly where one that it stands for goes on.
-use Rattle.std.proofs.Common.{◌≡◌, ◌≢◌, ℕ, zero, suc, ◌<◌, Bool, true, false, cond, ◌&&◌, not, List, [], ◌∷◌, ◌++◌, length, Result, Ok, Err, refl, sym, ap, subst, ◌∙◌, append_assoc, arith, ◌⊎◌, inl, inr}
-use Rattle.std.proofs.lemmas.List.{append-nil, length-append}
+use Rattle.std.proofs.Common.{◌≡◌, ◌≢◌, ℕ, zero, suc, ◌<◌, Bool, true, false, cond, ◌&&◌, not, List, [], ◌∷◌, ◌++◌, length, Result, Ok, Err, refl, sym, ap, subst, ◌∙◌, append_assoc, arith, inl, inr}
+use Rattle.std.proofs.lemmas.List.{length-append}
 use Rattle.ir_lex.specs.Heads.{number}
 use Rattle.ir_lex.specs.Tok.{Tok}
 use Rattle.ir_lex.specs.declared.head.Head.{Head}
@@ -11,17 +11,20 @@ use Rattle.lto_forms.specs.Forms.{Form}
 use Rattle.lto_forms.specs.Lawful.{ends}
 use Rattle.lto_forms.specs.Readers.{Reader, fault_at, done, follow, ◌>>=◌}
 use Rattle.lto_forms.specs.declared.fault.Fault.{Fault}
-use Rattle.lto_forms.specs.declared.fault.FaultKind.TheVariants.{Syntax, Profile, Number, Limit}
+use Rattle.lto_forms.specs.declared.fault.FaultKind.TheVariants.{Syntax}
 use Rattle.lto_forms.specs.declared.fault.FaultKind.{FaultKind}
 use Rattle.ir_read.specs.Classes.{tokens}
-use Rattle.read_again.proofs.Exchanged.{Exchanges, Goes, IsTold, Outcome, Stuck, Turns, WordGoes, alike, ends_in_front, err_ends, err_too, fair_at, fair_but, fair_of, fewer, in_front, is_target, joined, ok_too, open_behind, Open, stands_for, told_too, without, word_at, word_not_told, word_too}
+use Rattle.read_again.proofs.Exchanged.{Exchanges, Goes, Outcome, Stuck, fair, alike, ends_in_front, err_ends, err_too, fair_at, fair_of, fewer, in_front, joined, ok_too, open_behind, stands_for, without}
 
 and_parts : (a b : Bool) → a && b ≡ true → (a ≡ true) × (b ≡ true)
 and_parts true b h = (refl, h)
 and_parts false b h = absurd cc
 
+differ : false ≡ true → ⊥
+differ e = cc
+
 module _ {S A : Type 0} (final : S → Bool) (bs : S → List ℕ) (wide : S → Form Tok (A × S)) (f : S → Reader Tok (A × S)) (laws : (s : S) → Exchanges (wide s) (f s)) (some : (s : S) (x : A × S) → wide s [] x → ⊥)
-    (finish : (s : S) → (ts : List Tok) × (as' : List A) × Chain final wide s ts as' × AllReal tokens ts) (turns : (s : S) → final s ≡ true → Turns (bs s) (Chain final wide s)) where
+    (finish : (s : S) → (ts : List Tok) × (as' : List A) × Chain final wide s ts as' × AllReal tokens ts) (fairly : (s : S) → final s ≡ true → fair (bs s) ≡ true) where
   abbrev begins : S → Tok → Bool
   begins s = among tokens (bs s)
 
@@ -226,9 +229,6 @@ module _ {S A : Type 0} (final : S → Bool) (bs : S → List ℕ) (wide : S →
   goes_second : (s : S) (one two : List Tok) (x : A × S) → wide s one x → (u : Tok) → Goes (of_all x.1) two u → Goes (of_all s) (one ++ two) u
   goes_second s one two x q u (more, as', c, r) = (more, x.0 ∷ as', (one, two ++ u ∷ more, x.1, append_assoc one two (u ∷ more), q, c), r)
 
-  goes_here : (s : S) (one : List Tok) (u : Tok) → Goes (wide s) one u → Goes (of_all s) (one ++ []) u
-  goes_here s one u g = subst (λ (y : List Tok). Goes (of_all s) y u) (sym (append-nil one)) (goes_first s one u g)
-
   -- whether a reading stops there is the same
   abbrev Keeps : S → List Tok → Tok → List Tok → Type 0
   Keeps s front t rest = (u : Tok) → among tokens (stands_for t.head) u ≡ true → (rest' : List Tok) → stop s (front ++ u ∷ rest') ≡ stop s (front ++ t ∷ rest)
@@ -239,23 +239,15 @@ module _ {S A : Type 0} (final : S → Bool) (bs : S → List ℕ) (wide : S →
   begun_stop : (s : S) (t : Tok) (ts : List Tok) (b : Bool) → begins s t ≡ b → stop s (t ∷ ts) ≡ (final s && not b)
   begun_stop s t ts b e = ap (λ (c : Bool). final s && not c) e
 
-  kept : (s : S) (t : Tok) (rest : List Tok) → Keeps s [] t rest ⊎ WordGoes t.head (Goes (of_all s) [])
+  kept : (s : S) (t : Tok) (rest : List Tok) → Keeps s [] t rest
   kept s t rest = by_final (final s) refl
     where
-      fairly : fair_at (bs s) t.head ≡ true → Keeps s [] t rest
-      fairly e u i rest' = begun_stop s u rest' (contains (bs s) (number t.head)) (alike (bs s) t.head e u i)
+      by_fair : fair_at (bs s) t.head ≡ true → Keeps s [] t rest
+      by_fair e u i rest' = begun_stop s u rest' (contains (bs s) (number t.head)) (alike (bs s) t.head e u i)
 
-      by_turns : Turns (bs s) (of_all s) → Keeps s [] t rest ⊎ WordGoes t.head (Goes (of_all s) [])
-      by_turns (inl e) = inl (fairly (fair_of (bs s) e t.head))
-      by_turns (inr (e, w, i, g)) = by_target (is_target t.head) refl
-        where
-          by_target : (b : Bool) → is_target t.head ≡ b → Keeps s [] t rest ⊎ WordGoes t.head (Goes (of_all s) [])
-          by_target true q = inr (word_at (Goes (of_all s) []) t.head q w i g)
-          by_target false q = inl (fairly (fair_but (bs s) e t.head q))
-
-      by_final : (b : Bool) → final s ≡ b → Keeps s [] t rest ⊎ WordGoes t.head (Goes (of_all s) [])
-      by_final true q = by_turns (turns s q)
-      by_final false q = inl (λ u i rest'. no_stop s u rest' q ∙ sym (no_stop s t rest q))
+      by_final : (b : Bool) → final s ≡ b → Keeps s [] t rest
+      by_final true q = by_fair (fair_of (bs s) (fairly s q) t.head)
+      by_final false q = λ u i rest'. no_stop s u rest' q ∙ sym (no_stop s t rest q)
 
   module _ (n : ℕ) (s : S) where
     abbrev here_at : Reader Tok (List A)
@@ -264,70 +256,45 @@ module _ {S A : Type 0} (final : S → Bool) (bs : S → List ℕ) (wide : S →
     -- behind a first piece that stays before it
     joined_too : (one two : List Tok) (x : A × S) → wide s one x → (h : Head) (o : Result (List A) FaultKind)
         → ((u : Tok) → among tokens (stands_for h) u ≡ true → (rest : List Tok) → here_at ((one ++ two) ++ u ∷ rest) ≡ in_front x.0 (at_most n x.1 (two ++ u ∷ rest)))
-        → Outcome (of_all x.1) (at_most n x.1) two h o → Outcome (of_all s) here_at (one ++ two) h (joined x.0 o)
-    joined_too one two x q h (Ok m) whole p = ok_too (of_all x.1) (of_all s) (at_most n x.1) here_at two (one ++ two) h m (x.0 ∷ m) (λ u i st rest. whole u i rest ∙ ap (in_front x.0) (st rest)) (λ u g. goes_second s one two x q u g) p
-    joined_too one two x q h (Err k) whole p = err_too (of_all x.1) (of_all s) (at_most n x.1) here_at two (one ++ two) h k (open_behind one two) (λ u i st rest. let r = st rest in (r.0, r.1, whole u i rest ∙ ap (in_front x.0) r.2)) (λ u g. goes_second s one two x q u g) p
-
-    -- or behind one where a word goes on
-    word_behind : (one : List Tok) (x : A × S) → wide s one x → (h : Head) (o : Result (List A) FaultKind) → WordGoes h (Goes (wide s) one) → Outcome (of_all x.1) (at_most n x.1) [] h o → Outcome (of_all s) here_at (one ++ []) h (joined x.0 o)
-    word_behind one x q h (Ok m) w p = inr (word_too h (Goes (wide s) one) (Goes (of_all s) (one ++ [])) (λ u g. goes_here s one u g) w)
-    word_behind one x q h (Err Syntax) w p = word_not_told h (Stuck here_at (one ++ [])) (Goes (of_all s) (one ++ [])) (word_too h (Goes (wide s) one) (Goes (of_all s) (one ++ [])) (λ u g. goes_here s one u g) w)
-    word_behind one x q h (Err Profile) w p = told_too h (Goes (of_all x.1) []) (Goes (of_all s) (one ++ [])) (Open []) (Open (one ++ [])) (λ u g. goes_second s one [] x q u g) (open_behind one []) p
-    word_behind one x q h (Err Number) w p = tt
-    word_behind one x q h (Err Limit) w p = tt
+        → Outcome false (of_all x.1) (at_most n x.1) two h o → Outcome false (of_all s) here_at (one ++ two) h (joined x.0 o)
+    joined_too one two x q h (Ok m) whole p = ok_too false false (of_all x.1) (of_all s) (at_most n x.1) here_at two (one ++ two) h (λ e. e) m (x.0 ∷ m) (λ u i st rest. whole u i rest ∙ ap (in_front x.0) (st rest)) (λ u g. goes_second s one two x q u g) p
+    joined_too one two x q h (Err k) whole p = err_too false false (of_all x.1) (of_all s) (at_most n x.1) here_at two (one ++ two) h k (open_behind one two) (λ u i st rest. let r = st rest in (r.0, r.1, whole u i rest ∙ ap (in_front x.0) r.2)) (λ u g. goes_second s one two x q u g) p
 
     module _ (front : List Tok) (t : Tok) (rest : List Tok) (here : stop s (front ++ t ∷ rest) ≡ false) where
       stuck_too : Keeps s front t rest → (u : Tok) → among tokens (stands_for t.head) u ≡ true → Stuck (f s) front u → Stuck here_at front u
       stuck_too keeps u i st rest' = let r = st rest' in (r.0, r.1, stop_not n s (front ++ u ∷ rest') (keeps u i rest' ∙ here) ∙ ap (λ (y : Result ((A × S) × List Tok) Fault). follow y (further n)) r.2)
 
-      piece_err : Keeps s front t rest → (k : FaultKind) → f s (front ++ t ∷ rest) ≡ fault_at k (t ∷ rest) → Outcome (of_all s) here_at front t.head (Err k)
-      piece_err keeps k e = err_too (wide s) (of_all s) (f s) here_at front front t.head k (λ p. p) (λ u i st. stuck_too keeps u i st) (λ u g. goes_first s front u g) ((laws s).swap front t rest (Err k) e)
+      piece_err : Keeps s front t rest → (k : FaultKind) → f s (front ++ t ∷ rest) ≡ fault_at k (t ∷ rest) → Outcome false (of_all s) here_at front t.head (Err k)
+      piece_err keeps k e = err_too false false (wide s) (of_all s) (f s) here_at front front t.head k (λ p. p) (λ u i st. stuck_too keeps u i st) (λ u g. goes_first s front u g) ((laws s).swap front t rest (Err k) e)
 
-      piece_ok : Keeps s front t rest → (x : A × S) (mid : List Tok) (o : Result (List A) FaultKind) (c : Cut s front (t ∷ rest) x mid) → Outcome (of_all x.1) (at_most n x.1) c.two t.head o → Outcome (of_all s) here_at front t.head (joined x.0 o)
-      piece_ok keeps x mid o c p = subst (λ (y : List Tok). Outcome (of_all s) here_at y t.head (joined x.0 o)) (sym c.front_is) (by_two c.two (λ u i rest'. ap (λ (y : List Tok). stop s (y ++ u ∷ rest')) (sym c.front_is) ∙ keeps u i rest' ∙ here) c.piece p)
+      piece_ok : Keeps s front t rest → (x : A × S) (mid : List Tok) (o : Result (List A) FaultKind) (c : Cut s front (t ∷ rest) x mid) → Outcome false (of_all x.1) (at_most n x.1) c.two t.head o → Outcome false (of_all s) here_at front t.head (joined x.0 o)
+      piece_ok keeps x mid o c p = subst (λ (y : List Tok). Outcome false (of_all s) here_at y t.head (joined x.0 o)) (sym c.front_is) (by_two c.two (λ u i rest'. ap (λ (y : List Tok). stop s (y ++ u ∷ rest')) (sym c.front_is) ∙ keeps u i rest' ∙ here) c.piece p)
         where
-          by_two : (two : List Tok) → ((u : Tok) → among tokens (stands_for t.head) u ≡ true → (rest' : List Tok) → stop s ((c.one ++ two) ++ u ∷ rest') ≡ false) → f s (c.one ++ (two ++ t ∷ rest)) ≡ reads x (two ++ t ∷ rest) → Outcome (of_all x.1) (at_most n x.1) two t.head o → Outcome (of_all s) here_at (c.one ++ two) t.head (joined x.0 o)
+          by_two : (two : List Tok) → ((u : Tok) → among tokens (stands_for t.head) u ≡ true → (rest' : List Tok) → stop s ((c.one ++ two) ++ u ∷ rest') ≡ false) → f s (c.one ++ (two ++ t ∷ rest)) ≡ reads x (two ++ t ∷ rest) → Outcome false (of_all x.1) (at_most n x.1) two t.head o → Outcome false (of_all s) here_at (c.one ++ two) t.head (joined x.0 o)
           by_two (v ∷ mid') on e p = joined_too c.one (v ∷ mid') x c.spelled t.head o (λ u i rest'. goes_whole n s c.one (v ∷ mid') u rest' x (on u i rest') ((laws s).local c.one v (mid' ++ t ∷ rest) (mid' ++ u ∷ rest') (Ok x) e)) p
-          by_two [] on e p = elim ((laws s).swap c.one t rest (Ok x) e) [ inl stays ↦ joined_too c.one [] x c.spelled t.head o (λ u i rest'. goes_whole n s c.one [] u rest' x (on u i rest') (stays u i rest')) p | inr w ↦ word_behind c.one x c.spelled t.head o w p ]
+          by_two [] on e p = elim ((laws s).swap c.one t rest (Ok x) e) [ inl stays ↦ joined_too c.one [] x c.spelled t.head o (λ u i rest'. goes_whole n s c.one [] u rest' x (on u i rest') (stays u i rest')) p | inr w ↦ absurd (differ w.0) ]
 
-  -- where a word goes on at the first token
-  word_first : (n : ℕ) (s : S) (t : Tok) (rest : List Tok) (o : Result (List A) FaultKind) → WordGoes t.head (Goes (of_all s) []) → at_most (suc n) s (t ∷ rest) ≡ ends o (t ∷ rest) → Outcome (of_all s) (at_most (suc n) s) [] t.head o
-  word_first n s t rest (Ok m) w d = inr w
-  word_first n s t rest (Err Syntax) w d = word_not_told t.head (Stuck (at_most (suc n) s) []) (Goes (of_all s) []) w
-  word_first n s t rest (Err Number) w d = tt
-  word_first n s t rest (Err Limit) w d = tt
-  word_first n s t rest (Err Profile) w d = either_way (IsTold t.head (Goes (of_all s) []) (Open [])) n s (t ∷ rest) (fault_at Profile (t ∷ rest)) d (λ _ e. absurd (never [] e)) (λ _ e. by_piece (f s (t ∷ rest)) refl e)
+  by_keeps : (n : ℕ) (s : S) (front : List Tok) (t : Tok) (rest : List Tok) (o : Result (List A) FaultKind) → ((next : S) (two : List Tok) (o' : Result (List A) FaultKind) → length two < length front → at_most n next (two ++ t ∷ rest) ≡ ends o' (t ∷ rest) → Outcome false (of_all next) (at_most n next) two t.head o')
+      → Keeps s front t rest → at_most (suc n) s (front ++ t ∷ rest) ≡ ends o (t ∷ rest) → Outcome false (of_all s) (at_most (suc n) s) front t.head o
+  by_keeps n s front t rest o again keeps d = either_way (Outcome false (of_all s) (at_most (suc n) s) front t.head o) n s (front ++ t ∷ rest) (ends o (t ∷ rest)) d (λ e h. stopped e h) (λ e h. by_piece e (f s (front ++ t ∷ rest)) refl h)
     where
-      never : (m : List A) → reads m (t ∷ rest) ≡ fault_at Profile (t ∷ rest) → ⊥
-      never m e = cc
-
-      by_piece : (r : Result ((A × S) × List Tok) Fault) → f s (t ∷ rest) ≡ r → follow r (further n) ≡ fault_at Profile (t ∷ rest) → IsTold t.head (Goes (of_all s) []) (Open [])
-      by_piece (Err e) i h = told_too t.head (Goes (wide s) []) (Goes (of_all s) []) (Open []) (Open []) (λ u g. goes_first s [] u g) (λ p. p) ((laws s).swap [] t rest (Err Profile) (i ∙ ap wrong (wrong_is {X = List A × List Tok} e (record { left = length (t ∷ rest); kind = Profile }) h)))
-      by_piece (Ok x) i h =
-          let w' = without x.0.0 (at_most n x.0.1 x.1) (Err Profile) (t ∷ rest) h in
-          absurd (omega (arith, (cut_at n s [] (t ∷ rest) x.0 x.1 w'.0 i w'.1).less))
-
-  by_keeps : (n : ℕ) (s : S) (front : List Tok) (t : Tok) (rest : List Tok) (o : Result (List A) FaultKind) → ((next : S) (two : List Tok) (o' : Result (List A) FaultKind) → length two < length front → at_most n next (two ++ t ∷ rest) ≡ ends o' (t ∷ rest) → Outcome (of_all next) (at_most n next) two t.head o')
-      → Keeps s front t rest → at_most (suc n) s (front ++ t ∷ rest) ≡ ends o (t ∷ rest) → Outcome (of_all s) (at_most (suc n) s) front t.head o
-  by_keeps n s front t rest o again keeps d = either_way (Outcome (of_all s) (at_most (suc n) s) front t.head o) n s (front ++ t ∷ rest) (ends o (t ∷ rest)) d (λ e h. stopped e h) (λ e h. by_piece e (f s (front ++ t ∷ rest)) refl h)
-    where
-      stopped : stop s (front ++ t ∷ rest) ≡ true → reads [] (front ++ t ∷ rest) ≡ ends o (t ∷ rest) → Outcome (of_all s) (at_most (suc n) s) front t.head o
+      stopped : stop s (front ++ t ∷ rest) ≡ true → reads [] (front ++ t ∷ rest) ≡ ends o (t ∷ rest) → Outcome false (of_all s) (at_most (suc n) s) front t.head o
       stopped e h =
           let z = nothing_read front t rest o h in
-          subst (λ (y : Result (List A) FaultKind). Outcome (of_all s) (at_most (suc n) s) front t.head y) (sym z.1) (inl (λ u i rest'. stop_gives (suc n) s (front ++ u ∷ rest') (keeps u i rest' ∙ e) ∙ ap (λ (y : List Tok). reads [] (y ++ u ∷ rest')) z.0))
+          subst (λ (y : Result (List A) FaultKind). Outcome false (of_all s) (at_most (suc n) s) front t.head y) (sym z.1) (inl (λ u i rest'. stop_gives (suc n) s (front ++ u ∷ rest') (keeps u i rest' ∙ e) ∙ ap (λ (y : List Tok). reads [] (y ++ u ∷ rest')) z.0))
 
-      by_piece : stop s (front ++ t ∷ rest) ≡ false → (r : Result ((A × S) × List Tok) Fault) → f s (front ++ t ∷ rest) ≡ r → follow r (further n) ≡ ends o (t ∷ rest) → Outcome (of_all s) (at_most (suc n) s) front t.head o
+      by_piece : stop s (front ++ t ∷ rest) ≡ false → (r : Result ((A × S) × List Tok) Fault) → f s (front ++ t ∷ rest) ≡ r → follow r (further n) ≡ ends o (t ∷ rest) → Outcome false (of_all s) (at_most (suc n) s) front t.head o
       by_piece e (Err k) i h =
           let w = err_ends k o (t ∷ rest) h in
-          subst (λ (y : Result (List A) FaultKind). Outcome (of_all s) (at_most (suc n) s) front t.head y) (sym w.1) (piece_err n s front t rest e keeps w.0 (i ∙ ap wrong w.2))
+          subst (λ (y : Result (List A) FaultKind). Outcome false (of_all s) (at_most (suc n) s) front t.head y) (sym w.1) (piece_err n s front t rest e keeps w.0 (i ∙ ap wrong w.2))
       by_piece e (Ok x) i h =
           let w = without x.0.0 (at_most n x.0.1 x.1) o (t ∷ rest) h in
           let c = cut_at n s front (t ∷ rest) x.0 x.1 w.0 i w.1 in
-          subst (λ (y : Result (List A) FaultKind). Outcome (of_all s) (at_most (suc n) s) front t.head y) (sym w.2) (piece_ok n s front t rest e keeps x.0 x.1 w.0 c (again x.0.1 c.two w.0 c.less (ap (at_most n x.0.1) (sym c.mid_is) ∙ w.1)))
+          subst (λ (y : Result (List A) FaultKind). Outcome false (of_all s) (at_most (suc n) s) front t.head y) (sym w.2) (piece_ok n s front t rest e keeps x.0 x.1 w.0 c (again x.0.1 c.two w.0 c.less (ap (at_most n x.0.1) (sym c.mid_is) ∙ w.1)))
 
-  swap_chain : (n : ℕ) (s : S) (front : List Tok) (t : Tok) (rest : List Tok) (o : Result (List A) FaultKind) → length front < n → at_most n s (front ++ t ∷ rest) ≡ ends o (t ∷ rest) → Outcome (of_all s) (at_most n s) front t.head o
+  swap_chain : (n : ℕ) (s : S) (front : List Tok) (t : Tok) (rest : List Tok) (o : Result (List A) FaultKind) → length front < n → at_most n s (front ++ t ∷ rest) ≡ ends o (t ∷ rest) → Outcome false (of_all s) (at_most n s) front t.head o
   swap_chain zero s front t rest o lt d = absurd (omega (arith, lt))
-  swap_chain (suc n) s [] t rest o lt d = elim (kept s t rest) [ inl keeps ↦ by_keeps n s [] t rest o (λ next two o' l i. absurd (omega (arith, l))) keeps d | inr w ↦ word_first n s t rest o w d ]
+  swap_chain (suc n) s [] t rest o lt d = by_keeps n s [] t rest o (λ next two o' l i. absurd (omega (arith, l))) (kept s t rest) d
   swap_chain (suc n) s (v ∷ front) t rest o lt d = by_keeps n s (v ∷ front) t rest o (λ next two o' l i. swap_chain n next two t rest o' (omega (arith, lt, l)) i) (λ u i rest'. refl) d
 
   pub chain : (s : S) → Exchanges (of_all s) (chain_at final begins f s)
@@ -345,6 +312,6 @@ module _ {S A : Type 0} (final : S → Bool) (bs : S → List ℕ) (wide : S →
       all_is : (front : List Tok) (u : Tok) (rest : List Tok) (o : Result (List A) FaultKind) → chain_at final begins f s (front ++ u ∷ rest) ≡ ends o (u ∷ rest) → at_most (suc (length front)) s (front ++ u ∷ rest) ≡ ends o (u ∷ rest)
       all_is front u rest o d = enough (suc (length (front ++ u ∷ rest))) (suc (length front)) s front (u ∷ rest) o (omega (arith, length-append front (u ∷ rest))) (omega arith) d
 
-      swap_all : (front : List Tok) (h : Head) (o : Result (List A) FaultKind) → Outcome (of_all s) (at_most (suc (length front)) s) front h o → Outcome (of_all s) (chain_at final begins f s) front h o
-      swap_all front h (Ok m) p = ok_too (of_all s) (of_all s) (at_most (suc (length front)) s) (chain_at final begins f s) front front h m m (λ u i st rest. enough_for front u rest (Ok m) (st rest)) (λ u g. g) p
-      swap_all front h (Err k) p = err_too (of_all s) (of_all s) (at_most (suc (length front)) s) (chain_at final begins f s) front front h k (λ p. p) (λ u i st rest. let r = st rest in (r.0, r.1, enough_for front u rest (Err r.0) r.2)) (λ u g. g) p
+      swap_all : (front : List Tok) (h : Head) (o : Result (List A) FaultKind) → Outcome false (of_all s) (at_most (suc (length front)) s) front h o → Outcome false (of_all s) (chain_at final begins f s) front h o
+      swap_all front h (Ok m) p = ok_too false false (of_all s) (of_all s) (at_most (suc (length front)) s) (chain_at final begins f s) front front h (λ e. e) m m (λ u i st rest. enough_for front u rest (Ok m) (st rest)) (λ u g. g) p
+      swap_all front h (Err k) p = err_too false false (of_all s) (of_all s) (at_most (suc (length front)) s) (chain_at final begins f s) front front h k (λ p. p) (λ u i st rest. let r = st rest in (r.0, r.1, enough_for front u rest (Err r.0) r.2)) (λ u g. g) p

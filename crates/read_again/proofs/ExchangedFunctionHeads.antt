@@ -1,5 +1,5 @@
 -- The readers of heads of functions tell a token that is left out in some places where one that it stands for goes on.
-use Rattle.std.proofs.Common.{◌≡◌, ℕ, Bool, true, false, cond, List, [], ◌∷◌, ◌++◌, Result, refl, inl}
+use Rattle.std.proofs.Common.{◌≡◌, ℕ, Bool, true, false, cond, List, [], ◌∷◌, ◌++◌, Result, refl}
 use Rattle.std.specs.Prelude.{codes}
 use Rattle.ir_lex.specs.Heads.{number}
 use Rattle.ir_lex.specs.Tok.{Tok}
@@ -59,7 +59,7 @@ leading_fair roles.Definition true = refl
 leading_fair roles.Definition false = refl
 
 pub all_leading_exchanged : (role : Role) → Exchanges (Chain at_will (leading role) false) (chain_at at_will (begins_leading role) (leading_at role) false)
-all_leading_exchanged role = chain at_will (LEADING role) (leading role) (leading_at role) (leading_exchanged role) (λ s x q. taken (leading_rule role s) x q) (λ _. ([], [], (refl, refl), tt)) (λ s e. inl (leading_fair role s)) false
+all_leading_exchanged role = chain at_will (LEADING role) (leading role) (leading_at role) (leading_exchanged role) (λ s x q. taken (leading_rule role s) x q) (λ _. ([], [], (refl, refl), tt)) (λ s e. leading_fair role s) false
 
 pub prefix_exchanged : (role : Role) → Exchanges (prefix role) (prefix_at role)
 unfolding prefix prefix_at

@@ -122,7 +122,7 @@ piece_exchanged false (aggregates.Struct packed ∷ outer) = alt (CLOSER (aggreg
 
 -- what is told there to be left out
 abbrev OUT : List ℕ
-OUT = number heads.RefusedType ∷ number heads.Target ∷ number heads.RegisterInteger ∷ []
+OUT = number heads.RefusedType ∷ number heads.Target ∷ number heads.RegisterInteger ∷ number heads.Word ∷ []
 
 -- what a part begins with, and what is told there
 abbrev WITH : Bool → List Aggregate → List ℕ
@@ -179,23 +179,14 @@ chain_same (suc n) s ts e =
 same : (n m : ℕ) → nat_eq n m ≡ true → n ≡ m
 same n m h = grind arith
 
-out_is : (n : ℕ) → contains OUT n ≡ true → memory_refusal n ≡ Profile
-out_is n e = by_tests (nat_eq n (number heads.RefusedType)) (nat_eq n (number heads.Target)) (nat_eq n (number heads.RegisterInteger)) (refusal n) e
-  where
-    by_tests : (a b c : Bool) (k : FaultKind) → a || (b || (c || false)) ≡ true → cond c Profile (cond (b || (a || false)) Profile k) ≡ Profile
-    by_tests a b true k e = refl
-    by_tests a true false k e = refl
-    by_tests true false false k e = refl
-    by_tests false false false k e = absurd cc
-
 out_not : (n : ℕ) → contains OUT n ≡ false → memory_refusal n ≡ refusal n
-out_not n e = by_tests (nat_eq n (number heads.RefusedType)) (nat_eq n (number heads.Target)) (nat_eq n (number heads.RegisterInteger)) (refusal n) e
+out_not n e = by_tests (nat_eq n (number heads.RefusedType)) (nat_eq n (number heads.Target)) (nat_eq n (number heads.RegisterInteger)) (nat_eq n (number heads.Word)) (refusal n) e
   where
-    by_tests : (a b c : Bool) (k : FaultKind) → a || (b || (c || false)) ≡ false → cond c Profile (cond (b || (a || false)) Profile k) ≡ k
-    by_tests true b c k e = absurd cc
-    by_tests false true c k e = absurd cc
-    by_tests false false true k e = absurd cc
-    by_tests false false false k e = refl
+    by_tests : (a b c d : Bool) (k : FaultKind) → a || (b || (c || (d || false))) ≡ false → cond c Profile (cond (b || (a || false)) Profile k) ≡ k
+    by_tests true b c d k e = absurd cc
+    by_tests false true c d k e = absurd cc
+    by_tests false false true d k e = absurd cc
+    by_tests false false false d k e = refl
 
 over_told : (of : ℕ → Reader Tok Typed) (part : Bool → Extent → Reader Tok Typed) (innermost : Reader Tok Typed) (t : Tok) (ts : List Tok) → contains OUT (number t.head) ≡ true → shape_over_at of part innermost (t ∷ ts) ≡ innermost (t ∷ ts)
 unfolding shape_over_at
@@ -204,26 +195,26 @@ over_told of part innermost t ts e =
     ∙ passed OPEN_BRACE (structure_at (part false)) (pick (among tokens OPEN_ANGLE) (packed_at (part true)) innermost) t ts (apart OUT OPEN_BRACE refl (number t.head) e)
     ∙ passed OPEN_ANGLE (packed_at (part true)) innermost t ts (apart OUT OPEN_ANGLE refl (number t.head) e)
 
-leaf_told : (room : Room) (t : Tok) (ts : List Tok) → contains OUT (number t.head) ≡ true → leaf_at room (t ∷ ts) ≡ fault_at Profile (t ∷ ts)
-leaf_told room t ts e = ap (token_means t ts) (leaf_outside room t (apart OUT LEAF refl (number t.head) e) ∙ ap (λ (k : FaultKind). Err k) (out_is (number t.head) e))
+leaf_told : (room : Room) (t : Tok) (ts : List Tok) → contains OUT (number t.head) ≡ true → leaf_at room (t ∷ ts) ≡ fault_at (memory_refusal (number t.head)) (t ∷ ts)
+leaf_told room t ts e = ap (token_means t ts) (leaf_outside room t (apart OUT LEAF refl (number t.head) e))
 
-shape_told : (depth : ℕ) (room : Room) (t : Tok) (ts : List Tok) → contains OUT (number t.head) ≡ true → shape_at depth room (t ∷ ts) ≡ fault_at Profile (t ∷ ts)
+shape_told : (depth : ℕ) (room : Room) (t : Tok) (ts : List Tok) → contains OUT (number t.head) ≡ true → shape_at depth room (t ∷ ts) ≡ fault_at (memory_refusal (number t.head)) (t ∷ ts)
 unfolding innermost_at
 shape_told zero room t ts e = passed BRACKETS (fault_at Limit) (leaf_at room) t ts (apart OUT BRACKETS refl (number t.head) e) ∙ leaf_told room t ts e
 shape_told (suc depth) room t ts e = over_told (λ n. shape_at depth (shared n room)) (λ packed s. shape_at depth (left packed room s)) (leaf_at room) t ts e ∙ leaf_told room t ts e
 
-memory_told : (t : Tok) (ts : List Tok) → contains OUT (number t.head) ≡ true → memory_shape_at (t ∷ ts) ≡ fault_at Profile (t ∷ ts)
+memory_told : (t : Tok) (ts : List Tok) → contains OUT (number t.head) ≡ true → memory_shape_at (t ∷ ts) ≡ fault_at (memory_refusal (number t.head)) (t ∷ ts)
 unfolding memory_shape_at
 memory_told t ts e = shape_told 32 whole t ts e
 
-told_first : {A B : Type 0} (f : Reader Tok A) (h : A → Reader Tok B) (t : Tok) (ts : List Tok) → f (t ∷ ts) ≡ fault_at Profile (t ∷ ts) → (f >>= h) (t ∷ ts) ≡ fault_at Profile (t ∷ ts)
+told_first : {A B : Type 0} (f : Reader Tok A) (h : A → Reader Tok B) (t : Tok) (ts : List Tok) → f (t ∷ ts) ≡ fault_at (memory_refusal (number t.head)) (t ∷ ts) → (f >>= h) (t ∷ ts) ≡ fault_at (memory_refusal (number t.head)) (t ∷ ts)
 told_first {A} f h t ts e = ap (λ (r : Result (A × List Tok) Fault). follow r h) e
 
-first_part_told : (t : Tok) (ts : List Tok) → contains OUT (number t.head) ≡ true → part_at true (t ∷ ts) ≡ fault_at Profile (t ∷ ts)
+first_part_told : (t : Tok) (ts : List Tok) → contains OUT (number t.head) ≡ true → part_at true (t ∷ ts) ≡ fault_at (memory_refusal (number t.head)) (t ∷ ts)
 unfolding part_at
 first_part_told t ts e = told_first memory_shape_at _ t ts (memory_told t ts e)
 
-part_told : (t : Tok) (ts : List Tok) → contains OUT (number t.head) ≡ true → there_at (true, []) (t ∷ ts) ≡ fault_at Profile (t ∷ ts)
+part_told : (t : Tok) (ts : List Tok) → contains OUT (number t.head) ≡ true → there_at (true, []) (t ∷ ts) ≡ fault_at (memory_refusal (number t.head)) (t ∷ ts)
 unfolding begun_at
 part_told t ts e = told_first (part_at true) _ t ts (first_part_told t ts e)
 
@@ -243,15 +234,15 @@ no_mark wanted a n e = by_test (nat_eq n (number wanted)) refl
     by_test true p = absurd (differ (sym e ∙ ap (contains OUT) (same n (number wanted) p) ∙ a))
     by_test false p = refl
 
-mark_told : (wanted : Head) → contains OUT (number wanted) ≡ false → (t : Tok) (ts : List Tok) → contains OUT (number t.head) ≡ true → mark_at true wanted (t ∷ ts) ≡ fault_at Profile (t ∷ ts)
+mark_told : (wanted : Head) → contains OUT (number wanted) ≡ false → (t : Tok) (ts : List Tok) → contains OUT (number t.head) ≡ true → mark_at true wanted (t ∷ ts) ≡ fault_at (memory_refusal (number t.head)) (t ∷ ts)
 unfolding is_class
-mark_told wanted a t ts e = ap (λ (b : Bool). token_means t ts (cond b (fine tt) (failed (memory_refusal (number t.head))))) (no_mark wanted a (number t.head) e) ∙ ap (λ (k : FaultKind). token_means t ts (failed k)) (out_is (number t.head) e)
+mark_told wanted a t ts e = ap (λ (b : Bool). token_means t ts (cond b (fine tt) (failed (memory_refusal (number t.head))))) (no_mark wanted a (number t.head) e)
 
 mark_same : (wanted : Head) (t : Tok) (ts : List Tok) → contains OUT (number t.head) ≡ false → mark_at false wanted (t ∷ ts) ≡ mark_at true wanted (t ∷ ts)
 unfolding is_class
 mark_same wanted t ts e = ap (λ (k : FaultKind). token_means t ts (cond (nat_eq (number t.head) (number wanted)) (fine tt) (failed k))) (sym (out_not (number t.head) e))
 
-closing_told : (a : Aggregate) (t : Tok) (ts : List Tok) → contains OUT (number t.head) ≡ true → closing_at true a (t ∷ ts) ≡ fault_at Profile (t ∷ ts)
+closing_told : (a : Aggregate) (t : Tok) (ts : List Tok) → contains OUT (number t.head) ≡ true → closing_at true a (t ∷ ts) ≡ fault_at (memory_refusal (number t.head)) (t ∷ ts)
 unfolding brace_at
 closing_told aggregates.Array t ts e = mark_told heads.CloseBracket refl t ts e
 closing_told (aggregates.Struct packed) t ts e = ap (λ (r : Result (Unit {0} × List Tok) Fault). follow r (λ _. angle_at packed)) (mark_told heads.CloseBrace refl t ts e)
@@ -268,22 +259,24 @@ abbrev ends_told : Aggregate → List InitPart → Reader Tok (List InitPart)
 ends_told a ps = closing_at (is_none ps) a >>= λ _. done (ps ++ init_parts.End ∷ [])
 
 out_with : (n : ℕ) → contains OUT n ≡ true → contains (OUT ++ SHAPE) n ≡ true
-out_with n e = by_tests (nat_eq n (number heads.RefusedType)) (nat_eq n (number heads.Target)) (nat_eq n (number heads.RegisterInteger)) (contains SHAPE n) e
+out_with n e = by_tests (nat_eq n (number heads.RefusedType)) (nat_eq n (number heads.Target)) (nat_eq n (number heads.RegisterInteger)) (nat_eq n (number heads.Word)) (contains SHAPE n) e
   where
-    by_tests : (a b c s : Bool) → a || (b || (c || false)) ≡ true → a || (b || (c || s)) ≡ true
-    by_tests true b c s e = refl
-    by_tests false true c s e = refl
-    by_tests false false true s e = refl
-    by_tests false false false s e = absurd cc
+    by_tests : (a b c d s : Bool) → a || (b || (c || (d || false))) ≡ true → a || (b || (c || (d || s))) ≡ true
+    by_tests true b c d s e = refl
+    by_tests false true c d s e = refl
+    by_tests false false true d s e = refl
+    by_tests false false false true s e = refl
+    by_tests false false false false s e = absurd cc
 
 out_without : (n : ℕ) → contains OUT n ≡ false → contains (OUT ++ SHAPE) n ≡ contains SHAPE n
-out_without n e = by_tests (nat_eq n (number heads.RefusedType)) (nat_eq n (number heads.Target)) (nat_eq n (number heads.RegisterInteger)) (contains SHAPE n) e
+out_without n e = by_tests (nat_eq n (number heads.RefusedType)) (nat_eq n (number heads.Target)) (nat_eq n (number heads.RegisterInteger)) (nat_eq n (number heads.Word)) (contains SHAPE n) e
   where
-    by_tests : (a b c s : Bool) → a || (b || (c || false)) ≡ false → a || (b || (c || s)) ≡ s
-    by_tests true b c s e = absurd cc
-    by_tests false true c s e = absurd cc
-    by_tests false false true s e = absurd cc
-    by_tests false false false s e = refl
+    by_tests : (a b c d s : Bool) → a || (b || (c || (d || false))) ≡ false → a || (b || (c || (d || s))) ≡ s
+    by_tests true b c d s e = absurd cc
+    by_tests false true c d s e = absurd cc
+    by_tests false false true d s e = absurd cc
+    by_tests false false false true s e = absurd cc
+    by_tests false false false false s e = refl
 
 module _ (a : Aggregate) where
   abbrev some_more : ℕ → (Spot → Tok → Bool) → (InitPart × Spot) → Reader Tok (List InitPart)
@@ -340,7 +333,7 @@ fair_there false [] e = refl
 fair_there first (a ∷ open_ones) e = absurd cc
 
 all_parts_exchanged : Exchanges (listed any_shape) (chain_at outermost begins_with there_at (true, []))
-all_parts_exchanged = chain outermost (λ s. WITH s.0 s.1) (λ s. piece any_shape s.0 s.1) there_at (λ s. piece_exchanged s.0 s.1) (λ s x q. taken (piece_rule s.0 s.1) x q) (λ s. finished s.0 s.1) (λ s e. inl (fair_there s.0 s.1 e)) (true, [])
+all_parts_exchanged = chain outermost (λ s. WITH s.0 s.1) (λ s. piece any_shape s.0 s.1) there_at (λ s. piece_exchanged s.0 s.1) (λ s x q. taken (piece_rule s.0 s.1) x q) (λ s. finished s.0 s.1) (λ s e. fair_there s.0 s.1 e) (true, [])
 
 mark_too : (none : Bool) (wanted : Head) (ts : List Tok) (u : Unit {0}) → mark false wanted ts u → mark none wanted ts u
 unfolding is_class

@@ -1,5 +1,6 @@
 -- The readers of items tell a token that is left out in some places where one that it stands for goes on.
-use Rattle.std.proofs.Common.{◌≡◌, ℕ, ◌-◌, nat_eq, Bool, true, false, cond, ◌||◌, Option, None, List, [], ◌∷◌, ◌++◌, length, Result, Ok, Err, refl, sym, ap, subst, ◌∙◌, inl, inr}
+use Rattle.std.proofs.Common.{◌≡◌, ℕ, ◌-◌, nat_eq, Bool, true, false, cond, ◌||◌, Option, List, [], ◌∷◌, ◌++◌, length, Result, Ok, Err, refl, sym, ap, subst, ◌∙◌, inl, inr, arith, Some}
+use Rattle.std.proofs.lemmas.List.{length-append}
 use Rattle.std.specs.Prelude.{codes}
 use Rattle.ir_lex.specs.Bytes.{has}
 use Rattle.ir_lex.specs.Heads.{number, head_of, word_head, listed_head, words_7}
@@ -27,8 +28,8 @@ use Rattle.ir_read.specs.FunctionHeads.{name_refusal}
 use Rattle.ir_read.specs.Metadata.{META}
 use Rattle.ir_read.specs.Operands.{LOCAL, REG, global_named}
 use Rattle.ir_read.specs.ShapeForms.{any_shape}
-use Rattle.ir_read.specs.TargetsAt.{comdat_line_at, source_line_at, target_line_at}
-use Rattle.ir_read.specs.declared.attributes.Attribute.{Attribute}
+use Rattle.ir_read.specs.Targets.{layout_line, triple_line}
+use Rattle.ir_read.specs.TargetsAt.{comdat_line_at, source_line_at, target_line_at, LAYOUT, layout_line_at, triple_line_at}
 use Rattle.ir_read.specs.declared.function_heads.Role.TheVariants as roles
 use Rattle.ir_read.specs.declared.places.Before.TheVariants as befores
 use Rattle.ir_read.specs.declared.places.Before.{Before}
@@ -43,16 +44,16 @@ use Rattle.ir_globals.specs.VariablesAt.{variable_line_at, variable_name_at}
 use Rattle.ir_items.specs.Items.{left_out, kept, unnamed, attribute_behind, placed, metadata_there, plainly, beside, attached_before, declaration, any_declaration, any_naming, other, any_named, any_piece, anywhere, at_place, Found}
 use Rattle.ir_items.specs.ItemsAt.{SOURCE, TARGET, COMDAT, DECLARE, NAMING, left_out_at, kept_at, unnamed_at, attribute_behind_at, placed_at, metadata_there_at, plainly_at, beside_at, attached_before_at, declaration_at, other_at, ITEM}
 use Rattle.ir_items.proofs.ItemRules.{there_rule}
-use Rattle.read_again.specs.Refusals.{MEMORY}
-use Rattle.read_again.proofs.Exchanged.{Exchanges, Goes, alt, alt_by, fair, goes_alone, nothing, same_reader, seq, star, taken, tested, Open, Outcome, outcome_too, stands_for, told_too, apart, passed, taken_first}
-use Rattle.read_again.proofs.ExchangedAttributes.{attribute_group_exchanged, head_attribute_exchanged, word_in_head}
+use Rattle.read_again.specs.Refusals.{MEMORY, WORD}
+use Rattle.read_again.proofs.Exchanged.{Exchanges, Goes, alt, alt_by, fair, nothing, same_reader, seq, star, taken, tested, Open, Outcome, outcome_too, stands_for, apart, passed, taken_first, IsTold, Stuck, is_target, target_is, placed_of}
+use Rattle.read_again.proofs.ExchangedAttributes.{attribute_group_exchanged, head_attribute_exchanged}
 use Rattle.read_again.proofs.ExchangedBlocks.{definition_exchanged}
 use Rattle.read_again.proofs.ExchangedChains.{chain}
 use Rattle.read_again.proofs.ExchangedFunctionHeads.{head_exchanged}
 use Rattle.read_again.proofs.ExchangedMetadataBehind.{metadata_behind_exchanged, node_yet_exchanged}
 use Rattle.read_again.proofs.ExchangedNodes.{attached_exchanged, metadata_line_exchanged}
-use Rattle.read_again.proofs.ExchangedTargets.{comdat_line_exchanged, source_line_exchanged, target_line_exchanged}
-use Rattle.read_again.proofs.ExchangedTokens.{a_word, a_word_real, plain_class}
+use Rattle.read_again.proofs.ExchangedTargets.{comdat_line_exchanged, source_line_exchanged, target_line_exchanged, layout_line_exchanged, triple_line_exchanged}
+use Rattle.read_again.proofs.ExchangedTokens.{plain_class}
 use Rattle.read_again.proofs.ExchangedTypeDefinitions.{type_line_exchanged}
 use Rattle.read_again.proofs.ExchangedVariables.{variable_line_exchanged}
 
@@ -60,9 +61,9 @@ declare_real : IsReal (word heads.Declare (codes "declare"))
 unfolding best_fit rest_fit label_len number_len word_len name_len meta_len dots_len other_len string_len has is_bad is_zero_name head_of word_head listed_head words_7
 declare_real = record { behind = []; some = refl; fits = refl; good = refl; class = refl }
 
--- types, which begin no item
+-- types and plain words, which begin no item
 abbrev pub TYPES : List ℕ
-TYPES = number heads.RefusedType ∷ REG
+TYPES = number heads.RefusedType ∷ number heads.Word ∷ REG
 
 abbrev TARGETS : List ℕ
 TARGETS = number heads.Target ∷ TYPES
@@ -144,13 +145,31 @@ metadata_there_exchanged befores.Item = seq metadata_line_exchanged (λ _. nothi
 metadata_there_exchanged befores.Declaration = seq metadata_behind_exchanged (λ _. nothing _)
 metadata_there_exchanged befores.Name = seq node_yet_exchanged (λ _. nothing _)
 
-word_behind : attribute_behind_at (a_word ∷ []) ≡ Ok ((None, befores.Declaration), [])
-unfolding attribute_behind_at
-word_behind = ap (λ (r : Result (Attribute × List Tok) Fault). follow r (λ _. done (None, befores.Declaration))) word_in_head
+abbrev found : Item → Found
+found i = (Some i, befores.Item)
+
+-- `target` goes on there
+target_read : (t : Tok) (rest : List Tok) → is_target t.head ≡ true → kept_at target_line_at (t ∷ rest) ≡ (pick (among tokens LAYOUT) layout_line_at triple_line_at >>= λ i. done (found i)) rest
+unfolding kept_at target_line_at is_class
+target_read t rest q = ap (λ (n : ℕ). follow (follow (token_means t rest (cond (nat_eq n (number heads.Target)) (fine tt) (failed (refusal n)))) (λ _. pick (among tokens LAYOUT) layout_line_at triple_line_at)) (λ i. done (found i))) (target_is t.head q)
+
+unnamed_read : (t : Tok) (rest : List Tok) → is_target t.head ≡ true → unnamed_at (t ∷ rest) ≡ kept_at target_line_at (t ∷ rest)
+unfolding unnamed_at
+unnamed_read t rest q =
+    passed SOURCE (left_out_at source_line_at) (pick (among tokens TARGET) (kept_at target_line_at) behind_targets) t rest (ap (contains SOURCE) (target_is t.head q))
+    ∙ taken_first TARGET (kept_at target_line_at) behind_targets t rest (ap (contains TARGET) (target_is t.head q))
+
+line_of_target : Exchanges (form.◌>>=◌ (form.either layout_line triple_line) (λ i. form.gives (found i))) (pick (among tokens LAYOUT) layout_line_at triple_line_at >>= λ i. done (found i))
+line_of_target = seq (alt LAYOUT refl layout_line_exchanged triple_line_exchanged) (λ i. nothing (found i))
+
+unnamed_goes_on : (t : Tok) (rest : List Tok) (o : Result Found FaultKind) → is_target t.head ≡ true → unnamed_at (t ∷ rest) ≡ ends o (t ∷ rest) → ⊥
+unnamed_goes_on t rest o q d =
+    let p = placed_of line_of_target rest (t ∷ rest) o (sym (unnamed_read t rest q ∙ target_read t rest q) ∙ d) in
+    omega (arith, ap length p.2, length-append p.0 p.1, p.3)
 
 pub plainly_exchanged : (before : Before) → Exchanges (plainly any_shape before) (plainly_at before)
 plainly_exchanged befores.Item = unnamed_exchanged
-plainly_exchanged befores.Declaration = alt_by HEAD (inr (refl, a_word, refl, goes_alone attribute_behind_exchanged a_word a_word_real (None, befores.Declaration) word_behind)) attribute_behind_exchanged unnamed_exchanged
+plainly_exchanged befores.Declaration = alt_by HEAD (inr (refl, refl, inr unnamed_goes_on)) attribute_behind_exchanged unnamed_exchanged
 plainly_exchanged befores.Name = unnamed_exchanged
 
 pub beside_exchanged : (before : Before) → Exchanges (beside any_shape before) (beside_at before)
@@ -241,7 +260,7 @@ numbered_told room names t ts e = then_refused (naming_with room) (λ x. done (a
 -- none stands for another that is a number
 unnumbered : (h : Head) (u : Tok) → among tokens (stands_for h) u ≡ true → among tokens NUMBERED_NAME u ≡ false
 unnumbered heads.RefusedType u i = apart REG NUMBERED_NAME refl (number u.head) i
-unnumbered heads.Target u i = apart REG NUMBERED_NAME refl (number u.head) i
+unnumbered heads.Target u i = apart (REG ++ WORD) NUMBERED_NAME refl (number u.head) i
 unnumbered heads.RegisterInteger u i = apart MEMORY NUMBERED_NAME refl (number u.head) i
 unnumbered heads.NumberedGlobal u i = apart (number heads.Global ∷ []) NUMBERED_NAME refl (number u.head) i
 unnumbered heads.NumberedDefinition u i = apart (number heads.Global ∷ []) NUMBERED_NAME refl (number u.head) i
@@ -263,22 +282,29 @@ module _ (room : ℕ) (before : Before) (names : ℕ) where
   abbrev whole_piece : Form Tok (Option Item × Position)
   whole_piece = any_piece before names
 
-  swap_numbered : (t : Tok) (rest : List Tok) (o : Result (Option Item × Position) FaultKind) → among tokens NUMBERED_NAME t ≡ true → named_with room names (t ∷ rest) ≡ ends o (t ∷ rest) → Outcome whole_piece (piece_with room before names) [] t.head o
-  swap_numbered t rest o e d =
-      subst (λ (x : Result (Option Item × Position) FaultKind). Outcome whole_piece (piece_with room before names) [] t.head x) (sym (end_is Profile o (t ∷ rest) (sym (numbered_told room names t rest e) ∙ d)))
-      (told_too t.head (Goes (any_named names) []) (Goes whole_piece []) (Open []) (Open []) (λ u g. named_is_piece before names [] u g) (λ p. p) ((named_exchanged room names).swap [] t rest (Err Profile) (numbered_told room names t rest e)))
+  numbered_too : (t : Tok) → among tokens NUMBERED_NAME t ≡ true → IsTold t.head (Stuck (named_with room names) []) (Goes (any_named names) []) (Open []) → IsTold t.head (Stuck (piece_with room before names) []) (Goes whole_piece []) (Open [])
+  numbered_too t e n = by_head t.head e n
+    where
+      by_head : (h : Head) → contains NUMBERED_NAME (number h) ≡ true → IsTold h (Stuck (named_with room names) []) (Goes (any_named names) []) (Open []) → IsTold h (Stuck (piece_with room before names) []) (Goes whole_piece []) (Open [])
+      by_head heads.NumberedGlobal e (u, i, g) = (u, i, named_is_piece before names [] u g)
+      by_head h e n = absurd cc
 
-  swap_piece : (front : List Tok) (t : Tok) (rest : List Tok) (o : Result (Option Item × Position) FaultKind) → piece_with room before names (front ++ t ∷ rest) ≡ ends o (t ∷ rest) → Outcome whole_piece (piece_with room before names) front t.head o
+  swap_numbered : (t : Tok) (rest : List Tok) (o : Result (Option Item × Position) FaultKind) → among tokens NUMBERED_NAME t ≡ true → named_with room names (t ∷ rest) ≡ ends o (t ∷ rest) → Outcome false whole_piece (piece_with room before names) [] t.head o
+  swap_numbered t rest o e d =
+      subst (λ (x : Result (Option Item × Position) FaultKind). Outcome false whole_piece (piece_with room before names) [] t.head x) (sym (end_is Profile o (t ∷ rest) (sym (numbered_told room names t rest e) ∙ d)))
+      (numbered_too t e ((named_exchanged room names).swap [] t rest (Err Profile) (numbered_told room names t rest e)))
+
+  swap_piece : (front : List Tok) (t : Tok) (rest : List Tok) (o : Result (Option Item × Position) FaultKind) → piece_with room before names (front ++ t ∷ rest) ≡ ends o (t ∷ rest) → Outcome false whole_piece (piece_with room before names) front t.head o
   swap_piece [] t rest o d = by_test (among tokens NUMBERED_NAME t) refl d
     where
-      by_test : (b : Bool) → among tokens NUMBERED_NAME t ≡ b → cond b (named_with room names (t ∷ rest)) (within_at room before names (t ∷ rest)) ≡ ends o (t ∷ rest) → Outcome whole_piece (piece_with room before names) [] t.head o
+      by_test : (b : Bool) → among tokens NUMBERED_NAME t ≡ b → cond b (named_with room names (t ∷ rest)) (within_at room before names (t ∷ rest)) ≡ ends o (t ∷ rest) → Outcome false whole_piece (piece_with room before names) [] t.head o
       by_test true e d = swap_numbered t rest o e d
-      by_test false e d = outcome_too whole_piece whole_piece (within_at room before names) (piece_with room before names) [] [] t.head o (λ p. p) (λ u i rest'. sym (passed NUMBERED_NAME (named_with room names) (within_at room before names) u rest' (unnumbered t.head u i))) (λ u g. g) ((within_exchanged room before names).swap [] t rest o d)
+      by_test false e d = outcome_too false false whole_piece whole_piece (within_at room before names) (piece_with room before names) [] [] t.head o (λ e. e) (λ p. p) (λ u i rest'. sym (passed NUMBERED_NAME (named_with room names) (within_at room before names) u rest' (unnumbered t.head u i))) (λ u g. g) ((within_exchanged room before names).swap [] t rest o d)
   swap_piece (v ∷ front) t rest o d = by_test (among tokens NUMBERED_NAME v) refl d
     where
-      by_test : (b : Bool) → among tokens NUMBERED_NAME v ≡ b → cond b (named_with room names (v ∷ (front ++ t ∷ rest))) (within_at room before names (v ∷ (front ++ t ∷ rest))) ≡ ends o (t ∷ rest) → Outcome whole_piece (piece_with room before names) (v ∷ front) t.head o
-      by_test true e d = outcome_too (any_named names) whole_piece (named_with room names) (piece_with room before names) (v ∷ front) (v ∷ front) t.head o (λ p. p) (λ u i rest'. sym (taken_first NUMBERED_NAME (named_with room names) (within_at room before names) v (front ++ u ∷ rest') e)) (λ u g. named_is_piece before names (v ∷ front) u g) ((named_exchanged room names).swap (v ∷ front) t rest o d)
-      by_test false e d = outcome_too whole_piece whole_piece (within_at room before names) (piece_with room before names) (v ∷ front) (v ∷ front) t.head o (λ p. p) (λ u i rest'. sym (passed NUMBERED_NAME (named_with room names) (within_at room before names) v (front ++ u ∷ rest') e)) (λ u g. g) ((within_exchanged room before names).swap (v ∷ front) t rest o d)
+      by_test : (b : Bool) → among tokens NUMBERED_NAME v ≡ b → cond b (named_with room names (v ∷ (front ++ t ∷ rest))) (within_at room before names (v ∷ (front ++ t ∷ rest))) ≡ ends o (t ∷ rest) → Outcome false whole_piece (piece_with room before names) (v ∷ front) t.head o
+      by_test true e d = outcome_too false false (any_named names) whole_piece (named_with room names) (piece_with room before names) (v ∷ front) (v ∷ front) t.head o (λ e. e) (λ p. p) (λ u i rest'. sym (taken_first NUMBERED_NAME (named_with room names) (within_at room before names) v (front ++ u ∷ rest') e)) (λ u g. named_is_piece before names (v ∷ front) u g) ((named_exchanged room names).swap (v ∷ front) t rest o d)
+      by_test false e d = outcome_too false false whole_piece whole_piece (within_at room before names) (piece_with room before names) (v ∷ front) (v ∷ front) t.head o (λ e. e) (λ p. p) (λ u i rest'. sym (passed NUMBERED_NAME (named_with room names) (within_at room before names) v (front ++ u ∷ rest') e)) (λ u g. g) ((within_exchanged room before names).swap (v ∷ front) t rest o d)
 
   sound_piece : (ts rest : List Tok) (x : Option Item × Position) → piece_with room before names ts ≡ Ok (x, rest) → (front : List Tok) × (ts ≡ front ++ rest) × whole_piece front x
   sound_piece [] rest x d = (within_exchanged room before names).sound [] rest x d
@@ -334,4 +360,4 @@ abbrev pub all_items_at : ℕ → Position → Reader Tok (List (Option Item))
 all_items_at room = chain_at anywhere starts_there (piece_there room)
 
 pub all_items_exchanged : (room : ℕ) (at : Position) → Exchanges (Chain anywhere (λ at. any_piece at.before at.names) at) (all_items_at room at)
-all_items_exchanged room at = chain anywhere (λ at. STARTS at.before) (λ at. any_piece at.before at.names) (piece_there room) (λ at. piece_exchanged room at.before at.names) (λ at x q. taken (there_rule room at) x q) (λ _. ([], [], (refl, refl), tt)) (λ at e. inl (starts_fair at.before)) at
+all_items_exchanged room at = chain anywhere (λ at. STARTS at.before) (λ at. any_piece at.before at.names) (piece_there room) (λ at. piece_exchanged room at.before at.names) (λ at x q. taken (there_rule room at) x q) (λ _. ([], [], (refl, refl), tt)) (λ at e. starts_fair at.before) at

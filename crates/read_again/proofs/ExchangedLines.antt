@@ -17,7 +17,7 @@ use Rattle.ir_bodies.specs.declared.opcodes.Operation.TheVariants as operations
 use Rattle.ir_bodies.specs.declared.opcodes.Operation.{Operation}
 use Rattle.ir_bodies.proofs.LineRules.{any_name}
 use Rattle.ir_bodies.proofs.Samples.{add_real}
-use Rattle.read_again.proofs.Exchanged.{Exchanges, alt, nothing, recast, seq}
+use Rattle.read_again.proofs.Exchanged.{Exchanges, alt, nothing, recast, seq, Exchanging, loosened, seq_into, with_value}
 use Rattle.read_again.proofs.ExchangedAddressing.{addressing_exchanged, reserving_exchanged}
 use Rattle.read_again.proofs.ExchangedCalls.{calling_exchanged, tail_calling_exchanged}
 use Rattle.read_again.proofs.ExchangedInstructions.{casting_exchanged, comparing_exchanged, dividing_exchanged, extending_exchanged, freezing_exchanged, joining_exchanged, narrowing_exchanged, on_two_exchanged, selecting_exchanged, wrapping_exchanged}
@@ -43,29 +43,29 @@ operation_exchanged operations.Trunc = narrowing_exchanged _
 operation_exchanged operations.Select = selecting_exchanged
 operation_exchanged operations.Freeze = freezing_exchanged
 
-pub behind_exchanged : (named : Bool) (o : Opcode) → Exchanges (behind any_slots any_shape named o) (behind_at named o)
+pub behind_exchanged : (named : Bool) (o : Opcode) → Exchanging true (behind any_slots any_shape named o) (behind_at named o)
 unfolding attended attended_at kept kept_at
-behind_exchanged named (opcodes.Value o) = seq (operation_exchanged o) (λ i. seq attachments_exchanged (λ _. nothing (Some i)))
-behind_exchanged named opcodes.Phi = seq phi_exchanged (λ i. nothing (Some i))
-behind_exchanged named opcodes.Alloca = seq reserving_exchanged (λ i. nothing (Some i))
-behind_exchanged named opcodes.Load = seq loading_exchanged (λ i. nothing (Some i))
-behind_exchanged named opcodes.GetElementPtr = seq addressing_exchanged (λ i. nothing (Some i))
-behind_exchanged named opcodes.Store = seq storing_exchanged (λ i. nothing (Some i))
+behind_exchanged named (opcodes.Value o) = loosened (seq (operation_exchanged o) (λ i. seq attachments_exchanged (λ _. nothing (Some i))))
+behind_exchanged named opcodes.Phi = loosened (seq phi_exchanged (λ i. nothing (Some i)))
+behind_exchanged named opcodes.Alloca = loosened (seq reserving_exchanged (λ i. nothing (Some i)))
+behind_exchanged named opcodes.Load = loosened (seq loading_exchanged (λ i. nothing (Some i)))
+behind_exchanged named opcodes.GetElementPtr = loosened (seq addressing_exchanged (λ i. nothing (Some i)))
+behind_exchanged named opcodes.Store = loosened (seq storing_exchanged (λ i. nothing (Some i)))
 behind_exchanged named opcodes.Tail = tail_calling_exchanged named
 behind_exchanged named opcodes.Call = calling_exchanged named
 
-pub line_behind_exchanged : (name : Tok) → Exchanges (line_behind any_slots any_shape name) (line_behind_at name)
+pub line_behind_exchanged : (name : Tok) → Exchanging true (line_behind any_slots any_shape name) (line_behind_at name)
 unfolding line_behind line_behind_at
-line_behind_exchanged name = seq equals_exchanged (λ _. seq (one_sample GIVING opcode_of (word heads.Add (codes "add")) refl add_real refl) (λ o. seq (behind_exchanged true o) (λ i. nothing (lined (Some name) name.line i))))
+line_behind_exchanged name = seq_into equals_exchanged (λ _. seq_into (one_sample GIVING opcode_of (word heads.Add (codes "add")) refl add_real refl) (λ o. with_value (λ i. lined (Some name) name.line i) (behind_exchanged true o)))
 
-pub named_line_exchanged : Exchanges (named_line any_local any_slots any_shape) named_line_at
+pub named_line_exchanged : Exchanging true (named_line any_local any_slots any_shape) named_line_at
 unfolding named_line named_line_at
-named_line_exchanged = seq any_local_exchanged line_behind_exchanged
+named_line_exchanged = seq_into any_local_exchanged line_behind_exchanged
 
-pub plain_line_exchanged : Exchanges (plain_line any_slots any_shape) plain_line_at
+pub plain_line_exchanged : Exchanging true (plain_line any_slots any_shape) plain_line_at
 unfolding plain_line plain_line_at
-plain_line_exchanged = seq (one_sample OPCODES begun_of (word heads.Add (codes "add")) refl add_real refl) (λ b. seq (behind_exchanged false b.opcode) (λ i. nothing (lined None b.line i)))
+plain_line_exchanged = seq_into (one_sample OPCODES begun_of (word heads.Add (codes "add")) refl add_real refl) (λ b. with_value (λ i. lined None b.line i) (behind_exchanged false b.opcode))
 
-pub line_exchanged : Exchanges (line any_local any_slots any_shape) line_at
+pub line_exchanged : Exchanging true (line any_local any_slots any_shape) line_at
 unfolding line line_at
 line_exchanged = alt LOCAL refl named_line_exchanged plain_line_exchanged

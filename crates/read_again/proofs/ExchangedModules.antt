@@ -225,10 +225,10 @@ all_never front t rest is d e = by_result (all_items_at FURTHER_PARAMETERS (firs
     by_result (Ok y) q d = never_before FURTHER_PARAMETERS (suc (length (front ++ t ∷ rest))) (first_place GLOBAL_NAMES) (front ++ t ∷ rest) y.0 t rest (q ∙ ap (λ (z : List Tok). reads y.0 z) (reads_is (fold keep [] y.0) is y.1 (t ∷ rest) d).1) e
     by_result (Err f) q d = cc
 
-pub module_exchanged : (front : List Tok) (t : Tok) (rest : List Tok) (k : FaultKind) → module_of (front ++ t ∷ rest) ≡ wrong (record { left = length (t ∷ rest); kind = k }) → contains SOMEWHERE (number t.head) ≡ true → Outcome any_module all_at front t.head (Err k)
+pub module_exchanged : (front : List Tok) (t : Tok) (rest : List Tok) (k : FaultKind) → module_of (front ++ t ∷ rest) ≡ wrong (record { left = length (t ∷ rest); kind = k }) → contains SOMEWHERE (number t.head) ≡ true → Outcome false any_module all_at front t.head (Err k)
 module_exchanged front t rest k d e = by_result (all_at (front ++ t ∷ rest)) refl (module_is (front ++ t ∷ rest) ∙ d)
   where
-    by_end : (is : List Item) (left : List Tok) → all_at (front ++ t ∷ rest) ≡ reads is left → ended item_refusal is left ≡ wrong (record { left = length (t ∷ rest); kind = k }) → Outcome any_module all_at front t.head (Err k)
+    by_end : (is : List Item) (left : List Tok) → all_at (front ++ t ∷ rest) ≡ reads is left → ended item_refusal is left ≡ wrong (record { left = length (t ∷ rest); kind = k }) → Outcome false any_module all_at front t.head (Err k)
     by_end is [] q h = absurd cc
     by_end is (u ∷ us) q h =
         let l : length (u ∷ us) ≡ length (t ∷ rest) = ap (λ (x : Fault). x.left) (wrong_is {X = List Item} (record { left = length (u ∷ us); kind = item_refusal u }) (record { left = length (t ∷ rest); kind = k }) h) in
@@ -236,7 +236,7 @@ module_exchanged front t rest k d e = by_result (all_at (front ++ t ∷ rest)) r
         let c = cut_is front (t ∷ rest) s.0 (u ∷ us) s.1 (sym l) in
         absurd (all_never front t rest is (q ∙ ap (λ (y : List Tok). reads is y) (sym c.1)) e)
 
-    by_result : (r : Result (List Item × List Tok) Fault) → all_at (front ++ t ∷ rest) ≡ r → whole_of item_refusal r ≡ wrong (record { left = length (t ∷ rest); kind = k }) → Outcome any_module all_at front t.head (Err k)
+    by_result : (r : Result (List Item × List Tok) Fault) → all_at (front ++ t ∷ rest) ≡ r → whole_of item_refusal r ≡ wrong (record { left = length (t ∷ rest); kind = k }) → Outcome false any_module all_at front t.head (Err k)
     by_result (Ok x) q h = by_end x.0 x.1 q h
     by_result (Err f) q h = all_exchanged.swap front t rest (Err k) (q ∙ ap wrong (wrong_is {X = List Item} f (record { left = length (t ∷ rest); kind = k }) h))
 

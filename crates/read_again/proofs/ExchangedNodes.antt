@@ -1,26 +1,27 @@
 -- The readers of metadata tell a token that is left out in some places against the syntax, where it may not stand.
-use Rattle.std.proofs.Common.{◌≡◌, Bool, true, false, cond, ◌&&◌, List, [], ◌∷◌, ◌++◌, length, Result, Ok, refl, sym, ap, ◌∙◌, arith}
+use Rattle.std.proofs.Common.{◌≡◌, Bool, true, false, cond, ◌&&◌, List, [], ◌∷◌, ◌++◌, length, Result, Ok, refl, sym, ap, ◌∙◌, arith, ℕ}
 use Rattle.std.proofs.lemmas.List.{length-append}
 use Rattle.std.specs.Prelude.{codes}
 use Rattle.ir_lex.specs.Tok.{Tok}
 use Rattle.ir_lex.specs.declared.head.Head.TheVariants as heads
 use Rattle.ir_lex.specs.declared.token.Kind.TheVariants as kinds
-use Rattle.lto_forms.proofs.Composed.{wrong_is}
+use Rattle.lto_forms.proofs.Composed.{wrong_is, reads}
+use Rattle.lto_forms.specs.Alphabet.{among, contains}
 use Rattle.lto_forms.specs.Balanced.{Move, none_open, stays}
-use Rattle.lto_forms.specs.Readers.{fault_at}
+use Rattle.lto_forms.specs.Readers.{fault_at, done, follow, ◌>>=◌, many_at}
 use Rattle.lto_forms.specs.Runs.{Run, Step, bad, last, onward, run_at}
 use Rattle.lto_forms.specs.declared.fault.Fault.{Fault}
 use Rattle.lto_forms.specs.declared.fault.FaultKind.TheVariants.{Syntax}
 use Rattle.lto_forms.specs.declared.fault.FaultKind.{FaultKind}
 use Rattle.ir_read.specs.Brackets.{move_of}
-use Rattle.ir_read.specs.Classes.{one_of, one_of_at}
+use Rattle.ir_read.specs.Classes.{one_of, one_of_at, tokens}
 use Rattle.ir_read.specs.Metadata.{META, node, attached, attachment, attachments, ended_by, ends_line, line_step, open_behind, rest_of_line, metadata_line}
 use Rattle.ir_read.specs.MetadataAt.{PAREN, CURLY, NAMED, COMMA, node_at, attached_at, attachment_at, attachments_at, rest_of_line_at, metadata_line_at}
 use Rattle.ir_read.specs.declared.brackets.Bracket.TheVariants.{Paren, Curly}
 use Rattle.ir_read.specs.declared.brackets.Bracket.{Bracket}
 use Rattle.ir_read.proofs.Nodes.{attachment_rule, line_rule}
 use Rattle.ir_read.proofs.Singles.{meta_real, sample}
-use Rattle.read_again.proofs.Exchanged.{Exchanges, alt, anywhere, maybe, nothing, seq, star, taken}
+use Rattle.read_again.proofs.Exchanged.{Exchanges, alt, anywhere, maybe, nothing, seq, star, taken, is_target, target_is}
 use Rattle.read_again.proofs.ExchangedGroups.{group_exchanged, somewhere_stays}
 use Rattle.read_again.proofs.ExchangedTokens.{one_sample}
 use Rattle.read_again.proofs.ExchangedWords.{bang_exchanged, comma_exchanged, meta_exchanged}
@@ -43,6 +44,11 @@ attachment_exchanged = seq comma_exchanged (λ _. attached_exchanged)
 pub attachments_exchanged : Exchanges attachments attachments_at
 unfolding attachments attachments_at
 attachments_exchanged = seq (star COMMA refl attachment_exchanged (taken attachment_rule)) (λ _. nothing tt)
+
+-- at `target` there are none
+pub no_attachments : (t : Tok) (rest : List Tok) → is_target t.head ≡ true → attachments_at (t ∷ rest) ≡ reads tt (t ∷ rest)
+unfolding attachments_at
+no_attachments t rest e = ap (λ (n : ℕ). follow (cond (contains COMMA n) ((attachment_at >>= λ a. many_at (among tokens COMMA) attachment_at (length rest) >>= λ more. done (a ∷ more)) (t ∷ rest)) (reads [] (t ∷ rest))) (λ _. done tt)) (target_is t.head e)
 
 -- a fault at a token is none behind it
 not_behind : (bs : List Bracket) (t : Tok) (rest : List Tok) (k : FaultKind) → run_at line_step bs rest ≡ fault_at k (t ∷ rest) → ⊥

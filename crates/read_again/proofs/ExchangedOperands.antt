@@ -25,16 +25,16 @@ abbrev i32 : Tok
 i32 = word heads.MemoryInteger (codes "i32")
 
 pub reg_exchanged : Exchanges reg reg_at
-reg_exchanged = type_one REG reg_of reg_rule refl i32 refl int_32_real refl
+reg_exchanged = type_one REG reg_of reg_rule refl refl i32 refl int_32_real refl
 
 pub integer_exchanged : Exchanges integer integer_at
-integer_exchanged = type_one INTEGER width integer_rule refl i32 refl int_32_real refl
+integer_exchanged = type_one INTEGER width integer_rule refl refl i32 refl int_32_real refl
 
 pub bit_exchanged : Exchanges bit bit_at
 bit_exchanged = exact_type INTEGER is_bit width refl (word heads.RegisterInteger (codes "i1")) refl refl refl int_1_real i8 refl refl i8_real bit_rule
 
 pub scalar_exchanged : Exchanges scalar scalar_at
-scalar_exchanged = memory_one SCALAR reg_of scalar_rule refl i32 refl int_32_real refl (λ v i. scalar_too v i)
+scalar_exchanged = memory_one SCALAR reg_of scalar_rule refl refl i32 refl int_32_real refl (λ v i. scalar_too v i)
   where
     scalar_too : (v : Tok) → among tokens MEMORY v ≡ true → among tokens SCALAR v ≡ true
     scalar_too v i = by_test (nat_eq (number v.head) (number heads.MemoryInteger)) (nat_eq (number v.head) (number heads.Ptr)) i
@@ -44,7 +44,7 @@ scalar_exchanged = memory_one SCALAR reg_of scalar_rule refl i32 refl int_32_rea
         by_test false c h = absurd cc
 
 pub result_exchanged : Exchanges result result_at
-result_exchanged = type_one RESULT result_of result_rule refl i32 refl int_32_real refl
+result_exchanged = type_one RESULT result_of result_rule refl refl i32 refl int_32_real refl
 
 pub local_exchanged : Exchanges local local_at
 local_exchanged = plain_valued LOCAL named local_rule refl

@@ -1,5 +1,5 @@
 -- The readers of phis tell a token that is left out in some places where one that it stands for goes on.
-use Rattle.std.proofs.Common.{Bool, true, false, Option, [], refl, inl}
+use Rattle.std.proofs.Common.{Bool, true, false, Option, [], refl}
 use Rattle.ir_lex.specs.Heads.{number}
 use Rattle.ir_lex.specs.declared.head.Head.TheVariants as heads
 use Rattle.ir_tree.specs.declared.operand.Reg.{Reg}
@@ -45,7 +45,7 @@ unfolding further
 further_some r s x q = token_begins (is_class tokens refusal (number heads.Comma)) _ x q
 
 pub more_exchanged : (r : Reg) → Exchanges (Chain phis.anywhere (further any_shape r) false) (chain_at phis.anywhere begins (further_at r) false)
-more_exchanged r = chain phis.anywhere (λ _. COMMA) (further any_shape r) (further_at r) (further_exchanged r) (further_some r) (λ _. ([], [], (refl, refl), tt)) (λ _ _. inl refl) false
+more_exchanged r = chain phis.anywhere (λ _. COMMA) (further any_shape r) (further_at r) (further_exchanged r) (further_some r) (λ _. ([], [], (refl, refl), tt)) (λ _ _. refl) false
 
 pub entries_exchanged : (r : Reg) (first : Incoming) → Exchanges (entries any_shape r first) (entries_at r first)
 unfolding entries entries_at

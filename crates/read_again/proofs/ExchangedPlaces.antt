@@ -23,22 +23,22 @@ use Rattle.read_again.proofs.ExchangedModules.{all_at, module_exchanged, none_go
 
 -- ---- what is said of each class
 
-type_told : (h : Head) (G : Tok → Type 0) (P : Type 0) → contains TYPE (number h) ≡ true → IsTold h G P → ((u : Tok) × (among tokens REG u ≡ true) × G u) ⊎ P
-type_told heads.RefusedType G P e n = n
-type_told h G P e n = absurd cc
+type_told : (h : Head) (S G : Tok → Type 0) (P : Type 0) → contains TYPE (number h) ≡ true → IsTold h S G P → ((u : Tok) × (among tokens REG u ≡ true) × G u) ⊎ P
+type_told heads.RefusedType S G P e n = n
+type_told h S G P e n = absurd cc
 
-target_told : (h : Head) (G : Tok → Type 0) (P : Type 0) → contains TARGET (number h) ≡ true → IsTold h G P → ((u : Tok) × (among tokens REG u ≡ true) × G u) ⊎ P
-target_told heads.Target G P e n = n
-target_told h G P e n = absurd cc
+target_told : (h : Head) (S G : Tok → Type 0) (P : Type 0) → contains TARGET (number h) ≡ true → IsTold h S G P → (((u : Tok) × (among tokens REG u ≡ true) × G u) ⊎ P) × ((w : Tok) → among tokens WORD w ≡ true → S w)
+target_told heads.Target S G P e n = n
+target_told h S G P e n = absurd cc
 
-integer_told : (h : Head) (G : Tok → Type 0) (P : Type 0) → contains INTEGER (number h) ≡ true → IsTold h G P → (u : Tok) → among tokens MEMORY u ≡ true → IsReal u → G u
-integer_told heads.RegisterInteger G P e n = n
-integer_told h G P e n = absurd cc
+integer_told : (h : Head) (S G : Tok → Type 0) (P : Type 0) → contains INTEGER (number h) ≡ true → IsTold h S G P → (u : Tok) → among tokens MEMORY u ≡ true → IsReal u → G u
+integer_told heads.RegisterInteger S G P e n = n
+integer_told h S G P e n = absurd cc
 
-name_told : (h : Head) (G : Tok → Type 0) (P : Type 0) → contains NUMBERED (number h) ≡ true → IsTold h G P → (u : Tok) × (among tokens GLOBAL u ≡ true) × G u
-name_told heads.NumberedGlobal G P e n = n
-name_told heads.NumberedDefinition G P e n = n
-name_told h G P e n = absurd cc
+name_told : (h : Head) (S G : Tok → Type 0) (P : Type 0) → contains NUMBERED (number h) ≡ true → IsTold h S G P → (u : Tok) × (among tokens GLOBAL u ≡ true) × G u
+name_told heads.NumberedGlobal S G P e n = n
+name_told heads.NumberedDefinition S G P e n = n
+name_told h S G P e n = absurd cc
 
 type_not : (h : Head) (S G : Tok → Type 0) → contains TYPE (number h) ≡ true → NotTold h S G → (u : Tok) → among tokens REG u ≡ true → S u
 type_not heads.RefusedType S G e n = n
@@ -73,6 +73,9 @@ module _ (front : List Tok) (t : Tok) where
   some_or_open P (inl g) = inl (some_goes_on REG g)
   some_or_open P (inr p) = inr p
 
+  told_target : (((u : Tok) × (among tokens REG u ≡ true) × Goes any_module front u) ⊎ Open front) × ((w : Tok) → among tokens WORD w ≡ true → Stuck all_at front w) → (SomeGoesOn REG front ⊎ Open front) × NoneOfThem WORD front
+  told_target (g, n) = (some_or_open (Open front) g, λ w i. none_goes_on front w (n w i))
+
   none_or_word : ((u : Tok) → among tokens REG u ≡ true → Stuck all_at front u) ⊎ ((w : Tok) × (among tokens WORD w ≡ true) × Goes any_module front w) → NoneOfThem REG front ⊎ SomeGoesOn WORD front
   none_or_word (inl n) = inl (λ u i. none_goes_on front u (n u i))
   none_or_word (inr w) = inr (some_goes_on WORD w)
@@ -81,9 +84,9 @@ module _ (front : List Tok) (t : Tok) where
   not_each (u, i, r, s) = (u, i, r, none_goes_on front u s)
 
   abbrev Placed : FaultKind → Type 0
-  Placed k = contains SOMEWHERE (number t.head) ≡ true → Outcome any_module all_at front t.head (Err k)
+  Placed k = contains SOMEWHERE (number t.head) ≡ true → Outcome false any_module all_at front t.head (Err k)
 
-  here : (classes : List ℕ) (k : FaultKind) → (contains classes (number t.head) ≡ true → contains SOMEWHERE (number t.head) ≡ true) → Placed k → contains classes (number t.head) ≡ true → Outcome any_module all_at front t.head (Err k)
+  here : (classes : List ℕ) (k : FaultKind) → (contains classes (number t.head) ≡ true → contains SOMEWHERE (number t.head) ≡ true) → Placed k → contains classes (number t.head) ≡ true → Outcome false any_module all_at front t.head (Err k)
   here classes k within p e = p (within e)
 
   in_types : contains TYPE (number t.head) ≡ true → contains SOMEWHERE (number t.head) ≡ true
@@ -100,13 +103,13 @@ module _ (front : List Tok) (t : Tok) where
 
   left_out : (kind : told_kind.FaultKind) → (kind ≡ kinds.Syntax → ⊥) → Placed Profile → FitsPlace front t kind
   left_out kind never p = record {
-    type_left_out = λ e word h. some_or_open (Open front) (type_told t.head (Goes any_module front) (Open front) e (p (in_types e)));
+    type_left_out = λ e word h. some_or_open (Open front) (type_told t.head (Stuck all_at front) (Goes any_module front) (Open front) e (p (in_types e)));
     type_misplaced = λ e h. absurd (never h);
-    target_left_out = λ e word h. some_or_open (Open front) (target_told t.head (Goes any_module front) (Open front) e (p (in_target e)));
+    target_left_out = λ e word h. told_target (target_told t.head (Stuck all_at front) (Goes any_module front) (Open front) e (p (in_target e)));
     target_misplaced = λ e h. absurd (never h);
-    integer_left_out = λ e word h u i r. goes_on u (integer_told t.head (Goes any_module front) (Open front) e (p (in_integers e)) u i r);
+    integer_left_out = λ e word h u i r. goes_on u (integer_told t.head (Stuck all_at front) (Goes any_module front) (Open front) e (p (in_integers e)) u i r);
     integer_misplaced = λ e h. absurd (never h);
-    name_left_out = λ e word h. some_goes_on GLOBAL (name_told t.head (Goes any_module front) (Open front) e (p (in_names e)));
+    name_left_out = λ e word h. some_goes_on GLOBAL (name_told t.head (Stuck all_at front) (Goes any_module front) (Open front) e (p (in_names e)));
     name_misplaced = λ e h. absurd (never h);
   }
 

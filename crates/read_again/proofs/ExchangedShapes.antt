@@ -1,5 +1,5 @@
 -- The readers of shapes tell a token that is left out in some places where a type that memory holds goes on.
-use Rattle.std.proofs.Common.{◌≡◌, ℕ, zero, suc, Bool, true, false, cond, nat_eq, nat_lt, Option, Some, None, ◌&&◌, ◌||◌, not, List, [], ◌∷◌, ◌++◌, Result, Ok, Err, refl, sym, ap, subst, ◌∙◌, inl}
+use Rattle.std.proofs.Common.{◌≡◌, ℕ, zero, suc, Bool, true, false, cond, nat_eq, nat_lt, Option, Some, None, ◌&&◌, ◌||◌, not, List, [], ◌∷◌, ◌++◌, Result, Ok, Err, refl, sym, ap, subst, ◌∙◌}
 use Rattle.std.proofs.lemmas.List.{append-nil}
 use Rattle.std.specs.Prelude.{codes}
 use Rattle.ir_lex.specs.Heads.{number}
@@ -95,7 +95,7 @@ leaf_right room t x e = let s = (leaf_rule room).law.sound (t ∷ []) [] x (ap (
     one_token front e s = subst (λ (y : List Tok). leaf whole y x) (sym (e ∙ append-nil front)) s
 
 pub leaf_exchanged : (room : Room) → Exchanges (leaf whole) (leaf_at room)
-leaf_exchanged room = single (leaf whole) (leaf_means room) (leaf_right room) (i32 ∷ [], scalar_typed i32, scalar_spelled i32 refl, (int_32_real, tt)) (says_shaped (leaf whole) (leaf_means room) LEAF (leaf_inside room) (leaf_outside room) refl (i32, refl, scalar_goes i32 refl int_32_real) (λ v i r. scalar_goes v (memory_is_scalar v i) r))
+leaf_exchanged room = single (leaf whole) (leaf_means room) (leaf_right room) (i32 ∷ [], scalar_typed i32, scalar_spelled i32 refl, (int_32_real, tt)) (says_shaped (leaf whole) (leaf_means room) LEAF (leaf_inside room) (leaf_outside room) refl refl (i32, refl, scalar_goes i32 refl int_32_real) (λ v i r. scalar_goes v (memory_is_scalar v i) r))
 
 -- ---- arrays and structures
 
@@ -127,7 +127,7 @@ module _ (packed : Bool) (part : Extent → Reader Tok Typed) (each : (s : Exten
   further_some s x q = token_begins (is_class tokens refusal (number heads.Comma)) _ x q
 
   chained_exchanged : (s : Extent) → Exchanges (Chain anywhere (further packed (λ _. any_shape)) s) (chain_at anywhere begins (further_at packed part) s)
-  chained_exchanged s = chain anywhere (λ _. COMMA) (further packed (λ _. any_shape)) (further_at packed part) further_exchanged further_some (λ _. ([], [], (refl, refl), tt)) (λ _ _. inl refl) s
+  chained_exchanged s = chain anywhere (λ _. COMMA) (further packed (λ _. any_shape)) (further_at packed part) further_exchanged further_some (λ _. ([], [], (refl, refl), tt)) (λ _ _. refl) s
 
   more_members_exchanged : (first : Written) → Exchanges (more_members packed (λ _. any_shape) first) (more_members_at packed part first)
   unfolding more_members more_members_at

@@ -1,14 +1,18 @@
 -- The readers of terminators tell a token that is left out in some places where one that it stands for goes on.
-use Rattle.std.proofs.Common.{Option, Some, None, [], refl}
+use Rattle.std.proofs.Common.{Option, Some, None, [], refl, ◌≡◌, true, List, ◌∷◌, ap, Result}
 use Rattle.std.specs.Prelude.{codes}
 use Rattle.ir_lex.specs.Bytes.{has}
 use Rattle.ir_lex.specs.Heads.{head_of, word_head, listed_head, words_3}
 use Rattle.ir_lex.specs.Lexing.{is_bad}
 use Rattle.ir_lex.specs.Quotes.{is_zero_name}
 use Rattle.ir_lex.specs.Rows.{best_fit, rest_fit, label_len, number_len, word_len, name_len, meta_len, dots_len, other_len, string_len}
+use Rattle.ir_lex.specs.Tok.{Tok}
 use Rattle.ir_lex.specs.declared.head.Head.TheVariants as heads
 use Rattle.ir_tree.specs.declared.operand.Reg.TheVariants.{Int, Ptr}
 use Rattle.ir_tree.specs.declared.operand.Reg.{Reg}
+use Rattle.lto_forms.specs.Readers.{Reader, fault_at, follow, ◌>>=◌}
+use Rattle.lto_forms.specs.declared.fault.Fault.{Fault}
+use Rattle.lto_forms.specs.declared.fault.FaultKind.TheVariants.{Syntax}
 use Rattle.ir_read.specs.Classes.{IsReal}
 use Rattle.ir_read.specs.Operands.{reg_of}
 use Rattle.ir_read.specs.OperandsAt.{reg_at}
@@ -18,12 +22,13 @@ use Rattle.ir_read.specs.TerminatorsAt.{LABEL, returned_at, returning_at, target
 use Rattle.ir_read.specs.declared.raw.Terminator.TheVariants as terminators
 use Rattle.ir_read.specs.declared.terminators.End.TheVariants as end
 use Rattle.ir_read.specs.declared.terminators.End.{End}
+use Rattle.ir_read.specs.declared.terminators.Ended.{Ended}
 use Rattle.ir_read.proofs.Singles.{word}
 use Rattle.ir_read.proofs.TerminatorRules.{case_rule, constant_rule}
-use Rattle.read_again.proofs.Exchanged.{Exchanges, alt, nothing, seq, taken}
+use Rattle.read_again.proofs.Exchanged.{Exchanges, alt, nothing, seq, taken, is_target}
 use Rattle.read_again.proofs.ExchangedNodes.{attachments_exchanged}
 use Rattle.read_again.proofs.ExchangedOperands.{bit_exchanged, integer_exchanged, local_exchanged, reg_exchanged, result_exchanged}
-use Rattle.read_again.proofs.ExchangedTokens.{one_sample, plain_valued}
+use Rattle.read_again.proofs.ExchangedTokens.{one_sample, plain_valued, refused_one}
 use Rattle.read_again.proofs.ExchangedTypes.{Types, all_exchanged as typed_all, type_told, types_first}
 use Rattle.read_again.proofs.ExchangedValues.{operand_exchanged}
 use Rattle.read_again.proofs.ExchangedWords.{comma_exchanged, label_exchanged, open_bracket_exchanged, close_bracket_exchanged}
@@ -77,3 +82,8 @@ behind_end_exchanged end.Unreachable = nothing _
 pub terminator_exchanged : Exchanges (terminator any_shape) terminator_at
 unfolding terminator terminator_at
 terminator_exchanged = seq (one_sample ENDS ending_of (word heads.Ret (codes "ret")) refl ret_real refl) (λ e. seq (behind_end_exchanged e.end) (λ _. seq attachments_exchanged (λ _. nothing _)))
+
+-- it doesn't begin one
+pub terminator_closes : {B : Type 0} (h : Ended → Reader Tok B) (t : Tok) (rest : List Tok) → is_target t.head ≡ true → (terminator_at >>= h) (t ∷ rest) ≡ fault_at Syntax (t ∷ rest)
+unfolding terminator_at
+terminator_closes h t rest q = ap (λ (r : Result (Ended × List Tok) Fault). follow r h) (refused_one _ ENDS ending_of refl t rest q)

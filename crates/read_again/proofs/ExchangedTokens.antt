@@ -14,7 +14,7 @@ use Rattle.lto_forms.specs.Alphabet.{among, contains}
 use Rattle.lto_forms.specs.Forms as form
 use Rattle.lto_forms.specs.Forms.{Form}
 use Rattle.lto_forms.specs.Lawful.{IsBound}
-use Rattle.lto_forms.specs.Readers.{token_at}
+use Rattle.lto_forms.specs.Readers.{token_at, Reader, fault_at, follow, ◌>>=◌, token_means}
 use Rattle.lto_forms.specs.Rules.{Rule, disjoint, in_range, is_among, is_class, is_exact, is_valued}
 use Rattle.lto_forms.specs.declared.fault.FaultKind.TheVariants.{Syntax, Profile, Number, Limit}
 use Rattle.lto_forms.specs.declared.fault.FaultKind.{FaultKind}
@@ -25,8 +25,8 @@ use Rattle.ir_read.specs.ShapeForms.{angle_refusal}
 use Rattle.ir_read.proofs.FunctionHeadRules.{name_not_number, name_not_limit}
 use Rattle.ir_read.proofs.OperandRules.{type_not_number, type_not_limit, memory_not_number, memory_not_limit}
 use Rattle.ir_read.proofs.Singles.{word, not_number, not_limit}
-use Rattle.read_again.specs.Refusals.{MEMORY}
-use Rattle.read_again.proofs.Exchanged.{Exchanges, Goes, SOMEWHERE, Says, single, stands_for, apart}
+use Rattle.read_again.specs.Refusals.{MEMORY, WORD}
+use Rattle.read_again.proofs.Exchanged.{Exchanges, Goes, SOMEWHERE, Says, single, stands_for, apart, a_type, is_target, target_is}
 
 pub i8_real : IsReal (word heads.MemoryInteger (codes "i8"))
 unfolding best_fit rest_fit label_len number_len word_len name_len meta_len dots_len other_len string_len has is_bad is_zero_name head_of word_head listed_head words_2
@@ -56,6 +56,10 @@ plain_at wanted h = contains wanted (number h) || disjoint (stands_for h) wanted
 
 abbrev pub plain_numbers : List ℕ → Bool
 plain_numbers wanted = plain_at wanted heads.RegisterInteger && (plain_at wanted heads.NumberedGlobal && plain_at wanted heads.NumberedDefinition)
+
+-- no plain word is taken
+abbrev pub wordless : List ℕ → Bool
+wordless wanted = disjoint WORD wanted
 
 abbrev pub plain_names : List ℕ → Bool
 plain_names wanted = plain_at wanted heads.RefusedType && (plain_at wanted heads.Target && plain_at wanted heads.RegisterInteger)
@@ -89,6 +93,9 @@ module _ {A : Type 0} (wide : Form Tok A) (meaning : Tok → Result A FaultKind)
   module _ (wanted : List ℕ) (refuse : ℕ → FaultKind) (unbound : (n : ℕ) → IsBound (refuse n) → ⊥) (outside : (t : Tok) → among tokens wanted t ≡ false → meaning t ≡ Err (refuse (number t.head))) (inside : (t : Tok) → among tokens wanted t ≡ true → (k : FaultKind) → meaning t ≡ Err k → IsBound k) where
     stuck_outside : (u : Tok) → among tokens wanted u ≡ false → (k : FaultKind) × (IsBound k → ⊥) × (meaning u ≡ Err k)
     stuck_outside u e = (refuse (number u.head), unbound (number u.head), outside u e)
+
+    pub no_word : wordless wanted ≡ true → (w : Tok) → among tokens WORD w ≡ true → (k : FaultKind) × (IsBound k → ⊥) × (meaning w ≡ Err k)
+    no_word p w i = stuck_outside w (apart WORD wanted p (number w.head) i)
 
     pub none_taken : (h : Head) → plain_at wanted h ≡ true → contains wanted (number h) ≡ false → (u : Tok) → among tokens (stands_for h) u ≡ true → (k : FaultKind) × (IsBound k → ⊥) × (meaning u ≡ Err k)
     none_taken h p n u i = stuck_outside u (apart (stands_for h) wanted (left_false (contains wanted (number h)) (disjoint (stands_for h) wanted) p n) (number u.head) i)
@@ -133,7 +140,7 @@ module _ {A : Type 0} (wide : Form Tok A) (meaning : Tok → Result A FaultKind)
 
     plainly : (h : Head) → contains wanted (number h) ≡ false → Says wide meaning h (refusal (number h))
     plainly heads.RefusedType n = none_taken wide meaning wanted refusal not_bound outside inside heads.RefusedType (and_parts (plain_at wanted heads.RefusedType) (plain_at wanted heads.Target && plain_at wanted heads.RegisterInteger) names).0 n
-    plainly heads.Target n = inl (none_taken wide meaning wanted refusal not_bound outside inside heads.Target (and_parts (plain_at wanted heads.Target) (plain_at wanted heads.RegisterInteger) two).0 n)
+    plainly heads.Target n = inl (λ u i. none_taken wide meaning wanted refusal not_bound outside inside heads.Target (and_parts (plain_at wanted heads.Target) (plain_at wanted heads.RegisterInteger) two).0 n u (a_type u i))
     plainly heads.RegisterInteger n = (i8, refl, i8_real, none_taken wide meaning wanted refusal not_bound outside inside heads.RegisterInteger (and_parts (plain_at wanted heads.Target) (plain_at wanted heads.RegisterInteger) two).1 n i8 refl)
     plainly heads.NumberedGlobal n = none_taken wide meaning wanted refusal not_bound outside inside heads.NumberedGlobal globals.0 n
     plainly heads.NumberedDefinition n = none_taken wide meaning wanted refusal not_bound outside inside heads.NumberedDefinition globals.1 n
@@ -144,13 +151,13 @@ module _ {A : Type 0} (wide : Form Tok A) (meaning : Tok → Result A FaultKind)
 
   -- ---- where a type may stand
 
-  module _ (outside : (t : Tok) → among tokens wanted t ≡ false → meaning t ≡ Err (type_refusal (number t.head))) (p : plain_numbers wanted ≡ true) (type : (u : Tok) × (among tokens REG u ≡ true) × Goes wide [] u) where
+  module _ (outside : (t : Tok) → among tokens wanted t ≡ false → meaning t ≡ Err (type_refusal (number t.head))) (p : plain_numbers wanted ≡ true) (q : wordless wanted ≡ true) (type : (u : Tok) × (among tokens REG u ≡ true) × Goes wide [] u) where
     numbers : (plain_at wanted heads.NumberedGlobal ≡ true) × (plain_at wanted heads.NumberedDefinition ≡ true)
     numbers = and_parts (plain_at wanted heads.NumberedGlobal) (plain_at wanted heads.NumberedDefinition) (and_parts (plain_at wanted heads.RegisterInteger) (plain_at wanted heads.NumberedGlobal && plain_at wanted heads.NumberedDefinition) p).1
 
     typed : (h : Head) → contains wanted (number h) ≡ false → Says wide meaning h (type_refusal (number h))
     typed heads.RefusedType n = inl type
-    typed heads.Target n = inl type
+    typed heads.Target n = (inl type, no_word wide meaning wanted type_refusal type_not_bound outside inside q)
     typed heads.RegisterInteger n = (i8, refl, i8_real, none_taken wide meaning wanted type_refusal type_not_bound outside inside heads.RegisterInteger (and_parts (plain_at wanted heads.RegisterInteger) (plain_at wanted heads.NumberedGlobal && plain_at wanted heads.NumberedDefinition) p).0 n i8 refl)
     typed heads.NumberedGlobal n = none_taken wide meaning wanted type_refusal type_not_bound outside inside heads.NumberedGlobal numbers.0 n
     typed heads.NumberedDefinition n = none_taken wide meaning wanted type_refusal type_not_bound outside inside heads.NumberedDefinition numbers.1 n
@@ -161,13 +168,13 @@ module _ {A : Type 0} (wide : Form Tok A) (meaning : Tok → Result A FaultKind)
 
   -- ---- where a shape may stand
 
-  module _ (outside : (t : Tok) → among tokens wanted t ≡ false → meaning t ≡ Err (memory_refusal (number t.head))) (p : plain_globals wanted ≡ true) (type : (u : Tok) × (among tokens REG u ≡ true) × Goes wide [] u) (each : (u : Tok) → among tokens MEMORY u ≡ true → IsReal u → Goes wide [] u) where
+  module _ (outside : (t : Tok) → among tokens wanted t ≡ false → meaning t ≡ Err (memory_refusal (number t.head))) (p : plain_globals wanted ≡ true) (q : wordless wanted ≡ true) (type : (u : Tok) × (among tokens REG u ≡ true) × Goes wide [] u) (each : (u : Tok) → among tokens MEMORY u ≡ true → IsReal u → Goes wide [] u) where
     both : (plain_at wanted heads.NumberedGlobal ≡ true) × (plain_at wanted heads.NumberedDefinition ≡ true)
     both = and_parts (plain_at wanted heads.NumberedGlobal) (plain_at wanted heads.NumberedDefinition) p
 
     shaped : (h : Head) → contains wanted (number h) ≡ false → Says wide meaning h (memory_refusal (number h))
     shaped heads.RefusedType n = inl type
-    shaped heads.Target n = inl type
+    shaped heads.Target n = (inl type, no_word wide meaning wanted memory_refusal memory_not_bound outside inside q)
     shaped heads.RegisterInteger n = each
     shaped heads.NumberedGlobal n = none_taken wide meaning wanted memory_refusal memory_not_bound outside inside heads.NumberedGlobal both.0 n
     shaped heads.NumberedDefinition n = none_taken wide meaning wanted memory_refusal memory_not_bound outside inside heads.NumberedDefinition both.1 n
@@ -184,7 +191,7 @@ module _ {A : Type 0} (wide : Form Tok A) (meaning : Tok → Result A FaultKind)
 
     named : (h : Head) → contains wanted (number h) ≡ false → Says wide meaning h (name_refusal (number h))
     named heads.RefusedType n = none_taken wide meaning wanted name_refusal name_not_bound outside inside heads.RefusedType (and_parts (plain_at wanted heads.RefusedType) (plain_at wanted heads.Target && plain_at wanted heads.RegisterInteger) p).0 n
-    named heads.Target n = inl (none_taken wide meaning wanted name_refusal name_not_bound outside inside heads.Target (and_parts (plain_at wanted heads.Target) (plain_at wanted heads.RegisterInteger) later).0 n)
+    named heads.Target n = inl (λ u i. none_taken wide meaning wanted name_refusal name_not_bound outside inside heads.Target (and_parts (plain_at wanted heads.Target) (plain_at wanted heads.RegisterInteger) later).0 n u (a_type u i))
     named heads.RegisterInteger n = (i8, refl, i8_real, none_taken wide meaning wanted name_refusal name_not_bound outside inside heads.RegisterInteger (and_parts (plain_at wanted heads.Target) (plain_at wanted heads.RegisterInteger) later).1 n i8 refl)
     named heads.NumberedGlobal n = name
     named heads.NumberedDefinition n = name
@@ -261,19 +268,19 @@ pub plain_valued : {A : Type 0} {wide : Form Tok A} {xs ms : List ℕ} {e : Bool
 plain_valued {wide = wide} wanted value rule p = of_token (is_valued tokens refusal wanted value) rule (says_plainly wide (is_valued tokens refusal wanted value) wanted (valued_inside refusal wanted value) (valued_outside refusal wanted value) p)
 
 -- a type of a register
-pub type_class : {xs ms : List ℕ} {e : Bool} (wanted : ℕ) → Rule tokens (form.token (is_class tokens type_refusal wanted)) (form.token (is_class tokens type_refusal wanted)) (token_at (is_class tokens type_refusal wanted)) xs ms e → plain_numbers (wanted ∷ []) ≡ true
+pub type_class : {xs ms : List ℕ} {e : Bool} (wanted : ℕ) → Rule tokens (form.token (is_class tokens type_refusal wanted)) (form.token (is_class tokens type_refusal wanted)) (token_at (is_class tokens type_refusal wanted)) xs ms e → plain_numbers (wanted ∷ []) ≡ true → wordless (wanted ∷ []) ≡ true
     → (u : Tok) → among tokens REG u ≡ true → IsReal u → is_class tokens type_refusal wanted u ≡ Ok tt → Exchanges (form.token (is_class tokens type_refusal wanted)) (token_at (is_class tokens type_refusal wanted))
-type_class wanted rule p u i r e = of_token (is_class tokens type_refusal wanted) rule (says_typed (form.token (is_class tokens type_refusal wanted)) (is_class tokens type_refusal wanted) (wanted ∷ []) (class_inside type_refusal wanted) (class_outside type_refusal wanted) p (u, i, ([], tt, e, (r, tt))))
+type_class wanted rule p q u i r e = of_token (is_class tokens type_refusal wanted) rule (says_typed (form.token (is_class tokens type_refusal wanted)) (is_class tokens type_refusal wanted) (wanted ∷ []) (class_inside type_refusal wanted) (class_outside type_refusal wanted) p q (u, i, ([], tt, e, (r, tt))))
 
-pub type_one : {A : Type 0} {xs ms : List ℕ} {e : Bool} (wanted : List ℕ) (value : Tok → A) → Rule tokens (form.token (is_among tokens type_refusal wanted value)) (form.token (is_among tokens type_refusal wanted value)) (token_at (is_among tokens type_refusal wanted value)) xs ms e → plain_numbers wanted ≡ true
+pub type_one : {A : Type 0} {xs ms : List ℕ} {e : Bool} (wanted : List ℕ) (value : Tok → A) → Rule tokens (form.token (is_among tokens type_refusal wanted value)) (form.token (is_among tokens type_refusal wanted value)) (token_at (is_among tokens type_refusal wanted value)) xs ms e → plain_numbers wanted ≡ true → wordless wanted ≡ true
     → (u : Tok) → among tokens REG u ≡ true → IsReal u → among tokens wanted u ≡ true → Exchanges (form.token (is_among tokens type_refusal wanted value)) (token_at (is_among tokens type_refusal wanted value))
 unfolding is_among
-type_one wanted value rule p u i r e = of_token (is_among tokens type_refusal wanted value) rule (says_typed (form.token (is_among tokens type_refusal wanted value)) (is_among tokens type_refusal wanted value) wanted (one_inside type_refusal wanted value) (one_outside type_refusal wanted value) p (u, i, ([], value u, ap (λ (b : Bool). cond b (Ok (value u)) (Err (type_refusal (number u.head)))) e, (r, tt))))
+type_one wanted value rule p q u i r e = of_token (is_among tokens type_refusal wanted value) rule (says_typed (form.token (is_among tokens type_refusal wanted value)) (is_among tokens type_refusal wanted value) wanted (one_inside type_refusal wanted value) (one_outside type_refusal wanted value) p q (u, i, ([], value u, ap (λ (b : Bool). cond b (Ok (value u)) (Err (type_refusal (number u.head)))) e, (r, tt))))
 
-pub memory_one : {A : Type 0} {xs ms : List ℕ} {e : Bool} (wanted : List ℕ) (value : Tok → A) → Rule tokens (form.token (is_among tokens memory_refusal wanted value)) (form.token (is_among tokens memory_refusal wanted value)) (token_at (is_among tokens memory_refusal wanted value)) xs ms e → plain_globals wanted ≡ true
+pub memory_one : {A : Type 0} {xs ms : List ℕ} {e : Bool} (wanted : List ℕ) (value : Tok → A) → Rule tokens (form.token (is_among tokens memory_refusal wanted value)) (form.token (is_among tokens memory_refusal wanted value)) (token_at (is_among tokens memory_refusal wanted value)) xs ms e → plain_globals wanted ≡ true → wordless wanted ≡ true
     → (u : Tok) → among tokens REG u ≡ true → IsReal u → among tokens wanted u ≡ true → ((v : Tok) → among tokens MEMORY v ≡ true → among tokens wanted v ≡ true) → Exchanges (form.token (is_among tokens memory_refusal wanted value)) (token_at (is_among tokens memory_refusal wanted value))
 unfolding is_among
-memory_one {A} wanted value rule p u i r e each = of_token (is_among tokens memory_refusal wanted value) rule (says_shaped (form.token (is_among tokens memory_refusal wanted value)) (is_among tokens memory_refusal wanted value) wanted (one_inside memory_refusal wanted value) (one_outside memory_refusal wanted value) p (u, i, goes u r e) (λ v j q. goes v q (each v j)))
+memory_one {A} wanted value rule p q' u i r e each = of_token (is_among tokens memory_refusal wanted value) rule (says_shaped (form.token (is_among tokens memory_refusal wanted value)) (is_among tokens memory_refusal wanted value) wanted (one_inside memory_refusal wanted value) (one_outside memory_refusal wanted value) p q' (u, i, goes u r e) (λ v j q. goes v q (each v j)))
   where
     goes : (v : Tok) → IsReal v → among tokens wanted v ≡ true → Goes (form.token (is_among tokens memory_refusal wanted value)) [] v
     goes v q j = ([], value v, ap (λ (b : Bool). cond b (Ok (value v)) (Err (memory_refusal (number v.head)))) j, (q, tt))
@@ -284,7 +291,7 @@ module _ {A : Type 0} (wanted : List ℕ) (passes : Tok → Bool) (value : Tok �
   tested = is_exact tokens type_refusal wanted passes value
 
   abbrev APART : List ℕ
-  APART = number heads.RefusedType ∷ number heads.Target ∷ number heads.Global ∷ number heads.NumberedGlobal ∷ number heads.NumberedDefinition ∷ []
+  APART = number heads.Word ∷ number heads.RefusedType ∷ number heads.Target ∷ number heads.Global ∷ number heads.NumberedGlobal ∷ number heads.NumberedDefinition ∷ []
 
   both_true : (b c : Bool) (a : A) (k : FaultKind) → b ≡ true → c ≡ true → cond (b && c) (Ok a) (Err k) ≡ Ok a
   both_true true true a k p q = refl
@@ -323,9 +330,13 @@ module _ {A : Type 0} (wanted : List ℕ) (passes : Tok → Bool) (value : Tok �
     unfolding is_exact
     stuck_global g p = (type_refusal (number g.head), type_not_bound (number g.head), left_no (among tokens wanted g) (passes g) (value g) (type_refusal (number g.head)) (no_global (number g.head) p))
 
+    stuck_word : (w : Tok) → among tokens WORD w ≡ true → (k : FaultKind) × (IsBound k → ⊥) × (tested w ≡ Err k)
+    unfolding is_exact
+    stuck_word w i = (type_refusal (number w.head), type_not_bound (number w.head), left_no (among tokens wanted w) (passes w) (value w) (type_refusal (number w.head)) (apart APART wanted none (number w.head) (within_of WORD APART refl (number w.head) i)))
+
     exact_class : (h : Head) → Says (form.token tested) tested h (type_refusal (number h))
     exact_class heads.RefusedType = inl passing
-    exact_class heads.Target = inl passing
+    exact_class heads.Target = (inl passing, stuck_word)
     exact_class heads.RegisterInteger = failing
     exact_class heads.NumberedGlobal = λ g p. stuck_global g p
     exact_class heads.NumberedDefinition = λ g p. stuck_global g p
@@ -425,7 +436,7 @@ module _ (wanted : ℕ) (p : plain (wanted ∷ []) ≡ true) where
 
   angle_class : (h : Head) → contains (wanted ∷ []) (number h) ≡ false → Says (form.token behind_angle) behind_angle h (angle_refusal (number h))
   angle_class heads.RefusedType n = angle_taken heads.RefusedType angle_parts.0 n
-  angle_class heads.Target n = inl (angle_taken heads.Target angle_parts.1 n)
+  angle_class heads.Target n = inl (λ u i. angle_taken heads.Target angle_parts.1 n u (a_type u i))
   angle_class heads.RegisterInteger n = (word heads.MemoryInteger (codes "i8"), refl, i8_real, angle_taken heads.RegisterInteger angle_parts.2 n (word heads.MemoryInteger (codes "i8")) refl)
   angle_class heads.NumberedGlobal n = angle_taken heads.NumberedGlobal angle_parts.3 n
   angle_class heads.NumberedDefinition n = angle_taken heads.NumberedDefinition angle_parts.4 n
@@ -440,3 +451,18 @@ pub name_valued : {xs ms : List ℕ} {e : Bool} (wanted : List ℕ) (value : Tok
     → (u a : Tok) → among tokens (number heads.Global ∷ []) u ≡ true → among tokens wanted u ≡ true → value u ≡ Some a → IsReal u → Exchanges (form.token (is_valued tokens name_refusal wanted value)) (token_at (is_valued tokens name_refusal wanted value))
 unfolding is_valued
 name_valued wanted value rule p u a i j v r = of_token (is_valued tokens name_refusal wanted value) rule (says_named (form.token (is_valued tokens name_refusal wanted value)) (is_valued tokens name_refusal wanted value) wanted (valued_inside name_refusal wanted value) (valued_outside name_refusal wanted value) p (u, i, ([], a, ap (λ (b : Bool). cond b (in_range (value u)) (Err (name_refusal (number u.head)))) j ∙ ap in_range v, (r, tt))))
+
+-- ---- at `target`
+
+-- another word or mark refuses it
+pub refused_class : {B : Type 0} (h : Unit {0} → Reader Tok B) (wanted : Head) → nat_eq (number heads.Target) (number wanted) ≡ false → (t : Tok) (rest : List Tok) → is_target t.head ≡ true → (the_at wanted >>= h) (t ∷ rest) ≡ fault_at Syntax (t ∷ rest)
+unfolding is_class
+refused_class h wanted e t rest q =
+    ap (λ (n : ℕ). follow (token_means t rest (cond (nat_eq n (number wanted)) (fine tt) (refuse (refusal n)))) h) (target_is t.head q)
+    ∙ ap (λ (b : Bool). follow (token_means t rest (cond b (fine tt) (refuse Syntax))) h) e
+
+pub refused_one : {A B : Type 0} (h : A → Reader Tok B) (wanted : List ℕ) (value : Tok → A) → contains wanted (number heads.Target) ≡ false → (t : Tok) (rest : List Tok) → is_target t.head ≡ true → (one_of_at wanted value >>= h) (t ∷ rest) ≡ fault_at Syntax (t ∷ rest)
+unfolding is_among
+refused_one h wanted value e t rest q =
+    ap (λ (n : ℕ). follow (token_means t rest (cond (contains wanted n) (Ok (value t)) (Err (refusal n)))) h) (target_is t.head q)
+    ∙ ap (λ (b : Bool). follow (token_means t rest (cond b (Ok (value t)) (refuse Syntax))) h) e

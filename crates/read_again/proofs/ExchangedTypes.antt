@@ -3,6 +3,7 @@ use Rattle.std.proofs.Common.{◌≡◌, ℕ, zero, suc, ◌≤◌, nat_eq, Bool
 use Rattle.std.proofs.lemmas.List.{length-append}
 use Rattle.ir_lex.specs.Heads.{number}
 use Rattle.ir_lex.specs.Tok.{Tok}
+use Rattle.ir_lex.specs.declared.head.Head.TheVariants as heads
 use Rattle.ir_lex.specs.declared.head.Head.{Head}
 use Rattle.lto_forms.specs.Alphabet.{among, contains}
 use Rattle.lto_forms.specs.Forms as form
@@ -14,11 +15,16 @@ use Rattle.lto_forms.specs.declared.fault.FaultKind.TheVariants.{Profile}
 use Rattle.lto_forms.specs.declared.fault.FaultKind.{FaultKind}
 use Rattle.ir_read.specs.Classes.{tokens, refusal, the, the_at}
 use Rattle.ir_read.specs.Operands.{REFUSED_TYPES, REG, type_refusal}
+use Rattle.read_again.specs.Refusals.{WORD}
 use Rattle.read_again.proofs.Exchanged.{Exchanges, alt, nothing, recast, same_reader, seq, star, apart}
 
--- types of registers, and types that are left out
+-- types that are left out, and plain words
+abbrev pub OTHERS : List ℕ
+OTHERS = REFUSED_TYPES ++ WORD
+
+-- and types of registers
 abbrev pub ANY_TYPES : List ℕ
-ANY_TYPES = REFUSED_TYPES ++ REG
+ANY_TYPES = OTHERS ++ REG
 
 same : (n m : ℕ) → nat_eq n m ≡ true → n ≡ m
 same n m h = grind arith
@@ -26,37 +32,42 @@ same n m h = grind arith
 abbrev refuse : {A : Type 0} → FaultKind → Result A FaultKind
 refuse k = Err k
 
--- of tokens that are no type that is left out only those of registers are types
-any_type_is : (n : ℕ) → contains REFUSED_TYPES n ≡ false → contains ANY_TYPES n ≡ contains REG n
-any_type_is n e = by_tests _ _ e
+-- of other tokens only those of registers are types
+any_type_is : (n : ℕ) → contains OTHERS n ≡ false → contains ANY_TYPES n ≡ contains REG n
+any_type_is n e = by_tests (nat_eq n (number heads.Target)) (nat_eq n (number heads.RefusedType)) (nat_eq n (number heads.Word)) e
   where
-    by_tests : (a b : Bool) → a || (b || false) ≡ false → a || (b || contains REG n) ≡ contains REG n
-    by_tests true b e = absurd cc
-    by_tests false true e = absurd cc
-    by_tests false false e = refl
+    by_tests : (a b c : Bool) → a || (b || (c || false)) ≡ false → a || (b || (c || contains REG n)) ≡ contains REG n
+    by_tests true b c e = absurd cc
+    by_tests false true c e = absurd cc
+    by_tests false false true e = absurd cc
+    by_tests false false false e = refl
 
-any_type_too : (n : ℕ) → contains REFUSED_TYPES n ≡ true → contains ANY_TYPES n ≡ true
-any_type_too n e = by_tests _ _ e
+any_type_too : (n : ℕ) → contains OTHERS n ≡ true → contains ANY_TYPES n ≡ true
+any_type_too n e = by_tests (nat_eq n (number heads.Target)) (nat_eq n (number heads.RefusedType)) (nat_eq n (number heads.Word)) e
   where
-    by_tests : (a b : Bool) → a || (b || false) ≡ true → a || (b || contains REG n) ≡ true
-    by_tests true b e = refl
-    by_tests false true e = refl
-    by_tests false false e = absurd cc
+    by_tests : (a b c : Bool) → a || (b || (c || false)) ≡ true → a || (b || (c || contains REG n)) ≡ true
+    by_tests true b c e = refl
+    by_tests false true c e = refl
+    by_tests false false true e = refl
+    by_tests false false false e = absurd cc
 
-no_reg : (n : ℕ) → contains REFUSED_TYPES n ≡ true → contains REG n ≡ false
-no_reg n e = apart REFUSED_TYPES REG refl n e
+no_type : (n : ℕ) → contains OTHERS n ≡ false → contains REFUSED_TYPES n ≡ false
+no_type n e = by_tests (nat_eq n (number heads.Target)) (nat_eq n (number heads.RefusedType)) (nat_eq n (number heads.Word)) e
+  where
+    by_tests : (a b c : Bool) → a || (b || (c || false)) ≡ false → a || (b || false) ≡ false
+    by_tests true b c e = absurd cc
+    by_tests false true c e = absurd cc
+    by_tests false false c e = refl
 
--- a type is told there
-pub type_told : {A : Type 0} (value : Tok → A) (t : Tok) (ts : List Tok) → contains REFUSED_TYPES (number t.head) ≡ true → token_at (is_among tokens type_refusal REG value) (t ∷ ts) ≡ fault_at Profile (t ∷ ts)
+no_reg : (n : ℕ) → contains OTHERS n ≡ true → contains REG n ≡ false
+no_reg n e = apart OTHERS REG refl n e
+
+-- what is said there of one of these
+pub type_told : {A : Type 0} (value : Tok → A) (t : Tok) (ts : List Tok) → contains OTHERS (number t.head) ≡ true → token_at (is_among tokens type_refusal REG value) (t ∷ ts) ≡ fault_at (type_refusal (number t.head)) (t ∷ ts)
 unfolding is_among
-type_told {A} value t ts e = by_tests (among tokens REG t) (contains REFUSED_TYPES (number t.head)) (no_reg (number t.head) e) e
-  where
-    by_tests : (b c : Bool) → b ≡ false → c ≡ true → token_means t ts (cond b (Ok (value t)) (refuse (cond c Profile (refusal (number t.head))))) ≡ fault_at Profile (t ∷ ts)
-    by_tests true c p q = absurd cc
-    by_tests false true p q = refl
-    by_tests false false p q = absurd cc
+type_told {A} value t ts e = ap (λ (b : Bool). token_means t ts (cond b (Ok (value t)) (Err (type_refusal (number t.head))))) (no_reg (number t.head) e)
 
-module _ (closer : Head) (other : contains REFUSED_TYPES (number closer) ≡ false) where
+module _ (closer : Head) (other : contains OTHERS (number closer) ≡ false) where
   abbrev pub typed_end : Tok → Result (Unit {0}) FaultKind
   typed_end = is_class tokens type_refusal (number closer)
 
@@ -66,21 +77,20 @@ module _ (closer : Head) (other : contains REFUSED_TYPES (number closer) ≡ fal
   abbrev fine : Unit {0} → Result (Unit {0}) FaultKind
   fine u = Ok u
 
-  same_end : (t : Tok) → contains REFUSED_TYPES (number t.head) ≡ false → typed_end t ≡ plain_end t
+  same_end : (t : Tok) → contains OTHERS (number t.head) ≡ false → typed_end t ≡ plain_end t
   unfolding is_class
-  same_end t e = ap (λ (c : Bool). cond (nat_eq (number t.head) (number closer)) (fine tt) (refuse (cond c Profile (refusal (number t.head))))) e
+  same_end t e = ap (λ (c : Bool). cond (nat_eq (number t.head) (number closer)) (fine tt) (refuse (cond c Profile (refusal (number t.head))))) (no_type (number t.head) e)
 
-  end_told : (t : Tok) → contains REFUSED_TYPES (number t.head) ≡ true → typed_end t ≡ Err Profile
+  end_told : (t : Tok) → contains OTHERS (number t.head) ≡ true → typed_end t ≡ Err (type_refusal (number t.head))
   unfolding is_class
-  end_told t e = by_tests (nat_eq (number t.head) (number closer)) (contains REFUSED_TYPES (number t.head)) refl refl e
+  end_told t e = by_test (nat_eq (number t.head) (number closer)) refl
     where
       differ : true ≡ false → ⊥
       differ e = cc
 
-      by_tests : (b c : Bool) → nat_eq (number t.head) (number closer) ≡ b → contains REFUSED_TYPES (number t.head) ≡ c → c ≡ true → cond b (fine tt) (refuse (cond c Profile (refusal (number t.head)))) ≡ refuse Profile
-      by_tests true c p r q = absurd (differ (sym (r ∙ q) ∙ ap (contains REFUSED_TYPES) (same (number t.head) (number closer) p) ∙ other))
-      by_tests false true p r q = refl
-      by_tests false false p r q = absurd cc
+      by_test : (b : Bool) → nat_eq (number t.head) (number closer) ≡ b → cond b (fine tt) (refuse (type_refusal (number t.head))) ≡ refuse (type_refusal (number t.head))
+      by_test true p = absurd (differ (sym e ∙ ap (contains OTHERS) (same (number t.head) (number closer) p) ∙ other))
+      by_test false p = refl
 
   module _ {A : Type 0} (k : Unit {0} → Reader Tok A) where
     ends_typed : Reader Tok A
@@ -89,32 +99,32 @@ module _ (closer : Head) (other : contains REFUSED_TYPES (number closer) ≡ fal
     ends_plainly : Reader Tok A
     ends_plainly = token_at plain_end >>= k
 
-    ends_same : (t : Tok) (ts : List Tok) → contains REFUSED_TYPES (number t.head) ≡ false → ends_plainly (t ∷ ts) ≡ ends_typed (t ∷ ts)
+    ends_same : (t : Tok) (ts : List Tok) → contains OTHERS (number t.head) ≡ false → ends_plainly (t ∷ ts) ≡ ends_typed (t ∷ ts)
     unfolding ends_plainly ends_typed
     ends_same t ts e = ap (λ (m : Result (Unit {0}) FaultKind). follow (token_means t ts m) k) (sym (same_end t e))
 
-    ends_told : (t : Tok) (ts : List Tok) → contains REFUSED_TYPES (number t.head) ≡ true → ends_typed (t ∷ ts) ≡ fault_at Profile (t ∷ ts)
+    ends_told : (t : Tok) (ts : List Tok) → contains OTHERS (number t.head) ≡ true → ends_typed (t ∷ ts) ≡ fault_at (type_refusal (number t.head)) (t ∷ ts)
     unfolding ends_typed
     ends_told t ts e = ap (λ (m : Result (Unit {0}) FaultKind). follow (token_means t ts m) k) (end_told t e)
 
     -- types, or none
-    module _ (f : Reader Tok A) (told : (t : Tok) (ts : List Tok) → contains REFUSED_TYPES (number t.head) ≡ true → f (t ∷ ts) ≡ fault_at Profile (t ∷ ts)) where
+    module _ (f : Reader Tok A) (told : (t : Tok) (ts : List Tok) → contains OTHERS (number t.head) ≡ true → f (t ∷ ts) ≡ fault_at (type_refusal (number t.head)) (t ∷ ts)) where
       listed_same : (ts : List Tok) → pick (among tokens ANY_TYPES) f ends_plainly ts ≡ pick (among tokens REG) f ends_typed ts
       unfolding ends_plainly ends_typed
       listed_same [] = refl
-      listed_same (t ∷ ts) = by_test (contains REFUSED_TYPES (number t.head)) refl
+      listed_same (t ∷ ts) = by_test (contains OTHERS (number t.head)) refl
         where
-          by_reg : (b : Bool) → contains REFUSED_TYPES (number t.head) ≡ false → cond b (f (t ∷ ts)) (ends_plainly (t ∷ ts)) ≡ cond b (f (t ∷ ts)) (ends_typed (t ∷ ts))
+          by_reg : (b : Bool) → contains OTHERS (number t.head) ≡ false → cond b (f (t ∷ ts)) (ends_plainly (t ∷ ts)) ≡ cond b (f (t ∷ ts)) (ends_typed (t ∷ ts))
           by_reg true e = refl
           by_reg false e = ends_same t ts e
 
-          by_test : (b : Bool) → contains REFUSED_TYPES (number t.head) ≡ b → cond (among tokens ANY_TYPES t) (f (t ∷ ts)) (ends_plainly (t ∷ ts)) ≡ cond (among tokens REG t) (f (t ∷ ts)) (ends_typed (t ∷ ts))
+          by_test : (b : Bool) → contains OTHERS (number t.head) ≡ b → cond (among tokens ANY_TYPES t) (f (t ∷ ts)) (ends_plainly (t ∷ ts)) ≡ cond (among tokens REG t) (f (t ∷ ts)) (ends_typed (t ∷ ts))
           by_test true e = rw (any_type_too (number t.head) e, no_reg (number t.head) e) (told t ts e ∙ sym (ends_told t ts e))
           by_test false e = rw (any_type_is (number t.head) e) (by_reg (among tokens REG t) e)
 
   -- ---- as many of what begins with a type as there are
 
-  module _ {A : Type 0} {wide : Form Tok A} {f : Reader Tok A} (law : Exchanges wide f) (some : (a : A) → wide [] a → ⊥) (told : (t : Tok) (ts : List Tok) → contains REFUSED_TYPES (number t.head) ≡ true → f (t ∷ ts) ≡ fault_at Profile (t ∷ ts)) where
+  module _ {A : Type 0} {wide : Form Tok A} {f : Reader Tok A} (law : Exchanges wide f) (some : (a : A) → wide [] a → ⊥) (told : (t : Tok) (ts : List Tok) → contains OTHERS (number t.head) ≡ true → f (t ∷ ts) ≡ fault_at (type_refusal (number t.head)) (t ∷ ts)) where
     shorter : (t : Tok) (ts : List Tok) (x : A × List Tok) → f (t ∷ ts) ≡ Ok x → length x.1 ≤ length ts
     shorter t ts x e = let s = law.sound (t ∷ ts) x.1 x.0 e in by_front s.0 s.1 s.2
       where
@@ -131,7 +141,7 @@ module _ (closer : Head) (other : contains REFUSED_TYPES (number closer) ≡ fal
     cases_same zero [] k le = refl
     cases_same zero (t ∷ ts) k le = absurd (omega (arith, le))
     cases_same (suc n) [] k le = refl
-    cases_same {B} (suc n) (t ∷ ts) k le = by_test (λ mid k' le'. cases_same n mid k' le') (contains REFUSED_TYPES (number t.head)) refl
+    cases_same {B} (suc n) (t ∷ ts) k le = by_test (λ mid k' le'. cases_same n mid k' le') (contains OTHERS (number t.head)) refl
       where
         Again : Type 0
         Again = (mid : List Tok) (k' : List A → Unit {0} → Reader Tok B) → length mid ≤ n → follow (many_at (among tokens ANY_TYPES) f n mid) (λ as'. ends_plainly (k' as')) ≡ follow (many_at (among tokens REG) f n mid) (λ as'. ends_typed (k' as'))
@@ -141,11 +151,11 @@ module _ (closer : Head) (other : contains REFUSED_TYPES (number closer) ≡ fal
         by_piece again (Ok x) q =
             follow_in (many_at (among tokens ANY_TYPES) f n x.1) x.0 (λ as'. ends_plainly (k as')) ∙ again x.1 (λ m. k (x.0 ∷ m)) (omega (arith, le, shorter t ts x q)) ∙ sym (follow_in (many_at (among tokens REG) f n x.1) x.0 (λ as'. ends_typed (k as')))
 
-        by_reg : Again → (b : Bool) → contains REFUSED_TYPES (number t.head) ≡ false → follow (cond b ((f >>= λ a. many_at (among tokens ANY_TYPES) f n >>= λ more. done (a ∷ more)) (t ∷ ts)) (Ok ([], t ∷ ts))) (λ as'. ends_plainly (k as')) ≡ follow (cond b ((f >>= λ a. many_at (among tokens REG) f n >>= λ more. done (a ∷ more)) (t ∷ ts)) (Ok ([], t ∷ ts))) (λ as'. ends_typed (k as'))
+        by_reg : Again → (b : Bool) → contains OTHERS (number t.head) ≡ false → follow (cond b ((f >>= λ a. many_at (among tokens ANY_TYPES) f n >>= λ more. done (a ∷ more)) (t ∷ ts)) (Ok ([], t ∷ ts))) (λ as'. ends_plainly (k as')) ≡ follow (cond b ((f >>= λ a. many_at (among tokens REG) f n >>= λ more. done (a ∷ more)) (t ∷ ts)) (Ok ([], t ∷ ts))) (λ as'. ends_typed (k as'))
         by_reg again true e = by_piece again (f (t ∷ ts)) refl
         by_reg again false e = ends_same (k []) t ts e
 
-        by_test : Again → (b : Bool) → contains REFUSED_TYPES (number t.head) ≡ b → follow (cond (among tokens ANY_TYPES t) ((f >>= λ a. many_at (among tokens ANY_TYPES) f n >>= λ more. done (a ∷ more)) (t ∷ ts)) (Ok ([], t ∷ ts))) (λ as'. ends_plainly (k as')) ≡ follow (cond (among tokens REG t) ((f >>= λ a. many_at (among tokens REG) f n >>= λ more. done (a ∷ more)) (t ∷ ts)) (Ok ([], t ∷ ts))) (λ as'. ends_typed (k as'))
+        by_test : Again → (b : Bool) → contains OTHERS (number t.head) ≡ b → follow (cond (among tokens ANY_TYPES t) ((f >>= λ a. many_at (among tokens ANY_TYPES) f n >>= λ more. done (a ∷ more)) (t ∷ ts)) (Ok ([], t ∷ ts))) (λ as'. ends_plainly (k as')) ≡ follow (cond (among tokens REG t) ((f >>= λ a. many_at (among tokens REG) f n >>= λ more. done (a ∷ more)) (t ∷ ts)) (Ok ([], t ∷ ts))) (λ as'. ends_typed (k as'))
         by_test again true e = rw (any_type_too (number t.head) e, no_reg (number t.head) e, told t ts e) (sym (ends_told (k []) t ts e))
         by_test again false e = rw (any_type_is (number t.head) e) (by_reg again (among tokens REG t) e)
 
@@ -153,7 +163,7 @@ module _ (closer : Head) (other : contains REFUSED_TYPES (number closer) ≡ fal
     unfolding ends_plainly ends_typed
     star_same k ts = cases_same (length ts) ts k (omega arith)
 
-  pub types_same : {A : Type 0} (k : Unit {0} → Reader Tok A) (f : Reader Tok A) → ((t : Tok) (ts : List Tok) → contains REFUSED_TYPES (number t.head) ≡ true → f (t ∷ ts) ≡ fault_at Profile (t ∷ ts)) → (ts : List Tok) → pick (among tokens ANY_TYPES) f (the_at closer >>= k) ts ≡ pick (among tokens REG) f (token_at typed_end >>= k) ts
+  pub types_same : {A : Type 0} (k : Unit {0} → Reader Tok A) (f : Reader Tok A) → ((t : Tok) (ts : List Tok) → contains OTHERS (number t.head) ≡ true → f (t ∷ ts) ≡ fault_at (type_refusal (number t.head)) (t ∷ ts)) → (ts : List Tok) → pick (among tokens ANY_TYPES) f (the_at closer >>= k) ts ≡ pick (among tokens REG) f (token_at typed_end >>= k) ts
   unfolding ends_plainly ends_typed
   types_same k f told ts = listed_same k f told ts
 
@@ -161,12 +171,12 @@ module _ (closer : Head) (other : contains REFUSED_TYPES (number closer) ≡ fal
 
 -- at a type that is left out it tells that
 abbrev pub Types : {A : Type 0} → Reader Tok A → Type 0
-Types f = (t : Tok) (ts : List Tok) → contains REFUSED_TYPES (number t.head) ≡ true → f (t ∷ ts) ≡ fault_at Profile (t ∷ ts)
+Types f = (t : Tok) (ts : List Tok) → contains OTHERS (number t.head) ≡ true → f (t ∷ ts) ≡ fault_at (type_refusal (number t.head)) (t ∷ ts)
 
 pub types_first : {A B : Type 0} (f : Reader Tok A) → Types f → (h : A → Reader Tok B) → Types (f >>= h)
 types_first {A} f told h t ts e = ap (λ (r : Result (A × List Tok) Fault). follow r h) (told t ts e)
 
-module _ (closer : Head) (other : contains REFUSED_TYPES (number closer) ≡ false) (law : Exchanges (the closer) (the_at closer)) where
+module _ (closer : Head) (other : contains OTHERS (number closer) ≡ false) (law : Exchanges (the closer) (the_at closer)) where
   pub end_form : (ts : List Tok) (u : Unit {0}) → the closer ts u → form.token (typed_end closer other) ts u
   unfolding is_class
   end_form [] u s = absurd s

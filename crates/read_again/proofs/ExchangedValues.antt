@@ -34,7 +34,7 @@ get_element_real = record { behind = []; some = refl; fits = refl; good = refl; 
 
 pub pointer_exchanged : Exchanges pointer pointer_at
 unfolding is_class
-pointer_exchanged = type_class (number heads.Ptr) (rules.class_rule tokens type_refusal type_not_number type_not_limit (number heads.Ptr) (word heads.Ptr (codes "ptr")) refl pointer_real) refl (word heads.Ptr (codes "ptr")) refl pointer_real refl
+pointer_exchanged = type_class (number heads.Ptr) (rules.class_rule tokens type_refusal type_not_number type_not_limit (number heads.Ptr) (word heads.Ptr (codes "ptr")) refl pointer_real) refl refl (word heads.Ptr (codes "ptr")) refl pointer_real refl
 
 pub flag_exchanged : Exchanges (one_of STEPPING is_inbounds) (one_of_at STEPPING is_inbounds)
 flag_exchanged = plain_one STEPPING is_inbounds flag_rule refl

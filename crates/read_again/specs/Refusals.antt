@@ -88,8 +88,8 @@ pub record FitsPlace (front : List Tok) (t : Tok) (kind : FaultKind) : Type 0 wh
   -- parameters may stand; against the syntax only where none goes on
   pub type_left_out : among tokens TYPE t ≡ true → (word : List ℕ) → kind ≡ kinds.Profile word → SomeGoesOn REG front ⊎ (last_is (among tokens PAREN) front ≡ true)
   pub type_misplaced : among tokens TYPE t ≡ true → kind ≡ kinds.Syntax → NoneOfThem REG front
-  -- so is `target`; but where a plain word goes on it may be against the syntax too, as behind the head of a definition
-  pub target_left_out : among tokens TARGET t ≡ true → (word : List ℕ) → kind ≡ kinds.Profile word → SomeGoesOn REG front ⊎ (last_is (among tokens PAREN) front ≡ true)
+  -- so is `target`, but not where a plain word goes on, as behind the head of a definition: there it is against the syntax
+  pub target_left_out : among tokens TARGET t ≡ true → (word : List ℕ) → kind ≡ kinds.Profile word → (SomeGoesOn REG front ⊎ (last_is (among tokens PAREN) front ≡ true)) × NoneOfThem WORD front
   pub target_misplaced : among tokens TARGET t ≡ true → kind ≡ kinds.Syntax → NoneOfThem REG front ⊎ SomeGoesOn WORD front
   -- an integer that memory doesn't hold, where each that memory holds goes on
   pub integer_left_out : among tokens INTEGER t ≡ true → (word : List ℕ) → kind ≡ kinds.Profile word → EachGoesOn MEMORY front

@@ -20,8 +20,8 @@
 //! reading gives the module of the first and refuses nothing.
 //!
 //! **Cost.** That of two readings and a print; the laws don't run. **Not shown**: that a linked module is within the
-//! limits, which inlining may pass; in which places a lifetime marker or a number behind `<` is told to be left out, and
-//! whether `target` is where a plain word goes on as well as a type; and that a limit is told wherever one is passed.
+//! limits, which inlining may pass; in which places a lifetime marker or a number behind `<` is told to be left out; and
+//! that a limit is told wherever one is passed.
 #![tactic(auto)]
 
 mod laws;
