@@ -153,10 +153,6 @@ pub definition_attribute_exchanged : Exchanges definition_attribute definition_a
 unfolding definition_attribute definition_attribute_at
 definition_attribute_exchanged = alt META refl attached_attribute_exchanged head_attribute_exchanged
 
-pub word_in_head : head_attribute_at (a_word ∷ []) ≡ Ok (Dropped, [])
-unfolding head_attribute_at function_attribute_at word_attribute_at word_tail_at is_among
-word_in_head = refl
-
 word_behind_head : definition_attribute_at (a_word ∷ []) ≡ Ok (Dropped, [])
 unfolding definition_attribute_at head_attribute_at function_attribute_at word_attribute_at word_tail_at is_among
 word_behind_head = refl

@@ -359,9 +359,6 @@ pub one_sample : {A : Type 0} (wanted : List ℕ) (value : Tok → A) (t : Tok) 
 unfolding is_among
 one_sample wanted value t i r p = single (one_of wanted value) (is_among tokens refusal wanted value) (λ u b d. d) (t ∷ [], value t, ap (λ (b : Bool). cond b (Ok (value t)) (Err (refusal (number t.head)))) i, (r, tt)) (says_plainly (one_of wanted value) (is_among tokens refusal wanted value) wanted (one_inside refusal wanted value) (one_outside refusal wanted value) p)
 
-pub class_sample : (wanted : Head) (t : Tok) → is_class tokens refusal (number wanted) t ≡ Ok tt → IsReal t → plain (number wanted ∷ []) ≡ true → Exchanges (the wanted) (the_at wanted)
-class_sample wanted t e r p = single (the wanted) (is_class tokens refusal (number wanted)) (λ u b d. d) (t ∷ [], tt, e, (r, tt)) (says_plainly (the wanted) (is_class tokens refusal (number wanted)) (number wanted ∷ []) (class_inside refusal (number wanted)) (class_outside refusal (number wanted)) p)
-
 -- a meaning that refuses none that is left out in some places only
 pub elsewhere_sample : {A : Type 0} (meaning : Tok → Result A FaultKind) → ((t : Tok) (k : FaultKind) → meaning t ≡ Err k → contains SOMEWHERE (number t.head) ≡ true → ⊥) → (t : Tok) (a : A) → meaning t ≡ Ok a → IsReal t → Exchanges (form.token meaning) (token_at meaning)
 elsewhere_sample meaning never t a e r = single (form.token meaning) meaning (λ u b d. d) (t ∷ [], a, e, (r, tt)) (λ u k d. elsewhere (form.token meaning) meaning u.head k (never u k d))
