@@ -99,9 +99,9 @@ pub record FitsPlace (front : List Tok) (t : Tok) (kind : FaultKind) : Type 0 wh
   pub name_misplaced : among tokens NUMBERED t ≡ true → kind ≡ kinds.Syntax → NoneOfThem GLOBAL front
 
 -- Of what is refused everywhere it is told that it is left out, and of nothing else but what is refused somewhere, in the places of it,
--- and a number behind `<`. A layout that isn't supported is a string. A number is out of range only where another one goes on in its place, and where one
--- does, that or a passed limit is told; and a limit is passed only where a reading without the limits goes on: where one does, that or a
--- number out of range is told.
+-- and a number behind `<`. A layout that isn't supported is a string. A number is out of range only where another one goes on in its
+-- place, and where one does, that or a passed limit is told; and a limit is passed only where a reading without the limits goes on:
+-- where one does, that or a number out of range is told.
 pub record FitsToken (front : List Tok) (t : Tok) (rest : List Tok) (kind : FaultKind) : Type 0 where
   pub everywhere : among tokens REFUSED_EVERYWHERE t ≡ true → kind ≡ kinds.Profile t.text
   pub only : (word : List ℕ) → kind ≡ kinds.Profile word → (word ≡ t.text) × ((among tokens (REFUSED_EVERYWHERE ++ REFUSED_SOMEWHERE) t ≡ true) ⊎ BeginsVector front t)
