@@ -1,16 +1,21 @@
 //! First faults of texts, by how many tokens are left behind them: of type definitions and variables, and of functions.
 
 use ir_items::{ModuleError, ModuleFaultKind, read};
-use ir_lex::lex;
+use ir_lex::{Token, lex};
 use std::alloc::Global;
 
-/// How many tokens are left where a text is refused, and why; `None` where it is a module.
-fn refused(alloc: Global, text: &[u8]) -> Option<(usize, ModuleFaultKind)> {
-    let tokens = lex(alloc, text).ok()?.tokens;
-    match read(alloc, &tokens) {
+/// How many tokens are left where these are refused, and why; `None` where they are a module.
+fn fault_of(alloc: Global, tokens: &[Token]) -> Option<(usize, ModuleFaultKind)> {
+    match read(alloc, tokens) {
         Err(ModuleError::Fault(fault)) => Some((fault.left, fault.kind)),
         _ => None,
     }
+}
+
+/// How many tokens are left where a text is refused, and why; `None` where it is a module.
+fn refused(alloc: Global, text: &[u8]) -> Option<(usize, ModuleFaultKind)> {
+    let lexed = lex(alloc, text).ok()?;
+    fault_of(alloc, &lexed.tokens)
 }
 
 /// A text, how many tokens are left where it is refused, and why.

@@ -4,13 +4,18 @@ use named_types::{Circles, Graph};
 use std::alloc::Global;
 
 /// Of three places, the second leads to the third and back, the first to the second.
-fn chain(alloc: Global) -> Option<Vec<bool>> {
+fn chain(alloc: Global) -> Option<Graph> {
     let mut graph = Graph::new(alloc);
     for target in [1, 2, 1] {
         let mut row = Vec::new(alloc);
         row.push(target).ok()?;
         graph.push(row).ok()?;
     }
+    Some(graph)
+}
+
+/// Which of four places lie on a circle.
+fn on_circles(alloc: Global, graph: Graph) -> Option<Vec<bool>> {
     let circles = Circles::of(alloc, graph).ok()?;
     let mut found = Vec::new(alloc);
     for place in 0..4 {
@@ -21,11 +26,7 @@ fn chain(alloc: Global) -> Option<Vec<bool>> {
 
 #[test]
 fn circles_are_found(rt: HostRuntime) {
-    let alloc = rt.alloc();
-    match chain(alloc) {
-        None => assert!(rt; false),
-        Some(found) => assert!(rt;
-            found.len() == 4 && !found[0] && found[1] && found[2] && !found[3]
-        ),
-    }
+    let graph = chain(rt.alloc()).expect(&rt, "memory");
+    let found = on_circles(rt.alloc(), graph).expect(&rt, "memory");
+    assert!(rt; found.as_slice() == [false, true, true, false].as_slice());
 }

@@ -1,10 +1,9 @@
 //! Constants behind the types that stand before them, in modules that are read again from their print.
 
-use crate::modules::shown::{shown, stays};
+use crate::modules::shown::{Row, are_shown, stay};
 use std::alloc::AllocError;
 
-/// Texts, and what is printed of the module, or the line and the kind of the first fault.
-const CONSTANTS: [(&str, &str); 10] = [
+const CONSTANTS: [Row; 10] = [
     // `poison` behind a type name is of the type that the name stands for.
     (
         "%t = type i32\n@g = global %t poison",
@@ -49,9 +48,6 @@ const CONSTANTS: [(&str, &str); 10] = [
 
 #[test]
 fn constants_are_read_again(rt: HostRuntime) -> Result<(), AllocError> {
-    for &(text, want) in &CONSTANTS {
-        assert!(rt; shown(rt.alloc(), text)?.as_str() == want, "{text}");
-        assert!(rt; stays(rt.alloc(), text)?, "{text}");
-    }
-    Ok(())
+    are_shown(&rt, rt.alloc(), &CONSTANTS)?;
+    stay(&rt, rt.alloc(), &CONSTANTS)
 }

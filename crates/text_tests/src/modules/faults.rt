@@ -1,10 +1,9 @@
 //! First faults of tokens, of the grammar and of the stages behind it.
 
-use crate::modules::shown::shown;
+use crate::modules::shown::{Row, are_shown};
 use std::alloc::AllocError;
 
-/// Texts, and what is printed of the module, or the line and the kind of the first fault.
-const FIRST_FAULTS: [(&str, &str); 13] = [
+const FIRST_FAULTS: [Row; 13] = [
     // At the end of the text, on the line behind its last line feed.
     ("define i32 @f() {\n  ret i32 0\n", "3: syntax"),
     ("declare void @f(", "1: syntax"),
@@ -29,13 +28,10 @@ const FIRST_FAULTS: [(&str, &str); 13] = [
 
 #[test]
 fn the_first_place_counts(rt: HostRuntime) -> Result<(), AllocError> {
-    for &(text, want) in &FIRST_FAULTS {
-        assert!(rt; shown(rt.alloc(), text)?.as_str() == want, "{text}");
-    }
-    Ok(())
+    are_shown(&rt, rt.alloc(), &FIRST_FAULTS)
 }
 
-const KINDS: [(&str, &str); 19] = [
+const KINDS: [Row; 19] = [
     ("@g = global i8 256", "1: number"),
     ("@g = global i8 -129", "1: number"),
     ("@g = global i8 0, align 3", "1: number"),
@@ -77,13 +73,10 @@ const KINDS: [(&str, &str); 19] = [
 
 #[test]
 fn each_kind_has_its_place(rt: HostRuntime) -> Result<(), AllocError> {
-    for &(text, want) in &KINDS {
-        assert!(rt; shown(rt.alloc(), text)?.as_str() == want, "{text}");
-    }
-    Ok(())
+    are_shown(&rt, rt.alloc(), &KINDS)
 }
 
-const STAGES: [(&str, &str); 7] = [
+const STAGES: [Row; 7] = [
     // Type names before the limits of shapes.
     (
         "%t = type [2147483648 x i8]\n%u = type [2 x %t]\n%u = type i8",
@@ -120,8 +113,5 @@ const STAGES: [(&str, &str); 7] = [
 
 #[test]
 fn stages_come_one_behind_another(rt: HostRuntime) -> Result<(), AllocError> {
-    for &(text, want) in &STAGES {
-        assert!(rt; shown(rt.alloc(), text)?.as_str() == want, "{text}");
-    }
-    Ok(())
+    are_shown(&rt, rt.alloc(), &STAGES)
 }

@@ -1,10 +1,9 @@
 //! Names and numbers of types, globals and locals.
 
-use crate::modules::shown::shown;
+use crate::modules::shown::{Row, are_shown};
 use std::alloc::AllocError;
 
-/// Texts, and what is printed of the module, or the line and the kind of the first fault.
-const GLOBALS: [(&str, &str); 10] = [
+const GLOBALS: [Row; 10] = [
     ("@g = global i8 0\n@g = global i8 1", "2: twice"),
     ("@g = global i8 0\ndeclare void @g()", "2: twice"),
     ("@g = global i8 0\n@\"g\" = global i8 1", "2: twice"),
@@ -29,13 +28,10 @@ const GLOBALS: [(&str, &str); 10] = [
 
 #[test]
 fn globals_stand_once(rt: HostRuntime) -> Result<(), AllocError> {
-    for &(text, want) in &GLOBALS {
-        assert!(rt; shown(rt.alloc(), text)?.as_str() == want, "{text}");
-    }
-    Ok(())
+    are_shown(&rt, rt.alloc(), &GLOBALS)
 }
 
-const TYPES: [(&str, &str); 7] = [
+const TYPES: [Row; 7] = [
     ("%t = type opaque", ""),
     (
         "%t = type opaque\n@g = global %t zeroinitializer",
@@ -56,13 +52,10 @@ const TYPES: [(&str, &str); 7] = [
 
 #[test]
 fn types_expand(rt: HostRuntime) -> Result<(), AllocError> {
-    for &(text, want) in &TYPES {
-        assert!(rt; shown(rt.alloc(), text)?.as_str() == want, "{text}");
-    }
-    Ok(())
+    are_shown(&rt, rt.alloc(), &TYPES)
 }
 
-const LOCALS: [(&str, &str); 9] = [
+const LOCALS: [Row; 9] = [
     // A name in quotes is no number.
     ("define i32 @f(i32 %\"0\") {\n  ret i32 %0\n}", "2: unknown"),
     (
@@ -93,13 +86,10 @@ const LOCALS: [(&str, &str); 9] = [
 
 #[test]
 fn locals_are_numbered_anew(rt: HostRuntime) -> Result<(), AllocError> {
-    for &(text, want) in &LOCALS {
-        assert!(rt; shown(rt.alloc(), text)?.as_str() == want, "{text}");
-    }
-    Ok(())
+    are_shown(&rt, rt.alloc(), &LOCALS)
 }
 
-const COUNTERS: [(&str, &str); 7] = [
+const COUNTERS: [Row; 7] = [
     // 2^32 - 1 may be written, as a label too, and no number past it.
     (
         "define void @main(i8 %4294967295) {\n  ret void\n}",
@@ -135,8 +125,5 @@ const COUNTERS: [(&str, &str); 7] = [
 
 #[test]
 fn numbers_go_on_behind_the_greatest_that_is_written(rt: HostRuntime) -> Result<(), AllocError> {
-    for &(text, want) in &COUNTERS {
-        assert!(rt; shown(rt.alloc(), text)?.as_str() == want, "{text}");
-    }
-    Ok(())
+    are_shown(&rt, rt.alloc(), &COUNTERS)
 }

@@ -1,13 +1,12 @@
 //! Numbers that are too high or too low, counts past a limit, and chains of type names, each with its
 //! line and kind.
 
-use crate::modules::shown::{shown, stays};
+use crate::modules::shown::{Row, are_shown, shown, stay};
 use std::alloc::{AllocError, Global};
 use std::fmt::Write;
 use std::string::String;
 
-/// Texts, and what is printed of the module, or the line and the kind of the first fault.
-const NUMBERS: [(&str, &str); 23] = [
+const NUMBERS: [Row; 23] = [
     // Past 2^32 - 1, at the token.
     ("\n@4294967296 = private global i8 0", "2: number"),
     ("@4294967296\n= internal constant i8 0", "1: number"),
@@ -84,13 +83,10 @@ const NUMBERS: [(&str, &str); 23] = [
 
 #[test]
 fn numbers_of_names_are_in_range(rt: HostRuntime) -> Result<(), AllocError> {
-    for &(text, want) in &NUMBERS {
-        assert!(rt; shown(rt.alloc(), text)?.as_str() == want, "{text}");
-    }
-    Ok(())
+    are_shown(&rt, rt.alloc(), &NUMBERS)
 }
 
-const COUNTS: [(&str, &str); 9] = [
+const COUNTS: [Row; 9] = [
     (
         "define void @f() {\n  %1 = alloca\ni8,\ni64\n2147483649\n  ret void\n}",
         "5: limit",
@@ -133,10 +129,7 @@ const COUNTS: [(&str, &str); 9] = [
 
 #[test]
 fn counts_of_slots_are_within_the_limits(rt: HostRuntime) -> Result<(), AllocError> {
-    for &(text, want) in &COUNTS {
-        assert!(rt; shown(rt.alloc(), text)?.as_str() == want, "{text}");
-    }
-    Ok(())
+    are_shown(&rt, rt.alloc(), &COUNTS)
 }
 
 /// An `alloca` of so many levels of arrays, and this count on a line of its own.
@@ -154,16 +147,31 @@ fn nested_slots(alloc: Global, levels: usize, count: &str) -> Result<String, All
     shown(alloc, text.as_str())
 }
 
+/// Levels of arrays, a count of slots, and whether they pass the limit of levels.
+const SLOTS: [(usize, &str, bool); 4] = [
+    (32, "2", true),
+    (32, "0", true),
+    (32, "1", false),
+    (31, "2", false),
+];
+
+/// Whether the limit of levels is passed at the count of an `alloca` of so many levels.
+fn passes_the_limit(alloc: Global, levels: usize, count: &str) -> Result<bool, AllocError> {
+    Ok(nested_slots(alloc, levels, count)?.as_str() == "3: limit")
+}
+
 #[test]
 fn a_count_of_slots_is_a_level(rt: HostRuntime) -> Result<(), AllocError> {
-    assert!(rt; nested_slots(rt.alloc(), 32, "2")?.as_str() == "3: limit");
-    assert!(rt; nested_slots(rt.alloc(), 32, "0")?.as_str() == "3: limit");
-    assert!(rt; nested_slots(rt.alloc(), 32, "1")?.as_str() != "3: limit");
-    assert!(rt; nested_slots(rt.alloc(), 31, "2")?.as_str() != "3: limit");
+    for &(levels, count, is_past) in &SLOTS {
+        assert!(rt;
+            passes_the_limit(rt.alloc(), levels, count)? == is_past,
+            "{levels}, {count}"
+        );
+    }
     Ok(())
 }
 
-const INITIALISERS: [(&str, &str); 8] = [
+const INITIALISERS: [Row; 8] = [
     (
         "%T = type i32\n@g = global %T 5",
         "@g = global i32 5, align 4\n",
@@ -201,11 +209,8 @@ const INITIALISERS: [(&str, &str); 8] = [
 
 #[test]
 fn numbers_stand_behind_type_names(rt: HostRuntime) -> Result<(), AllocError> {
-    for &(text, want) in &INITIALISERS {
-        assert!(rt; shown(rt.alloc(), text)?.as_str() == want, "{text}");
-        assert!(rt; stays(rt.alloc(), text)?, "{text}");
-    }
-    Ok(())
+    are_shown(&rt, rt.alloc(), &INITIALISERS)?;
+    stay(&rt, rt.alloc(), &INITIALISERS)
 }
 
 /// A name and so many further ones, each of which stands for the one before, or holds it twice, and a
@@ -224,18 +229,28 @@ fn chain(alloc: Global, further: usize, twice: bool) -> Result<String, AllocErro
     shown(alloc, text.as_str())
 }
 
+/// How many names follow the first, whether each holds the one before it twice, and what is printed.
+const CHAINS: [(usize, bool, &str); 2] = [
+    (999, false, "@g = global i8 zeroinitializer, align 1\n"),
+    (
+        2,
+        true,
+        "@g = global { { i8, i8 }, { i8, i8 } } zeroinitializer, align 1\n",
+    ),
+];
+
 #[test]
 fn chains_of_type_names_end(rt: HostRuntime) -> Result<(), AllocError> {
-    let long = chain(rt.alloc(), 999, false)?;
-    assert!(rt; long.as_str() == "@g = global i8 zeroinitializer, align 1\n");
-    let small = chain(rt.alloc(), 2, true)?;
-    assert!(rt;
-        small.as_str() == "@g = global { { i8, i8 }, { i8, i8 } } zeroinitializer, align 1\n"
-    );
+    for &(further, twice, want) in &CHAINS {
+        assert!(rt;
+            chain(rt.alloc(), further, twice)?.as_str() == want,
+            "{further}"
+        );
+    }
     Ok(())
 }
 
-const LEFT_OUT: [(&str, &str); 4] = [
+const LEFT_OUT: [Row; 4] = [
     // Where the type of a count may stand, one that is left out is told as such.
     (
         "define void @f() {\n  %1 = alloca i8,\nmetadata",
@@ -254,8 +269,5 @@ const LEFT_OUT: [(&str, &str); 4] = [
 
 #[test]
 fn types_are_left_out_where_types_stand(rt: HostRuntime) -> Result<(), AllocError> {
-    for &(text, want) in &LEFT_OUT {
-        assert!(rt; shown(rt.alloc(), text)?.as_str() == want, "{text}");
-    }
-    Ok(())
+    are_shown(&rt, rt.alloc(), &LEFT_OUT)
 }

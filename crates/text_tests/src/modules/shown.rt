@@ -2,10 +2,14 @@
 
 use ir_parse::{FaultKind, ReadError, ReadFault, parse};
 use ir_print::print;
-use ir_tree::Parsed;
+use ir_tree::Module;
 use std::alloc::{AllocError, Global};
 use std::fmt::Write;
+use std::process::Abort;
 use std::string::String;
+
+/// A text, and what is printed of the module, or the line and the kind of the first fault.
+pub type Row = (&'static str, &'static str);
 
 fn put_kind(kind: &FaultKind, out: &mut String) {
     let _written = match kind {
@@ -45,23 +49,42 @@ pub fn shown(alloc: Global, text: &str) -> Result<String, AllocError> {
     }
 }
 
-/// What bytes are read as, where they are read as a module.
-fn module_of(alloc: Global, bytes: &[u8]) -> Result<Option<Parsed>, AllocError> {
+/// Tries that each text of a table is shown so.
+pub fn are_shown<R: Abort>(rt: &R, alloc: Global, rows: &[Row]) -> Result<(), AllocError> {
+    for &(text, want) in rows {
+        assert!(rt; shown(alloc, text)?.as_str() == want, "{text}");
+    }
+    Ok(())
+}
+
+/// Whether bytes are read as this module.
+fn is_read_as(alloc: Global, bytes: &[u8], module: &Module) -> Result<bool, AllocError> {
     match parse(alloc, bytes) {
-        Ok(parsed) => Ok(Some(parsed)),
+        Ok(parsed) => Ok(*parsed.module() == *module),
         Err(ReadError::NoMemory) => Err(AllocError),
-        Err(ReadError::Fault(_)) => Ok(None),
+        Err(ReadError::Fault(_)) => Ok(false),
     }
 }
 
+/// Whether what is printed of a module is read as the very same one.
+fn is_read_again(alloc: Global, module: &Module) -> Result<bool, AllocError> {
+    let printed = print(alloc, module)?;
+    is_read_as(alloc, printed.as_slice(), module)
+}
+
 /// Whether a text is read as a module, and what is printed of that as the very same one.
-pub fn stays(alloc: Global, text: &str) -> Result<bool, AllocError> {
-    let Some(first) = module_of(alloc, text.as_bytes())? else {
-        return Ok(false);
-    };
-    let printed = print(alloc, first.module())?;
-    match module_of(alloc, printed.as_slice())? {
-        None => Ok(false),
-        Some(again) => Ok(*again.module() == *first.module()),
+fn stays(alloc: Global, text: &str) -> Result<bool, AllocError> {
+    match parse(alloc, text.as_bytes()) {
+        Ok(parsed) => is_read_again(alloc, parsed.module()),
+        Err(ReadError::NoMemory) => Err(AllocError),
+        Err(ReadError::Fault(_)) => Ok(false),
     }
+}
+
+/// Tries that each text of a table is read as a module, and what is printed of that as the very same one.
+pub fn stay<R: Abort>(rt: &R, alloc: Global, rows: &[Row]) -> Result<(), AllocError> {
+    for &(text, _) in rows {
+        assert!(rt; stays(alloc, text)?, "{text}");
+    }
+    Ok(())
 }

@@ -1,6 +1,6 @@
 //! Whole modules.
 
-use crate::modules::shown::shown;
+use crate::modules::shown::{Row, are_shown, shown};
 use std::alloc::AllocError;
 
 // As clang writes them.
@@ -62,8 +62,7 @@ fn a_module_of_clang_is_read(rt: HostRuntime) -> Result<(), AllocError> {
     Ok(())
 }
 
-/// Texts, and what is printed of the module, or the line and the kind of the first fault.
-const TARGETS: [(&str, &str); 3] = [
+const TARGETS: [Row; 3] = [
     ("", ""),
     (
         "target triple = \"a\"\ntarget datalayout = \"e\"\ntarget triple = \"b\"",
@@ -74,13 +73,10 @@ const TARGETS: [(&str, &str); 3] = [
 
 #[test]
 fn the_last_target_line_stands(rt: HostRuntime) -> Result<(), AllocError> {
-    for &(text, want) in &TARGETS {
-        assert!(rt; shown(rt.alloc(), text)?.as_str() == want, "{text}");
-    }
-    Ok(())
+    are_shown(&rt, rt.alloc(), &TARGETS)
 }
 
-const GROUPS: [(&str, &str); 4] = [
+const GROUPS: [Row; 4] = [
     (
         "define void @f() #7 {\n  ret void\n}",
         "define void @f() {\n  ret void\n}\n",
@@ -101,8 +97,5 @@ const GROUPS: [(&str, &str); 4] = [
 
 #[test]
 fn groups_of_one_number_add_up(rt: HostRuntime) -> Result<(), AllocError> {
-    for &(text, want) in &GROUPS {
-        assert!(rt; shown(rt.alloc(), text)?.as_str() == want, "{text}");
-    }
-    Ok(())
+    are_shown(&rt, rt.alloc(), &GROUPS)
 }

@@ -1,26 +1,34 @@
 //! Texts and their tokens, worked out by hand from the table of tokens.
-use ir_lex::{Kind, LexError, Token, lex, tokens};
+use ir_lex::{LexError, Token, lex, tokens};
 use std::alloc::{AllocError, Global};
 use std::fmt::Write;
 use std::string::String;
 
-/// The tokens in one line: each with its kind, its line and whether it ends that, and then the end, or the bad token; or the class
-/// of each alone.
-fn shown(alloc: Global, text: &str, by_class: bool) -> Result<String, AllocError> {
+/// A token with its kind, its line and whether it ends that.
+fn put_token(token: &Token, out: &mut String) {
+    let slice = str::from_utf8(token.text).unwrap_or("?");
+    let end = if token.ends_line { "/" } else { "" };
+    let _written = write!(out, "{:?} {} {}{}, ", token.kind, slice, token.line, end);
+}
+
+/// The tokens in one line, and then the end, or the bad token.
+fn shown(alloc: Global, text: &str) -> Result<String, AllocError> {
     let lexed = lex(alloc, text.as_bytes())?;
     let mut out = String::new(alloc);
     for token in &lexed.tokens {
-        if by_class {
-            let _written = write!(out, "{:?} ", token.head);
-        } else {
-            let slice = str::from_utf8(token.text).unwrap_or("?");
-            let end = if token.ends_line { "/" } else { "" };
-            let _written = write!(out, "{:?} {} {}{}, ", token.kind, slice, token.line, end);
-        }
+        put_token(token, &mut out);
     }
-    if !by_class {
-        let end = if lexed.whole { "end" } else { "bad" };
-        let _written = write!(out, "{} {}", end, lexed.line);
+    let end = if lexed.whole { "end" } else { "bad" };
+    let _written = write!(out, "{} {}", end, lexed.line);
+    Ok(out)
+}
+
+/// The classes of the tokens in one line.
+fn classes(alloc: Global, text: &str) -> Result<String, AllocError> {
+    let lexed = lex(alloc, text.as_bytes())?;
+    let mut out = String::new(alloc);
+    for token in &lexed.tokens {
+        let _written = write!(out, "{:?} ", token.head);
     }
     Ok(out)
 }
@@ -156,12 +164,15 @@ const CLASSES: [(&str, &str); 8] = [
 #[test]
 fn texts_are_cut(rt: HostRuntime) -> Result<(), AllocError> {
     for &(text, want) in &CUT {
-        let got = shown(rt.alloc(), text, false)?;
-        assert_eq!(rt; got.as_str(), want);
+        assert_eq!(rt; shown(rt.alloc(), text)?.as_str(), want);
     }
+    Ok(())
+}
+
+#[test]
+fn tokens_have_classes(rt: HostRuntime) -> Result<(), AllocError> {
     for &(text, want) in &CLASSES {
-        let got = shown(rt.alloc(), text, true)?;
-        assert_eq!(rt; got.as_str(), want);
+        assert_eq!(rt; classes(rt.alloc(), text)?.as_str(), want);
     }
     Ok(())
 }
@@ -182,31 +193,48 @@ const CONTENTS: [(&str, &str); 12] = [
     ("i32", "i32"),
 ];
 
+/// Whether a text is one token, which stands for these bytes.
+fn stands_for(alloc: Global, text: &str, want: &str) -> Result<bool, AllocError> {
+    let lexed = lex(alloc, text.as_bytes())?;
+    match lexed.tokens.as_slice() {
+        [token] => Ok(token.content(alloc)?.as_slice() == want.as_bytes()),
+        _ => Ok(false),
+    }
+}
+
+#[test]
+fn tokens_stand_for_bytes(rt: HostRuntime) -> Result<(), AllocError> {
+    for &(text, want) in &CONTENTS {
+        assert!(rt; stands_for(rt.alloc(), text, want)?, "{text}");
+    }
+    Ok(())
+}
+
+/// The kinds of the tokens of a text, or the line of its bad token.
+fn kinds(alloc: Global, text: &[u8]) -> Result<String, AllocError> {
+    let mut out = String::new(alloc);
+    match tokens(alloc, text) {
+        Ok(list) => {
+            for token in &list {
+                let _written = write!(out, "{:?} ", token.kind);
+            }
+        }
+        Err(LexError::Fault { line }) => {
+            let _written = write!(out, "bad {}", line);
+        }
+        Err(LexError::NoMemory) => return Err(AllocError),
+    }
+    Ok(out)
+}
+
 #[test]
 fn tokens_are_listed(rt: HostRuntime) -> Result<(), AllocError> {
-    for &(text, want) in &CONTENTS {
-        let lexed = lex(rt.alloc(), text.as_bytes())?;
-        assert_eq!(rt; lexed.tokens.len(), 1, "{text}");
-        for token in &lexed.tokens {
-            let content = token.content(rt.alloc())?;
-            assert_eq!(rt;
-                str::from_utf8(content.as_slice()).unwrap_or("?"),
-                want,
-                "{text}"
-            );
-        }
-    }
-    let Ok(list) = tokens(rt.alloc(), b"ret void\n") else {
-        return Err(AllocError);
-    };
-    assert_eq!(rt; list.len(), 2);
-    assert_eq!(rt; list[1].kind, Kind::Word);
-    assert!(rt;
-        matches!(
-            tokens(rt.alloc(), b"ret\n\"void"),
-            Err(LexError::Fault { line: 2 })
-        )
-    );
-    assert_eq!(rt; size_of::<Token>(), 24);
+    assert_eq!(rt; kinds(rt.alloc(), b"ret void\n")?.as_str(), "Word Word ");
+    assert_eq!(rt; kinds(rt.alloc(), b"ret\n\"void")?.as_str(), "bad 2");
     Ok(())
+}
+
+#[test]
+fn a_token_has_24_bytes(rt: HostRuntime) {
+    assert_eq!(rt; size_of::<Token>(), 24);
 }

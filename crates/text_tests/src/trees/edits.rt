@@ -84,11 +84,19 @@ fn edits_show(alloc: Global, f: &Function) -> Result<bool, AllocError> {
     Ok(shifted && swapped && is_too_much(alloc, f, u32::MAX))
 }
 
+/// Whether this is so of the function `count` of a text.
+fn edits_show_in(alloc: Global, text: &[u8]) -> Result<bool, AllocError> {
+    let Some(parsed) = read(alloc, text) else {
+        return Ok(false);
+    };
+    match parsed.module().function(b"count") {
+        Some(f) => edits_show(alloc, f),
+        None => Ok(false),
+    }
+}
+
 #[test]
 fn numbers_and_uses_change(rt: HostRuntime) -> Result<(), AllocError> {
-    let alloc = rt.alloc();
-    let parsed = read(alloc, COUNTING).expect(&rt, "a module");
-    let f = parsed.module().function(b"count").expect(&rt, "a function");
-    assert!(rt; edits_show(alloc, f)?);
+    assert!(rt; edits_show_in(rt.alloc(), COUNTING)?);
     Ok(())
 }

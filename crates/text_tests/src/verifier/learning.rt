@@ -19,10 +19,19 @@ fn are_known(alloc: Global, f: &Function) -> Result<bool, AllocError> {
     Ok(named && known.places.get(1) == Some(0))
 }
 
+/// Whether this is so of the function `f` of a text.
+fn are_known_in(alloc: Global, text: &[u8]) -> Result<bool, AllocError> {
+    let Some(parsed) = read(alloc, text) else {
+        return Ok(false);
+    };
+    match parsed.module().function(b"f") {
+        Some(f) => are_known(alloc, f),
+        None => Ok(false),
+    }
+}
+
 #[test]
 fn parameters_phis_and_blocks_are_learned(rt: HostRuntime) -> Result<(), AllocError> {
-    let parsed = read(rt.alloc(), TEXT).expect(&rt, "a module");
-    let f = parsed.module().function(b"f").expect(&rt, "a function");
-    assert!(rt; are_known(rt.alloc(), f)?);
+    assert!(rt; are_known_in(rt.alloc(), TEXT)?);
     Ok(())
 }
