@@ -83,6 +83,30 @@ fn join_all(claims: &Claims, mut drawers: Vec<Drawer>) -> Option<ClaimPass>
     Some(pass)
 }
 
+/// Counts how often each number is there. Whether all are below the limit.
+fn count(times: &mut [u32], numbers: &[u32]) -> bool {
+    let mut within = true;
+    for number in numbers {
+        let place = *number as usize;
+        if place < times.len() {
+            times[place] = times[place].wrapping_add(1);
+        } else {
+            within = false;
+        }
+    }
+    within
+}
+
+/// Whether the drawers have each number once, and no other.
+fn are_drawn_once(alloc: Global, drawers: &[Drawer]) -> Result<bool, AllocError> {
+    let mut times = Vec::from_elem(alloc, 0u32, NUMBERS as usize)?;
+    let mut within = true;
+    for drawer in drawers {
+        within = count(times.as_mut_slice(), drawer.numbers.as_slice()) && within;
+    }
+    Ok(within && times.as_slice().iter().all(|t| *t == 1))
+}
+
 #[test]
 fn threads_draw_each_number_once(rt: HostRuntime) -> Result<(), Fail> {
     for callers in [1u32, 2, 16, 64] {
@@ -90,15 +114,7 @@ fn threads_draw_each_number_once(rt: HostRuntime) -> Result<(), Fail> {
         let mut drawers = drawers_of(rt.alloc(), &claims, first)?;
         assert!(rt; drawers.len() == callers as usize);
         draw_in_threads(&rt, &claims, drawers.as_mut_slice());
-        let mut times = Vec::from_elem(rt.alloc(), 0u32, NUMBERS as usize)?;
-        for drawer in drawers.as_slice() {
-            for number in drawer.numbers.as_slice() {
-                let place = *number as usize;
-                assert!(rt; place < times.len());
-                times[place] = times[place].wrapping_add(1);
-            }
-        }
-        assert!(rt; times.as_slice().iter().all(|t| *t == 1));
+        assert!(rt; are_drawn_once(rt.alloc(), drawers.as_slice())?);
         let pass = join_all(&claims, drawers);
         assert!(rt; pass.is_some());
         if let Some(mut pass) = pass {

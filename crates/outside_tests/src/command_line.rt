@@ -1,71 +1,85 @@
 //! The words of the command line: words that are a command, and words that are none. Their commands try whether the
 //! table of commands and options is the program's.
-use lto_words::{Command, WordsError, command};
+use lto_words::{Command, LinkOptions, WordsError, command};
 use std::alloc::Global;
 use std::process::Abort;
 
 /// The name of a command, and its numbers.
 type Told = (&'static str, [usize; 5]);
 
-/// The name of a command, and its numbers: of workers, of limits, and how many names and files it has.
-fn told(command: &Command) -> Told {
-    match command {
-        Command::Link { options, files, .. } => {
-            let limits = (options.import_limit as usize, options.inline_limit as usize);
-            let names = options.exports.len();
-            (
-                "link",
-                [
-                    options.jobs as usize,
-                    limits.0,
-                    limits.1,
-                    names,
-                    files.len(),
-                ],
-            )
+/// What can be told of.
+trait Telling {
+    /// The name of a command, and its numbers: of workers, of limits, and how many names and files it has.
+    fn told(&self) -> Told;
+}
+
+/// The numbers of a link's options, and how many files it has.
+fn link_numbers(options: &LinkOptions, files: usize) -> [usize; 5] {
+    [
+        options.jobs as usize,
+        options.import_limit as usize,
+        options.inline_limit as usize,
+        options.exports.len(),
+        files,
+    ]
+}
+
+impl Telling for Command {
+    fn told(&self) -> Told {
+        match self {
+            Command::Link { options, files, .. } => ("link", link_numbers(options, files.len())),
+            Command::Batch { options, .. } => ("batch", [options.jobs as usize, 0, 0, 0, 0]),
+            Command::Index {
+                exports,
+                import_limit,
+                files,
+            } => (
+                "index",
+                [0, *import_limit as usize, 0, exports.len(), files.len()],
+            ),
+            Command::Run {
+                args,
+                steps,
+                files,
+                ..
+            } => ("run", [*steps as usize, 0, 0, args.len(), files.len()]),
+            Command::Gen {
+                seed,
+                modules,
+                jobs,
+            } => (
+                "gen",
+                [*jobs as usize, *seed as usize, *modules as usize, 0, 0],
+            ),
         }
-        Command::Batch { options, .. } => ("batch", [options.jobs as usize, 0, 0, 0, 0]),
-        Command::Index {
-            exports,
-            import_limit,
-            files,
-        } => (
-            "index",
-            [0, *import_limit as usize, 0, exports.len(), files.len()],
-        ),
-        Command::Run {
-            args,
-            steps,
-            files,
-            ..
-        } => ("run", [*steps as usize, 0, 0, args.len(), files.len()]),
-        Command::Gen {
-            seed,
-            modules,
-            jobs,
-        } => (
-            "gen",
-            [*jobs as usize, *seed as usize, *modules as usize, 0, 0],
-        ),
     }
 }
 
 /// No command.
 const USAGE: Told = ("usage", [0; 5]);
 
-/// What words are read as.
-fn read<R: Abort>(rt: &R, alloc: Global, words: &[&str]) -> Told {
-    let mut owned = Vec::new(alloc);
-    for word in words {
-        owned
-            .push(String::from_str(alloc, word).expect(rt, "a word"))
-            .expect(rt, "words");
-    }
-    match command(alloc, &owned) {
-        Ok(command) => told(&command),
+/// What is told of what was read, or of why nothing was.
+fn outcome<T: Telling + Drop>(read: Result<T, WordsError>) -> Told {
+    match read {
+        Ok(found) => found.told(),
         Err(WordsError::Usage) => USAGE,
         Err(WordsError::NoMemory) => ("memory", [0; 5]),
     }
+}
+
+/// Words of one's own.
+fn owned<R: Abort>(rt: &R, alloc: Global, words: &[&str]) -> Vec<String> {
+    let mut owned = Vec::new(alloc);
+    for word in words {
+        let word = String::from_str(alloc, word).expect(rt, "a word");
+        owned.push(word).expect(rt, "words");
+    }
+    owned
+}
+
+/// What words are read as.
+fn read<R: Abort>(rt: &R, alloc: Global, words: &[&str]) -> Told {
+    outcome(command(alloc, &owned(rt, alloc, words)))
 }
 
 /// Words, and the command that they are.

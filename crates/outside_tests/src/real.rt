@@ -1,60 +1,79 @@
 //! The adapters of real files, of a directory, and of streams.
+use crate::calls::{holds, length, loads};
 use crate::meaning::Anything;
 use lto_outside::{ByteIn, ByteOut, CacheDisk, FetchFault, Files};
 use outside_real::{RealDisk, RealFiles, RealIn, RealOut};
+use std::alloc::{AllocError, Global};
 use std::fs;
 
-#[test]
-fn a_file_is_put_and_fetched(rt: HostRuntime) {
-    let alloc = rt.alloc();
-    let mut files = RealFiles::new(&rt);
-    assert!(rt; files.put("a", b"longer").is_ok());
-    assert!(rt; files.put("a", b"xyz").is_ok());
-    let text = files.fetch(alloc, "a").expect(&rt, "a file");
-    assert!(rt; text.equals(b"xyz"));
-    assert_eq!(rt; files.faults(), 0);
-    assert!(rt; matches!(files.fetch(alloc, "absent"), Err(FetchFault::Fault)));
-    assert!(rt; files.put("absent/a", b"").is_err());
-    assert_eq!(rt; files.faults(), 2);
+/// Whether the second of two texts is what a file holds, and nothing failed.
+fn keeps_the_second<F: Files>(alloc: Global, files: &mut F) -> bool {
+    let put = files.put("a", b"longer").is_ok() && files.put("a", b"xyz").is_ok();
+    put && holds(alloc, files, "a", b"xyz") && files.faults() == 0
+}
+
+/// Whether a file and a directory that aren't there are two faults.
+fn counts_what_is_absent<F: Files>(alloc: Global, files: &mut F) -> bool {
+    let absent = length(alloc, files, "absent") == Err(FetchFault::Fault);
+    absent && files.put("absent/a", b"").is_err() && files.faults() == 2
 }
 
 #[test]
-fn a_file_past_the_limit_is_too_long(rt: HostRuntime) {
-    let alloc = rt.alloc();
+fn a_file_is_put_and_fetched(rt: HostRuntime) {
     let mut files = RealFiles::new(&rt);
-    let full = vec![in alloc; b'x'; 1 << 24].expect(&rt, "memory");
-    assert!(rt; files.put("full", full.as_slice()).is_ok());
-    let text = files.fetch(alloc, "full").expect(&rt, "a file");
-    assert_eq!(rt; text.len(), 1 << 24);
-    let more = vec![in alloc; b'x'; (1 << 24) + 1].expect(&rt, "memory");
-    assert!(rt; files.put("full", more.as_slice()).is_ok());
-    assert!(rt; matches!(files.fetch(alloc, "full"), Err(FetchFault::TooLong)));
+    assert!(rt; keeps_the_second(rt.alloc(), &mut files));
+    assert!(rt; counts_what_is_absent(rt.alloc(), &mut files));
+}
+
+/// What is fetched of a file in which so many bytes were put.
+fn fetched<F: Files>(
+    alloc: Global,
+    files: &mut F,
+    len: usize,
+) -> Result<Result<usize, FetchFault>, AllocError> {
+    let bytes = vec![in alloc; b'x'; len]?;
+    match files.put("full", bytes.as_slice()) {
+        Ok(()) => Ok(length(alloc, files, "full")),
+        Err(_) => Ok(Err(FetchFault::Fault)),
+    }
+}
+
+#[test]
+fn a_file_past_the_limit_is_too_long(rt: HostRuntime) -> Result<(), AllocError> {
+    let mut files = RealFiles::new(&rt);
+    assert!(rt; fetched(rt.alloc(), &mut files, 1 << 24)? == Ok(1 << 24));
+    assert!(rt; fetched(rt.alloc(), &mut files, (1 << 24) + 1)? == Err(FetchFault::TooLong));
     assert_eq!(rt; files.faults(), 0);
+    Ok(())
+}
+
+/// Whether an entry that isn't there is saved, and the second of two is loaded.
+fn saves_the_second<D: CacheDisk>(alloc: Global, disk: &mut D) -> bool {
+    let absent = loads(alloc, disk, ".", "e", None);
+    let saved = disk.save(".", "e", b"first").is_ok() && disk.save(".", "e", b"xyz").is_ok();
+    absent && saved && loads(alloc, disk, ".", "e", Some(b"xyz"))
 }
 
 #[test]
 fn an_entry_is_saved_and_loaded(rt: HostRuntime) {
-    let alloc = rt.alloc();
     let mut disk: RealDisk<'_, _, Anything> = RealDisk::new(&rt);
-    let loaded = disk.load(alloc, ".", "e").expect(&rt, "no fault");
-    assert!(rt; loaded.is_none());
-    assert!(rt; disk.save(".", "e", b"first").is_ok());
-    assert!(rt; disk.save(".", "e", b"xyz").is_ok());
-    let loaded = disk.load(alloc, ".", "e").expect(&rt, "no fault");
-    let text = loaded.expect(&rt, "a file");
-    assert!(rt; text.equals(b"xyz"));
+    assert!(rt; saves_the_second(rt.alloc(), &mut disk));
     assert!(rt; !fs::exists(&rt, "./e.part").expect(&rt, "a directory"));
     assert!(rt; disk.save("absent", "e", b"").is_err());
     assert_eq!(rt; disk.faults(), 1);
 }
 
 #[test]
-fn bytes_come_and_are_sent_in_order(rt: HostRuntime) {
+fn bytes_come_in_order(rt: HostRuntime) {
     let mut input = RealIn::new(b"ab".as_slice());
-    assert!(rt; input.next() == Ok(Some(b'a')));
-    assert!(rt; input.next() == Ok(Some(b'b')));
-    assert!(rt; input.next() == Ok(None));
+    for &byte in &[Some(b'a'), Some(b'b'), None] {
+        assert!(rt; input.next() == Ok(byte));
+    }
     assert_eq!(rt; input.faults(), 0);
+}
+
+#[test]
+fn bytes_are_sent_in_order(rt: HostRuntime) {
     let mut sent = Vec::new(rt.alloc());
     let mut out = RealOut::new(&mut sent);
     assert!(rt; out.push(b'x').is_ok());

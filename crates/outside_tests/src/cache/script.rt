@@ -8,6 +8,7 @@ ghost use Rattle.outside_tests.specs.Keys.{test_keys};
 
 use crate::meaning::Anything;
 use cache_slot::{CachePass, Kept, Setting, SharedCache};
+use ir_tree::Text;
 use outside_memory::MemoryDisk;
 use std::alloc::{AllocError, Global};
 use std::marker::Brand;
@@ -47,6 +48,14 @@ pub enum Answer {
     Kept(Kept),
 }
 
+/// The answer of a look-up that found this.
+fn answer_of(found: &Option<Text>) -> Answer {
+    match found {
+        Some(text) => Answer::Found(text.as_slice().first().copied().unwrap_or(0)),
+        None => Answer::Missed,
+    }
+}
+
 fn take_step<W: Wait, S: Setting>(
     rt: &W,
     alloc: Global,
@@ -59,15 +68,34 @@ fn take_step<W: Wait, S: Setting>(
     ensures { IsAt cache.now.lock.table.shared.table_id pass.new.place.seat }
 {
     match step {
-        Step::Look(key) => match cache.lookup(rt, alloc, pass, key.bytes())? {
-            Some(text) => Ok(Answer::Found(text.as_slice().first().copied().unwrap_or(0))),
-            None => Ok(Answer::Missed),
-        },
+        Step::Look(key) => {
+            let found = cache.lookup(rt, alloc, pass, key.bytes())?;
+            Ok(answer_of(&found))
+        }
         Step::Keep(key, byte) => {
             let kept = cache.store(rt, alloc, pass, key.bytes(), &[byte])?;
             Ok(Answer::Kept(kept))
         }
     }
+}
+
+/// The answers of the steps, in their order.
+fn take_steps<W: Wait, S: Setting>(
+    rt: &W,
+    alloc: Global,
+    cache: &SharedCache<Disk, S>,
+    pass: &mut CachePass<Disk, S>,
+    script: &[Step],
+) -> Result<Vec<Answer>, AllocError>
+    requires pass { IsAt cache.now.lock.table.shared.table_id pass.old.place.seat }
+    requires keys { S.keys ≡ test_keys }
+    ensures { IsAt cache.now.lock.table.shared.table_id pass.new.place.seat }
+{
+    let mut answers = Vec::new(alloc);
+    for step in script {
+        answers.push(take_step(rt, alloc, cache, pass, *step)?)?;
+    }
+    Ok(answers)
 }
 
 fn run<W: Wait, S: Setting>(
@@ -85,10 +113,7 @@ fn run<W: Wait, S: Setting>(
     let Ok((cache, mut pass)) = SharedCache::<Disk, S>::new(alloc, disk, dir) else {
         return Err(AllocError);
     };
-    let mut answers = Vec::new(alloc);
-    for step in script {
-        answers.push(take_step(rt, alloc, &cache, &mut pass, *step)?)?;
-    }
+    let answers = take_steps(rt, alloc, &cache, &mut pass, script)?;
     Ok((answers, cache.close(rt, pass)))
 }
 

@@ -1,5 +1,5 @@
 //! Callers beside each other that store one key.
-ghost use Rattle.std.specs.Prelude.{◌≡◌, None, Some, All};
+ghost use Rattle.std.specs.Prelude.{◌≡◌, None, Some, All, IfOk};
 ghost use Rattle.std.specs.List.{Contains};
 ghost use Rattle.cache_turn.specs.Places.{IsAt};
 ghost use Rattle.outside_memory.specs.Disk.{disk_held, disk_calls};
@@ -54,7 +54,40 @@ fn store_in_threads<R: Threads + Wait + Sync, S: Setting + Send + Sync>(
     }
 }
 
+/// So many callers of a cache, each with a pass of its own.
+fn callers_of<S: Setting>(
+    alloc: Global,
+    cache: &SharedCache<Disk, S>,
+    first: &mut CachePass<Disk, S>,
+    count: usize,
+) -> Result<Vec<Caller<S>>, AllocError>
+    requires { IsAt cache.now.lock.table.shared.table_id first.old.place.seat }
+    ensures first { IsAt cache.now.lock.table.shared.table_id first.new.place.seat }
+    ensures callers { IfOk result (λ v. All (λ c. IsAt cache.now.lock.table.shared.table_id c.pass.place.seat) v.items) }
+{
+    let mut callers = Vec::new(alloc);
+    for _ in 0..count {
+        let pass = cache.split(first);
+        callers.push(Caller { pass, kept: None })?;
+    }
+    Ok(callers)
+}
+
 /// How many of the callers answered New, and how many Already.
+fn answers_of<S: Setting>(callers: &[Caller<S>]) -> (usize, usize) {
+    let mut new = 0usize;
+    let mut again = 0usize;
+    for caller in callers {
+        match caller.kept {
+            Some(Kept::New) => new = new.wrapping_add(1),
+            Some(Kept::Already) => again = again.wrapping_add(1),
+            _ => {}
+        }
+    }
+    (new, again)
+}
+
+/// How many callers beside each other, who store one key, are answered New, and how many Already.
 fn store_beside<R: Threads + Wait + Sync, S: Setting + Send + Sync>(
     rt: &R,
     alloc: Global,
@@ -69,23 +102,11 @@ fn store_beside<R: Threads + Wait + Sync, S: Setting + Send + Sync>(
     let Ok((cache, mut first)) = SharedCache::<Disk, S>::new(alloc, disk, None) else {
         return Err(AllocError);
     };
-    let mut callers = Vec::new(alloc);
-    for _ in 0..count {
-        let pass = cache.split(&mut first);
-        callers.push(Caller { pass, kept: None })?;
-    }
+    let mut callers = callers_of(alloc, &cache, &mut first, count)?;
     store_in_threads(rt, alloc, &cache, callers.as_mut_slice());
-    let mut new = 0usize;
-    let mut again = 0usize;
-    for caller in callers.as_slice() {
-        match caller.kept {
-            Some(Kept::New) => new = new.wrapping_add(1),
-            Some(Kept::Already) => again = again.wrapping_add(1),
-            _ => {}
-        }
-    }
+    let answers = answers_of(callers.as_slice());
     let _ = cache.close(rt, first);
-    Ok((new, again))
+    Ok(answers)
 }
 
 fn store_in_memory<R: Threads + Wait + Sync>(

@@ -1,5 +1,5 @@
 use Rattle.cache_turn.specs.Places.{IsAt}
-use Rattle.outside_tests.proofs.cache.script.run.Given as goal
+use Rattle.outside_tests.proofs.cache.script.take_steps.Given as goal
 
 abbrev pub invariant-loop-step : goal.invariant-loop-step
 invariant-loop-step g l = IsAt l.cache.lock.table.shared.table_id l.pass.place.seat
