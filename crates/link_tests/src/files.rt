@@ -1,10 +1,10 @@
 //! Files of module texts: the modules that they are read as, their index, and what a link of them answers.
 use combined_index::{Index, combine};
 use ir_parse::parse;
-use ir_summary::summarise;
+use ir_summary::{Summary, summarise};
 use ir_tree::{Text, Verified};
 use ir_verify::verify;
-use lto_fault::{status, text};
+use lto_fault::{Refusal, status, text};
 use std::alloc::{AllocError, Global};
 use symbol_resolve::resolve;
 use thin_link::index;
@@ -19,41 +19,76 @@ pub(crate) fn texts(alloc: Global, names: &[&[u8]]) -> Result<Vec<Text>, AllocEr
 
 /// The sound module that a text is read as; none where it is read as no such module.
 pub(crate) fn read(alloc: Global, source: &str) -> Option<Verified> {
-    let Ok(parsed) = parse(alloc, source.as_bytes()) else {
-        return None;
-    };
-    match verify(alloc, parsed) {
-        Ok(module) => Some(module),
+    match parse(alloc, source.as_bytes()) {
+        Ok(parsed) => verify(alloc, parsed).ok(),
         Err(_) => None,
     }
 }
 
-/// The modules of these files, each with the name of its file before it.
-pub(crate) fn all_read(
-    alloc: Global,
-    files: &[(&str, &str)],
-) -> Option<(Vec<Text>, Vec<Verified>)> {
+/// Adds what there is to a list; none where there is nothing, or memory runs out.
+fn add<T: Drop>(list: &mut Vec<T>, made: Option<T>) -> Option<()> {
+    list.push(made?).ok()
+}
+
+/// The names of these files.
+fn names_of(alloc: Global, files: &[(&str, &str)]) -> Option<Vec<Text>> {
     let mut names = Vec::new(alloc);
-    let mut modules = Vec::new(alloc);
-    for (name, source) in files {
-        names.push(Text::copied(alloc, name.as_bytes()).ok()?).ok()?;
-        modules.push(read(alloc, source)?).ok()?;
+    for &(name, _) in files {
+        add(&mut names, Text::copied(alloc, name.as_bytes()).ok())?;
     }
-    Some((names, modules))
+    Some(names)
+}
+
+/// The modules of these files; none where a text is read as no sound module.
+pub(crate) fn modules_of(alloc: Global, files: &[(&str, &str)]) -> Option<Vec<Verified>> {
+    let mut modules = Vec::new(alloc);
+    for &(_, source) in files {
+        add(&mut modules, read(alloc, source))?;
+    }
+    Some(modules)
+}
+
+/// What is summarised of each of these modules.
+fn summarised(alloc: Global, modules: &[Verified]) -> Option<Vec<Vec<Summary>>> {
+    let mut summaries = Vec::new(alloc);
+    for module in modules {
+        add(&mut summaries, summarise(alloc, module).ok())?;
+    }
+    Some(summaries)
 }
 
 /// The index of these files, each a name and a text. None where a text is read as no sound module, or two of them can't be
 /// linked.
 pub(crate) fn linked(alloc: Global, files: &[(&str, &str)]) -> Option<Index> {
-    let (_, modules) = all_read(alloc, files)?;
-    let mut summaries = Vec::new(alloc);
-    for module in modules.as_slice() {
-        summaries.push(summarise(alloc, module).ok()?).ok()?;
+    let modules = modules_of(alloc, files)?;
+    let summaries = summarised(alloc, &modules)?;
+    match resolve(alloc, &modules) {
+        Ok(resolution) => combine(alloc, summaries, &resolution).ok(),
+        Err(_) => None,
     }
-    let Ok(resolution) = resolve(alloc, &modules) else {
+}
+
+/// The status and the text of a refusal.
+fn told(alloc: Global, refusal: &Refusal) -> Option<(u8, Text)> {
+    let text = text(alloc, refusal).ok()?;
+    Some((status(refusal), text))
+}
+
+/// What the index of these modules, in files of these names, answers; none where these aren't as many.
+fn answer(
+    alloc: Global,
+    names: &[Text],
+    modules: &[Verified],
+    exports: &[Text],
+    import_limit: u32,
+) -> Option<(u8, Text)> {
+    if names.len() != modules.len() {
         return None;
-    };
-    combine(alloc, summaries, &resolution).ok()
+    }
+    match index(alloc, names, modules, exports, import_limit) {
+        Ok(report) => Some((0, report)),
+        Err(refusal) => told(alloc, &refusal),
+    }
 }
 
 /// What the index of these files answers, each a name and a text, where `main` is exported: 0 and the report,
@@ -63,13 +98,8 @@ pub(crate) fn answered(
     files: &[(&str, &str)],
     import_limit: u32,
 ) -> Option<(u8, Text)> {
-    let (names, modules) = all_read(alloc, files)?;
+    let names = names_of(alloc, files)?;
+    let modules = modules_of(alloc, files)?;
     let exports = texts(alloc, &[b"main"]).ok()?;
-    if names.len() != modules.len() {
-        return None;
-    }
-    match index(alloc, &names, &modules, &exports, import_limit) {
-        Ok(report) => Some((0, report)),
-        Err(refusal) => Some((status(&refusal), text(alloc, &refusal).ok()?)),
-    }
+    answer(alloc, &names, &modules, &exports, import_limit)
 }

@@ -8,21 +8,39 @@ use liveness::live;
 use std::alloc::{AllocError, Global};
 use std::fmt::Write;
 
-/// The text of a function that calls these, which it declares, and has so many instructions, or as many as the calls take.
-fn function(alloc: Global, name: &str, callees: &[&str], count: u32) -> Result<String, AllocError> {
-    let mut text = format!(in alloc; "define i32 @{name}() {{\n")?;
-    let mut sums = count.saturating_sub(1);
+/// Writes a call of each of these. How many there are.
+fn put_calls(text: &mut String, callees: &[&str]) -> Result<u32, AllocError> {
+    let mut calls = 0_u32;
     for callee in callees {
         writeln!(text, "  %{callee} = call i32 @{callee}()")?;
-        sums = sums.saturating_sub(1);
+        calls = calls.saturating_add(1);
     }
-    for sum in 0..sums {
+    Ok(calls)
+}
+
+/// Writes so many sums.
+fn put_sums(text: &mut String, count: u32) -> Result<(), AllocError> {
+    for sum in 0..count {
         writeln!(text, "  %s{sum} = add i32 4, 1")?;
     }
-    writeln!(text, "  ret i32 4\n}}")?;
+    Ok(())
+}
+
+/// Declares each of these functions.
+fn put_declarations(text: &mut String, callees: &[&str]) -> Result<(), AllocError> {
     for callee in callees {
         writeln!(text, "declare i32 @{callee}()")?;
     }
+    Ok(())
+}
+
+/// The text of a function that calls these, which it declares, and has so many instructions, or as many as the calls take.
+fn function(alloc: Global, name: &str, callees: &[&str], count: u32) -> Result<String, AllocError> {
+    let mut text = format!(in alloc; "define i32 @{name}() {{\n")?;
+    let calls = put_calls(&mut text, callees)?;
+    put_sums(&mut text, count.saturating_sub(1).saturating_sub(calls))?;
+    writeln!(text, "  ret i32 4\n}}")?;
+    put_declarations(&mut text, callees)?;
     Ok(text)
 }
 
@@ -35,29 +53,55 @@ fn planned(alloc: Global, index: &Index) -> Result<Vec<Vec<u32>>, AllocError> {
     plan(alloc, index, &live, 100)
 }
 
-/// The imports of the files of `main`, `f`, `g` and `h`, which call these, and their report; `f`, `g` and `h` have these
-/// counts.
-fn decided(
+/// The imports of each of these files.
+fn imports_of(alloc: Global, files: &[(&str, &str)]) -> Option<Vec<Vec<u32>>> {
+    let index = linked(alloc, files)?;
+    planned(alloc, &index).ok()
+}
+
+/// The report of the link of these files; none where it is refused.
+fn reported(alloc: Global, files: &[(&str, &str)]) -> Option<Text> {
+    match answered(alloc, files, 100)? {
+        (0, report) => Some(report),
+        _ => None,
+    }
+}
+
+/// Functions, each in a file of its own.
+const NAMES: [&str; 4] = ["main", "f", "g", "h"];
+
+/// The texts of `main`, `f`, `g` and `h`, which call these; `f`, `g` and `h` have these counts.
+fn written(
     alloc: Global,
-    counts: [u32; 3],
-    callees: [&[&str]; 4],
-) -> Option<(Vec<Vec<u32>>, Text)> {
-    let [f, g, h] = counts;
-    let [by_main, by_f, by_g, by_h] = callees;
-    let main = function(alloc, "main", by_main, 2).ok()?;
-    let first = function(alloc, "f", by_f, f).ok()?;
-    let second = function(alloc, "g", by_g, g).ok()?;
-    let third = function(alloc, "h", by_h, h).ok()?;
-    let files = [
-        ("main.ll", main.as_str()),
-        ("f.ll", first.as_str()),
-        ("g.ll", second.as_str()),
-        ("h.ll", third.as_str()),
-    ];
-    let index = linked(alloc, &files)?;
-    let imports = planned(alloc, &index).ok()?;
-    match answered(alloc, &files, 100)? {
-        (0, report) => Some((imports, report)),
+    counts: &[u32; 3],
+    callees: &[&[&str]; 4],
+) -> Result<Vec<String>, AllocError> {
+    let [f, g, h] = *counts;
+    let mut texts = Vec::new(alloc);
+    for ((name, called), count) in NAMES.iter().zip(callees).zip(&[2, f, g, h]) {
+        texts.push(function(alloc, name, called, *count)?)?;
+    }
+    Ok(texts)
+}
+
+/// The imports of these files, and the report of their link.
+fn outcome(alloc: Global, files: &[(&str, &str)]) -> Option<(Vec<Vec<u32>>, Text)> {
+    let imports = imports_of(alloc, files)?;
+    Some((imports, reported(alloc, files)?))
+}
+
+/// The imports and the report of the files of these texts.
+fn decided(alloc: Global, texts: &[String]) -> Option<(Vec<Vec<u32>>, Text)> {
+    match texts {
+        [main, f, g, h] => outcome(
+            alloc,
+            &[
+                ("main.ll", main.as_str()),
+                ("f.ll", f.as_str()),
+                ("g.ll", g.as_str()),
+                ("h.ll", h.as_str()),
+            ],
+        ),
         _ => None,
     }
 }
@@ -170,16 +214,34 @@ module 3 h.ll
     ),
 ];
 
+/// Whether the lists of imports are these.
+fn are_imported(imports: &[Vec<u32>], wanted: &[&[u32]]) -> bool {
+    let mut same = imports.len() == wanted.len();
+    for (found, list) in imports.iter().zip(wanted) {
+        same = same && found.as_slice() == *list;
+    }
+    same
+}
+
+/// Whether a report is this one, where it is looked at.
+fn is_told(told: &Text, report: Option<&[u8]>) -> bool {
+    match report {
+        Some(report) => told.equals(report),
+        None => true,
+    }
+}
+
+/// Whether the files of a call graph have the imports and the report of a row; none where they are no link.
+fn is_so(alloc: Global, row: &Row) -> Option<bool> {
+    let (_, counts, callees, wanted, report) = row;
+    let texts = written(alloc, counts, callees).ok()?;
+    let (imports, told) = decided(alloc, &texts)?;
+    Some(are_imported(&imports, wanted) && is_told(&told, *report))
+}
+
 #[test]
 fn calls_are_imported_within_their_limits(rt: HostRuntime) {
-    for &(name, counts, callees, wanted, report) in &GRAPHS {
-        let (imports, told) = decided(rt.alloc(), counts, callees).expect(&rt, "a link");
-        assert!(rt; imports.len() == wanted.len(), "{name}");
-        for (found, list) in imports.iter().zip(wanted) {
-            assert!(rt; found.as_slice() == *list, "{name}");
-        }
-        if let Some(report) = report {
-            assert!(rt; told.equals(report), "{name}");
-        }
+    for row in &GRAPHS {
+        assert!(rt; is_so(rt.alloc(), row) == Some(true), "{}", row.0);
     }
 }

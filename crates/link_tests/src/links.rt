@@ -1,5 +1,6 @@
 //! Links of two and three files that export `main`, each with its report or the text of its refusal.
 use crate::files::answered;
+use std::alloc::Global;
 
 const MAIN: &str = "define i32 @main() {
   %r = call i32 @f(i32 4)
@@ -260,10 +261,16 @@ module 2 c.ll
     ),
 ];
 
+/// Whether the link of a row's files has its answer; none where a text is read as no sound module.
+fn answers(alloc: Global, row: &Row) -> Option<bool> {
+    let (_, files, limit, status, text) = row;
+    let (answer, told) = answered(alloc, files, *limit)?;
+    Some(answer == *status && told.equals(text))
+}
+
 #[test]
 fn links_are_reported_or_refused(rt: HostRuntime) {
-    for &(name, files, limit, status, text) in &LINKS {
-        let (answer, told) = answered(rt.alloc(), files, limit).expect(&rt, "sound modules");
-        assert!(rt; answer == status && told.equals(text), "{name}");
+    for row in &LINKS {
+        assert!(rt; answers(rt.alloc(), row) == Some(true), "{}", row.0);
     }
 }

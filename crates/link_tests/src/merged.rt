@@ -1,6 +1,6 @@
 //! The merged programs of links of two modules: their definitions, in order, with the module of each local, and behind them the
 //! functions of the outside.
-use crate::files::all_read;
+use crate::files::modules_of;
 use ir_tree::{GlobalValue, Rows};
 use merge_meaning::program;
 use std::alloc::Global;
@@ -9,7 +9,7 @@ use symbol_resolve::resolve;
 /// The global values that these files mean together; none where a text is read as no sound module, or the files can't be
 /// linked.
 fn program_of(alloc: Global, files: &[(&str, &str)]) -> Option<Rows<GlobalValue>> {
-    let (_names, read) = all_read(alloc, files)?;
+    let read = modules_of(alloc, files)?;
     let modules = read.as_slice();
     match resolve(alloc, modules) {
         Ok(resolution) => program(alloc, modules, &resolution).ok(),
@@ -24,6 +24,15 @@ fn is_of(global: &GlobalValue, home: Option<u32>, name: &[u8]) -> bool {
         GlobalValue::Variable(variable) => &variable.symbol,
     };
     symbol.home == home && symbol.name.equals(name)
+}
+
+/// Whether global values are of the symbols of these homes and names.
+fn are_of(globals: &[GlobalValue], wanted: &[(Option<u32>, &[u8])]) -> bool {
+    let mut same = globals.len() == wanted.len();
+    for (global, (home, name)) in globals.iter().zip(wanted) {
+        same = same && is_of(global, *home, name);
+    }
+    same
 }
 
 /// The name of a row, files with their texts, and the definitions of the merged program: the module of a local, and the name.
@@ -116,9 +125,6 @@ define i32 @putchar(i32 %x) {
 fn each_symbol_has_the_definition_that_prevails(rt: HostRuntime) {
     for &(name, files, wanted) in &PROGRAMS {
         let found = program_of(rt.alloc(), files).expect(&rt, "a program");
-        assert!(rt; found.len() == wanted.len(), "{name}");
-        for (global, (home, symbol)) in found.as_slice().iter().zip(wanted) {
-            assert!(rt; is_of(global, *home, symbol), "{name}");
-        }
+        assert!(rt; are_of(found.as_slice(), wanted), "{name}");
     }
 }
