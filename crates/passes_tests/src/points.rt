@@ -1,7 +1,7 @@
 //! Facts at the points of functions.
 use crate::rows::{first, read};
 use ir_facts::{Fact, facts};
-use std::alloc::AllocError;
+use std::alloc::{AllocError, Global};
 
 /// Whether a fact is of this local and holds at these points.
 fn is_fact(fact: &Fact, local: u32, points: &[bool]) -> bool {
@@ -63,20 +63,31 @@ const POINTS: [Row; 3] = [
     ),
 ];
 
+/// Whether facts are of these locals and hold at these points.
+fn are_facts(found: &[Fact], wanted: &[(u32, &[bool])]) -> bool {
+    let mut same = found.len() == wanted.len();
+    for (fact, (local, points)) in found.iter().zip(wanted) {
+        same = same && is_fact(fact, *local, points);
+    }
+    same
+}
+
+/// Whether the facts of a module's first function are these.
+fn holds_so(alloc: Global, text: &[u8], wanted: &[(u32, &[bool])]) -> Result<bool, AllocError> {
+    let Some(module) = read(alloc, text) else {
+        return Ok(false);
+    };
+    let Some(f) = first(&module) else {
+        return Ok(false);
+    };
+    let found = facts(alloc, f)?;
+    Ok(are_facts(&found, wanted))
+}
+
 #[test]
 fn facts_hold_at_their_points(rt: HostRuntime) -> Result<(), AllocError> {
     for &(text, wanted) in &POINTS {
-        let Some(module) = read(rt.alloc(), text) else {
-            panic!(rt; "a sound module");
-        };
-        let Some(f) = first(&module) else {
-            panic!(rt; "a function");
-        };
-        let found = facts(rt.alloc(), f)?;
-        assert!(rt; found.len() == wanted.len());
-        for (fact, (local, points)) in found.iter().zip(wanted) {
-            assert!(rt; is_fact(fact, *local, points), "%{local}");
-        }
+        assert!(rt; holds_so(rt.alloc(), text, wanted)?, "{text:?}");
     }
     Ok(())
 }

@@ -49,11 +49,8 @@ pub(crate) type Row = (&'static str, Pass, &'static [u8], &'static [u8]);
 
 /// The sound module that a text is read as; none where it is read as no such module, or memory runs out.
 pub(crate) fn read(alloc: Global, text: &[u8]) -> Option<Verified> {
-    let Ok(parsed) = parse(alloc, text) else {
-        return None;
-    };
-    match verify(alloc, parsed) {
-        Ok(module) => Some(module),
+    match parse(alloc, text) {
+        Ok(parsed) => verify(alloc, parsed).ok(),
         Err(_) => None,
     }
 }
