@@ -27,7 +27,7 @@ use Rattle.ir_read.proofs.PhiRules.{phi_rule}
 use Rattle.ir_read.proofs.Singles.{word, one_rule, one_opens, equals_rule}
 use Rattle.ir_bodies.specs.Blocks.{any_local}
 use Rattle.ir_bodies.specs.Lines.{GIVING, OPCODES, opcode_of, begun_of, operation, attended, kept, behind, lined, line_behind, named_line, plain_line, line}
-use Rattle.ir_bodies.specs.LinesAt.{LINE, operation_at, attended_at, kept_at, behind_at, line_behind_at, named_line_at, plain_line_at, line_at}
+use Rattle.ir_bodies.specs.LinesAt.{LINE, operation_at, attended_at, some_at, behind_at, line_behind_at, named_line_at, plain_line_at, line_at}
 use Rattle.ir_bodies.specs.declared.opcodes.Opcode.{Opcode}
 use Rattle.ir_bodies.specs.declared.opcodes.Opcode.TheVariants as opcodes
 use Rattle.ir_bodies.specs.declared.opcodes.Operation.{Operation}
@@ -90,7 +90,7 @@ operation_rule operations.Select = rules.broader tokens BEGUN [] selecting_rule 
 operation_rule operations.Freeze = rules.broader tokens BEGUN [] freezing_rule refl refl
 
 behind_rule : (named : Bool) (o : Opcode) → Rule tokens (behind slots_fit memory_shape named o) (behind any_slots any_shape named o) (behind_at named o) BEGUN BEHIND_CALL false
-unfolding attended attended_at kept kept_at
+unfolding attended attended_at kept some_at
 behind_rule named (opcodes.Value o) = rules.broader tokens BEGUN BEHIND_CALL (rules.seq tokens (operation_rule o) (λ i. rules.seq tokens attachments_rule (λ _. rules.nothing tokens (Some i)) refl) refl) refl refl
 behind_rule named opcodes.Phi = rules.broader tokens BEGUN BEHIND_CALL (rules.seq tokens phi_rule (λ i. rules.nothing tokens (Some i)) refl) refl refl
 behind_rule named opcodes.Alloca = rules.broader tokens BEGUN BEHIND_CALL (rules.seq tokens reserving_rule (λ i. rules.nothing tokens (Some i)) refl) refl refl

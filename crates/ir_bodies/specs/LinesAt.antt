@@ -45,18 +45,18 @@ attended_at f = do
   _ ← attachments_at
   done (Some i)
 
-unfoldable pub kept_at : Reader Tok Instr → Reader Tok (Option Instr)
-kept_at f = do
+unfoldable pub some_at : Reader Tok Instr → Reader Tok (Option Instr)
+some_at f = do
   i ← f
   done (Some i)
 
 abbrev pub behind_at : Bool → Opcode → Reader Tok (Option Instr)
 behind_at named (opcodes.Value o) = attended_at (operation_at o)
-behind_at named opcodes.Phi = kept_at phi_at
-behind_at named opcodes.Alloca = kept_at reserving_at
-behind_at named opcodes.Load = kept_at loading_at
-behind_at named opcodes.GetElementPtr = kept_at addressing_at
-behind_at named opcodes.Store = kept_at storing_at
+behind_at named opcodes.Phi = some_at phi_at
+behind_at named opcodes.Alloca = some_at reserving_at
+behind_at named opcodes.Load = some_at loading_at
+behind_at named opcodes.GetElementPtr = some_at addressing_at
+behind_at named opcodes.Store = some_at storing_at
 behind_at named opcodes.Tail = tail_calling_at named
 behind_at named opcodes.Call = calling_at named
 

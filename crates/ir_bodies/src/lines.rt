@@ -66,7 +66,7 @@ fn attended_at<'a>(
 
 /// Reads what follows the first word of an instruction, with the name of a result before it or not:
 /// `None` for a call that is dropped.
-#[tactic(auto, unfolding(crate::specs::LinesAt::kept_at))]
+#[tactic(auto, unfolding(crate::specs::LinesAt::some_at))]
 fn behind_at<'a>(
     alloc: Global,
     named: bool,
