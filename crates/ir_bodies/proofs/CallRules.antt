@@ -126,7 +126,7 @@ unfolding some_of some_of_at each_behind_at
 some_of_rule w ws = rules.seq tokens (argument_of_rule w) (λ first. rules.seq tokens (each_further_rule ws) (λ more. rules.nothing tokens (first ∷ more)) refl) refl
 
 arguments_of_rule : (ws : List Tok) → Rule tokens (arguments_of memory_shape ws) (arguments_of any_shape ws) (arguments_of_at ws) LISTED [] false
-arguments_of_rule [] = rules.broader tokens LISTED [] (rules.seq tokens end_of_none_rule (λ _. rules.nothing tokens []) refl) refl refl
+arguments_of_rule [] = rules.broader tokens LISTED [] (rules.seq tokens close_paren_rule (λ _. rules.nothing tokens []) refl) refl refl
 arguments_of_rule (w ∷ ws) = rules.broader tokens LISTED [] (rules.seq tokens (some_of_rule w ws) (λ as'. rules.seq tokens close_paren_rule (λ _. rules.nothing tokens as') refl) refl) refl refl
 
 arguments_rule : (ws : Option (List Tok)) → Rule tokens (arguments memory_shape ws) (arguments any_shape ws) (arguments_at ws) LISTED [] false

@@ -150,7 +150,7 @@ some_of shape w ws = do
 -- [arg {, arg}] ), one of each of these types in turn
 abbrev pub arguments_of : Form Tok Typed → List Tok → Form Tok (List Argument)
 arguments_of shape [] = do
-  _ ← end_of_none
+  _ ← the heads.CloseParen
   gives []
 arguments_of shape (w ∷ ws) = do
   as' ← some_of shape w ws

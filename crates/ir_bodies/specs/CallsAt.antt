@@ -142,7 +142,7 @@ some_of_at w ws = do
 
 abbrev pub arguments_of_at : List Tok → Reader Tok (List Argument)
 arguments_of_at [] = do
-  _ ← end_of_none_at
+  _ ← the_at heads.CloseParen
   done []
 arguments_of_at (w ∷ ws) = do
   as' ← some_of_at w ws

@@ -360,7 +360,7 @@ fn arguments_of_at<'a>(
 {
     match types {
         [] => {
-            end_of_none_at(tokens)?;
+            expect(Head::CloseParen, tokens)?;
             Ok(Vec::new(alloc))
         }
         [first, further @ ..] => {
