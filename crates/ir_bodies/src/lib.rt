@@ -14,6 +14,7 @@ mod laws;
 mod lines;
 mod opcodes;
 
+pub use adding::push;
 pub use definitions::definition_at;
 pub use laws::definition_rule;
 pub use opcodes::{Begun, Opcode, Operation};
