@@ -9,7 +9,7 @@ use Rattle.ir_read.specs.declared.raw.InitPart.{InitPart}
 use Rattle.ir_read.specs.declared.raw.InitPart.TheVariants as init_parts
 use Rattle.ir_read.specs.ShapeForms.{memory_shape}
 use Rattle.ir_globals.specs.Closed.{deeper, Close, IsClosed}
-use Rattle.ir_globals.specs.Initialisers.{aggregate_of, Spot, entered, begun, closed, piece, outermost, listed, parts, behind, initialiser}
+use Rattle.ir_globals.specs.Initialisers.{aggregate_of, Spot, entered, begun, closed, piece, outermost, parts, behind, initialiser}
 use Rattle.ir_globals.specs.declared.initialisers.Aggregate.{Aggregate}
 
 deeper_is : (o : Option Aggregate) (open_ones : List Aggregate) → suc (length (entered o open_ones).1) ≡ deeper o (suc (length open_ones))

@@ -1,3 +1,4 @@
+pub mod BegunParts
 pub mod Closes
 pub mod ConstantRules
 pub mod InitialiserRules

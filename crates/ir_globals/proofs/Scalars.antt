@@ -1,7 +1,7 @@
 -- A scalar that memory holds has the type of a register.
-use Rattle.std.proofs.Common.{◌≡◌, ℕ, zero, suc, ◌<◌, ◌≤◌, Bool, true, false, cond, ◌&&◌, Option, Some, None, option_map, max, min, List, [], ◌∷◌, Result, Ok, Err, sym, ap, subst, inl, inr, arith}
+use Rattle.std.proofs.Common.{◌≡◌, ℕ, zero, suc, ◌<◌, ◌≤◌, Bool, true, false, cond, ◌&&◌, Option, Some, None, option_map, max, min, List, [], ◌∷◌, Result, Ok, Err, sym, subst, inl, inr, arith}
 use Rattle.std.specs.Prelude.{IfSome}
-use Rattle.ir_lex.specs.Heads.{number, width_of}
+use Rattle.ir_lex.specs.Heads.{number}
 use Rattle.ir_lex.specs.Tok.{Tok}
 use Rattle.lto_forms.specs.Alphabet.{among}
 use Rattle.lto_forms.specs.declared.fault.FaultKind.{FaultKind}
@@ -15,9 +15,9 @@ use Rattle.ir_read.specs.Extents.{shared, left, whole}
 use Rattle.ir_read.specs.Literals.{IsWidth}
 use Rattle.ir_read.specs.Operands as operands
 use Rattle.ir_read.specs.Operands.{IsReg, LOCAL, SCALAR, memory_refusal, width}
-use Rattle.ir_read.specs.ShapeForms.{typed, is_pointer, scalar_typed, has_room, type_name, is_leaf, leaf, elements, array_of, structure_of, packed_behind, packed_of, shape_over, shape, memory_shape}
+use Rattle.ir_read.specs.ShapeForms.{typed, is_pointer, scalar_typed, has_room, is_leaf, leaf, elements, array_of, structure_of, packed_behind, packed_of, shape_over, shape, memory_shape}
 use Rattle.ir_read.specs.ShapeFormsAt.{memory_shape_at}
-use Rattle.ir_read.specs.Shapes.{Written, int, pointer, named}
+use Rattle.ir_read.specs.Shapes.{int, pointer, named}
 use Rattle.ir_read.proofs.ShapeRules.{memory_shape_rule}
 use Rattle.ir_globals.specs.Initialisers.{scalar_of}
 

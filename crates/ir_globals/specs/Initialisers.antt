@@ -85,6 +85,11 @@ aggregate_of (inits.Number t) = None
 aggregate_of inits.Array = Some aggregates.Array
 aggregate_of (inits.Struct packed) = Some (aggregates.Struct packed)
 
+-- the beginning of an initialiser of this aggregate
+abbrev pub opening : Aggregate → InitHead
+opening aggregates.Array = inits.Array
+opening (aggregates.Struct packed) = inits.Struct packed
+
 -- where none of its parts stands, a shape may stand there as well
 abbrev pub closing_refusal : Bool → ℕ → FaultKind
 closing_refusal true class = memory_refusal class

@@ -1,3 +1,4 @@
+pub mod Beside
 pub mod Closed
 pub mod Constants
 pub mod ConstantsAt

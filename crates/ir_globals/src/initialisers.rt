@@ -1,7 +1,7 @@
 //! Reads initialisers (LangRef, "Global Variables", "Complex Constants"). Which aggregates are open is
 //! kept in a list, so an initialiser may nest as deep as its text does.
 
-ghost use Rattle.std.specs.Prelude.{◌≡◌, not, reverse, IfOk, IfSome};
+ghost use Rattle.std.specs.Prelude.{◌≡◌, List, not, reverse, IfOk, IfSome};
 ghost use Rattle.ir_lex.specs.Heads.{number};
 ghost use Rattle.lto_forms.specs.Alphabet.{contains, among};
 ghost use Rattle.lto_forms.specs.Chained.{stops_here};
@@ -9,10 +9,12 @@ ghost use Rattle.lto_forms.specs.Readers.{Gives, next_is};
 ghost use Rattle.ir_read.specs.Classes.{tokens};
 ghost use Rattle.ir_read.specs.Operands.{IsReg};
 ghost use Rattle.ir_read.specs.ShapeFormsAt.{memory_shape_at};
-ghost use Rattle.ir_globals.specs.Initialisers.{scalar_of, aggregate_of, closing_refusal, entered, outermost, is_none};
-ghost use Rattle.ir_globals.specs.InitialisersAt.{bytes_at, aggregate_begin_at, beginning_at, mark_at, closing_at, part_shape_at, part_at, begun_at, piece_at, CLOSER, SHAPE, PART, begins_there, listed_at, parts_at, behind_at, initialiser_at};
+ghost use Rattle.ir_globals.specs.Initialisers.{scalar_of, aggregate_of, opening, closing_refusal, entered, outermost, is_none};
+ghost use Rattle.ir_globals.specs.declared.initialisers.Aggregate.{Aggregate};
+ghost use Rattle.ir_globals.specs.InitialisersAt.{bytes_at, aggregate_begin_at, beginning_at, mark_at, closing_at, part_shape_at, begun_at, piece_at, CLOSER, SHAPE, PART, begins_there, listed_at, parts_at, behind_at, initialiser_at};
 
 use crate::constants::constant_at;
+use crate::pairs::beside;
 use ir_lex::Head;
 use ir_read::{
     Init, InitHead, InitPart, Name, Shape, ShapeNode, Tokens, Typed, brace_behind_angle_at, expect,
@@ -31,11 +33,11 @@ pub enum Aggregate {
     Struct { packed: bool },
 }
 
-/// A part with its shape, up to its own parts.
+/// A part up to its own parts, and what those belong to, where it has parts.
 #[derive(Drop)]
 struct Part<'a> {
-    typed: Typed<'a>,
-    head: InitHead<'a>,
+    part: InitPart<'a>,
+    inner: Option<Aggregate>,
 }
 
 /// A part, or the end of an aggregate's parts, and whether the next part is the first of its aggregate.
@@ -96,22 +98,40 @@ fn bytes_at<'a>(tokens: &mut Tokens<'_, 'a>) -> Result<InitHead<'a>, ReadError>
     }
 }
 
+/// The beginning of an initialiser of this aggregate.
+fn opening<'a>(aggregate: Aggregate) -> InitHead<'a>
+    ensures { result ≡ opening aggregate }
+{
+    match aggregate {
+        Aggregate::Array => InitHead::Array,
+        Aggregate::Struct { packed } => InitHead::Struct { packed },
+    }
+}
+
 /// Takes what the parts of an aggregate stand behind.
 #[tactic(auto, unfolding(crate::specs::InitialisersAt::aggregate_begin_at, crate::specs::InitialisersAt::array_begin_at, crate::specs::InitialisersAt::structure_begin_at, crate::specs::InitialisersAt::packed_begin_at))]
-fn aggregate_begin_at<'a>(tokens: &mut Tokens<'_, 'a>) -> Result<InitHead<'a>, ReadError>
-    ensures { Gives (λ x. (x, tokens.new)) result (aggregate_begin_at tokens.old) }
+fn opening_at(tokens: &mut Tokens) -> Result<Aggregate, ReadError>
+    ensures { Gives (λ x. (opening x, tokens.new)) result (aggregate_begin_at tokens.old) }
 {
     if tokens.comes(Head::OpenBracket) {
         expect(Head::OpenBracket, tokens)?;
-        Ok(InitHead::Array)
+        Ok(Aggregate::Array)
     } else if tokens.comes(Head::OpenBrace) {
         expect(Head::OpenBrace, tokens)?;
-        Ok(InitHead::Struct { packed: false })
+        Ok(Aggregate::Struct { packed: false })
     } else {
         expect(Head::OpenAngle, tokens)?;
         brace_behind_angle_at(tokens)?;
-        Ok(InitHead::Struct { packed: true })
+        Ok(Aggregate::Struct { packed: true })
     }
+}
+
+/// Reads the beginning of an initialiser with parts.
+fn aggregate_begin_at<'a>(tokens: &mut Tokens<'_, 'a>) -> Result<InitHead<'a>, ReadError>
+    ensures { Gives (λ x. (x, tokens.new)) result (aggregate_begin_at tokens.old) }
+{
+    let aggregate = opening_at(tokens)?;
+    Ok(opening(aggregate))
 }
 
 /// Reads an initialiser up to its parts, for a scalar of this type, or for what is no scalar.
@@ -224,18 +244,21 @@ fn part_shape_at<'a>(
     shape_at(alloc, tokens)
 }
 
-/// Reads a part up to its own parts.
-#[tactic(auto, unfolding(crate::specs::InitialisersAt::part_at))]
+/// Reads a part up to its own parts, inside any aggregates.
 fn part_at<'a>(
     alloc: Global,
     first: bool,
     tokens: &mut Tokens<'_, 'a>,
 ) -> Result<Part<'a>, ReadError>
-    ensures { Gives (λ x. ((x.typed, x.head), tokens.new)) result (part_at first tokens.old) }
+    ensures { (outer : List Aggregate) → Gives (λ x. ((x.part, entered x.inner outer), tokens.new)) result (begun_at first outer tokens.old) }
 {
     let typed = part_shape_at(alloc, first, tokens)?;
     let head = beginning_at(alloc, scalar_of(&typed.shape), tokens)?;
-    Ok(Part { typed, head })
+    let inner = aggregate_of(&head);
+    Ok(Part {
+        part: InitPart::Typed { typed, head },
+        inner,
+    })
 }
 
 /// Opens an aggregate, where there is one; the answer is whether there is.
@@ -255,7 +278,6 @@ fn enter(
 }
 
 /// Reads a part up to its own parts inside these aggregates, the outermost first.
-#[tactic(auto, unfolding(crate::specs::InitialisersAt::begun_at))]
 fn begun_at<'a>(
     alloc: Global,
     first: bool,
@@ -264,13 +286,10 @@ fn begun_at<'a>(
 ) -> Result<Piece<'a>, ReadError>
     ensures { Gives (λ x. ((x.part, (x.first, reverse around.new.items)), tokens.new)) result (begun_at first (reverse around.old.items) tokens.old) }
 {
-    let part = part_at(alloc, first, tokens)?;
-    let first = enter(aggregate_of(&part.head), around)?;
+    let begun = part_at(alloc, first, tokens)?;
+    let first = enter(begun.inner, around)?;
     Ok(Piece {
-        part: InitPart::Typed {
-            typed: part.typed,
-            head: part.head,
-        },
+        part: begun.part,
         first,
     })
 }
@@ -412,7 +431,8 @@ pub fn initialiser_at<'a>(
     ensures { Gives (λ x. (x, tokens.new)) result (initialiser_at scalar tokens.old) }
 {
     let root = beginning_at(alloc, scalar, tokens)?;
-    let parts = behind_at(alloc, aggregate_of(&root), tokens)?;
+    let parts = behind_at(alloc, aggregate_of(&root), tokens);
+    let (root, parts) = beside(root, parts)?;
     Ok(Init {
         root,
         parts: Rows::of(parts),

@@ -10,6 +10,7 @@
 mod constants;
 mod initialisers;
 mod laws;
+mod pairs;
 mod type_definitions;
 mod variables;
 

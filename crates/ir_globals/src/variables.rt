@@ -13,6 +13,7 @@ ghost use Rattle.ir_globals.specs.Variables.{KINDS, NAMES, is_constant, is_decla
 ghost use Rattle.ir_globals.specs.VariablesAt.{variable_name_at, linkage_at, qualifiers_at, linked_at, value_at, comdat_name_at, in_comdat_at, aligned_at, marked_at, further_at, tail_at, behind_kind_at, variable_line_at};
 
 use crate::initialisers::{initialiser_at, scalar_of, shape_at};
+use crate::pairs::beside;
 use ir_lex::{Head, Token};
 use ir_read::{
     Init, Item, Name, Tokens, Variable, alignment_at, attached_at, comes_qualifier, expect,
@@ -266,7 +267,8 @@ fn behind_kind_at<'a>(
 {
     let typed = shape_at(alloc, tokens)?;
     let init = value_at(alloc, is_declared(linkage), scalar_of(&typed.shape), tokens)?;
-    let align = tail_at(alloc, tokens)?;
+    let align = tail_at(alloc, tokens);
+    let (init, align) = beside(init, align)?;
     let line = name.line();
     Ok(Item::Variable(Variable {
         name,
