@@ -1,4 +1,5 @@
 mod Additions
+mod Attended
 pub mod BlockRules
 pub mod CallRules
 mod Grouping

@@ -1,4 +1,5 @@
 pub mod Adding
+pub mod Attended
 pub mod Blocks
 pub mod BlocksAt
 pub mod Calls

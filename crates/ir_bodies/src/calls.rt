@@ -9,6 +9,7 @@ ghost use Rattle.ir_read.specs.Classes.{tokens, itself};
 ghost use Rattle.ir_read.specs.FunctionHeadsAt.{end_of_none_at};
 ghost use Rattle.ir_read.specs.Operands.{IsReg, REG, type_refusal, reg_of, classes_of, operand_of};
 ghost use Rattle.ir_tree.specs.declared.operand.Reg.TheVariants.{Ptr};
+ghost use Rattle.ir_bodies.specs.Attended.{behind_arguments_at};
 ghost use Rattle.ir_bodies.specs.Calls.{same_reg, is_type, marker_refusal, called};
 ghost use Rattle.ir_bodies.specs.CallsAt.{CONVENTIONS, convention_at, conventions_at, written_type_at, further_type_at, types_behind_at, some_types_at, listed_types_at, types_at, argument_behind_at, argument_at, further_argument_at, arguments_behind_at, some_arguments_at, any_arguments_at, type_again_at, argument_of_at, further_of_at, each_behind_at, some_of_at, arguments_of_at, arguments_at, called_value_at, marker_at, unmarked_at, unmarked_value_at, callee_at, maybe_types_at, called_at, calling_with_at, calling_of_at, calling_at, tail_calling_at};
 
@@ -495,6 +496,16 @@ fn maybe_types_at<'a>(
     }
 }
 
+/// Reads what follows the arguments of a call, and gives the call back. Its type is a parameter, so
+/// that what is proved of it isn't proved of each field of an instruction.
+fn behind_arguments_at<T: Drop>(alloc: Global, call: T, tokens: &mut Tokens) -> Result<T, ReadError>
+    ensures { Gives (λ x. (x, tokens.new)) result (behind_arguments_at call tokens.old) }
+{
+    call_attributes_at(alloc, tokens)?;
+    attachments_at(alloc, tokens)?;
+    Ok(call)
+}
+
 /// Reads what follows the arguments of a call.
 fn called_at<'a>(
     alloc: Global,
@@ -505,9 +516,7 @@ fn called_at<'a>(
 ) -> Result<Option<Instr<'a>>, ReadError>
     ensures { Gives (λ x. (x, tokens.new)) result (called_at reg callee.entry arguments.entry.items tokens.old) }
 {
-    call_attributes_at(alloc, tokens)?;
-    attachments_at(alloc, tokens)?;
-    Ok(called(reg, callee, arguments))
+    behind_arguments_at(alloc, called(reg, callee, arguments), tokens)
 }
 
 /// Reads what follows the callee of a call: arguments of the types that are written, where they are.

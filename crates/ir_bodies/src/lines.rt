@@ -4,6 +4,7 @@ ghost use Rattle.std.specs.Prelude.{◌≡◌, IfErr, OnOk};
 ghost use Rattle.lto_forms.specs.declared.fault.ReadError.TheVariants.{NoMemory};
 ghost use Rattle.lto_forms.specs.Readers.{Gives};
 ghost use Rattle.ir_bodies.specs.Adding.{kept_at};
+ghost use Rattle.ir_bodies.specs.Attended.{IsAttended};
 ghost use Rattle.ir_bodies.specs.Blocks.{keep};
 ghost use Rattle.ir_bodies.specs.Lines.{lined};
 ghost use Rattle.ir_bodies.specs.LinesAt.{operation_at, attended_at, behind_at, line_behind_at, named_line_at, plain_line_at, line_at};
@@ -50,8 +51,21 @@ fn operation_at<'a>(
     }
 }
 
+/// What was read, as something that isn't dropped, where its attachments follow. Its type is a
+/// parameter, so that what is proved of it isn't proved of each field of an instruction.
+fn attended<T: Drop>(
+    alloc: Global,
+    read: Result<T, ReadError>,
+    tokens: &mut Tokens,
+) -> Result<Option<T>, ReadError>
+    ensures { IsAttended read tokens.old result tokens.new }
+{
+    let value = read?;
+    attachments_at(alloc, tokens)?;
+    Ok(Some(value))
+}
+
 /// Reads what follows the first word of an operation on values, its attachments too.
-#[tactic(auto, unfolding(crate::specs::LinesAt::attended_at))]
 fn attended_at<'a>(
     alloc: Global,
     operation: Operation,
@@ -59,9 +73,8 @@ fn attended_at<'a>(
 ) -> Result<Option<Instr<'a>>, ReadError>
     ensures { Gives (λ x. (x, tokens.new)) result (attended_at (operation_at operation) tokens.old) }
 {
-    let instr = operation_at(alloc, operation, tokens)?;
-    attachments_at(alloc, tokens)?;
-    Ok(Some(instr))
+    let instr = operation_at(alloc, operation, tokens);
+    attended(alloc, instr, tokens)
 }
 
 /// Reads what follows the first word of an instruction, with the name of a result before it or not:
