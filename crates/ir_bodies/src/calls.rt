@@ -1,6 +1,6 @@
 //! Reads calls (LangRef, "call Instruction").
 
-ghost use Rattle.std.specs.Prelude.{◌≡◌, ◌∷◌, IfOk};
+ghost use Rattle.std.specs.Prelude.{◌≡◌, ◌∷◌, Some, IfOk};
 ghost use Rattle.ir_lex.specs.Tok.{tok};
 ghost use Rattle.lto_forms.specs.Alphabet.{among};
 ghost use Rattle.lto_forms.specs.Readers.{Gives, next_is};
@@ -463,6 +463,17 @@ fn callee_at<'a>(
     }
 }
 
+/// A call of a value.
+fn call_of<'a>(reg: Option<Reg>, callee: Operand<'a>, arguments: Vec<Argument<'a>>) -> Instr<'a>
+    ensures { Some result ≡ called reg (Some callee.entry) arguments.entry.items }
+{
+    Instr::Call {
+        result: reg,
+        callee,
+        arguments: Rows::of(arguments),
+    }
+}
+
 /// A call, unless it is dropped.
 fn called<'a>(
     reg: Option<Reg>,
@@ -473,11 +484,7 @@ fn called<'a>(
 {
     match callee {
         None => None,
-        Some(callee) => Some(Instr::Call {
-            result: reg,
-            callee,
-            arguments: Rows::of(arguments),
-        }),
+        Some(callee) => Some(call_of(reg, callee, arguments)),
     }
 }
 
