@@ -1,6 +1,6 @@
 //! Reads the items of a module one behind another (LangRef, "Module Structure").
 
-ghost use Rattle.std.specs.Prelude.{◌≡◌, [], ◌∷◌, ◌++◌, OnOk, IfErr, None};
+ghost use Rattle.std.specs.Prelude.{◌≡◌, OnOk, IfErr, None};
 ghost use Rattle.ir_lex.specs.Heads.{number};
 ghost use Rattle.lto_forms.specs.Alphabet.{contains, among};
 ghost use Rattle.lto_forms.specs.declared.fault.ReadError.TheVariants.{NoMemory};
@@ -16,7 +16,7 @@ ghost use Rattle.ir_items.specs.Items.{declared, keep};
 ghost use Rattle.ir_items.specs.ItemsAt.{ITEM, NAMING, beginnings, kept_at, unnamed_at, attribute_behind_at, metadata_there_at, plainly_at, beside_at, attached_before_at, declaration_at, naming_at, named_within_at, there_at, items_at};
 ghost use Rattle.ir_items.specs.Putting.{behind_at, Puts};
 
-use ir_bodies::definition_at;
+use ir_bodies::{definition_at, push};
 use ir_globals::{type_line_at, variable_line_at};
 use ir_lex::Head;
 use ir_read::{
@@ -26,15 +26,6 @@ use ir_read::{
 };
 use lto_forms::{Fault, FaultKind, ReadError};
 use std::alloc::Global;
-
-/// Adds a value, or says that memory ran out.
-fn push<T: Drop>(list: &mut Vec<T>, value: T) -> Result<(), ReadError>
-    ensures pushed { OnOk result (list.new.items ≡ list.old.items ++ value ∷ []) }
-    ensures memory { IfErr result (λ e. e ≡ NoMemory) }
-{
-    list.push(value)?;
-    Ok(())
-}
 
 /// Adds what was read, where it was. Behind it another item may stand.
 fn put<T: Drop>(list: &mut Vec<T>, read: Result<T, ReadError>) -> Result<Before, ReadError>

@@ -104,7 +104,7 @@ unfolding some_of_at
 some_of_told w ws = seq (argument_of_told w) (λ first. each_behind_told ws first)
 
 pub arguments_of_told : (x0 : List Tok) → Tells (arguments_of_at x0)
-arguments_of_told [] = seq end_of_none_told (λ _. nothing _)
+arguments_of_told [] = seq (the_told heads.CloseParen) (λ _. nothing _)
 arguments_of_told (w ∷ ws) = seq (some_of_told w ws) (λ as'. seq (the_told heads.CloseParen) (λ _. nothing _))
 
 pub arguments_told : (x0 : Option (List Tok)) → Tells (arguments_at x0)

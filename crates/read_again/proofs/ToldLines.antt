@@ -24,7 +24,7 @@ use Rattle.ir_bodies.specs.declared.opcodes.Opcode.{Opcode}
 use Rattle.ir_bodies.specs.declared.opcodes.Opcode.TheVariants as opcodes
 use Rattle.ir_bodies.specs.declared.opcodes.Operation.{Operation}
 use Rattle.ir_bodies.specs.declared.opcodes.Operation.TheVariants as operations
-use Rattle.ir_bodies.specs.LinesAt.{operation_at, attended_at, kept_at, behind_at, line_behind_at, named_line_at, plain_line_at, line_at}
+use Rattle.ir_bodies.specs.LinesAt.{operation_at, attended_at, some_at, behind_at, line_behind_at, named_line_at, plain_line_at, line_at}
 
 pub operation_told : (x0 : Operation) → Tells (operation_at x0)
 operation_told (operations.Wrapping op) = wrapping_told op
@@ -42,8 +42,8 @@ pub attended_told : (f : Reader Tok Instr) → Tells f → Tells (attended_at f)
 unfolding attended_at
 attended_told f f_told = seq f_told (λ i. seq attachments_told (λ _. nothing _))
 
-pub kept_told : (f : Reader Tok Instr) → Tells f → Tells (kept_at f)
-unfolding kept_at
+pub kept_told : (f : Reader Tok Instr) → Tells f → Tells (some_at f)
+unfolding some_at
 kept_told f f_told = seq f_told (λ i. nothing _)
 
 pub behind_told : (named : Bool) → (x1 : Opcode) → Tells (behind_at named x1)
