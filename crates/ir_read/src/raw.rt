@@ -11,7 +11,6 @@ use ir_tree::{BinaryOp, CastOp, Flags, Linkage, Predicate, Reg, Rows};
 /// What an instruction, a terminator or an initialiser reads.
 ///
 /// A number has the width of its type; `true` and `false` are numbers of width 1.
-#[derive(Drop)]
 pub enum Operand<'a> {
     Local(Name<'a>),
     Global(Name<'a>),
@@ -19,6 +18,20 @@ pub enum Operand<'a> {
     Null,
     Poison(Reg),
     Address(Address<'a>),
+}
+
+// Written out, so that it is one call wherever an operand is dropped.
+impl<'a> Drop for Operand<'a> {
+    fn drop(self) {
+        match self {
+            Operand::Local(name) => drop(name),
+            Operand::Global(name) => drop(name),
+            Operand::Number { width: _, bits: _ } => {}
+            Operand::Null => {}
+            Operand::Poison(_) => {}
+            Operand::Address(address) => drop(address),
+        }
+    }
 }
 
 /// An operand with the type that is written before it.
