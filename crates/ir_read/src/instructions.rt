@@ -5,10 +5,14 @@ ghost use Rattle.lto_forms.specs.Alphabet.{among};
 ghost use Rattle.lto_forms.specs.Readers.{Gives, next_is};
 ghost use Rattle.ir_lex.specs.Tok.{tok};
 ghost use Rattle.lto_forms.specs.Rules.{is_among};
+ghost use Rattle.ir_read.specs.Operands.{IsReg};
+ghost use Rattle.ir_tree.specs.declared.operand.Reg.TheVariants.{Int};
+ghost use Rattle.ir_read.specs.declared.raw.Instr.TheVariants as instrs;
 ghost use Rattle.ir_read.specs.Classes.{tokens, refusal, one_of_at};
 ghost use Rattle.ir_read.specs.Instructions.{WRAPS, is_nuw, with_wrap, no_flags, PREDICATES, predicate_of};
-ghost use Rattle.ir_read.specs.InstructionsAt.{wraps_at, on_two_at, wrapping_at, dividing_at, joining_at, comparing_at, casting_at, extending_at, narrowing_at, other_at, arms_at, selecting_at, freezing_at, aligned_at, align_at, loading_at, stored_at, storing_to_at, storing_at};
+ghost use Rattle.ir_read.specs.InstructionsAt.{wraps_at, on_two_at, behind_left_at, wrapping_at, dividing_at, joining_at, comparing_at, compared_at, cast_to_at, casting_at, extending_at, narrowing_at, other_at, arms_at, selecting_at, freezing_at, aligned_at, align_at, loaded_at, loading_at, stored_at, storing_to_at, storing_at};
 
+use crate::done::done;
 use crate::metadata::{attached_at, attachments_at};
 use crate::numerals::alignment_at;
 use crate::operands::{bit_at, integer_at, maybe_at, reg_at, scalar_at};
@@ -78,6 +82,41 @@ fn wraps_at(tokens: &mut Tokens) -> Result<Flags, ReadError>
     Ok(flags)
 }
 
+fn binary<'a>(
+    op: BinaryOp,
+    flags: Flags,
+    width: u8,
+    left: Operand<'a>,
+    right: Operand<'a>,
+) -> Instr<'a>
+    ensures { result ≡ instrs.Binary op flags width left.entry right.entry }
+{
+    Instr::Binary {
+        op,
+        flags,
+        width,
+        left,
+        right,
+    }
+}
+
+/// Reads what follows the left operand of an operation on integers.
+fn behind_left_at<'a>(
+    alloc: Global,
+    op: BinaryOp,
+    flags: Flags,
+    width: u8,
+    left: Operand<'a>,
+    tokens: &mut Tokens<'_, 'a>,
+) -> Result<Instr<'a>, ReadError>
+    requires { IsReg (Int width) }
+    ensures { Gives (λ x. (x, tokens.new)) result (behind_left_at op flags width left.entry tokens.old) }
+{
+    expect(Head::Comma, tokens)?;
+    let right = operand_at(alloc, Reg::Int(width), tokens)?;
+    done(binary(op, flags, width, left, right))
+}
+
 /// Reads `iN operand , operand`.
 #[tactic(auto, unfolding(crate::specs::InstructionsAt::on_two_at))]
 pub fn on_two_at<'a>(
@@ -90,15 +129,7 @@ pub fn on_two_at<'a>(
 {
     let width = integer_at(tokens)?;
     let left = operand_at(alloc, Reg::Int(width), tokens)?;
-    expect(Head::Comma, tokens)?;
-    let right = operand_at(alloc, Reg::Int(width), tokens)?;
-    Ok(Instr::Binary {
-        op,
-        flags,
-        width,
-        left,
-        right,
-    })
+    behind_left_at(alloc, op, flags, width, left, tokens)
 }
 
 /// Reads what follows `add`, `sub`, `mul` or `shl`.
@@ -182,6 +213,33 @@ fn predicate_at(tokens: &mut Tokens) -> Result<Predicate, ReadError>
     }
 }
 
+fn compared<'a>(predicate: Predicate, reg: Reg, left: Operand<'a>, right: Operand<'a>) -> Instr<'a>
+    ensures { result ≡ instrs.Icmp predicate reg left.entry right.entry }
+{
+    Instr::Icmp {
+        predicate,
+        reg,
+        left,
+        right,
+    }
+}
+
+/// Reads what follows the left operand of an `icmp`.
+fn compared_at<'a>(
+    alloc: Global,
+    predicate: Predicate,
+    reg: Reg,
+    left: Operand<'a>,
+    tokens: &mut Tokens<'_, 'a>,
+) -> Result<Instr<'a>, ReadError>
+    requires { IsReg reg }
+    ensures { Gives (λ x. (x, tokens.new)) result (compared_at predicate reg left.entry tokens.old) }
+{
+    expect(Head::Comma, tokens)?;
+    let right = operand_at(alloc, reg, tokens)?;
+    done(compared(predicate, reg, left, right))
+}
+
 /// Reads what follows `icmp`.
 #[tactic(auto, unfolding(crate::specs::InstructionsAt::comparing_at))]
 pub fn comparing_at<'a>(alloc: Global, tokens: &mut Tokens<'_, 'a>) -> Result<Instr<'a>, ReadError>
@@ -191,14 +249,32 @@ pub fn comparing_at<'a>(alloc: Global, tokens: &mut Tokens<'_, 'a>) -> Result<In
     let predicate = predicate_at(tokens)?;
     let reg = reg_at(tokens)?;
     let left = operand_at(alloc, reg, tokens)?;
-    expect(Head::Comma, tokens)?;
-    let right = operand_at(alloc, reg, tokens)?;
-    Ok(Instr::Icmp {
-        predicate,
-        reg,
-        left,
-        right,
-    })
+    compared_at(alloc, predicate, reg, left, tokens)
+}
+
+fn cast<'a>(op: CastOp, from: Reg, value: Operand<'a>, to: Reg) -> Instr<'a>
+    ensures { result ≡ instrs.Cast op from value.entry to }
+{
+    Instr::Cast {
+        op,
+        from,
+        value,
+        to,
+    }
+}
+
+/// Reads what follows the value that is cast.
+fn cast_to_at<'a>(
+    op: CastOp,
+    from: Reg,
+    value: Operand<'a>,
+    tokens: &mut Tokens<'_, 'a>,
+) -> Result<Instr<'a>, ReadError>
+    ensures { Gives (λ x. (x, tokens.new)) result (cast_to_at op from value.entry tokens.old) }
+{
+    expect(Head::To, tokens)?;
+    let to = reg_at(tokens)?;
+    done(cast(op, from, value, to))
 }
 
 /// Reads `reg operand to reg`.
@@ -212,14 +288,7 @@ pub fn casting_at<'a>(
 {
     let from = reg_at(tokens)?;
     let value = operand_at(alloc, from, tokens)?;
-    expect(Head::To, tokens)?;
-    let to = reg_at(tokens)?;
-    Ok(Instr::Cast {
-        op,
-        from,
-        value,
-        to,
-    })
+    cast_to_at(op, from, value, tokens)
 }
 
 /// Reads what follows `zext`.
@@ -248,6 +317,16 @@ pub fn narrowing_at<'a>(
     casting_at(alloc, op, tokens)
 }
 
+fn selected<'a>(condition: Operand<'a>, if_true: Argument<'a>, if_false: Argument<'a>) -> Instr<'a>
+    ensures { result ≡ instrs.Select condition.entry if_true.entry if_false.entry }
+{
+    Instr::Select {
+        condition,
+        if_true,
+        if_false,
+    }
+}
+
 /// Reads the second arm of a `select`.
 fn other_at<'a>(
     alloc: Global,
@@ -259,11 +338,7 @@ fn other_at<'a>(
 {
     expect(Head::Comma, tokens)?;
     let if_false = argument_at(alloc, tokens)?;
-    Ok(Instr::Select {
-        condition,
-        if_true,
-        if_false,
-    })
+    done(selected(condition, if_true, if_false))
 }
 
 /// Reads the arms of a `select`.
@@ -289,14 +364,19 @@ pub fn selecting_at<'a>(alloc: Global, tokens: &mut Tokens<'_, 'a>) -> Result<In
     arms_at(alloc, condition, tokens)
 }
 
+fn frozen<'a>(reg: Reg, value: Operand<'a>) -> Instr<'a>
+    ensures { result ≡ instrs.Freeze reg value.entry }
+{
+    Instr::Freeze { reg, value }
+}
+
 /// Reads what follows `freeze`.
 #[tactic(auto, unfolding(crate::specs::InstructionsAt::freezing_at))]
 pub fn freezing_at<'a>(alloc: Global, tokens: &mut Tokens<'_, 'a>) -> Result<Instr<'a>, ReadError>
     ensures { Gives (λ x. (x, tokens.new)) result (freezing_at tokens.old) }
 {
     let reg = reg_at(tokens)?;
-    let value = operand_at(alloc, reg, tokens)?;
-    Ok(Instr::Freeze { reg, value })
+    done(frozen(reg, operand_at(alloc, reg, tokens)?))
 }
 
 /// Reads what follows the comma behind an address: an alignment, or an attachment.
@@ -329,6 +409,29 @@ pub fn align_at(alloc: Global, tokens: &mut Tokens) -> Result<Option<u64>, ReadE
     }
 }
 
+fn loaded<'a>(reg: Reg, address: Operand<'a>, align: Option<u64>) -> Instr<'a>
+    ensures { result ≡ instrs.Load reg address.entry align }
+{
+    Instr::Load {
+        reg,
+        address,
+        align,
+    }
+}
+
+/// Reads the alignment of a `load`.
+fn loaded_at<'a>(
+    alloc: Global,
+    reg: Reg,
+    address: Operand<'a>,
+    tokens: &mut Tokens<'_, 'a>,
+) -> Result<Instr<'a>, ReadError>
+    ensures { Gives (λ x. (x, tokens.new)) result (loaded_at reg address.entry tokens.old) }
+{
+    let align = align_at(alloc, tokens)?;
+    done(loaded(reg, address, align))
+}
+
 /// Reads what follows `load`.
 #[tactic(auto, unfolding(crate::specs::InstructionsAt::loading_at))]
 pub fn loading_at<'a>(alloc: Global, tokens: &mut Tokens<'_, 'a>) -> Result<Instr<'a>, ReadError>
@@ -337,13 +440,18 @@ pub fn loading_at<'a>(alloc: Global, tokens: &mut Tokens<'_, 'a>) -> Result<Inst
     let reg = scalar_at(tokens)?;
     expect(Head::Comma, tokens)?;
     pointer_at(tokens)?;
-    let address = operand_at(alloc, Reg::Ptr, tokens)?;
-    let align = align_at(alloc, tokens)?;
-    Ok(Instr::Load {
+    loaded_at(alloc, reg, operand_at(alloc, Reg::Ptr, tokens)?, tokens)
+}
+
+fn stored<'a>(reg: Reg, value: Operand<'a>, address: Operand<'a>, align: Option<u64>) -> Instr<'a>
+    ensures { result ≡ instrs.Store reg value.entry address.entry align }
+{
+    Instr::Store {
         reg,
+        value,
         address,
         align,
-    })
+    }
 }
 
 /// Reads the alignment of a `store`.
@@ -357,12 +465,7 @@ fn stored_at<'a>(
     ensures { Gives (λ x. (x, tokens.new)) result (stored_at reg value.entry address.entry tokens.old) }
 {
     let align = align_at(alloc, tokens)?;
-    Ok(Instr::Store {
-        reg,
-        value,
-        address,
-        align,
-    })
+    done(stored(reg, value, address, align))
 }
 
 /// Reads what follows the value of a `store`.

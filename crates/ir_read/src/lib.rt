@@ -9,6 +9,7 @@ mod address;
 mod addressing;
 mod attributes;
 mod brackets;
+mod done;
 mod extents;
 mod function_heads;
 mod instructions;
