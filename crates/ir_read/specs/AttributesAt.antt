@@ -157,6 +157,20 @@ grouped_at = do
   all ← star_at (among tokens GROUPED) (function_attribute_at GROUP_WORDS)
   done (fold with_attribute none_kept all)
 
+-- behind the attributes of a group
+abbrev pub ended_group_at : Tok → Kept → Reader Tok Item
+ended_group_at name kept = do
+  _ ← the_at heads.CloseBrace
+  done (group_item name kept)
+
+-- behind the name of a group
+abbrev pub named_group_at : Tok → Reader Tok Item
+named_group_at name = do
+  _ ← the_at heads.Equals
+  _ ← the_at heads.OpenBrace
+  kept ← grouped_at
+  ended_group_at name kept
+
 unfoldable pub attribute_group_at : Reader Tok Item
 attribute_group_at = do
   _ ← the_at heads.Attributes

@@ -7,13 +7,14 @@ ghost use Rattle.ir_lex.specs.Tok.{tok};
 ghost use Rattle.lto_forms.specs.Alphabet.{contains, among};
 ghost use Rattle.lto_forms.specs.Readers.{Gives, next_is};
 ghost use Rattle.lto_forms.specs.Rules.{is_valued};
-ghost use Rattle.ir_read.specs.Attributes.{WORDS, GROUP, words_of, kept_of, word_kept, none_kept, with_attribute};
-ghost use Rattle.ir_read.specs.AttributesAt.{PARAMETER, CALL, DEFINITION, GROUPED, head_alignment_at, head_attribute_at, definition_attribute_at, definition_attributes_at, grouped_at, attribute_group_at, aligned_at, parameter_attribute_at, parameter_attributes_at, word_tail_at, word_attribute_at, string_value_at, string_attribute_at, function_attribute_at, group_name_at, group_attribute_at, call_attribute_at, call_attributes_at};
+ghost use Rattle.ir_read.specs.Attributes.{WORDS, GROUP, words_of, kept_of, word_kept, none_kept, with_attribute, group_item};
+ghost use Rattle.ir_read.specs.AttributesAt.{PARAMETER, CALL, DEFINITION, GROUPED, head_alignment_at, head_attribute_at, definition_attribute_at, definition_attributes_at, grouped_at, ended_group_at, named_group_at, attribute_group_at, aligned_at, parameter_attribute_at, parameter_attributes_at, word_tail_at, word_attribute_at, string_value_at, string_attribute_at, function_attribute_at, group_name_at, group_attribute_at, call_attribute_at, call_attributes_at};
 ghost use Rattle.ir_read.specs.Classes.{tokens, refusal, one_of_at};
 ghost use Rattle.ir_read.specs.Metadata.{META};
 ghost use Rattle.ir_read.specs.Operands.{group_named};
 
 use crate::brackets::{Bracket, group_at};
+use crate::done::done;
 use crate::metadata::attached_at;
 use crate::name::Name;
 use crate::numerals::alignment_at;
@@ -522,6 +523,42 @@ fn grouped_at<'a>(alloc: Global, tokens: &mut Tokens<'_, 'a>) -> Result<Kept<'a>
     Ok(kept)
 }
 
+fn group_item<'a>(group: Name<'a>, kept: Kept<'a>) -> Item<'a>
+    ensures { result ≡ group_item group.entry kept.entry }
+{
+    Item::Attributes {
+        group,
+        noinline: kept.noinline,
+        optnone: kept.optnone,
+    }
+}
+
+/// Reads what follows the attributes of a group.
+fn ended_group_at<'a>(
+    group: Name<'a>,
+    kept: Kept<'a>,
+    tokens: &mut Tokens<'_, 'a>,
+) -> Result<Item<'a>, ReadError>
+    ensures { Gives (λ x. (x, tokens.new)) result (ended_group_at group.entry kept.entry tokens.old) }
+{
+    expect(Head::CloseBrace, tokens)?;
+    done(group_item(group, kept))
+}
+
+/// Reads what follows the name of an attribute group.
+fn named_group_at<'a>(
+    alloc: Global,
+    group: Name<'a>,
+    tokens: &mut Tokens<'_, 'a>,
+) -> Result<Item<'a>, ReadError>
+    ensures { Gives (λ x. (x, tokens.new)) result (named_group_at group.entry tokens.old) }
+{
+    expect(Head::Equals, tokens)?;
+    expect(Head::OpenBrace, tokens)?;
+    let kept = grouped_at(alloc, tokens)?;
+    ended_group_at(group, kept, tokens)
+}
+
 /// Reads an attribute group: `attributes #0 = { nounwind "frame-pointer"="all" }`.
 #[tactic(auto, unfolding(crate::specs::AttributesAt::attribute_group_at))]
 pub fn attribute_group_at<'a>(
@@ -532,13 +569,5 @@ pub fn attribute_group_at<'a>(
 {
     expect(Head::Attributes, tokens)?;
     let group = group_name_at(tokens)?;
-    expect(Head::Equals, tokens)?;
-    expect(Head::OpenBrace, tokens)?;
-    let kept = grouped_at(alloc, tokens)?;
-    expect(Head::CloseBrace, tokens)?;
-    Ok(Item::Attributes {
-        group,
-        noinline: kept.noinline,
-        optnone: kept.optnone,
-    })
+    named_group_at(alloc, group, tokens)
 }
