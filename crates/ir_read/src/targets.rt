@@ -4,9 +4,11 @@
 ghost use Rattle.std.specs.Prelude.{◌≡◌, Option, Some, None, MatchOption};
 ghost use Rattle.lto_forms.specs.Readers.{Gives, token_at};
 ghost use Rattle.ir_read.specs.Classes.{one_of_at, itself};
+ghost use Rattle.ir_read.specs.declared.raw.Item.TheVariants as items;
 ghost use Rattle.ir_read.specs.Targets.{STRING, until, after, has_64_bits, fits_item, fits_layout, is_layout};
-ghost use Rattle.ir_read.specs.TargetsAt.{layout_line_at, triple_line_at, target_line_at, source_line_at, comdat_line_at};
+ghost use Rattle.ir_read.specs.TargetsAt.{layout_line_at, triple_line_at, targeted_at, target_line_at, source_line_at, comdat_line_at};
 
+use crate::done::done;
 use crate::name::Name;
 use crate::raw::Item;
 use crate::terminals::{expect, refusal};
@@ -132,6 +134,12 @@ fn string_at<'a>(tokens: &mut Tokens<'_, 'a>) -> Result<Name<'a>, ReadError>
     }
 }
 
+fn layout_item<'a>(layout: Name<'a>) -> Item<'a>
+    ensures { result ≡ items.Datalayout layout.entry }
+{
+    Item::Datalayout(layout)
+}
+
 #[tactic(auto, unfolding(crate::specs::TargetsAt::layout_line_at))]
 fn layout_line_at<'a>(alloc: Global, tokens: &mut Tokens<'_, 'a>) -> Result<Item<'a>, ReadError>
     ensures { Gives (λ x. (x, tokens.new)) result (layout_line_at tokens.old) }
@@ -139,7 +147,13 @@ fn layout_line_at<'a>(alloc: Global, tokens: &mut Tokens<'_, 'a>) -> Result<Item
     expect(Head::Datalayout, tokens)?;
     expect(Head::Equals, tokens)?;
     let layout = layout_at(alloc, tokens)?;
-    Ok(Item::Datalayout(layout))
+    done(layout_item(layout))
+}
+
+fn triple_item<'a>(triple: Name<'a>) -> Item<'a>
+    ensures { result ≡ items.Triple triple.entry }
+{
+    Item::Triple(triple)
 }
 
 #[tactic(auto, unfolding(crate::specs::TargetsAt::triple_line_at))]
@@ -149,7 +163,18 @@ fn triple_line_at<'a>(tokens: &mut Tokens<'_, 'a>) -> Result<Item<'a>, ReadError
     expect(Head::Triple, tokens)?;
     expect(Head::Equals, tokens)?;
     let triple = string_at(tokens)?;
-    Ok(Item::Triple(triple))
+    done(triple_item(triple))
+}
+
+/// Reads what follows `target`.
+fn targeted_at<'a>(alloc: Global, tokens: &mut Tokens<'_, 'a>) -> Result<Item<'a>, ReadError>
+    ensures { Gives (λ x. (x, tokens.new)) result (targeted_at tokens.old) }
+{
+    if tokens.comes(Head::Datalayout) {
+        layout_line_at(alloc, tokens)
+    } else {
+        triple_line_at(tokens)
+    }
 }
 
 /// Reads a target line: `target triple = "x86_64-pc-linux-gnu"`.
@@ -158,11 +183,7 @@ pub fn target_line_at<'a>(alloc: Global, tokens: &mut Tokens<'_, 'a>) -> Result<
     ensures { Gives (λ x. (x, tokens.new)) result (target_line_at tokens.old) }
 {
     expect(Head::Target, tokens)?;
-    if tokens.comes(Head::Datalayout) {
-        layout_line_at(alloc, tokens)
-    } else {
-        triple_line_at(tokens)
-    }
+    targeted_at(alloc, tokens)
 }
 
 /// Reads the name of the source, and drops it: `source_filename = "t.c"`.
