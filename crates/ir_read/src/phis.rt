@@ -2,11 +2,12 @@
 
 ghost use Rattle.std.specs.Prelude.{◌≡◌, OnOk};
 ghost use Rattle.lto_forms.specs.Readers.{Gives};
+ghost use Rattle.ir_read.specs.declared.raw.Instr.TheVariants as instrs;
 ghost use Rattle.ir_read.specs.Operands.{IsReg};
 ghost use Rattle.ir_read.specs.Phis.{keep};
-ghost use Rattle.ir_read.specs.Operands.{IsReg};
 ghost use Rattle.ir_read.specs.PhisAt.{incoming_at, behind_comma_at, further_at, entries_at, phi_at, phi_of_at};
 
+use crate::done::done;
 use crate::metadata::attached_at;
 use crate::operands::{local_at, reg_at};
 use crate::raw::{Incoming, Instr};
@@ -125,16 +126,35 @@ fn entries_at<'a>(
     Ok(entries)
 }
 
+fn joined<'a>(reg: Reg, entries: Vec<Incoming<'a>>) -> Instr<'a>
+    ensures { result ≡ instrs.Phi reg entries.entry.items }
+{
+    Instr::Phi {
+        reg,
+        incoming: Rows::of(entries),
+    }
+}
+
+/// Reads the entries of a phi of this type.
+#[tactic(auto, unfolding(crate::specs::PhisAt::phi_of_at))]
+fn phi_of_at<'a>(
+    alloc: Global,
+    reg: Reg,
+    tokens: &mut Tokens<'_, 'a>,
+) -> Result<Instr<'a>, ReadError>
+    requires { IsReg reg }
+    ensures { Gives (λ x. (x, tokens.new)) result (phi_of_at reg tokens.old) }
+{
+    let first = incoming_at(alloc, reg, tokens)?;
+    let entries = entries_at(alloc, reg, first, tokens)?;
+    done(joined(reg, entries))
+}
+
 /// Reads what follows `phi`.
-#[tactic(auto, unfolding(crate::specs::PhisAt::phi_at, crate::specs::PhisAt::phi_of_at))]
+#[tactic(auto, unfolding(crate::specs::PhisAt::phi_at))]
 pub fn phi_at<'a>(alloc: Global, tokens: &mut Tokens<'_, 'a>) -> Result<Instr<'a>, ReadError>
     ensures { Gives (λ x. (x, tokens.new)) result (phi_at tokens.old) }
 {
     let reg = reg_at(tokens)?;
-    let first = incoming_at(alloc, reg, tokens)?;
-    let entries = entries_at(alloc, reg, first, tokens)?;
-    Ok(Instr::Phi {
-        reg,
-        incoming: Rows::of(entries),
-    })
+    phi_of_at(alloc, reg, tokens)
 }
