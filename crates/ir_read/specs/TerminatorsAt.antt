@@ -42,6 +42,13 @@ target_at = do
   _ ← the_at heads.LabelType
   local_at
 
+-- behind the condition and the first target
+abbrev pub other_branch_at : Operand → Tok → Reader Tok Terminator
+other_branch_at condition if_true = do
+  _ ← the_at heads.Comma
+  if_false ← target_at
+  done (terminators.Branch condition if_true if_false)
+
 -- behind the condition
 abbrev pub branches_at : Operand → Reader Tok Terminator
 branches_at condition = do

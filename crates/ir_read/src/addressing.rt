@@ -7,11 +7,13 @@ ghost use Rattle.lto_forms.specs.Readers.{Gives};
 ghost use Rattle.ir_read.specs.Addressing.{keep, slots_fit};
 ghost use Rattle.ir_read.specs.AddressingAt.{addressing_at, behind_comma_at, count_in_at, count_means, further_at, indices_at, many_slots_at, one_slot_at, reserving_at, slots_at, slots_behind_at, stepped_at, stepping_by_at};
 ghost use Rattle.ir_read.specs.Classes.{tokens};
+ghost use Rattle.ir_read.specs.declared.raw.Instr.TheVariants as instrs;
 ghost use Rattle.ir_read.specs.Extents.{all_nest_within, extent_of, nests_within};
 ghost use Rattle.ir_read.specs.Literals.{IsWidth};
 ghost use Rattle.ir_read.specs.ShapeForms.{NUMBER};
 ghost use Rattle.ir_read.specs.Shapes.{parts_of};
 
+use crate::done::done;
 use crate::instructions::{align_at, aligned_at};
 use crate::metadata::attached_at;
 use crate::operands::integer_at;
@@ -177,6 +179,16 @@ fn slots_behind_at(alloc: Global, shape: &Measured, tokens: &mut Tokens) -> Resu
     slots_at(alloc, shape, tokens)
 }
 
+fn reserved<'a>(typed: Typed<'a>, slots: Slots) -> Instr<'a>
+    ensures { result ≡ instrs.Alloca typed.entry slots.count slots.align }
+{
+    Instr::Alloca {
+        typed,
+        count: slots.count,
+        align: slots.align,
+    }
+}
+
 /// Reads what follows `alloca`.
 #[tactic(auto, unfolding(crate::specs::AddressingAt::reserving_at))]
 pub fn reserving_at<'a>(alloc: Global, tokens: &mut Tokens<'_, 'a>) -> Result<Instr<'a>, ReadError>
@@ -184,11 +196,7 @@ pub fn reserving_at<'a>(alloc: Global, tokens: &mut Tokens<'_, 'a>) -> Result<In
 {
     let shape = memory_shape_at(alloc, tokens)?;
     let slots = slots_behind_at(alloc, &shape, tokens)?;
-    Ok(Instr::Alloca {
-        typed: shape.typed,
-        count: slots.count,
-        align: slots.align,
-    })
+    done(reserved(shape.typed, slots))
 }
 
 /// What a comma leads to: an index, or an attachment, behind which only attachments follow.
@@ -272,6 +280,22 @@ fn indices_at<'a>(
     Ok(indices)
 }
 
+fn stepped<'a>(
+    inbounds: bool,
+    typed: Typed<'a>,
+    base: Operand<'a>,
+    indices: Vec<Argument<'a>>,
+) -> Instr<'a>
+    ensures { result ≡ instrs.Address inbounds typed.entry base.entry indices.entry.items }
+{
+    Instr::Address {
+        inbounds,
+        typed,
+        base,
+        indices: Rows::of(indices),
+    }
+}
+
 /// Reads the indices of a `getelementptr`.
 fn stepped_at<'a>(
     alloc: Global,
@@ -283,12 +307,7 @@ fn stepped_at<'a>(
     ensures { Gives (λ x. (x, tokens.new)) result (stepped_at inbounds typed.entry base.entry tokens.old) }
 {
     let indices = indices_at(alloc, tokens)?;
-    Ok(Instr::Address {
-        inbounds,
-        typed,
-        base,
-        indices: Rows::of(indices),
-    })
+    done(stepped(inbounds, typed, base, indices))
 }
 
 /// Reads what follows the shape of a `getelementptr`.

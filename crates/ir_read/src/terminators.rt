@@ -5,10 +5,12 @@ ghost use Rattle.ir_lex.specs.Tok.{tok};
 ghost use Rattle.lto_forms.specs.Readers.{Gives};
 ghost use Rattle.lto_forms.specs.Rules.{is_among, is_valued};
 ghost use Rattle.ir_read.specs.Classes.{tokens, refusal, one_of_at};
+ghost use Rattle.ir_read.specs.declared.raw.Terminator.TheVariants as terminators;
 ghost use Rattle.ir_read.specs.Operands.{IsReg};
 ghost use Rattle.ir_read.specs.Terminators.{case_classes, matched_of, number_matched, ENDS, ending_of};
-ghost use Rattle.ir_read.specs.TerminatorsAt.{returning_at, target_at, branches_at, branching_at, constant_at, case_of_at, case_at, cases_at, end_of_cases_at, switched_at, switches_at, switching_at, behind_end_at, terminator_at};
+ghost use Rattle.ir_read.specs.TerminatorsAt.{returning_at, target_at, other_branch_at, branches_at, branching_at, constant_at, case_of_at, case_at, cases_at, end_of_cases_at, switched_at, switches_at, switching_at, behind_end_at, terminator_at};
 
+use crate::done::done;
 use crate::literals::literal;
 use crate::metadata::attachments_at;
 use crate::name::Name;
@@ -75,6 +77,29 @@ pub fn target_at<'a>(tokens: &mut Tokens<'_, 'a>) -> Result<Name<'a>, ReadError>
     local_at(tokens)
 }
 
+fn branch<'a>(condition: Operand<'a>, if_true: Name<'a>, if_false: Name<'a>) -> Terminator<'a>
+    ensures { result ≡ terminators.Branch condition.entry if_true.entry if_false.entry }
+{
+    Terminator::Branch {
+        condition,
+        if_true,
+        if_false,
+    }
+}
+
+/// Reads the second target behind a condition.
+fn other_branch_at<'a>(
+    condition: Operand<'a>,
+    if_true: Name<'a>,
+    tokens: &mut Tokens<'_, 'a>,
+) -> Result<Terminator<'a>, ReadError>
+    ensures { Gives (λ x. (x, tokens.new)) result (other_branch_at condition.entry if_true.entry tokens.old) }
+{
+    expect(Head::Comma, tokens)?;
+    let if_false = target_at(tokens)?;
+    done(branch(condition, if_true, if_false))
+}
+
 /// Reads the targets behind a condition.
 fn branches_at<'a>(
     condition: Operand<'a>,
@@ -84,13 +109,7 @@ fn branches_at<'a>(
 {
     expect(Head::Comma, tokens)?;
     let if_true = target_at(tokens)?;
-    expect(Head::Comma, tokens)?;
-    let if_false = target_at(tokens)?;
-    Ok(Terminator::Branch {
-        condition,
-        if_true,
-        if_false,
-    })
+    other_branch_at(condition, if_true, tokens)
 }
 
 /// Reads what follows `br`.
@@ -100,7 +119,7 @@ fn branching_at<'a>(alloc: Global, tokens: &mut Tokens<'_, 'a>) -> Result<Termin
 {
     if tokens.comes(Head::LabelType) {
         let to = target_at(tokens)?;
-        Ok(Terminator::Jump(to))
+        done(Terminator::Jump(to))
     } else {
         let width = bit_at(tokens)?;
         let condition = operand_at(alloc, Reg::Int(width), tokens)?;
@@ -205,6 +224,22 @@ fn end_of_cases_at(tokens: &mut Tokens) -> Result<(), ReadError>
     }
 }
 
+fn switch<'a>(
+    width: u8,
+    value: Operand<'a>,
+    default: Name<'a>,
+    cases: Vec<Case<'a>>,
+) -> Terminator<'a>
+    ensures { result ≡ terminators.Switch width value.entry default.entry cases.entry.items }
+{
+    Terminator::Switch {
+        width,
+        value,
+        default,
+        cases: Rows::of(cases),
+    }
+}
+
 /// Reads the cases of a `switch`.
 fn switched_at<'a>(
     alloc: Global,
@@ -218,12 +253,7 @@ fn switched_at<'a>(
     expect(Head::OpenBracket, tokens)?;
     let cases = cases_at(alloc, tokens)?;
     end_of_cases_at(tokens)?;
-    Ok(Terminator::Switch {
-        width,
-        value,
-        default,
-        cases: Rows::of(cases),
-    })
+    done(switch(width, value, default, cases))
 }
 
 /// Reads what follows the value of a `switch`.
