@@ -5,7 +5,7 @@ ghost use Rattle.ir_lex.specs.Tok.{tok};
 ghost use Rattle.lto_forms.specs.Alphabet.{among};
 ghost use Rattle.lto_forms.specs.Readers.{Gives};
 ghost use Rattle.ir_read.specs.Addressing.{keep, slots_fit};
-ghost use Rattle.ir_read.specs.AddressingAt.{addressing_at, behind_comma_at, count_in_at, count_means, further_at, indices_at, many_slots_at, one_slot_at, reserving_at, slots_at, slots_behind_at, stepped_at, stepping_by_at};
+ghost use Rattle.ir_read.specs.AddressingAt.{addressing_at, behind_comma_at, count_in_at, count_means, further_at, indices_at, many_slots_at, one_slot_at, reserved_at, reserving_at, slots_at, slots_behind_at, stepped_at, stepping_by_at};
 ghost use Rattle.ir_read.specs.Classes.{tokens};
 ghost use Rattle.ir_read.specs.declared.raw.Instr.TheVariants as instrs;
 ghost use Rattle.ir_read.specs.Extents.{all_nest_within, extent_of, nests_within};
@@ -189,14 +189,25 @@ fn reserved<'a>(typed: Typed<'a>, slots: Slots) -> Instr<'a>
     }
 }
 
+/// Reads what follows the shape of an `alloca`.
+fn reserved_at<'a>(
+    alloc: Global,
+    shape: Measured<'a>,
+    tokens: &mut Tokens<'_, 'a>,
+) -> Result<Instr<'a>, ReadError>
+    requires { shape.extent ≡ extent_of shape.typed.shape }
+    ensures { Gives (λ x. (x, tokens.new)) result (reserved_at shape.entry.typed tokens.old) }
+{
+    let slots = slots_behind_at(alloc, &shape, tokens)?;
+    done(reserved(shape.typed, slots))
+}
+
 /// Reads what follows `alloca`.
 #[tactic(auto, unfolding(crate::specs::AddressingAt::reserving_at))]
 pub fn reserving_at<'a>(alloc: Global, tokens: &mut Tokens<'_, 'a>) -> Result<Instr<'a>, ReadError>
     ensures { Gives (λ x. (x, tokens.new)) result (reserving_at tokens.old) }
 {
-    let shape = memory_shape_at(alloc, tokens)?;
-    let slots = slots_behind_at(alloc, &shape, tokens)?;
-    done(reserved(shape.typed, slots))
+    reserved_at(alloc, memory_shape_at(alloc, tokens)?, tokens)
 }
 
 /// What a comma leads to: an index, or an attachment, behind which only attachments follow.
