@@ -113,8 +113,13 @@ fn behind_left_at<'a>(
     ensures { Gives (λ x. (x, tokens.new)) result (behind_left_at op flags width left.entry tokens.old) }
 {
     expect(Head::Comma, tokens)?;
-    let right = operand_at(alloc, Reg::Int(width), tokens)?;
-    done(binary(op, flags, width, left, right))
+    done(binary(
+        op,
+        flags,
+        width,
+        left,
+        operand_at(alloc, Reg::Int(width), tokens)?,
+    ))
 }
 
 /// Reads `iN operand , operand`.
@@ -128,8 +133,15 @@ pub fn on_two_at<'a>(
     ensures { Gives (λ x. (x, tokens.new)) result (on_two_at op flags tokens.old) }
 {
     let width = integer_at(tokens)?;
-    let left = operand_at(alloc, Reg::Int(width), tokens)?;
-    behind_left_at(alloc, op, flags, width, left, tokens)
+    let int = Reg::Int(width);
+    behind_left_at(
+        alloc,
+        op,
+        flags,
+        width,
+        operand_at(alloc, int, tokens)?,
+        tokens,
+    )
 }
 
 /// Reads what follows `add`, `sub`, `mul` or `shl`.
@@ -236,8 +248,7 @@ fn compared_at<'a>(
     ensures { Gives (λ x. (x, tokens.new)) result (compared_at predicate reg left.entry tokens.old) }
 {
     expect(Head::Comma, tokens)?;
-    let right = operand_at(alloc, reg, tokens)?;
-    done(compared(predicate, reg, left, right))
+    done(compared(predicate, reg, left, operand_at(alloc, reg, tokens)?))
 }
 
 /// Reads what follows `icmp`.
@@ -248,8 +259,13 @@ pub fn comparing_at<'a>(alloc: Global, tokens: &mut Tokens<'_, 'a>) -> Result<In
     maybe_at(Head::Samesign, tokens)?;
     let predicate = predicate_at(tokens)?;
     let reg = reg_at(tokens)?;
-    let left = operand_at(alloc, reg, tokens)?;
-    compared_at(alloc, predicate, reg, left, tokens)
+    compared_at(
+        alloc,
+        predicate,
+        reg,
+        operand_at(alloc, reg, tokens)?,
+        tokens,
+    )
 }
 
 fn cast<'a>(op: CastOp, from: Reg, value: Operand<'a>, to: Reg) -> Instr<'a>
@@ -273,8 +289,7 @@ fn cast_to_at<'a>(
     ensures { Gives (λ x. (x, tokens.new)) result (cast_to_at op from value.entry tokens.old) }
 {
     expect(Head::To, tokens)?;
-    let to = reg_at(tokens)?;
-    done(cast(op, from, value, to))
+    done(cast(op, from, value, reg_at(tokens)?))
 }
 
 /// Reads `reg operand to reg`.
@@ -287,8 +302,7 @@ pub fn casting_at<'a>(
     ensures { Gives (λ x. (x, tokens.new)) result (casting_at op tokens.old) }
 {
     let from = reg_at(tokens)?;
-    let value = operand_at(alloc, from, tokens)?;
-    cast_to_at(op, from, value, tokens)
+    cast_to_at(op, from, operand_at(alloc, from, tokens)?, tokens)
 }
 
 /// Reads what follows `zext`.
@@ -337,8 +351,7 @@ fn other_at<'a>(
     ensures { Gives (λ x. (x, tokens.new)) result (other_at condition.entry if_true.entry tokens.old) }
 {
     expect(Head::Comma, tokens)?;
-    let if_false = argument_at(alloc, tokens)?;
-    done(selected(condition, if_true, if_false))
+    done(selected(condition, if_true, argument_at(alloc, tokens)?))
 }
 
 /// Reads the arms of a `select`.
@@ -428,8 +441,7 @@ fn loaded_at<'a>(
 ) -> Result<Instr<'a>, ReadError>
     ensures { Gives (λ x. (x, tokens.new)) result (loaded_at reg address.entry tokens.old) }
 {
-    let align = align_at(alloc, tokens)?;
-    done(loaded(reg, address, align))
+    done(loaded(reg, address, align_at(alloc, tokens)?))
 }
 
 /// Reads what follows `load`.
@@ -464,8 +476,7 @@ fn stored_at<'a>(
 ) -> Result<Instr<'a>, ReadError>
     ensures { Gives (λ x. (x, tokens.new)) result (stored_at reg value.entry address.entry tokens.old) }
 {
-    let align = align_at(alloc, tokens)?;
-    done(stored(reg, value, address, align))
+    done(stored(reg, value, address, align_at(alloc, tokens)?))
 }
 
 /// Reads what follows the value of a `store`.
