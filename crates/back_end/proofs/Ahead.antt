@@ -15,7 +15,7 @@ use Rattle.ir_tree.specs.declared.operand.Operand.TheVariants.{Local, Null, Numb
 use Rattle.ir_tree.specs.declared.operand.Reg.{Reg}
 use Rattle.ir_tree.specs.declared.operand.Symbol.{Symbol}
 use Rattle.ir_meaning.specs.Program.{counted}
-use Rattle.ir_edit.specs.Edited.{argument_edited, block_edited, instr_edited, line_edited, phi_edited}
+use Rattle.ir_tree.specs.Edited.{argument_edited, block_edited, instr_edited, line_edited, phi_edited}
 use Rattle.ir_edit.specs.Substituted.{or_local}
 use Rattle.inline_site.specs.Callers.{Inlines, IsReady, counted_done, ended, made_of, named_by, next_in, opened_with, phi_by, started, with_names, without}
 use Rattle.inline_site.specs.Sites.{IsCallOf, Site, StandsAt, counted_in}

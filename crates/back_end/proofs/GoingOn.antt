@@ -8,7 +8,7 @@ use Rattle.ir_tree.specs.declared.operand.Operand.{Operand}
 use Rattle.ir_tree.specs.declared.operand.Operand.TheVariants.{Poison}
 use Rattle.ir_tree.specs.declared.operand.Reg.{Reg}
 use Rattle.ir_meaning.specs.Program.{counted}
-use Rattle.ir_edit.specs.Edited.{block_edited}
+use Rattle.ir_tree.specs.Edited.{block_edited}
 use Rattle.ir_edit.specs.Substituted.{operand_replaced, replacement}
 use Rattle.inline_site.specs.Copies.{behind_call, copied, first_free}
 use Rattle.inline_site.specs.Inlined.{after_call, before_call, leading_to, named, result_given, return_entries, spliced}

@@ -21,10 +21,9 @@ use Rattle.ir_tree.specs.declared.operand.Reg.{Reg}
 use Rattle.ir_tree.specs.declared.operand.Symbol.{Symbol}
 use Rattle.ir_meaning.specs.Act.{find_block}
 use Rattle.ir_better.specs.Facts.{Facts, Has, behind_lines, behind_local, blocks_replaced, edges_replaced, end_replaced, is_local, lines_replaced, phis_replaced, replaced, replaced_local, with_fact, without}
-use Rattle.ir_better.specs.Inline.{each_moved, incoming_with, with_operands}
 use Rattle.ir_better.specs.Needed.{is_needed, needed_blocks, needed_lines, needed_phis}
 use Rattle.ir_better.specs.Promote.{Current, Fetches, Makes, Other, Use, Writes, behind, changed, chosen_value}
-use Rattle.ir_edit.specs.Edited.{argument_edited, block_edited, end_edited, incoming_edited, instr_edited, line_edited, operand_renamed, phi_edited}
+use Rattle.ir_tree.specs.Edited.{argument_edited, block_edited, end_edited, incoming_edited, instr_edited, line_edited, operand_renamed, phi_edited, with_operands}
 use Rattle.ir_edit.specs.Numbered.{in_text_order, later_or, new_number, numbers_of}
 use Rattle.ir_edit.specs.Substituted.{replacement}
 use Rattle.branch_simplify.specs.Decided.{decided, jump_or, straight}
@@ -224,12 +223,12 @@ module _ (known : List Symbol) where
 
     -- ---- operands
 
-    args_with : (op : Operand → Operand) → ((o : Operand) → Knows o → Knows (op o)) → (as' : List Argument) → ArgsKnown known as' → ArgsKnown known (each_moved op as')
+    args_with : (op : Operand → Operand) → ((o : Operand) → Knows o → Knows (op o)) → (as' : List Argument) → ArgsKnown known as' → ArgsKnown known (map (argument_edited op) as')
     args_with op step [] h = tt
     args_with op step (a ∷ more) h = (step a.operand h.0, args_with op step more h.1)
 
     args_taken : (op : Operand → Operand) → ((o : Operand) → Knows o → Knows (op o)) → (reg : Reg) (es : List Incoming) → ArgsKnown known (phi_reads (kind.Phi reg es))
-        → ArgsKnown known (phi_reads (kind.Phi reg (map (incoming_with op) es)))
+        → ArgsKnown known (phi_reads (kind.Phi reg (map (incoming_edited (λ n. n) op) es)))
     args_taken op step reg [] h = tt
     args_taken op step reg (e ∷ es) h = (step e.value h.0, args_taken op step reg es h.1)
 

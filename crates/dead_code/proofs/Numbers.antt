@@ -13,10 +13,9 @@ use Rattle.ir_tree.specs.declared.operand.Operand.TheVariants.{Local, Number, Nu
 use Rattle.ir_meaning.specs.Near.{BetterThan}
 use Rattle.ir_meaning.specs.Program.{Program}
 use Rattle.ir_better.specs.Formed.{IsFormed}
-use Rattle.ir_better.specs.Inline.{each_moved}
 use Rattle.ir_better.specs.Renumber.{IsOneToOne, block_renumbered, end_renumbered, instr_renumbered, line_renumbered, operand_renumbered, phi_renumbered, param_renumbered, renumbered}
 use Rattle.ir_better.proofs.Numbers.Renumbered.{renumbered_better}
-use Rattle.ir_edit.specs.Edited.{argument_edited, block_edited, edited, end_edited, instr_edited, line_edited, operand_renamed, renamed}
+use Rattle.ir_tree.specs.Edited.{argument_edited, block_edited, edited, end_edited, instr_edited, line_edited, operand_renamed, renamed}
 use Rattle.ir_edit.specs.Numbered.{new_number, numbers_of}
 use Rattle.ir_edit.proofs.Apart.{is_one_to_one}
 use Rattle.dead_code.specs.Laws.{ShiftedIsBetter, TextOrderIsBetter}
@@ -28,7 +27,7 @@ operand_same new Null = refl
 operand_same new (Poison reg) = refl
 operand_same new (Named symbol offset) = refl
 
-arguments_same : (operand : Operand → Operand) (as' : List Argument) → map (argument_edited operand) as' ≡ each_moved operand as'
+arguments_same : (operand : Operand → Operand) (as' : List Argument) → map (argument_edited operand) as' ≡ map (argument_edited operand) as'
 arguments_same operand [] = refl
 arguments_same operand (a ∷ more) = ap (λ (l : List Argument). argument_edited operand a ∷ l) (arguments_same operand more)
 

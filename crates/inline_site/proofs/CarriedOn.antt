@@ -12,7 +12,7 @@ use Rattle.ir_tree.specs.declared.function.Function.{Function}
 use Rattle.ir_tree.specs.declared.instr.Line.{Line}
 use Rattle.ir_tree.specs.declared.instr.Phi.{Phi}
 use Rattle.ir_tree.specs.declared.operand.Operand.{Operand}
-use Rattle.ir_edit.specs.Edited.{line_edited, phi_edited}
+use Rattle.ir_tree.specs.Edited.{line_edited, phi_edited}
 use Rattle.edge_counts.specs.Counted.{times}
 use Rattle.edge_counts.proofs.Counting.{among_times}
 use Rattle.inline_site.specs.Copies.{first_free}

@@ -10,7 +10,7 @@ use Rattle.ir_tree.specs.declared.function.Param.{Param}
 use Rattle.ir_tree.specs.declared.operand.Argument.{Argument}
 use Rattle.ir_tree.specs.declared.operand.Operand.{Operand}
 use Rattle.ir_tree.specs.declared.operand.Operand.TheVariants.{Local, Null, Number, Poison, Symbol as Named}
-use Rattle.ir_edit.specs.Edited.{block_edited, operand_renamed, shifted}
+use Rattle.ir_tree.specs.Edited.{block_edited, operand_renamed, shifted}
 use Rattle.ir_edit.specs.Numbered.{block_numbers, blocks_numbers, in_text_order, later_or, new_number, numbers_of, or_behind, param_numbers}
 use Rattle.ir_edit.specs.OneToOne.{IsOneToOne}
 use Rattle.ir_edit.specs.Substituted.{operand_replaced, or_local, replacement, substituted}

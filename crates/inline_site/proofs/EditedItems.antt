@@ -17,7 +17,7 @@ use Rattle.ir_tree.specs.declared.operand.Argument.{Argument}
 use Rattle.ir_tree.specs.declared.operand.Operand.{Operand}
 use Rattle.ir_tree.specs.declared.operand.Operand.TheVariants as operand
 use Rattle.ir_tree.specs.declared.operand.Reg.TheVariants.{Int}
-use Rattle.ir_edit.specs.Edited.{argument_edited, case_edited, end_edited, instr_edited}
+use Rattle.ir_tree.specs.Edited.{argument_edited, case_edited, end_edited, instr_edited}
 use Rattle.inline_site.proofs.Elements.{Changed, changed}
 
 abbrev pub IsConstant : Operand → Type 0

@@ -12,7 +12,8 @@ use Rattle.ir_tree.specs.declared.instr.Line.{Line}
 use Rattle.ir_tree.specs.declared.operand.Argument.{Argument}
 use Rattle.ir_tree.specs.declared.operand.Operand.{Operand}
 use Rattle.ir_tree.specs.declared.operand.Operand.TheVariants.{Local, Null, Number, Poison, Symbol as Named}
-use Rattle.ir_better.specs.Inline.{argument_with, below, each_moved}
+use Rattle.ir_tree.specs.Edited.{argument_edited}
+use Rattle.ir_better.specs.Inline.{below}
 use Rattle.ir_better.specs.Needed.{AllKept, EndReads, IsKept, Reads}
 use Rattle.ir_better.specs.Renumber.{case_renumbered, end_renumbered, instr_renumbered, line_renumbered, operand_renumbered}
 use Rattle.inline_site.proofs.Fitting.{AreBelow, LinesFit, LocalBelow}
@@ -28,10 +29,10 @@ module _ (n : ℕ) (new : ℕ → ℕ) (fixed : (x : ℕ) → x < n → new x �
   operand_fixed (Poison reg) h = refl
   operand_fixed (Named symbol offset) h = refl
 
-  argument_fixed : (a : Argument) → IsKept (below n) a.operand → argument_with (operand_renumbered new) a ≡ a
+  argument_fixed : (a : Argument) → IsKept (below n) a.operand → argument_edited (operand_renumbered new) a ≡ a
   argument_fixed a h = λ i. record { reg = a.reg; operand = operand_fixed a.operand h i }
 
-  arguments_fixed : (as' : List Argument) → AllKept (below n) as' → each_moved (operand_renumbered new) as' ≡ as'
+  arguments_fixed : (as' : List Argument) → AllKept (below n) as' → map (argument_edited (operand_renumbered new)) as' ≡ as'
   arguments_fixed [] h = refl
   arguments_fixed (a ∷ more) h = λ i. argument_fixed a h.0 i ∷ arguments_fixed more h.1 i
 

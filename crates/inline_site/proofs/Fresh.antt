@@ -12,7 +12,7 @@ use Rattle.ir_tree.specs.declared.instr.Line.{Line}
 use Rattle.ir_tree.specs.declared.instr.Phi.{Phi}
 use Rattle.ir_tree.specs.declared.operand.Operand.{Operand}
 use Rattle.ir_tree.specs.declared.operand.Reg.{Reg}
-use Rattle.ir_edit.specs.Edited.{line_edited, phi_edited}
+use Rattle.ir_tree.specs.Edited.{line_edited, phi_edited}
 use Rattle.ir_edit.specs.Numbered.{block_numbers, blocks_numbers, line_numbers, local_number, numbers_of, param_numbers, phi_numbers}
 use Rattle.ir_edit.proofs.Tally.{tally, tally_both}
 use Rattle.inline_site.specs.Copies.{added, first_free}

@@ -12,7 +12,7 @@ use Rattle.ir_tree.specs.declared.operand.Argument.{Argument}
 use Rattle.ir_tree.specs.declared.operand.Operand.{Operand}
 use Rattle.ir_tree.specs.declared.operand.Operand.TheVariants as operand
 use Rattle.ir_tree.specs.declared.operand.Reg.{Reg}
-use Rattle.ir_edit.specs.Edited.{block_edited}
+use Rattle.ir_tree.specs.Edited.{block_edited}
 use Rattle.ir_edit.specs.Numbered.{block_numbers, blocks_numbers, later_or, line_numbers, local_number, new_number, numbers_of, or_behind, param_numbers, phi_numbers, place_from}
 use Rattle.ir_edit.specs.Substituted.{operand_replaced, replacement}
 use Rattle.ir_edit.proofs.Tally.{tally, tally_both, tally_same}

@@ -20,7 +20,7 @@ use Rattle.ir_tree.specs.declared.operand.Operand.TheVariants as operand
 use Rattle.ir_tree.specs.declared.operand.Reg.{Reg}
 use Rattle.ir_tree.specs.declared.operand.Reg.TheVariants.{Ptr}
 use Rattle.ir_tree.specs.declared.operand.Symbol.{Symbol}
-use Rattle.ir_edit.specs.Edited.{argument_edited, end_edited, incoming_edited, instr_edited, line_edited}
+use Rattle.ir_tree.specs.Edited.{argument_edited, end_edited, incoming_edited, instr_edited, line_edited}
 use Rattle.ir_edit.specs.Substituted.{or_local, replacement}
 use Rattle.edge_counts.proofs.Everywhere.{all_front}
 use Rattle.inline_site.specs.Copies.{bound}

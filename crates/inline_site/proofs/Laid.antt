@@ -14,7 +14,7 @@ use Rattle.ir_tree.specs.declared.instr.Phi.{Phi}
 use Rattle.ir_tree.specs.declared.operand.Argument.{Argument}
 use Rattle.ir_tree.specs.declared.operand.Operand.{Operand}
 use Rattle.ir_tree.specs.declared.operand.Reg.{Reg}
-use Rattle.ir_edit.specs.Edited.{block_edited, edited, end_edited, incoming_edited, instr_edited, line_edited, phi_edited}
+use Rattle.ir_tree.specs.Edited.{block_edited, edited, end_edited, incoming_edited, instr_edited, line_edited, phi_edited}
 use Rattle.inline_site.specs.Copies.{copied, copied_operand, first_free}
 use Rattle.inline_site.specs.Inlined.{after_call, before_call, block_named, end_leading, entry_named, entry_of, leading_to, named, phi_named, result_phis, return_entries, return_entry, spliced}
 use Rattle.inline_site.proofs.Places.{Inlining, behind, first, inner, inner_op, made, new, outer, outer_phi, second}

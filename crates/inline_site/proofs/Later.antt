@@ -20,7 +20,7 @@ use Rattle.ir_tree.specs.declared.operand.Argument.{Argument}
 use Rattle.ir_tree.specs.declared.operand.Operand.{Operand}
 use Rattle.ir_tree.specs.declared.operand.Operand.TheVariants.{Local, Null, Number, Poison, Symbol as Named}
 use Rattle.ir_tree.specs.declared.operand.Reg.{Reg}
-use Rattle.ir_edit.specs.Edited.{argument_edited, block_edited, edited, end_edited, incoming_edited, instr_edited, line_edited, phi_edited}
+use Rattle.ir_tree.specs.Edited.{argument_edited, block_edited, edited, end_edited, incoming_edited, instr_edited, line_edited, phi_edited}
 use Rattle.ir_edit.specs.Substituted.{operand_replaced, or_local, replacement, substituted}
 use Rattle.ir_edit.specs.Numbered.{blocks_numbers, later_or}
 use Rattle.inline_site.specs.Callers.{behind_open, IsReady, Inlines, counted_done, ended, entry_by, late_given, lost_of, made_of, name_in, named_by, next_in, opened_with, phi_by, poisons, with_names, without}

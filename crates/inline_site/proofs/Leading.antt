@@ -13,7 +13,7 @@ use Rattle.ir_tree.specs.declared.block.Terminator.TheVariants.{Branch, Jump, Re
 use Rattle.ir_tree.specs.declared.function.Function.{Function}
 use Rattle.ir_tree.specs.declared.instr.Line.{Line}
 use Rattle.ir_tree.specs.declared.operand.Operand.{Operand}
-use Rattle.ir_edit.specs.Edited.{block_edited, end_edited}
+use Rattle.ir_tree.specs.Edited.{block_edited, end_edited}
 use Rattle.edge_counts.specs.Counted.{times}
 use Rattle.edge_counts.proofs.Counting.{number_at, place_is}
 use Rattle.edge_counts.proofs.Entries.{apart, distinct_back}

@@ -21,7 +21,7 @@ use Rattle.ir_tree.specs.declared.operand.Reg.{Reg}
 use Rattle.ir_tree.specs.declared.rule.Rule.TheVariants.{TypeMismatch}
 use Rattle.ir_meaning.specs.Act.{find_block}
 use Rattle.ir_meaning.specs.Near.{BetterThan}
-use Rattle.ir_edit.specs.Edited.{block_edited, case_edited, end_edited, line_edited, param_edited, phi_edited}
+use Rattle.ir_tree.specs.Edited.{block_edited, case_edited, end_edited, line_edited, param_edited, phi_edited}
 use Rattle.ir_edit.specs.Numbered.{block_numbers, blocks_numbers, line_numbers, local_number, param_numbers, phi_numbers}
 use Rattle.ir_edit.specs.Substituted.{substituted}
 use Rattle.ir_edit.proofs.Tally.{tally, tally_both, tally_same}

@@ -17,7 +17,7 @@ use Rattle.ir_tree.specs.declared.operand.Argument.{Argument}
 use Rattle.ir_tree.specs.declared.operand.Reg.{Reg}
 use Rattle.ir_tree.specs.declared.rule.Rule.{Rule}
 use Rattle.ir_tree.specs.declared.rule.Rule.TheVariants.{TypeMismatch, NotAvailable, PhiEdges, PhiPlace, EntryBranch, Index, Cast, CaseTwice}
-use Rattle.ir_edit.specs.Edited.{argument_edited, end_edited, phi_edited}
+use Rattle.ir_tree.specs.Edited.{argument_edited, end_edited, phi_edited}
 use Rattle.edge_counts.specs.Counted.{times}
 use Rattle.edge_counts.proofs.Counting.{numbers_in}
 use Rattle.edge_counts.proofs.Entries.{apart, distinct_back}

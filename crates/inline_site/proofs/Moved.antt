@@ -15,11 +15,11 @@ use Rattle.ir_tree.specs.declared.instr.Phi.{Phi}
 use Rattle.ir_tree.specs.declared.operand.Argument.{Argument}
 use Rattle.ir_tree.specs.declared.operand.Operand.{Operand}
 use Rattle.ir_tree.specs.declared.operand.Operand.TheVariants.{Local}
-use Rattle.ir_edit.specs.Edited.{argument_edited, block_edited, case_edited, end_edited, incoming_edited, instr_edited, line_edited, phi_edited}
+use Rattle.ir_tree.specs.Edited.{argument_edited, block_edited, case_edited, end_edited, incoming_edited, instr_edited, line_edited, phi_edited, with_operands}
 use Rattle.ir_edit.specs.Numbered.{later_or, param_numbers}
 use Rattle.ir_edit.specs.Substituted.{or_local, replacement}
 use Rattle.ir_edit.proofs.Tally.{tally, tally_same}
-use Rattle.ir_better.specs.Inline.{Site, argument_of, blocks_moved, below, cases_moved, each_moved, edges_moved, end_moved, lines_moved, local_moved, moved, or_moved, phis_moved, return_edge, return_edges, with_operands}
+use Rattle.ir_better.specs.Inline.{Site, argument_of, blocks_moved, below, cases_moved, edges_moved, end_moved, lines_moved, local_moved, moved, or_moved, phis_moved, return_edge, return_edges}
 use Rattle.ir_better.specs.Needed.{AllKept, IsKept}
 use Rattle.ir_better.specs.Renumber.{block_renumbered, case_renumbered, end_renumbered, incoming_renumbered, instr_renumbered, line_renumbered, operand_renumbered, phi_renumbered}
 use Rattle.inline_site.specs.Copies.{bound}
@@ -84,7 +84,7 @@ module _ (by n : ℕ) (new number : ℕ → ℕ) (shifts : (x : ℕ) → new (x 
 
 module _ (t : Site) (new number : ℕ → ℕ) (operand : Operand → Operand) (behind : ℕ)
     (shifts : (x : ℕ) → new (x + t.by) ≡ number x) (operands : (o : Operand) → operand_renumbered new (moved t o) ≡ operand o) (joins : new t.join ≡ behind) where
-  arguments_same : (as' : List Argument) → each_moved (operand_renumbered new) (each_moved (moved t) as') ≡ map (argument_edited operand) as'
+  arguments_same : (as' : List Argument) → map (argument_edited (operand_renumbered new)) (map (argument_edited (moved t)) as') ≡ map (argument_edited operand) as'
   arguments_same [] = refl
   arguments_same (a ∷ more) = λ i. record { reg = a.reg; operand = operands a.operand i } ∷ arguments_same more i
 

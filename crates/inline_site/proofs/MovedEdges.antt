@@ -12,7 +12,7 @@ use Rattle.ir_tree.specs.declared.block.Block.{Block}
 use Rattle.ir_tree.specs.declared.function.Function.{Function}
 use Rattle.ir_tree.specs.declared.instr.Incoming.{Incoming}
 use Rattle.ir_tree.specs.declared.operand.Operand.{Operand}
-use Rattle.ir_edit.specs.Edited.{incoming_edited}
+use Rattle.ir_tree.specs.Edited.{incoming_edited}
 use Rattle.edge_counts.specs.Counted.{sources, times}
 use Rattle.edge_counts.proofs.Counting.{edges_from, number_at, numbers_in, out_to, place_is, times_is}
 use Rattle.edge_counts.proofs.Entries.{by_number, entries_of}

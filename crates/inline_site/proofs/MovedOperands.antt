@@ -17,7 +17,7 @@ use Rattle.ir_tree.specs.declared.operand.Operand.TheVariants as operand
 use Rattle.ir_tree.specs.declared.operand.Reg.{Reg}
 use Rattle.ir_tree.specs.declared.operand.Reg.TheVariants.{Ptr}
 use Rattle.ir_tree.specs.declared.rule.Rule.TheVariants.{NotAvailable, TypeMismatch}
-use Rattle.ir_edit.specs.Edited.{argument_edited}
+use Rattle.ir_tree.specs.Edited.{argument_edited}
 use Rattle.ir_edit.specs.Numbered.{later_or}
 use Rattle.ir_edit.specs.Substituted.{or_local, replacement}
 use Rattle.ir_edit.proofs.Tally.{tally, tally_both, tally_once}

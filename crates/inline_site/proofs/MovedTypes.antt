@@ -9,7 +9,7 @@ use Rattle.ir_tree.specs.declared.instr.Line.{Line}
 use Rattle.ir_tree.specs.declared.instr.Phi.{Phi}
 use Rattle.ir_tree.specs.declared.operand.Operand.{Operand}
 use Rattle.ir_tree.specs.declared.operand.Reg.{Reg}
-use Rattle.ir_edit.specs.Edited.{line_edited, phi_edited}
+use Rattle.ir_tree.specs.Edited.{line_edited, phi_edited}
 use Rattle.inline_site.specs.Inlined.{result_phis, return_entries}
 use Rattle.inline_site.proofs.EditedItems.{result_edited}
 use Rattle.inline_site.proofs.Elements.{In, chosen_in, flat_in, in_back, in_chosen, in_either, in_flat, in_front, in_map, in_mapped}

@@ -17,7 +17,7 @@ use Rattle.ir_tree.specs.declared.operand.Argument.{Argument}
 use Rattle.ir_tree.specs.declared.operand.Operand.{Operand}
 use Rattle.ir_tree.specs.declared.operand.Operand.TheVariants.{Local, Poison}
 use Rattle.ir_tree.specs.declared.operand.Reg.{Reg}
-use Rattle.ir_edit.specs.Edited.{block_edited, end_edited, incoming_edited, line_edited}
+use Rattle.ir_tree.specs.Edited.{block_edited, end_edited, incoming_edited, line_edited}
 use Rattle.edge_counts.proofs.Counting.{place_is}
 use Rattle.edge_counts.proofs.Entries.{apart}
 use Rattle.inline_site.specs.Copies.{behind_call, copied_number, copied_operand, first_free}

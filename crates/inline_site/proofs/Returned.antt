@@ -14,7 +14,7 @@ use Rattle.ir_tree.specs.declared.operand.Argument.{Argument}
 use Rattle.ir_tree.specs.declared.operand.Operand.{Operand}
 use Rattle.ir_tree.specs.declared.operand.Reg.{Reg}
 use Rattle.ir_tree.specs.declared.rule.Rule.TheVariants.{TypeMismatch}
-use Rattle.ir_edit.specs.Edited.{block_edited, end_edited}
+use Rattle.ir_tree.specs.Edited.{block_edited, end_edited}
 use Rattle.edge_counts.specs.Counted.{sources, times}
 use Rattle.edge_counts.proofs.Counting.{distinct_rest, here, later, number_at, numbers_in}
 use Rattle.edge_counts.proofs.Entries.{apart, distinct_back}

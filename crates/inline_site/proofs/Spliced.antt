@@ -21,7 +21,7 @@ use Rattle.ir_meaning.specs.Execute.{reg_eq, regs_eq, result_eq}
 use Rattle.ir_meaning.specs.Frame.{regs_of}
 use Rattle.ir_meaning.specs.Near.{BetterThan}
 use Rattle.ir_meaning.specs.Program.{Program}
-use Rattle.ir_edit.specs.Edited.{block_edited}
+use Rattle.ir_tree.specs.Edited.{block_edited}
 use Rattle.ir_edit.specs.Numbered.{blocks_numbers, numbers_of, param_numbers}
 use Rattle.ir_edit.specs.Substituted.{or_local}
 use Rattle.ir_edit.proofs.Tally.{tally, tally_both, tally_same}

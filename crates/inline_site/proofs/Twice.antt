@@ -11,7 +11,7 @@ use Rattle.ir_tree.specs.declared.instr.Line.{Line}
 use Rattle.ir_tree.specs.declared.instr.Phi.{Phi}
 use Rattle.ir_tree.specs.declared.operand.Argument.{Argument}
 use Rattle.ir_tree.specs.declared.operand.Operand.{Operand}
-use Rattle.ir_edit.specs.Edited.{argument_edited, block_edited, case_edited, end_edited, incoming_edited, instr_edited, line_edited, phi_edited}
+use Rattle.ir_tree.specs.Edited.{argument_edited, block_edited, case_edited, end_edited, incoming_edited, instr_edited, line_edited, phi_edited}
 
 -- a map of a map
 pub map_twice : {A B C : Type 0} (f : B → C) (g : A → B) (h : A → C) → ((x : A) → f (g x) ≡ h x) → (xs : List A) → map f (map g xs) ≡ map h xs

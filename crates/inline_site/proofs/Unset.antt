@@ -25,7 +25,7 @@ use Rattle.ir_meaning.specs.Program.{Program, State}
 use Rattle.ir_meaning.specs.Relate.{Point}
 use Rattle.ir_meaning.specs.declared.value.Value.{Value}
 use Rattle.ir_meaning.specs.declared.value.Value.TheVariants.{Poison}
-use Rattle.ir_edit.specs.Edited.{argument_edited, block_edited, case_edited, end_edited, incoming_edited, instr_edited, line_edited, phi_edited}
+use Rattle.ir_tree.specs.Edited.{argument_edited, block_edited, case_edited, end_edited, incoming_edited, instr_edited, line_edited, phi_edited}
 use Rattle.ir_edit.specs.Substituted.{operand_replaced, or_local, replacement}
 use Rattle.ir_better.specs.Facts.{IsTarget}
 use Rattle.ir_better.proofs.Alike.Answering.{act_at_end, act_at_line}

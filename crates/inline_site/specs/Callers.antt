@@ -10,7 +10,7 @@ use Rattle.ir_tree.specs.declared.instr.Phi.{Phi}
 use Rattle.ir_tree.specs.declared.operand.Operand.{Operand}
 use Rattle.ir_tree.specs.declared.operand.Operand.TheVariants.{Poison}
 use Rattle.ir_tree.specs.declared.operand.Reg.{Reg}
-use Rattle.ir_edit.specs.Edited.{block_edited}
+use Rattle.ir_tree.specs.Edited.{block_edited}
 use Rattle.ir_edit.specs.Substituted.{operand_replaced, replacement}
 use Rattle.inline_site.specs.Copies.{first_free}
 use Rattle.inline_site.specs.Inlined.{IsInlined, block_named, result_phis, return_entries}

@@ -7,7 +7,7 @@ use Rattle.ir_tree.specs.declared.function.Param.{Param}
 use Rattle.ir_tree.specs.declared.operand.Argument.{Argument}
 use Rattle.ir_tree.specs.declared.operand.Operand.{Operand}
 use Rattle.ir_tree.specs.declared.operand.Operand.TheVariants.{Local}
-use Rattle.ir_edit.specs.Edited.{block_edited}
+use Rattle.ir_tree.specs.Edited.{block_edited}
 use Rattle.ir_edit.specs.Numbered.{blocks_numbers, new_number, numbers_of}
 use Rattle.ir_edit.specs.Substituted.{or_local, replacement}
 

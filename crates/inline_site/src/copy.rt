@@ -2,7 +2,7 @@
 ghost use Rattle.std.specs.Prelude.{◌≡◌, List, [], ◌∷◌, ◌++◌, map, IfOk, OnOk};
 ghost use Rattle.ir_tree.specs.declared.block.Block.{Block};
 ghost use Rattle.ir_tree.specs.Rules.{Sound};
-ghost use Rattle.ir_edit.specs.Edited.{shifted};
+ghost use Rattle.ir_tree.specs.Edited.{shifted};
 ghost use Rattle.ir_edit.specs.Numbered.{in_text_order};
 ghost use Rattle.ir_edit.specs.Substituted.{substituted};
 ghost use Rattle.inline_site.specs.Copies.{behind_call, bound, copied};

@@ -14,13 +14,13 @@ use Rattle.ir_tree.specs.declared.operand.Argument.{Argument}
 use Rattle.ir_tree.specs.declared.operand.Operand.{Operand}
 use Rattle.ir_tree.specs.declared.operand.Operand.TheVariants.{Local}
 use Rattle.ir_tree.specs.declared.operand.Symbol.{Symbol}
+use Rattle.ir_tree.specs.Edited.{with_operands}
 use Rattle.ir_meaning.specs.Act.{find_block}
 use Rattle.ir_meaning.specs.Execute.{Asked, Broke, Effect, Went, evaluate, execute}
 use Rattle.ir_meaning.specs.Frame.{AVariable, Locals, Signature, value_of}
 use Rattle.ir_meaning.specs.Memory.{Lives, Memory}
 use Rattle.ir_meaning.specs.declared.value.Value.{Value}
 use Rattle.ir_meaning.specs.declared.value.Value.TheVariants.{Poison}
-use Rattle.ir_better.specs.Inline.{with_operands}
 use Rattle.ir_better.specs.Needed.{EndReads, IsKept, Reads}
 
 -- the facts "x to v" that hold at a point

@@ -16,6 +16,7 @@ use Rattle.ir_tree.specs.declared.operand.Operand.{Operand}
 use Rattle.ir_tree.specs.declared.operand.Operand.TheVariants.{Local, Symbol as Named}
 use Rattle.ir_tree.specs.declared.operand.Reg.{Reg}
 use Rattle.ir_tree.specs.declared.operand.Symbol.{Symbol}
+use Rattle.ir_tree.specs.Edited.{with_operands}
 use Rattle.ir_meaning.specs.Act.{find_block}
 use Rattle.ir_meaning.specs.Execute.{regs_eq, result_eq}
 use Rattle.ir_meaning.specs.Frame.{AFunction, regs_of}
@@ -53,30 +54,6 @@ or_moved by x (Some o) = o
 abbrev pub moved : Site → Operand → Operand
 moved t (Local x) = or_moved t.by x (argument_of t.body.params t.arguments x)
 moved t o = o
-
-abbrev pub argument_with : (Operand → Operand) → Argument → Argument
-argument_with f a = record { reg = a.reg; operand = f a.operand }
-
-abbrev pub incoming_with : (Operand → Operand) → Incoming → Incoming
-incoming_with f e = record { from = e.from; value = f e.value }
-
-abbrev pub each_moved : (Operand → Operand) → List Argument → List Argument
-each_moved f [] = []
-each_moved f (a ∷ more) = argument_with f a ∷ each_moved f more
-
--- an instruction with its operands changed
-abbrev pub with_operands : (Operand → Operand) → Instr → Instr
-with_operands f (Binary op flags w l r) = Binary op flags w (f l) (f r)
-with_operands f (Icmp p reg l r) = Icmp p reg (f l) (f r)
-with_operands f (Cast op from o to) = Cast op from (f o) to
-with_operands f (Select c t e) = Select (f c) (argument_with f t) (argument_with f e)
-with_operands f (Freeze w o) = Freeze w (f o)
-with_operands f (Alloca shape align) = Alloca shape align
-with_operands f (Load reg o align) = Load reg (f o) align
-with_operands f (Store reg o d align) = Store reg (f o) (f d) align
-with_operands f (Address inbounds shape o is) = Address inbounds shape (f o) (each_moved f is)
-with_operands f (Call result c args) = Call result (f c) (each_moved f args)
-with_operands f (StrayPhi reg es) = StrayPhi reg (map (incoming_with f) es)
 
 abbrev pub local_moved : ℕ → Option ℕ → Option ℕ
 local_moved by None = None

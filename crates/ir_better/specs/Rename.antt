@@ -13,6 +13,7 @@ use Rattle.ir_tree.specs.declared.operand.Argument.{Argument}
 use Rattle.ir_tree.specs.declared.operand.Operand.{Operand}
 use Rattle.ir_tree.specs.declared.operand.Operand.TheVariants.{Symbol as Named}
 use Rattle.ir_tree.specs.declared.operand.Symbol.{Symbol}
+use Rattle.ir_tree.specs.Edited.{argument_edited, incoming_edited, with_operands}
 use Rattle.ir_meaning.specs.Frame.{AFunction, AHost, AVariable, Kind, Missing}
 use Rattle.ir_meaning.specs.Memory.{MemoryBlock}
 use Rattle.ir_meaning.specs.Near.{IsBetter}
@@ -23,7 +24,6 @@ use Rattle.ir_meaning.specs.declared.value.Base.TheVariants.{Cell, Code, Nowhere
 use Rattle.ir_meaning.specs.declared.value.Byte.{Byte}
 use Rattle.ir_meaning.specs.declared.value.Byte.TheVariants.{Fragment}
 use Rattle.ir_better.specs.Formed.{OpensInside}
-use Rattle.ir_better.specs.Inline.{argument_with, incoming_with, with_operands}
 
 -- ---- code under other names: each operand's symbol is the program's
 
@@ -35,13 +35,13 @@ abbrev pub line_under : Naming → Line → Line
 line_under t line = record { local = line.local; instr = with_operands (operand_under t) line.instr }
 
 abbrev pub edge_under : Naming → Incoming → Incoming
-edge_under t e = incoming_with (operand_under t) e
+edge_under t e = incoming_edited (λ n. n) (operand_under t) e
 
 abbrev pub phi_under : Naming → Phi → Phi
 phi_under t x = record { local = x.local; reg = x.reg; incoming = map (edge_under t) x.incoming }
 
 abbrev pub argument_under : Naming → Argument → Argument
-argument_under t a = argument_with (operand_under t) a
+argument_under t a = argument_edited (operand_under t) a
 
 abbrev pub end_under : Naming → Terminator → Terminator
 end_under t (Return a) = Return (option_map (argument_under t) a)

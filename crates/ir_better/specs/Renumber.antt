@@ -13,10 +13,10 @@ use Rattle.ir_tree.specs.declared.instr.Line.{Line}
 use Rattle.ir_tree.specs.declared.instr.Phi.{Phi}
 use Rattle.ir_tree.specs.declared.operand.Operand.{Operand}
 use Rattle.ir_tree.specs.declared.operand.Operand.TheVariants.{Local}
+use Rattle.ir_tree.specs.Edited.{argument_edited, with_operands}
 use Rattle.ir_meaning.specs.Near.{BetterThan}
 use Rattle.ir_meaning.specs.Program.{Program}
 use Rattle.ir_better.specs.Formed.{IsFormed}
-use Rattle.ir_better.specs.Inline.{argument_with, with_operands}
 
 abbrev pub operand_renumbered : (ℕ → ℕ) → Operand → Operand
 operand_renumbered new (Local x) = Local (new x)
@@ -39,7 +39,7 @@ abbrev pub case_renumbered : (ℕ → ℕ) → Case → Case
 case_renumbered new c = record { reg = c.reg; width = c.width; bits = c.bits; target = new c.target }
 
 abbrev pub end_renumbered : (ℕ → ℕ) → Terminator → Terminator
-end_renumbered new (Return argument) = Return (option_map (argument_with (operand_renumbered new)) argument)
+end_renumbered new (Return argument) = Return (option_map (argument_edited (operand_renumbered new)) argument)
 end_renumbered new (Jump target) = Jump (new target)
 end_renumbered new (Branch c t f) = Branch (operand_renumbered new c) (new t) (new f)
 end_renumbered new (Switch w o default cases) = Switch w (operand_renumbered new o) (new default) (map (case_renumbered new) cases)

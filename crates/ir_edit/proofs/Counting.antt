@@ -12,7 +12,7 @@ use Rattle.ir_tree.specs.declared.function.Function.{Function}
 use Rattle.ir_tree.specs.declared.function.Param.{Param}
 use Rattle.ir_tree.specs.declared.instr.Line.{Line}
 use Rattle.ir_tree.specs.declared.instr.Phi.{Phi}
-use Rattle.ir_edit.specs.Edited.{param_edited, renamed}
+use Rattle.ir_tree.specs.Edited.{param_edited, renamed}
 use Rattle.ir_edit.specs.InOrder.{TextOrderCounts}
 use Rattle.ir_edit.specs.Numbered.{block_numbers, blocks_numbers, later_or, line_numbers, local_number, new_number, numbers_of, or_behind, param_numbers, phi_numbers, place_from}
 use Rattle.ir_edit.proofs.RenamedParts.{block_under, line_under, phi_under}

@@ -21,7 +21,7 @@ use Rattle.ir_tree.specs.declared.operand.Argument.{Argument}
 use Rattle.ir_tree.specs.declared.operand.Operand.{Operand}
 use Rattle.ir_tree.specs.declared.operand.Operand.TheVariants as operand
 use Rattle.ir_tree.specs.declared.operand.Reg.{Reg}
-use Rattle.ir_edit.specs.Edited.{argument_edited, block_edited, case_edited, end_edited, incoming_edited, instr_edited, line_edited, operand_renamed, param_edited, phi_edited, renamed}
+use Rattle.ir_tree.specs.Edited.{argument_edited, block_edited, case_edited, end_edited, incoming_edited, instr_edited, line_edited, operand_renamed, param_edited, phi_edited, renamed}
 use Rattle.ir_edit.specs.OneToOne.{IsOneToOne}
 use Rattle.ir_edit.proofs.Squares.{filter_square, flat_square, map_square, same_test}
 

@@ -8,7 +8,7 @@ use Rattle.std.proofs.lemmas.Option.{slice_get-map}
 use Rattle.ir_tree.specs.Flow.{AtEnds, Available, AvailableAt, AvailableAtEnd, IsJustified, Justified, availability, defined_before, defined_in, definitions, edges, entry_row, holds, line_count, locals, parameters, phi_locals, results, room}
 use Rattle.ir_tree.specs.declared.block.Block.{Block}
 use Rattle.ir_tree.specs.declared.function.Function.{Function}
-use Rattle.ir_edit.specs.Edited.{renamed}
+use Rattle.ir_tree.specs.Edited.{renamed}
 use Rattle.ir_edit.specs.OneToOne.{IsOneToOne}
 use Rattle.ir_edit.proofs.RenamedParts.{block_under, definitions_under, edges_under, holds_under, line_under, locals_under, parameters_under, phi_locals_under, results_under}
 use Rattle.ir_edit.proofs.Squares.{or_cases, or_left, or_right}

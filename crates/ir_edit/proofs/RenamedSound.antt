@@ -23,7 +23,7 @@ use Rattle.ir_tree.specs.declared.operand.Operand.TheVariants as operand
 use Rattle.ir_tree.specs.declared.operand.Reg.{Reg}
 use Rattle.ir_tree.specs.declared.rule.Rule.{Rule}
 use Rattle.ir_tree.specs.declared.rule.Rule.TheVariants.{TypeMismatch, NotAvailable, PhiEdges, PhiPlace, EntryBranch, Index, Cast, CaseTwice}
-use Rattle.ir_edit.specs.Edited.{case_edited, param_edited, renamed}
+use Rattle.ir_tree.specs.Edited.{case_edited, param_edited, renamed}
 use Rattle.ir_edit.specs.Numbered.{new_number, numbers_of}
 use Rattle.ir_edit.specs.OneToOne.{IsOneToOne}
 use Rattle.ir_edit.specs.Sounds.{ShiftedIsSound, TextOrderIsSound}

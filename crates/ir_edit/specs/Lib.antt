@@ -1,4 +1,3 @@
-pub mod Edited
 pub mod InOrder
 pub mod Numbered
 pub mod Numberings

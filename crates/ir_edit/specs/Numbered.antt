@@ -6,7 +6,7 @@ use Rattle.ir_tree.specs.declared.function.Function.{Function}
 use Rattle.ir_tree.specs.declared.function.Param.{Param}
 use Rattle.ir_tree.specs.declared.instr.Line.{Line}
 use Rattle.ir_tree.specs.declared.instr.Phi.{Phi}
-use Rattle.ir_edit.specs.Edited.{renamed}
+use Rattle.ir_tree.specs.Edited.{renamed}
 
 -- ---- the numbers that a function defines, in the order of the text
 

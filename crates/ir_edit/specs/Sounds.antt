@@ -2,7 +2,7 @@
 use Rattle.std.specs.Prelude.{ℕ}
 use Rattle.ir_tree.specs.Rules.{Sound}
 use Rattle.ir_tree.specs.declared.function.Function.{Function}
-use Rattle.ir_edit.specs.Edited.{shifted}
+use Rattle.ir_tree.specs.Edited.{shifted}
 use Rattle.ir_edit.specs.Numbered.{in_text_order}
 
 abbrev pub TextOrderIsSound : Type 0

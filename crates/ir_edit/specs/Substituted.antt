@@ -3,7 +3,7 @@ use Rattle.std.specs.Prelude.{ℕ, List, [], ◌∷◌, Option, Some, None, ◌=
 use Rattle.ir_tree.specs.declared.function.Function.{Function}
 use Rattle.ir_tree.specs.declared.operand.Operand.{Operand}
 use Rattle.ir_tree.specs.declared.operand.Operand.TheVariants.{Local}
-use Rattle.ir_edit.specs.Edited.{edited}
+use Rattle.ir_tree.specs.Edited.{edited}
 use Rattle.ir_edit.specs.Numbered.{later_or}
 
 -- what these pairs of a local and an operand have for x; of a local that stands twice, the later operand

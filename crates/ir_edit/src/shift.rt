@@ -1,6 +1,6 @@
 //! A number added to each number of a function.
 ghost use Rattle.std.specs.Prelude.{◌≡◌, ℕ, ◌+◌, IfOk};
-ghost use Rattle.ir_edit.specs.Edited.{operand_renamed, shifted};
+ghost use Rattle.ir_tree.specs.Edited.{operand_renamed, shifted};
 
 use crate::edit::Edit;
 use crate::walk::edited;

@@ -1,6 +1,6 @@
 //! A function's locals and blocks numbered in the order of its text.
 ghost use Rattle.std.specs.Prelude.{◌≡◌, IfOk};
-ghost use Rattle.ir_edit.specs.Edited.{operand_renamed};
+ghost use Rattle.ir_tree.specs.Edited.{operand_renamed};
 ghost use Rattle.ir_edit.specs.Numbered.{in_text_order};
 ghost use Rattle.ir_edit.specs.Numberings.{number_in};
 

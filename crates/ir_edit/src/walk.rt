@@ -1,6 +1,6 @@
 //! One walk over a function that changes each number and each operand.
 ghost use Rattle.std.specs.Prelude.{◌≡◌, IfOk, map, option_map};
-ghost use Rattle.ir_edit.specs.Edited.{argument_edited, incoming_edited, instr_edited, line_edited, phi_edited, case_edited, end_edited, block_edited, param_edited, edited};
+ghost use Rattle.ir_tree.specs.Edited.{argument_edited, incoming_edited, instr_edited, line_edited, phi_edited, case_edited, end_edited, block_edited, param_edited, edited};
 
 use crate::edit::Edit;
 use ir_tree::{

@@ -23,9 +23,8 @@ use Rattle.ir_tree.specs.declared.operand.Operand.{Operand}
 use Rattle.ir_tree.specs.declared.operand.Operand.TheVariants.{Local, Null, Number as Constant, Poison as PoisonOf, Symbol as Named}
 use Rattle.ir_meaning.specs.Act.{find_block}
 use Rattle.ir_better.specs.Facts.{Facts, Has, behind_lines, behind_local, block_replaced, blocks_replaced, edges_replaced, end_replaced, is_local, lines_replaced, phis_replaced, replaced, replaced_local, with_fact, without}
-use Rattle.ir_better.specs.Inline.{each_moved, with_operands}
 use Rattle.ir_better.specs.Needed.{AllKept, EndReads, IsKept, Reads}
-use Rattle.ir_edit.specs.Edited.{argument_edited, case_edited, edited, end_edited, incoming_edited, instr_edited, line_edited, phi_edited}
+use Rattle.ir_tree.specs.Edited.{argument_edited, case_edited, edited, end_edited, incoming_edited, instr_edited, line_edited, phi_edited, with_operands}
 use Rattle.ir_edit.specs.Substituted.{operand_replaced, or_local}
 use Rattle.ir_facts.specs.Agreement.{marks_of}
 use Rattle.point_edit.specs.AtPoints.{block_at, blocks_at, edges_at, end_at, function_at, last_point, lines_at, phis_at, standing, standing_behind}
@@ -158,7 +157,7 @@ standing_other k (t ∷ ts) o out = ap (λ (b : Bool). if b && contains t.at k t
 -- ---- operands changed twice
 
 each_twice : (s : ℕ → Bool) (h g d : Operand → Operand) → ((o : Operand) → IsKept s o → g (h o) ≡ d o) → (as' : List Argument) → AllKept s as'
-    → map (argument_edited g) (map (argument_edited h) as') ≡ each_moved d as'
+    → map (argument_edited g) (map (argument_edited h) as') ≡ map (argument_edited d) as'
 each_twice s h g d e [] k = refl
 each_twice s h g d e (a ∷ more) k = λ i. record { reg = a.reg; operand = e a.operand k.0 i } ∷ each_twice s h g d e more k.1 i
 

@@ -21,7 +21,7 @@ use Rattle.ir_tree.specs.declared.operand.Argument.{Argument}
 use Rattle.ir_tree.specs.declared.operand.Operand.{Operand}
 use Rattle.ir_tree.specs.declared.operand.Operand.TheVariants.{Local, Null, Number as Constant, Poison as PoisonOf, Symbol as Named}
 use Rattle.ir_tree.specs.declared.operand.Reg.{Reg}
-use Rattle.ir_edit.specs.Edited.{argument_edited, edited, end_edited, incoming_edited, instr_edited, line_edited, param_edited, phi_edited}
+use Rattle.ir_tree.specs.Edited.{argument_edited, edited, end_edited, incoming_edited, instr_edited, line_edited, param_edited, phi_edited}
 use Rattle.ir_facts.proofs.Editing.{block_by, locals_same}
 
 -- ---- items

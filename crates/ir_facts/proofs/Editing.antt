@@ -13,7 +13,7 @@ use Rattle.ir_tree.specs.declared.function.Param.{Param}
 use Rattle.ir_tree.specs.declared.instr.Line.{Line}
 use Rattle.ir_tree.specs.declared.instr.Phi.{Phi}
 use Rattle.ir_tree.specs.declared.operand.Operand.{Operand}
-use Rattle.ir_edit.specs.Edited.{block_edited, case_edited, edited, end_edited, line_edited, param_edited, phi_edited}
+use Rattle.ir_tree.specs.Edited.{block_edited, case_edited, edited, end_edited, line_edited, param_edited, phi_edited}
 
 module _ (h : Operand → Operand) where
   abbrev pub block_by : Block → Block

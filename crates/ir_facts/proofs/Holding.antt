@@ -20,9 +20,8 @@ use Rattle.ir_tree.specs.declared.operand.Operand.{Operand}
 use Rattle.ir_tree.specs.declared.operand.Operand.TheVariants.{Local, Null, Number as Constant, Poison as PoisonOf, Symbol as Named}
 use Rattle.ir_meaning.specs.Act.{find_block}
 use Rattle.ir_better.specs.Facts.{EdgeFacts, EntryIs, Facts, Has, IsTarget, behind_lines, behind_local, block_replaced, blocks_replaced, edge_operand, edges_replaced, end_replaced, is_local, is_phi, is_phi_operand, lines_replaced, phi_operand, phis_replaced, replaced, replaced_local, with_fact, without}
-use Rattle.ir_better.specs.Inline.{each_moved, with_operands}
 use Rattle.ir_better.specs.Needed.{AllKept, EndReads, IsKept, Reads}
-use Rattle.ir_edit.specs.Edited.{argument_edited, case_edited, edited, end_edited, incoming_edited, instr_edited, line_edited, param_edited, phi_edited}
+use Rattle.ir_tree.specs.Edited.{argument_edited, case_edited, edited, end_edited, incoming_edited, instr_edited, line_edited, param_edited, phi_edited, with_operands}
 use Rattle.ir_edit.specs.Substituted.{operand_replaced, or_local}
 use Rattle.ir_flow.proofs.Solved.{at_end}
 use Rattle.ir_facts.specs.Steps.{IsSolution, IsStep, end_of, ends_of, substituted_by}
@@ -156,7 +155,7 @@ module _ (c : ℕ → Option Operand) where
   abbrev SameOn : (ℕ → Bool) → (Operand → Operand) → Type 0
   SameOn s h = (o : Operand) → IsKept s o → h o ≡ g o
 
-  each_same : (s : ℕ → Bool) (h : Operand → Operand) → SameOn s h → (as' : List Argument) → AllKept s as' → each_moved h as' ≡ map (argument_edited g) as'
+  each_same : (s : ℕ → Bool) (h : Operand → Operand) → SameOn s h → (as' : List Argument) → AllKept s as' → map (argument_edited h) as' ≡ map (argument_edited g) as'
   each_same s h e [] k = refl
   each_same s h e (a ∷ more) k = λ i. record { reg = a.reg; operand = e a.operand k.0 i } ∷ each_same s h e more k.1 i
 

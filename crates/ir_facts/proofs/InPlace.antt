@@ -3,7 +3,7 @@ use Rattle.std.proofs.Common.{◌≡◌, ℕ, Bool, false, List, None, map, sym,
 use Rattle.ir_tree.specs.Rules.{Sound}
 use Rattle.ir_tree.specs.declared.block.Block.{Block}
 use Rattle.ir_tree.specs.declared.function.Function.{Function}
-use Rattle.ir_edit.specs.Edited.{block_edited}
+use Rattle.ir_tree.specs.Edited.{block_edited}
 use Rattle.ir_edit.specs.Substituted.{operand_replaced, replacement}
 use Rattle.local_names.specs.Apart.{IsApart}
 use Rattle.local_names.proofs.NoneResting.{none_rest}

@@ -18,12 +18,11 @@ use Rattle.ir_tree.specs.declared.operand.Argument.{Argument}
 use Rattle.ir_tree.specs.declared.operand.Operand.{Operand}
 use Rattle.ir_tree.specs.declared.operand.Reg.{Reg}
 use Rattle.ir_better.specs.Facts.{Facts, behind_local, block_replaced, blocks_replaced, end_replaced, function_replaced, lines_replaced, phis_replaced, replaced}
-use Rattle.ir_better.specs.Inline.{each_moved, with_operands}
-use Rattle.ir_edit.specs.Edited.{argument_edited, case_edited, end_edited, instr_edited, line_edited}
+use Rattle.ir_tree.specs.Edited.{argument_edited, case_edited, end_edited, instr_edited, line_edited, with_operands}
 
 -- ---- an instruction or a terminator with its operands changed, in either form
 
-each_is : (h : Operand → Operand) (as' : List Argument) → each_moved h as' ≡ map (argument_edited h) as'
+each_is : (h : Operand → Operand) (as' : List Argument) → map (argument_edited h) as' ≡ map (argument_edited h) as'
 each_is h [] = refl
 each_is h (a ∷ more) = ap (λ (rest : List Argument). argument_edited h a ∷ rest) (each_is h more)
 

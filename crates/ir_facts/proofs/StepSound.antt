@@ -24,7 +24,7 @@ use Rattle.ir_tree.specs.declared.operand.Operand.TheVariants.{Number as Constan
 use Rattle.ir_tree.specs.declared.operand.Reg.{Reg}
 use Rattle.ir_tree.specs.declared.operand.Reg.TheVariants.{Int}
 use Rattle.ir_tree.specs.declared.rule.Rule.TheVariants.{TypeMismatch}
-use Rattle.ir_edit.specs.Edited.{argument_edited, case_edited, edited, end_edited, incoming_edited, instr_edited}
+use Rattle.ir_tree.specs.Edited.{argument_edited, case_edited, edited, end_edited, incoming_edited, instr_edited}
 use Rattle.ir_facts.proofs.Availability.{all_then}
 use Rattle.ir_facts.proofs.EditedItems.{formed_same, item_by, operands_same, type_same}
 use Rattle.ir_facts.proofs.Editing.{block_by, edges_same, numbers_same, targets_same}

@@ -22,7 +22,7 @@ use Rattle.ir_tree.specs.declared.operand.Operand.{Operand}
 use Rattle.ir_tree.specs.declared.operand.Operand.TheVariants.{Local, Null, Number as Constant, Poison as PoisonOf, Symbol as Named}
 use Rattle.ir_better.specs.Facts.{edge_operand, is_local}
 use Rattle.ir_better.specs.Needed.{AllKept, EndReads, IsKept, Reads}
-use Rattle.ir_edit.specs.Edited.{argument_edited, end_edited, instr_edited}
+use Rattle.ir_tree.specs.Edited.{argument_edited, end_edited, instr_edited}
 use Rattle.ir_edit.specs.Substituted.{operand_replaced, or_local}
 use Rattle.ir_flow.proofs.Reaching.{edge-from}
 use Rattle.ir_flow.proofs.Solved.{at_end, at_ends}

@@ -1,6 +1,6 @@
 //! Uses replaced in blocks that are held one by one: a block none of whose uses is replaced stays as it is.
 ghost use Rattle.std.specs.Prelude.{◌≡◌, false, map, IfOk, OnOk};
-ghost use Rattle.ir_edit.specs.Edited.{block_edited};
+ghost use Rattle.ir_tree.specs.Edited.{block_edited};
 ghost use Rattle.ir_edit.specs.Substituted.{operand_replaced, replacement};
 ghost use Rattle.local_names.specs.Substitutions.{value_in};
 ghost use Rattle.fact_sources.specs.Askable.{BlocksHaveWidths};

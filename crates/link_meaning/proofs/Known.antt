@@ -22,8 +22,8 @@ use Rattle.ir_tree.specs.declared.operand.Operand.TheVariants.{Local, Number as 
 use Rattle.ir_tree.specs.declared.operand.Reg.{Reg}
 use Rattle.ir_tree.specs.declared.operand.Reg.TheVariants.{Int, Ptr}
 use Rattle.ir_tree.specs.declared.operand.Symbol.{Symbol}
+use Rattle.ir_tree.specs.Edited.{argument_edited, with_operands}
 use Rattle.ir_meaning.specs.Refine.{Naming}
-use Rattle.ir_better.specs.Inline.{argument_with, each_moved, with_operands}
 use Rattle.ir_better.specs.Rename.{ArgumentsName, BlocksName, EdgesName, EndNames, InstrNames, LinesName, OperandNames, PhisName, block_under, edge_under, end_under, line_under, operand_under, phi_under}
 use Rattle.ir_program.specs.Programs.{Body, Definition, Storage, body_of, defined, storage_of}
 use Rattle.merge_meaning.specs.Globals.{InitialNames, InitialsName, function_under, global_under, initial_under, initials_under}
@@ -57,9 +57,9 @@ module _ (t : Naming) (keeps : Symbol → Bool) (known : List Symbol) (there : A
   just : (reg : Reg) (o : Operand) → OperandNames keeps o → AreKnown known (typed reg (operand_under t o) ∷ [])
   just reg o h = one_more reg o [] h no_more
 
-  arguments_known : (args : List Argument) → ArgumentsName keeps args → AreKnown known (each_moved (operand_under t) args)
+  arguments_known : (args : List Argument) → ArgumentsName keeps args → AreKnown known (map (argument_edited (operand_under t)) args)
   arguments_known [] h = no_more
-  arguments_known (a ∷ more) h = one_more a.reg a.operand (each_moved (operand_under t) more) h.0 (arguments_known more h.1)
+  arguments_known (a ∷ more) h = one_more a.reg a.operand (map (argument_edited (operand_under t)) more) h.0 (arguments_known more h.1)
 
   edges_known : (reg : Reg) (es : List Incoming) → EdgesName keeps es → AreKnown known (taken_as reg (map (edge_under t) es))
   edges_known reg [] h = no_more
@@ -67,18 +67,18 @@ module _ (t : Naming) (keeps : Symbol → Bool) (known : List Symbol) (there : A
 
   -- an operand and a list of arguments
   leading : (o : Operand) (args : List Argument) → OperandNames keeps o → ArgumentsName keeps args
-      → AreKnown known ((typed Ptr (operand_under t o) ∷ each_moved (operand_under t) args) ++ [])
+      → AreKnown known ((typed Ptr (operand_under t o) ∷ map (argument_edited (operand_under t)) args) ++ [])
   leading o args h k =
-      subst (λ (l : List Argument). AreKnown known l) (sym (append-nil (typed Ptr (operand_under t o) ∷ each_moved (operand_under t) args)))
-      (one_more Ptr o (each_moved (operand_under t) args) h (arguments_known args k))
+      subst (λ (l : List Argument). AreKnown known l) (sym (append-nil (typed Ptr (operand_under t o) ∷ map (argument_edited (operand_under t)) args)))
+      (one_more Ptr o (map (argument_edited (operand_under t)) args) h (arguments_known args k))
 
   instr_known : (i : Instr) → InstrNames keeps i → AreKnown known (reads (with_operands (operand_under t) i) ++ phi_reads (with_operands (operand_under t) i))
   instr_known (Binary op flags w l r) h = one_more (Int w) l (typed (Int w) (operand_under t r) ∷ []) h.0 (just (Int w) r h.1)
   instr_known (Icmp p reg l r) h = one_more reg l (typed reg (operand_under t r) ∷ []) h.0 (just reg r h.1)
   instr_known (Cast op from o to) h = just from o h
   instr_known (Select c l r) h =
-      one_more (Int 1) c (argument_with (operand_under t) l ∷ argument_with (operand_under t) r ∷ []) h.0
-      (one_more l.reg l.operand (argument_with (operand_under t) r ∷ []) h.1 (just r.reg r.operand h.2))
+      one_more (Int 1) c (argument_edited (operand_under t) l ∷ argument_edited (operand_under t) r ∷ []) h.0
+      (one_more l.reg l.operand (argument_edited (operand_under t) r ∷ []) h.1 (just r.reg r.operand h.2))
   instr_known (Freeze reg o) h = just reg o h
   instr_known (Alloca shape align) h = no_more
   instr_known (Load reg o align) h = just Ptr o h

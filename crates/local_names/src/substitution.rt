@@ -1,6 +1,6 @@
 //! Facts as a table, by which uses of their locals are found and replaced.
 ghost use Rattle.std.specs.Prelude.{◌≡◌, IfOk, is_some};
-ghost use Rattle.ir_edit.specs.Edited.{edited};
+ghost use Rattle.ir_tree.specs.Edited.{edited};
 ghost use Rattle.ir_edit.specs.Substituted.{operand_replaced};
 ghost use Rattle.local_names.specs.Naming.{blocks_name};
 ghost use Rattle.local_names.specs.Substitutions.{IsOf, value_in};

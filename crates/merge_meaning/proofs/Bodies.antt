@@ -22,9 +22,9 @@ use Rattle.ir_tree.specs.declared.operand.Operand.TheVariants.{Local, Number as 
 use Rattle.ir_tree.specs.declared.operand.Reg.{Reg}
 use Rattle.ir_tree.specs.declared.operand.Reg.TheVariants.{Int, Ptr}
 use Rattle.ir_tree.specs.declared.operand.Symbol.{Symbol}
+use Rattle.ir_tree.specs.Edited.{argument_edited, with_operands}
 use Rattle.ir_summary.specs.References.{all_named, global_names, named}
 use Rattle.ir_meaning.specs.Refine.{Naming}
-use Rattle.ir_better.specs.Inline.{each_moved, with_operands}
 use Rattle.ir_better.specs.Rename.{ArgumentsName, BlocksName, EdgesName, EndNames, InstrNames, LinesName, OperandNames, PhisName, block_under, edge_under, end_under, line_under, operand_under, phi_under}
 use Rattle.ir_program.specs.Programs.{body_of, defined, shared, storage_of}
 use Rattle.merge_meaning.specs.Globals.{InitialNames, InitialsName, function_under, global_under, initial_under, initials_under, variable_under}
@@ -51,7 +51,7 @@ module _ (t : Naming) (keeps : Symbol → Bool) where
   two : (a b : Argument) → AreKept t keeps (a ∷ b ∷ []) → IsKept t keeps a.operand × IsKept t keeps b.operand
   two a b h = (front a (b ∷ []) h, front b [] (others a (b ∷ []) h))
 
-  arguments_name : (args : List Argument) → AreKept t keeps args → ArgumentsName keeps (each_moved (operand_under t) args)
+  arguments_name : (args : List Argument) → AreKept t keeps args → ArgumentsName keeps (map (argument_edited (operand_under t)) args)
   arguments_name [] h = tt
   arguments_name (a ∷ more) h = (front a more h, arguments_name more (others a more h))
 
@@ -60,7 +60,7 @@ module _ (t : Naming) (keeps : Symbol → Bool) where
   edges_name reg (e ∷ es) h = (front (typed reg e.value) (taken_as reg es) h, edges_name reg es (others (typed reg e.value) (taken_as reg es) h))
 
   -- an operand and a list of arguments
-  leading : (a : Argument) (more : List Argument) → AreKept t keeps ((a ∷ more) ++ []) → IsKept t keeps a.operand × ArgumentsName keeps (each_moved (operand_under t) more)
+  leading : (a : Argument) (more : List Argument) → AreKept t keeps ((a ∷ more) ++ []) → IsKept t keeps a.operand × ArgumentsName keeps (map (argument_edited (operand_under t)) more)
   leading a more h =
       let all : AreKept t keeps (a ∷ more) = subst (λ (l : List Argument). AreKept t keeps l) (append-nil (a ∷ more)) h in
       (front a more all, arguments_name more (others a more all))

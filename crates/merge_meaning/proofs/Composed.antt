@@ -15,20 +15,20 @@ use Rattle.ir_tree.specs.declared.operand.Argument.{Argument}
 use Rattle.ir_tree.specs.declared.operand.Operand.{Operand}
 use Rattle.ir_tree.specs.declared.operand.Operand.TheVariants.{Local, Null, Number as Constant, Poison as PoisonOf, Symbol as Named}
 use Rattle.ir_tree.specs.declared.operand.Symbol.{Symbol}
-use Rattle.ir_better.specs.Inline.{argument_with, each_moved, incoming_with, with_operands}
+use Rattle.ir_tree.specs.Edited.{argument_edited, incoming_edited, with_operands}
 use Rattle.ir_better.specs.Rename.{block_under, edge_under, end_under, line_under, operand_under, phi_under}
 use Rattle.merge_meaning.specs.Globals.{global_under, initial_under, initials_under, named_by}
 
 -- ---- operands changed twice
 
 module _ (change before : Operand → Operand) where
-  arguments_twice : (args : List Argument) → each_moved change (each_moved before args) ≡ each_moved (λ o. change (before o)) args
+  arguments_twice : (args : List Argument) → map (argument_edited change) (map (argument_edited before) args) ≡ map (argument_edited (λ o. change (before o))) args
   arguments_twice [] = refl
-  arguments_twice (a ∷ more) = ap (λ (l : List Argument). argument_with (λ o. change (before o)) a ∷ l) (arguments_twice more)
+  arguments_twice (a ∷ more) = ap (λ (l : List Argument). argument_edited (λ o. change (before o)) a ∷ l) (arguments_twice more)
 
-  entries_twice : (es : List Incoming) → map (incoming_with change) (map (incoming_with before) es) ≡ map (incoming_with (λ o. change (before o))) es
+  entries_twice : (es : List Incoming) → map (incoming_edited (λ n. n) change) (map (incoming_edited (λ n. n) before) es) ≡ map (incoming_edited (λ n. n) (λ o. change (before o))) es
   entries_twice [] = refl
-  entries_twice (e ∷ es) = ap (λ (l : List Incoming). incoming_with (λ o. change (before o)) e ∷ l) (entries_twice es)
+  entries_twice (e ∷ es) = ap (λ (l : List Incoming). incoming_edited (λ n. n) (λ o. change (before o)) e ∷ l) (entries_twice es)
 
   instr_twice : (i : Instr) → with_operands change (with_operands before i) ≡ with_operands (λ o. change (before o)) i
   instr_twice (Binary op flags w l r) = refl

@@ -16,9 +16,8 @@ use Rattle.ir_tree.specs.declared.instr.Line.{Line}
 use Rattle.ir_tree.specs.declared.operand.Argument.{Argument}
 use Rattle.ir_tree.specs.declared.operand.Operand.{Operand}
 use Rattle.ir_tree.specs.declared.operand.Symbol.{Symbol}
-use Rattle.ir_edit.specs.Edited.{argument_edited, block_edited, case_edited, edited, end_edited, instr_edited, line_edited, param_edited}
+use Rattle.ir_tree.specs.Edited.{argument_edited, block_edited, case_edited, edited, end_edited, instr_edited, line_edited, param_edited, with_operands}
 use Rattle.ir_meaning.specs.Refine.{Naming}
-use Rattle.ir_better.specs.Inline.{argument_with, each_moved, with_operands}
 use Rattle.ir_better.specs.Rename.{block_under, end_under, line_under, operand_under}
 use Rattle.merge_meaning.specs.Globals.{function_under, initial_under, initials_under}
 use Rattle.merge_meaning.specs.Kept.{head_under, part_under}
@@ -65,9 +64,9 @@ module _ (t : Naming) (v : Initial) (root new_root : InitHead) (parts new_parts 
 
 -- ---- functions
 
-arguments_kept : (op : Operand → Operand) (args : List Argument) → map (argument_edited op) args ≡ each_moved op args
+arguments_kept : (op : Operand → Operand) (args : List Argument) → map (argument_edited op) args ≡ map (argument_edited op) args
 arguments_kept op [] = refl
-arguments_kept op (a ∷ more) = ap (λ (l : List Argument). argument_with op a ∷ l) (arguments_kept op more)
+arguments_kept op (a ∷ more) = ap (λ (l : List Argument). argument_edited op a ∷ l) (arguments_kept op more)
 
 instr_kept : (op : Operand → Operand) (i : Instr) → instr_edited (λ x. x) op i ≡ with_operands op i
 instr_kept op (Binary o f w l r) = refl

@@ -14,13 +14,13 @@ use Rattle.ir_tree.specs.declared.operand.Argument.{Argument}
 use Rattle.ir_tree.specs.declared.operand.Operand.{Operand}
 use Rattle.ir_tree.specs.declared.operand.Operand.TheVariants.{Local, Number as Constant, Null, Poison as PoisonOf, Symbol as Named}
 use Rattle.ir_tree.specs.declared.operand.Symbol.{Symbol}
+use Rattle.ir_tree.specs.Edited.{argument_edited, incoming_edited, with_operands}
 use Rattle.ir_meaning.specs.Frame.{AFunction, AHost, AVariable, Kind, Missing}
 use Rattle.ir_meaning.specs.Memory.{MemoryBlock}
 use Rattle.ir_meaning.specs.Refine.{Naming, own_names}
 use Rattle.ir_meaning.specs.declared.value.Base.TheVariants.{Cell, Code, Nowhere}
 use Rattle.ir_meaning.specs.declared.value.Byte.{Byte}
 use Rattle.ir_meaning.specs.declared.value.Byte.TheVariants.{Fragment, Plain, Spoilt, Unset}
-use Rattle.ir_better.specs.Inline.{each_moved, incoming_with, with_operands}
 use Rattle.ir_better.specs.Rename.{CodeUnder, block_under, byte_under, bytes_under, cell_under, cells_under, edge_under, end_under, kind_under, line_under, operand_under, phi_under}
 use Rattle.ir_better.proofs.Names.Moved.{cell_slot, cell_variable}
 
@@ -39,10 +39,10 @@ operand_stays t h (Named s offset) = ap (λ (x : Symbol). Named x offset) (h s)
 argument_stays : (t : Naming) → Stays t → (a : Argument) → record { reg = a.reg; operand = operand_under t a.operand } ≡ a
 argument_stays t h a = ap (λ (o : Operand). record { reg = a.reg; operand = o }) (operand_stays t h a.operand)
 
-arguments_stay : (t : Naming) → Stays t → (args : List Argument) → each_moved (operand_under t) args ≡ args
+arguments_stay : (t : Naming) → Stays t → (args : List Argument) → map (argument_edited (operand_under t)) args ≡ args
 arguments_stay t h [] = refl
 arguments_stay t h (a ∷ more) =
-    ap (λ (x : Argument). x ∷ each_moved (operand_under t) more) (argument_stays t h a) ∙ ap (λ (l : List Argument). a ∷ l) (arguments_stay t h more)
+    ap (λ (x : Argument). x ∷ map (argument_edited (operand_under t)) more) (argument_stays t h a) ∙ ap (λ (l : List Argument). a ∷ l) (arguments_stay t h more)
 
 edges_stay : (t : Naming) → Stays t → (es : List Incoming) → map (edge_under t) es ≡ es
 edges_stay t h [] = refl
@@ -155,7 +155,7 @@ module _ (t u : Naming) (h : (s : Symbol) → t.symbol s ≡ u.symbol s) where
   pub blocks_same : (bs : List Block) → map (block_under t) bs ≡ map (block_under u) bs
   blocks_same bs = λ i. map (λ (b : Block). record {
     number = b.number;
-    phis = map (λ (x : Phi). record { local = x.local; reg = x.reg; incoming = map (incoming_with (operands_same i)) x.incoming }) b.phis;
+    phis = map (λ (x : Phi). record { local = x.local; reg = x.reg; incoming = map (incoming_edited (λ n. n) (operands_same i)) x.incoming }) b.phis;
     lines = map (λ (l : Line). record { local = l.local; instr = with_operands (operands_same i) l.instr }) b.lines;
     end = end_same b.end i;
   }) bs

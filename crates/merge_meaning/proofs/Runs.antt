@@ -23,8 +23,8 @@ use Rattle.ir_tree.specs.declared.operand.Argument.{Argument}
 use Rattle.ir_tree.specs.declared.operand.Operand.{Operand}
 use Rattle.ir_tree.specs.declared.operand.Operand.TheVariants as operand
 use Rattle.ir_tree.specs.declared.operand.Reg.TheVariants.{Int, Ptr}
+use Rattle.ir_tree.specs.Edited.{argument_edited, with_operands}
 use Rattle.ir_meaning.specs.Refine.{Naming}
-use Rattle.ir_better.specs.Inline.{argument_with, each_moved, with_operands}
 use Rattle.ir_better.specs.Rename.{block_under, line_under, operand_under}
 use Rattle.ir_program.specs.Runnable.{AreRunnable, IsRunnableBlock, IsRunnableFunction, IsRunnableGlobal, IsRunnableInstr}
 use Rattle.ir_program.proofs.Verified.{runnable_globals}
@@ -37,10 +37,10 @@ use Rattle.merge_meaning.proofs.Prevailing.{Given, at_place, given}
 
 -- ---- functions
 
-args_stay : (op : Operand → Operand) (args : List Argument) → All (λ (a : Argument). IsReg a.reg) args → All (λ (a : Argument). IsReg a.reg) (each_moved op args)
+args_stay : (op : Operand → Operand) (args : List Argument) → All (λ (a : Argument). IsReg a.reg) args → All (λ (a : Argument). IsReg a.reg) (map (argument_edited op) args)
 args_stay op [] h = All-nil (λ (a : Argument). IsReg a.reg)
 args_stay op (a ∷ more) h =
-    All-cons (λ (x : Argument). IsReg x.reg) (argument_with op a) (each_moved op more) (All-head (λ (x : Argument). IsReg x.reg) a more h)
+    All-cons (λ (x : Argument). IsReg x.reg) (argument_edited op a) (map (argument_edited op) more) (All-head (λ (x : Argument). IsReg x.reg) a more h)
     (args_stay op more (All-tail (λ (x : Argument). IsReg x.reg) a more h))
 
 reads_stay : (op : Operand → Operand) (i : Instr) → All (λ (a : Argument). IsReg a.reg) (reads i) → All (λ (a : Argument). IsReg a.reg) (reads (with_operands op i))

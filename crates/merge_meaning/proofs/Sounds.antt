@@ -32,8 +32,8 @@ use Rattle.ir_tree.specs.declared.operand.Reg.{Reg}
 use Rattle.ir_tree.specs.declared.operand.Reg.TheVariants.{Ptr}
 use Rattle.ir_tree.specs.declared.rule.Rule.{Rule}
 use Rattle.ir_tree.specs.declared.rule.Rule.TheVariants.{TypeMismatch, NotAvailable, PhiEdges, PhiPlace, EntryBranch, Index, Cast, CaseTwice}
+use Rattle.ir_tree.specs.Edited.{argument_edited, with_operands}
 use Rattle.ir_meaning.specs.Refine.{Naming}
-use Rattle.ir_better.specs.Inline.{each_moved, with_operands}
 use Rattle.ir_better.specs.Rename.{argument_under, block_under, edge_under, end_under, line_under, operand_under, phi_under}
 use Rattle.merge_meaning.specs.Globals.{function_under, initial_under, initials_under, named_by, variable_under}
 use Rattle.merge_meaning.specs.Laws.{NamesKeepForms, NamesKeepSoundness}
@@ -93,7 +93,7 @@ module _ (t : Naming) where
 
   -- ---- what items read
 
-  moved_map : (args : List Argument) → each_moved (operand_under t) args ≡ map (argument_under t) args
+  moved_map : (args : List Argument) → map (argument_edited (operand_under t)) args ≡ map (argument_under t) args
   moved_map [] = refl
   moved_map (a ∷ more) = ap (λ (l : List Argument). argument_under t a ∷ l) (moved_map more)
 
@@ -515,14 +515,14 @@ module _ (t : Naming) (f : Function) where
   leaves_entry (end_item b e) h =
       targets_all (λ n. place f.blocks n ≡ 0 → ⊥) (λ n. place (function_under t f).blocks n ≡ 0 → ⊥) e (λ n away here. away (sym (place_same t f.blocks n) ∙ here)) h
 
-  follow : (form : Form) (as' : List Argument) → Follow form as' → Follow form (each_moved (operand_under t) as')
+  follow : (form : Form) (as' : List Argument) → Follow form as' → Follow form (map (argument_edited (operand_under t)) as')
   follow form [] h = tt
   follow (int w) (a ∷ more) h = h
   follow pointer (a ∷ more) h = h
   follow (array n of) (a ∷ more) h = (h.0, follow of more h.1)
   follow (structure packed parts) (a ∷ more) (k, form, is, part, rest) = (k, form, ap (argument_under t) is, part, follow form more rest)
 
-  indices_follow : (form : Form) (as' : List Argument) → IndicesFollow form as' → IndicesFollow form (each_moved (operand_under t) as')
+  indices_follow : (form : Form) (as' : List Argument) → IndicesFollow form as' → IndicesFollow form (map (argument_edited (operand_under t)) as')
   indices_follow form [] h = tt
   indices_follow form (a ∷ more) h = (h.0, follow form more h.1)
 

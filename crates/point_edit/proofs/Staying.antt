@@ -1,7 +1,7 @@
 -- What an edit that leaves numbers leaves as it is.
 use Rattle.std.proofs.Common.{◌≡◌, ℕ, List, [], ◌∷◌, Option, Some, None, map, option_map, refl, ap}
 use Rattle.ir_tree.specs.declared.block.Case.{Case}
-use Rattle.ir_edit.specs.Edited.{case_edited}
+use Rattle.ir_tree.specs.Edited.{case_edited}
 
 pub local_stays : (o : Option ℕ) → option_map (λ x. x) o ≡ o
 local_stays None = refl

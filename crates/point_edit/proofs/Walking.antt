@@ -6,7 +6,7 @@ use Rattle.std.proofs.lemmas.Bool.Decides.{nat_tests}
 use Rattle.ir_tree.specs.declared.block.Block.{Block}
 use Rattle.ir_tree.specs.declared.instr.Instr.{Instr}
 use Rattle.ir_tree.specs.declared.instr.Line.{Line}
-use Rattle.ir_edit.specs.Edited.{instr_edited}
+use Rattle.ir_tree.specs.Edited.{instr_edited}
 use Rattle.ir_edit.specs.Numbered.{later_or}
 use Rattle.point_edit.specs.AtPoints.{block_at, blocks_at, last_point, lines_at, standing}
 use Rattle.point_edit.specs.declared.fact.Fact.{Fact}

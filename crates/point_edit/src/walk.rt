@@ -1,6 +1,6 @@
 //! One walk over the parts of a block that changes each operand.
 ghost use Rattle.std.specs.Prelude.{◌≡◌, IfOk, map};
-ghost use Rattle.ir_edit.specs.Edited.{argument_edited, block_edited, end_edited, incoming_edited, instr_edited, line_edited, phi_edited};
+ghost use Rattle.ir_tree.specs.Edited.{argument_edited, block_edited, end_edited, incoming_edited, instr_edited, line_edited, phi_edited};
 
 use ir_edit::Edit;
 use ir_tree::{

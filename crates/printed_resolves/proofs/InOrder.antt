@@ -2,7 +2,7 @@
 use Rattle.std.proofs.Common.{◌≡◌, ℕ, suc, ◌+◌, Option, Some, None, option_map, List, [], ◌∷◌, ◌++◌, map, slice_get, refl, sym, ap, subst, ◌∙◌, arith}
 use Rattle.std.proofs.lemmas.List.{map-append}
 use Rattle.std.proofs.lemmas.Option.{slice_get-map}
-use Rattle.ir_edit.specs.Edited.{param_edited, phi_edited, line_edited, block_edited, operand_renamed, renamed}
+use Rattle.ir_tree.specs.Edited.{param_edited, phi_edited, line_edited, block_edited, operand_renamed, renamed}
 use Rattle.ir_edit.specs.InOrder.{TextOrderCounts}
 use Rattle.ir_edit.specs.Numbered.{param_numbers, phi_numbers, local_number, line_numbers, block_numbers, blocks_numbers, numbers_of, new_number, in_text_order}
 use Rattle.ir_tree.specs.Formed.{Formed}

@@ -4,7 +4,7 @@ use Rattle.std.specs.List.{AllByRecursion as Each}
 use Rattle.std.specs.Prelude.{All}
 use Rattle.std.proofs.lemmas.List.{map-append}
 use Rattle.std.proofs.lemmas.List.Elements.{All-from_recursion, All-map, recursion_from_All}
-use Rattle.ir_edit.specs.Edited.{argument_edited, block_edited, end_edited, incoming_edited, instr_edited, line_edited, operand_renamed, phi_edited, renamed}
+use Rattle.ir_tree.specs.Edited.{argument_edited, block_edited, end_edited, incoming_edited, instr_edited, line_edited, operand_renamed, phi_edited, renamed}
 use Rattle.ir_edit.specs.Numbered.{new_number, numbers_of}
 use Rattle.ir_edit.specs.Sounds.{TextOrderIsSound}
 use Rattle.ir_tree.specs.Formed.{Distinct}

@@ -3,7 +3,7 @@ use Rattle.std.proofs.Common.{◌≡◌, ℕ, ◌≤◌, List, [], ◌∷◌, ma
 use Rattle.std.specs.List.{AllByRecursion as Each}
 use Rattle.std.proofs.lemmas.List.{length-append, length-map}
 use Rattle.std.proofs.lemmas.List.Elements.{recursion_from_All}
-use Rattle.ir_edit.specs.Edited.{block_edited, incoming_edited, instr_edited, line_edited, operand_renamed, param_edited, phi_edited}
+use Rattle.ir_tree.specs.Edited.{block_edited, incoming_edited, instr_edited, line_edited, operand_renamed, param_edited, phi_edited}
 use Rattle.ir_edit.specs.Numbered.{in_text_order, new_number, numbers_of}
 use Rattle.ir_edit.specs.Sounds.{TextOrderIsSound}
 use Rattle.ir_tree.specs.Items.{Item, phi_item, line_item, end_item}

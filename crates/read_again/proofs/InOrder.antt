@@ -2,7 +2,7 @@
 use Rattle.std.proofs.Common.{◌≡◌, ℕ, zero, suc, ◌+◌, Option, Some, None, option_map, List, [], ◌∷◌, ◌++◌, map, length, slice_get, refl, sym, ap, subst, ◌∙◌, arith}
 use Rattle.std.proofs.lemmas.List.{map-append}
 use Rattle.std.proofs.lemmas.Option.{slice_get-map}
-use Rattle.ir_edit.specs.Edited.{block_edited, line_edited, operand_renamed, param_edited, phi_edited, renamed}
+use Rattle.ir_tree.specs.Edited.{block_edited, line_edited, operand_renamed, param_edited, phi_edited, renamed}
 use Rattle.ir_edit.specs.InOrder.{TextOrderCounts}
 use Rattle.ir_edit.specs.Numbered.{block_numbers, blocks_numbers, in_text_order, line_numbers, local_number, new_number, numbers_of, param_numbers, phi_numbers}
 use Rattle.ir_tree.specs.Formed.{Formed}

@@ -1,5 +1,5 @@
 -- A function with uses replaced by right facts is better: the facts hold of the program's own frame.
-use Rattle.std.proofs.Common.{◌≡◌, ℕ, zero, suc, ◌≤◌, Bool, true, false, not, ◌==◌, if◌then◌else◌, List, [], ◌∷◌, length, Option, Some, None, ◌⊎◌, inl, inr, refl, sym, ap, ◌∙◌, subst, arith}
+use Rattle.std.proofs.Common.{◌≡◌, ℕ, zero, suc, ◌≤◌, Bool, true, false, not, ◌==◌, if◌then◌else◌, List, [], ◌∷◌, length, Option, Some, None, ◌⊎◌, inl, inr, refl, sym, ap, ◌∙◌, subst, arith, map}
 use Rattle.std.proofs.lemmas.Bool.{cases_eq, ne_eqb, cases_Bool, eq-eqb}
 use Rattle.ir_tree.specs.declared.block.Block.{Block}
 use Rattle.ir_tree.specs.declared.block.Case.{Case}
@@ -13,6 +13,7 @@ use Rattle.ir_tree.specs.declared.instr.Line.{Line}
 use Rattle.ir_tree.specs.declared.operand.Argument.{Argument}
 use Rattle.ir_tree.specs.declared.operand.Operand.{Operand}
 use Rattle.ir_tree.specs.declared.operand.Symbol.{Symbol}
+use Rattle.ir_tree.specs.Edited.{argument_edited, with_operands}
 use Rattle.ir_meaning.specs.Act.{Act, Goes, Calls, with_slot, apply, phis_bound, find_block, enters_block, jumps, case_target, side, Exit, Leaves, Leads', Stuck, by_bits, exit_of, exits, act, params_bound, enter_at, enter, resume}
 use Rattle.ir_meaning.specs.Execute.{Task, evaluate, Effect, Went, Asked, Broke, execute, compares}
 use Rattle.ir_meaning.specs.Frame.{Locals, Frame, Signature, look_up, bind, value_of}
@@ -25,7 +26,6 @@ use Rattle.ir_meaning.specs.declared.event.Event.{Event}
 use Rattle.ir_meaning.specs.declared.value.Value.{Value}
 use Rattle.ir_better.specs.Facts.{Facts, without, with_fact, behind_local, behind_lines, replaced, lines_replaced, end_replaced, phis_replaced, block_replaced, blocks_replaced, function_replaced, Stands, GivesFor, VariablesLive, RuleAlways, RuleSometimes, is_free, RuleFor, IsOther, LineRule, LinesRight, EdgeFacts, InCases, IsTarget, BlockRight, BlocksRight, EntryBare, FactsRight}
 use Rattle.ir_better.specs.Formed.{IsFormed}
-use Rattle.ir_better.specs.Inline.{with_operands, each_moved}
 use Rattle.ir_better.specs.Laws.{ReplacedBetter}
 use Rattle.ir_better.proofs.Alike.Answering.{by_value_agrees, near_by, answered_return, answered_fails, bind_agrees, EndReads, ExitsAgree, names_of, act_at_line, act_at_end}
 use Rattle.ir_better.proofs.Alike.Effects.{answer_later, locals_later, slots_later, TasksAgree, OperandsAgree, evaluate_agrees, Reads, SlotAgrees, EffectsAlike, execute_alike}
@@ -47,7 +47,7 @@ reads_values sig w n c keeps ls rs h g s o k = stands_agree w n (value_of sig ls
     (value_of_agrees sig w n c keeps ls rs h (g o) k) (s o)
 
 each_values : (w : Pairing) (n : ℕ) (keeps : ℕ → Bool) (g : Operand → Operand) (a b : Operand → Value) →
-    ((o : Operand) → IsKept keeps (g o) → Agrees w n (a o) (b o)) → (args : List Argument) → AllKept keeps (each_moved g args) →
+    ((o : Operand) → IsKept keeps (g o) → Agrees w n (a o) (b o)) → (args : List Argument) → AllKept keeps (map (argument_edited g) args) →
     EachAgrees w n a b args
 each_values w n keeps g a b h [] k = tt
 each_values w n keeps g a b h (x ∷ more) k = (h x.operand k.0, each_values w n keeps g a b h more k.1)

@@ -1,5 +1,5 @@
 -- Values of the callee's operands, phis and terminators in the function that it is inlined into.
-use Rattle.std.proofs.Common.{◌≡◌, ℕ, zero, suc, ◌+◌, ◌<◌, ◌≤◌, ℤ, Bool, true, false, ◌==◌, if◌then◌else◌, List, [], ◌∷◌, Option, Some, None, ◌⊎◌, inl, inr, refl, sym, ap, ◌∙◌, subst, arith}
+use Rattle.std.proofs.Common.{◌≡◌, ℕ, zero, suc, ◌+◌, ◌<◌, ◌≤◌, ℤ, Bool, true, false, ◌==◌, if◌then◌else◌, List, [], ◌∷◌, Option, Some, None, ◌⊎◌, inl, inr, refl, sym, ap, ◌∙◌, subst, arith, map}
 use Rattle.std.proofs.lemmas.Bool.{cases_eq, ne_eqb, eq-eqb, eqb-true, ltb-true}
 use Rattle.ir_tree.specs.declared.block.Block.{Block}
 use Rattle.ir_tree.specs.declared.block.Case.{Case}
@@ -14,29 +14,30 @@ use Rattle.ir_tree.specs.declared.operand.Argument.{Argument}
 use Rattle.ir_tree.specs.declared.operand.Operand.{Operand}
 use Rattle.ir_tree.specs.declared.operand.Operand.TheVariants.{Local, Number as Constant, Null, Poison as PoisonOf, Symbol as Named}
 use Rattle.ir_tree.specs.declared.operand.Reg.{Reg}
+use Rattle.ir_tree.specs.Edited.{argument_edited, with_operands}
 use Rattle.ir_meaning.specs.Operate.{bits_of}
 use Rattle.ir_meaning.specs.Act.{incoming_value, phis_bound, find_block, case_target, side, Exit, Leaves, Leads', Stuck, by_bits, by_value, exit_of, params_bound}
 use Rattle.ir_meaning.specs.Execute.{evaluate, ToAddress, ToCall}
 use Rattle.ir_meaning.specs.Frame.{Locals, Signature, look_up, bind, value_of, regs_of, values_of, indices_of, index_of, cons_index}
 use Rattle.ir_meaning.specs.Relate.{Pairing, Agrees, AnswersAgree}
 use Rattle.ir_meaning.specs.declared.value.Value.{Value}
-use Rattle.ir_better.specs.Inline.{Site, argument_of, or_moved, moved, each_moved, with_operands, local_moved, edges_moved, phis_moved, cases_moved, end_moved, return_edge, return_edges, renamed, edges_renamed, phis_renamed, below, EdgesBelow, PhisBelow, IsNoParameter, PhisSparing}
+use Rattle.ir_better.specs.Inline.{Site, argument_of, or_moved, moved, local_moved, edges_moved, phis_moved, cases_moved, end_moved, return_edge, return_edges, renamed, edges_renamed, phis_renamed, below, EdgesBelow, PhisBelow, IsNoParameter, PhisSparing}
 use Rattle.ir_better.proofs.Alike.Effects.{OperandsAgree}
 use Rattle.ir_better.proofs.Alike.Keeping.{more}
 use Rattle.ir_better.proofs.Alike.Values.{LocalsAgree, IsKept, AllKept, EachAgrees, Names, NoneOrSame, bits_agree, if_agrees, value_of_agrees}
 
 -- ---- values
 
-pub each_of : (f : Operand → Operand) (value : Operand → Value) (args : List Argument) → values_of value (each_moved f args) ≡ values_of
+pub each_of : (f : Operand → Operand) (value : Operand → Value) (args : List Argument) → values_of value (map (argument_edited f) args) ≡ values_of
     (λ o. value (f o)) args
 each_of f value [] = refl
 each_of f value (a ∷ more) = ap (λ (vs : List Value). value (f a.operand) ∷ vs) (each_of f value more)
 
-pub regs_same : (f : Operand → Operand) (args : List Argument) → regs_of (each_moved f args) ≡ regs_of args
+pub regs_same : (f : Operand → Operand) (args : List Argument) → regs_of (map (argument_edited f) args) ≡ regs_of args
 regs_same f [] = refl
 regs_same f (a ∷ more) = ap (λ (rs : List Reg). a.reg ∷ rs) (regs_same f more)
 
-pub indices_same : (f : Operand → Operand) (value : Operand → Value) (args : List Argument) → indices_of value (each_moved f args) ≡ indices_of
+pub indices_same : (f : Operand → Operand) (value : Operand → Value) (args : List Argument) → indices_of value (map (argument_edited f) args) ≡ indices_of
     (λ o. value (f o)) args
 indices_same f value [] = refl
 indices_same f value (a ∷ more) = ap (λ (o : Option (List ℤ)). cons_index (index_of a.reg (value (f a.operand))) o)
@@ -55,7 +56,7 @@ evaluate_with f value (Load reg o align) = refl
 evaluate_with f value (Store reg o d align) = refl
 evaluate_with f value (Address inbounds shape o is) = ap (λ (x : Option (List ℤ)). ToAddress inbounds shape (value (f o)) x)
     (indices_same f value is)
-evaluate_with f value (Call result c args) = ap (λ (rs : List Reg). ToCall result rs (values_of value (each_moved f args)) (value (f c)))
+evaluate_with f value (Call result c args) = ap (λ (rs : List Reg). ToCall result rs (values_of value (map (argument_edited f) args)) (value (f c)))
     (regs_same f args) ∙ ap (λ (vs : List Value). ToCall result (regs_of args) vs (value (f c))) (each_of f value args)
 evaluate_with f value (StrayPhi reg es) = refl
 

@@ -23,11 +23,11 @@ use Rattle.ir_tree.specs.Symbols.{symbol_eq}
 use Rattle.ir_meaning.specs.declared.value.Base.TheVariants.{Nowhere, Code, Cell}
 use Rattle.ir_meaning.specs.declared.value.Byte.{Byte}
 use Rattle.ir_meaning.specs.declared.value.Byte.TheVariants.{Unset, Spoilt, Plain, Fragment}
-use Rattle.ir_better.specs.Inline.{with_operands, each_moved}
 use Rattle.ir_better.specs.Rename.{operand_under, line_under, edge_under, phi_under, argument_under, end_under, block_under, CodeUnder, cell_under, byte_under, bytes_under, cells_under, kind_under, OperandNames, ArgumentsName, InstrNames, LinesName, EdgesName, PhisName, EndNames, BlocksName, BytesName, IsKeptOf, IsThere, ByteReaches, BytesReach, IsEmitted, EmittedRefines}
 use Rattle.ir_better.proofs.Names.Kept.{kept_from}
 use Rattle.ir_better.proofs.Names.Moved.{cell_variable}
 use Rattle.ir_tree.proofs.Symbols.{symbol_true, symbol_same}
+use Rattle.ir_tree.specs.Edited.{argument_edited, with_operands}
 
 -- ---- there and back
 
@@ -43,10 +43,10 @@ operand_back live t u h (PoisonOf reg) k = refl
 operand_back live t u h (Named s offset) k = ap (λ (x : Symbol). Named x offset) (h s k)
 
 arguments_back : (live : Symbol → Bool) (t u : Naming) → Back live t u → (args : List Argument) → ArgumentsName live args →
-    each_moved (operand_under t) (each_moved (operand_under u) args) ≡ args
+    map (argument_edited (operand_under t)) (map (argument_edited (operand_under u)) args) ≡ args
 arguments_back live t u h [] k = refl
 arguments_back live t u h (a ∷ more) k =
-    ap (λ (o : Operand). record { reg = a.reg; operand = o } ∷ each_moved (operand_under t) (each_moved (operand_under u) more))
+    ap (λ (o : Operand). record { reg = a.reg; operand = o } ∷ map (argument_edited (operand_under t)) (map (argument_edited (operand_under u)) more))
     (operand_back live t u h a.operand k.0) ∙ ap (λ (l : List Argument). a ∷ l) (arguments_back live t u h more k.1)
 
 edges_back : (live : Symbol → Bool) (t u : Naming) → Back live t u → (es : List Incoming) → EdgesName live es →
@@ -74,10 +74,10 @@ instr_back live t u h (Load reg o align) k = ap (λ (x : Operand). Load reg x al
 instr_back live t u h (Store reg o d align) k = ap (λ (x : Operand). Store reg x (operand_under t (operand_under u d)) align)
     (operand_back live t u h o k.0) ∙ ap (λ (x : Operand). Store reg o x align) (operand_back live t u h d k.1)
 instr_back live t u h (Address inbounds shape o is) k =
-    ap (λ (x : Operand). Address inbounds shape x (each_moved (operand_under t) (each_moved (operand_under u) is)))
+    ap (λ (x : Operand). Address inbounds shape x (map (argument_edited (operand_under t)) (map (argument_edited (operand_under u)) is)))
     (operand_back live t u h o k.0) ∙ ap (λ (l : List Argument). Address inbounds shape o l) (arguments_back live t u h is k.1)
 instr_back live t u h (Call result c args) k =
-    ap (λ (x : Operand). Call result x (each_moved (operand_under t) (each_moved (operand_under u) args)))
+    ap (λ (x : Operand). Call result x (map (argument_edited (operand_under t)) (map (argument_edited (operand_under u)) args)))
     (operand_back live t u h c k.0) ∙ ap (λ (l : List Argument). Call result c l) (arguments_back live t u h args k.1)
 instr_back live t u h (StrayPhi reg es) k = ap (λ (l : List Incoming). StrayPhi reg l) (edges_back live t u h es k)
 
@@ -134,7 +134,7 @@ operand_through live keeps u h (PoisonOf reg) k = tt
 operand_through live keeps u h (Named s offset) k = h s k
 
 arguments_through : (live keeps : Symbol → Bool) (u : Naming) → Through live keeps u → (args : List Argument) →
-    ArgumentsName live args → ArgumentsName keeps (each_moved (operand_under u) args)
+    ArgumentsName live args → ArgumentsName keeps (map (argument_edited (operand_under u)) args)
 arguments_through live keeps u h [] k = tt
 arguments_through live keeps u h (a ∷ more) k = (operand_through live keeps u h a.operand k.0, arguments_through live keeps u h more k.1)
 

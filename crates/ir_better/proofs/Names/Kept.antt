@@ -13,6 +13,7 @@ use Rattle.ir_tree.specs.declared.operand.Argument.{Argument}
 use Rattle.ir_tree.specs.declared.operand.Operand.{Operand}
 use Rattle.ir_tree.specs.declared.operand.Operand.TheVariants.{Local, Number as Constant, Null, Poison as PoisonOf, Symbol as Named}
 use Rattle.ir_tree.specs.declared.operand.Symbol.{Symbol}
+use Rattle.ir_tree.specs.Edited.{argument_edited, with_operands}
 use Rattle.ir_meaning.specs.Act.{enter}
 use Rattle.ir_meaning.specs.Frame.{Missing}
 use Rattle.ir_meaning.specs.Memory.{MemoryBlock}
@@ -25,7 +26,6 @@ use Rattle.ir_meaning.specs.declared.value.Byte.{Byte}
 use Rattle.ir_meaning.specs.declared.value.Byte.TheVariants.{Unset, Spoilt, Plain, Fragment}
 use Rattle.ir_meaning.specs.declared.value.Value.{Value}
 use Rattle.ir_meaning.specs.declared.value.Value.TheVariants.{Number, Pointer, Poison}
-use Rattle.ir_better.specs.Inline.{with_operands, each_moved}
 use Rattle.ir_better.specs.Rename.{operand_under, line_under, edge_under, phi_under, argument_under, end_under, block_under, FunctionUnder, CodeUnder, byte_under, bytes_under, cells_under, kind_under, IsRenamed, OperandNames, ArgumentsName, InstrNames, LinesName, EdgesName, PhisName, EndNames, BlocksName, ByteNames, BytesName, IsKeptOf, KeptRefines}
 use Rattle.ir_better.proofs.Names.Moved.{value_under}
 use Rattle.ir_better.proofs.Names.Renamed.{maybe_value, EndingUnder, RanUnder, cell_stands, ran_from}
@@ -45,10 +45,10 @@ operand_alike keeps t u h (PoisonOf reg) k = refl
 operand_alike keeps t u h (Named s offset) k = ap (λ (x : Symbol). Named x offset) (h s k)
 
 arguments_alike : (keeps : Symbol → Bool) (t u : Naming) → Alike keeps t u → (args : List Argument) → ArgumentsName keeps args →
-    each_moved (operand_under u) args ≡ each_moved (operand_under t) args
+    map (argument_edited (operand_under u)) args ≡ map (argument_edited (operand_under t)) args
 arguments_alike keeps t u h [] k = refl
 arguments_alike keeps t u h (a ∷ more) k =
-    ap (λ (o : Operand). record { reg = a.reg; operand = o } ∷ each_moved (operand_under u) more) (operand_alike keeps t u h a.operand k.0)
+    ap (λ (o : Operand). record { reg = a.reg; operand = o } ∷ map (argument_edited (operand_under u)) more) (operand_alike keeps t u h a.operand k.0)
     ∙ ap (λ (l : List Argument). record { reg = a.reg; operand = operand_under t a.operand } ∷ l) (arguments_alike keeps t u h more k.1)
 
 edges_alike : (keeps : Symbol → Bool) (t u : Naming) → Alike keeps t u → (es : List Incoming) → EdgesName keeps es →
@@ -78,10 +78,10 @@ instr_alike keeps t u h (Store reg o d align) k =
     ap (λ (x : Operand). Store reg x (operand_under u d) align) (operand_alike keeps t u h o k.0)
     ∙ ap (λ (x : Operand). Store reg (operand_under t o) x align) (operand_alike keeps t u h d k.1)
 instr_alike keeps t u h (Address inbounds shape o is) k =
-    ap (λ (x : Operand). Address inbounds shape x (each_moved (operand_under u) is)) (operand_alike keeps t u h o k.0)
+    ap (λ (x : Operand). Address inbounds shape x (map (argument_edited (operand_under u)) is)) (operand_alike keeps t u h o k.0)
     ∙ ap (λ (l : List Argument). Address inbounds shape (operand_under t o) l) (arguments_alike keeps t u h is k.1)
 instr_alike keeps t u h (Call result c args) k =
-    ap (λ (x : Operand). Call result x (each_moved (operand_under u) args)) (operand_alike keeps t u h c k.0)
+    ap (λ (x : Operand). Call result x (map (argument_edited (operand_under u)) args)) (operand_alike keeps t u h c k.0)
     ∙ ap (λ (l : List Argument). Call result (operand_under t c) l) (arguments_alike keeps t u h args k.1)
 instr_alike keeps t u h (StrayPhi reg es) k = ap (λ (l : List Incoming). StrayPhi reg l) (edges_alike keeps t u h es k)
 

@@ -1,7 +1,7 @@
 use Rattle.std.proofs.Common.{◌∙◌, ap}
 use Rattle.std.proofs.lemmas.Result.{IfOk-weaker}
 use Rattle.ir_tree.specs.declared.function.Function.{Function}
-use Rattle.ir_edit.specs.Edited.{shifted}
+use Rattle.ir_tree.specs.Edited.{shifted}
 use Rattle.ir_edit.specs.Numbered.{in_text_order}
 use Rattle.inline_site.proofs.copy.moved.Goals as goal
 

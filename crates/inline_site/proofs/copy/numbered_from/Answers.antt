@@ -1,6 +1,6 @@
 use Rattle.std.proofs.Common.{◌∙◌, ap}
 use Rattle.std.proofs.lemmas.Result.{IfOk-weaker}
-use Rattle.ir_edit.specs.Edited.{shifted}
+use Rattle.ir_tree.specs.Edited.{shifted}
 use Rattle.inline_site.proofs.copy.numbered_from.Goals as goal
 
 pub returns : goal.returns

@@ -1,5 +1,5 @@
 use Rattle.std.proofs.Common.{◌∙◌}
-use Rattle.ir_edit.specs.Edited.{edited}
+use Rattle.ir_tree.specs.Edited.{edited}
 use Rattle.ir_edit.specs.Substituted.{operand_replaced}
 use Rattle.ir_edit.proofs.substitution.substitute.Goals as goal
 

@@ -1,5 +1,5 @@
 use Rattle.std.proofs.Common.{◌∙◌}
-use Rattle.ir_edit.specs.Edited.{renamed}
+use Rattle.ir_tree.specs.Edited.{renamed}
 use Rattle.ir_edit.proofs.text_order.renumber.Goals as goal
 
 pub returns : goal.returns

@@ -1,5 +1,5 @@
 use Rattle.std.proofs.Common.{◌≡◌, ◌++◌, drop, map}
-use Rattle.ir_edit.specs.Edited.{argument_edited}
+use Rattle.ir_tree.specs.Edited.{argument_edited}
 use Rattle.ir_edit.proofs.walk.arguments.Given as goal
 
 abbrev pub invariant-loop-old : goal.invariant-loop-old

@@ -1,5 +1,5 @@
 use Rattle.std.proofs.Common.{◌≡◌, ◌++◌, drop, map}
-use Rattle.ir_edit.specs.Edited.{line_edited}
+use Rattle.ir_tree.specs.Edited.{line_edited}
 use Rattle.ir_edit.proofs.walk.lines.Given as goal
 
 abbrev pub invariant-loop-line : goal.invariant-loop-line

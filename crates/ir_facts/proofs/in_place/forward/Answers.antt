@@ -3,7 +3,7 @@ use Rattle.std.specs.Prelude.{is_some}
 use Rattle.std.proofs.lemmas.List.{length-map, take_at}
 use Rattle.ir_tree.specs.declared.block.Block.{Block}
 use Rattle.ir_tree.specs.declared.operand.Operand.{Operand}
-use Rattle.ir_edit.specs.Edited.{block_edited}
+use Rattle.ir_tree.specs.Edited.{block_edited}
 use Rattle.ir_edit.specs.Substituted.{operand_replaced, replacement}
 use Rattle.local_names.specs.Naming.{blocks_name}
 use Rattle.local_names.specs.Substitutions.{IsOf, value_in}

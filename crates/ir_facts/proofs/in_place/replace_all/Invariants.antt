@@ -1,5 +1,5 @@
 use Rattle.std.proofs.Common.{◌≡◌, ◌++◌, drop, map, take}
-use Rattle.ir_edit.specs.Edited.{block_edited}
+use Rattle.ir_tree.specs.Edited.{block_edited}
 use Rattle.ir_edit.specs.Substituted.{operand_replaced}
 use Rattle.local_names.specs.Substitutions.{value_in}
 use Rattle.ir_facts.proofs.in_place.replace_all.Given as goal

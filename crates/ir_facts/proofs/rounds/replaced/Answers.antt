@@ -2,7 +2,7 @@ use Rattle.std.proofs.Common.{◌≡◌, ℕ, nat_eq, List, sym, ◌∙◌, ap, 
 use Rattle.std.specs.HashSet.{contains}
 use Rattle.ir_tree.specs.declared.function.Function.{Function}
 use Rattle.ir_tree.specs.declared.operand.Operand.{Operand}
-use Rattle.ir_edit.specs.Edited.{edited}
+use Rattle.ir_tree.specs.Edited.{edited}
 use Rattle.ir_edit.specs.Substituted.{operand_replaced, substituted}
 use Rattle.local_names.specs.Apart.{resting}
 use Rattle.local_names.specs.Substitutions.{IsOf, value_in}

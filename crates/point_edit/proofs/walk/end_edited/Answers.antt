@@ -1,6 +1,6 @@
 use Rattle.std.proofs.Common.{sym, ◌∙◌, ap}
 use Rattle.ir_tree.specs.declared.block.Terminator.TheVariants.{Switch}
-use Rattle.ir_edit.specs.Edited.{end_edited}
+use Rattle.ir_tree.specs.Edited.{end_edited}
 use Rattle.point_edit.proofs.Staying.{cases_stay}
 use Rattle.point_edit.proofs.walk.end_edited.Goals as goal
 

@@ -1,5 +1,5 @@
 use Rattle.std.proofs.Common.{◌≡◌, ◌++◌, drop, map}
-use Rattle.ir_edit.specs.Edited.{incoming_edited}
+use Rattle.ir_tree.specs.Edited.{incoming_edited}
 use Rattle.point_edit.proofs.walk.entries_edited.Given as goal
 
 abbrev pub invariant-loop-edge : goal.invariant-loop-edge

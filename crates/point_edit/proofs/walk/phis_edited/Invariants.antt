@@ -1,5 +1,5 @@
 use Rattle.std.proofs.Common.{◌≡◌, ◌++◌, drop, map}
-use Rattle.ir_edit.specs.Edited.{phi_edited}
+use Rattle.ir_tree.specs.Edited.{phi_edited}
 use Rattle.point_edit.proofs.walk.phis_edited.Given as goal
 
 abbrev pub invariant-loop-phi : goal.invariant-loop-phi

@@ -36,6 +36,10 @@ instr_edited number operand (Address inbounds shape base indices) = Address inbo
 instr_edited number operand (Call result callee arguments) = Call result (operand callee) (map (argument_edited operand) arguments)
 instr_edited number operand (StrayPhi reg incoming) = StrayPhi reg (map (incoming_edited number operand) incoming)
 
+-- an instruction with its operands changed
+abbrev pub with_operands : (Operand → Operand) → Instr → Instr
+with_operands operand i = instr_edited (λ n. n) operand i
+
 abbrev pub line_edited : (ℕ → ℕ) → (Operand → Operand) → Line → Line
 line_edited number operand l = record { local = option_map number l.local; instr = instr_edited number operand l.instr }
 
