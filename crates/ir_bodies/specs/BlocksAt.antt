@@ -17,8 +17,8 @@ use Rattle.ir_read.specs.declared.raw.Item.TheVariants.{Definition}
 use Rattle.ir_read.specs.declared.raw.Line.{Line}
 use Rattle.ir_read.specs.FunctionHeadsAt.{head_at}
 use Rattle.ir_read.specs.Operands.{named}
-use Rattle.ir_read.specs.Terminators.{ENDS}
-use Rattle.ir_read.specs.TerminatorsAt.{terminator_at}
+use Rattle.ir_instructions.specs.Terminators.{ENDS}
+use Rattle.ir_instructions.specs.TerminatorsAt.{terminator_at}
 use Rattle.ir_bodies.specs.Adding.{joined_at}
 use Rattle.ir_bodies.specs.Blocks.{LABEL, keep, block_of, FURTHER_BLOCKS, INSTRUCTIONS, with_kept}
 use Rattle.ir_bodies.specs.LinesAt.{LINE, line_at}

@@ -8,15 +8,15 @@ use Rattle.ir_lex.specs.Tok.{Tok}
 use Rattle.ir_tree.specs.declared.instr.BinaryOp.TheVariants as ops
 use Rattle.ir_tree.specs.declared.instr.CastOp.TheVariants as casts
 use Rattle.lto_forms.specs.Forms.{Form, ◌>>=◌, either, gives}
-use Rattle.ir_read.specs.Addressing.{reserving, addressing}
+use Rattle.ir_instructions.specs.Addressing.{reserving, addressing}
 use Rattle.ir_read.specs.Shapes.{Written}
 use Rattle.ir_read.specs.Classes.{the, one_of}
 use Rattle.ir_read.specs.declared.raw.Instr.{Instr}
 use Rattle.ir_read.specs.declared.raw.Line.{Line}
 use Rattle.ir_read.specs.declared.shape.Typed.{Typed}
-use Rattle.ir_read.specs.Instructions.{no_flags, on_two, wrapping, dividing, joining, comparing, casting, extending, narrowing, selecting, freezing, loading, storing}
+use Rattle.ir_instructions.specs.Instructions.{no_flags, on_two, wrapping, dividing, joining, comparing, casting, extending, narrowing, selecting, freezing, loading, storing}
 use Rattle.ir_read.specs.Metadata.{attachments}
-use Rattle.ir_read.specs.Phis.{phi}
+use Rattle.ir_instructions.specs.Phis.{phi}
 use Rattle.ir_bodies.specs.Calls.{calling, tail_calling}
 use Rattle.ir_bodies.specs.declared.opcodes.Begun.{Begun}
 use Rattle.ir_bodies.specs.declared.opcodes.Opcode.{Opcode}

@@ -11,7 +11,8 @@ ghost use Rattle.ir_globals.specs.Constants.{CONSTANTS, type_of, plain, number_o
 ghost use Rattle.ir_globals.specs.ConstantsAt.{single_at, constant_at};
 
 use ir_lex::{Head, Token};
-use ir_read::{InitHead, Name, Operand, Tokens, address_at, literal, named, refusal};
+use ir_instructions::address_at;
+use ir_read::{InitHead, Name, Operand, Tokens, literal, named, refusal};
 use ir_tree::Reg;
 use lto_forms::{Fault, FaultKind, ReadError};
 use std::alloc::Global;

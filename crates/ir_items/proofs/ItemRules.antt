@@ -37,9 +37,9 @@ use Rattle.ir_read.specs.Metadata.{META}
 use Rattle.ir_read.specs.MetadataAt.{PAREN}
 use Rattle.ir_read.specs.MetadataBehind.{BRACES}
 use Rattle.ir_read.specs.Operands.{LOCAL}
-use Rattle.ir_read.specs.ShapeForms.{any_shape, memory_shape}
+use Rattle.ir_instructions.specs.ShapeForms.{any_shape, memory_shape}
 use Rattle.ir_read.proofs.AttributeRules.{head_attribute_rule, attribute_group_rule}
-use Rattle.ir_read.proofs.Barred.{barred_here}
+use Rattle.ir_instructions.proofs.Barred.{barred_here}
 use Rattle.ir_read.proofs.FunctionHeadRules.{head_rule}
 use Rattle.ir_read.proofs.MetadataBehindRules.{metadata_behind_rule, node_yet_rule}
 use Rattle.ir_read.proofs.Nodes.{attached_rule, attached_opens, metadata_line_rule}

@@ -26,7 +26,7 @@ use Rattle.ir_read.specs.declared.raw.Head.{Head}
 use Rattle.ir_read.specs.declared.raw.Item.{Item}
 use Rattle.ir_read.specs.declared.raw.Item.TheVariants.{Declaration}
 use Rattle.ir_read.specs.declared.shape.Typed.{Typed}
-use Rattle.ir_read.specs.ShapeForms.{any_shape, memory_shape}
+use Rattle.ir_instructions.specs.ShapeForms.{any_shape, memory_shape}
 
 -- an item, where it is kept, and what stands before the next one
 abbrev pub Found : Type 0

@@ -34,8 +34,8 @@ use Rattle.ir_definitions.specs.LineLaws.{LinesFit}
 use Rattle.ir_definitions.specs.Lines.{item_lines, lines_of, block_lines}
 use Rattle.resolved_forms.specs.Laws.{FunctionsAreFormed, VariablesAreFormed}
 use Rattle.resolved_forms.specs.Written.{IsWritten, TypesWritten, VariableWritten}
-use Rattle.spelled_forms.specs.Items.{ItemWritten}
-use Rattle.spelled_forms.specs.Laws.{ItemsAreWritten, TokensAreSized, TypesAreWritten}
+use Rattle.ir_parse.specs.Items.{ItemWritten}
+use Rattle.ir_parse.specs.Spelled.{ItemsAreWritten, TokensAreSized, TypesAreWritten}
 use Rattle.ir_parse.specs.Laws.{ReadIsParsed}
 use Rattle.ir_parse.specs.Stages.{module_in, module_with}
 use Rattle.ir_parse.specs.Targets.{datalayout_of, triple_of}

@@ -6,3 +6,6 @@ pub mod Reading
 pub mod FirstFault
 pub mod Answers
 pub mod Laws
+pub mod Sized
+pub mod Items
+pub mod Spelled

@@ -3,7 +3,7 @@ ghost use Rattle.ir_parse.specs.Laws.{Apart, Decided, OneFault, OneReading, Read
 
 use ir_definitions::lines_fit;
 use resolved_forms::{functions_are_formed, variables_are_formed};
-use spelled_forms::{items_are_written, tokens_are_sized, types_are_written};
+use crate::spelled::{items_are_written, tokens_are_sized, types_are_written};
 
 /// No bytes are read as two modules, none that are read have a fault, and none have two first faults.
 pub fn one_reading()

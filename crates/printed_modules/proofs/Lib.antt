@@ -12,3 +12,17 @@ pub mod Declarations
 pub mod Items
 pub mod Modules
 pub mod Printable
+pub mod Binds
+pub mod Keys
+pub mod Symbols
+pub mod Shapes
+pub mod Uses
+pub mod Numbering
+pub mod Operands
+pub mod Instructions
+pub mod ResolvedBlocks
+pub mod Functions
+pub mod ResolvedVariables
+pub mod Places
+pub mod Sound
+pub mod InOrder

@@ -5,3 +5,6 @@ pub mod Variables
 pub mod VariablesReadable
 pub mod Modules
 pub mod ModulesReadable
+pub mod Sorts
+pub mod Known
+pub mod Homeless

@@ -15,7 +15,9 @@
 #![tactic(auto)]
 
 mod laws;
+mod resolving;
 
 pub use laws::{
     calls_are_read, definitions_are_read, lines_are_read, modules_are_read, variables_are_read,
 };
+pub use resolving::{functions_resolve, numbered_functions_are_known, variables_resolve};

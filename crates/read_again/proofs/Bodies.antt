@@ -38,8 +38,8 @@ use Rattle.read_again.proofs.Walk.{BlockHas, blocks_have}
 use Rattle.printed_modules.specs.Bodies.{phi_as_line, stated}
 use Rattle.printed_modules.specs.Printed.{IsInstruction, IsLine, IsContent, IsLabelled, AreBlocks}
 use Rattle.printed_modules.specs.Readable.{InstructionReadable, LineReadable, BlockReadable}
-use Rattle.printed_resolves.proofs.Binds.{bound}
-use Rattle.printed_resolves.proofs.Shapes.{shape_again}
+use Rattle.printed_modules.proofs.Binds.{bound}
+use Rattle.printed_modules.proofs.Shapes.{shape_again}
 use Rattle.reading_back.specs.Printed.{Paired, written_shape, IsOperand, IsArgument, IsIncoming, IsTerminator}
 use Rattle.reading_back.specs.Readable.{OperandReadable, ArgumentReadable, IncomingReadable, EntriesReadable, ShapeReadable, TerminatorReadable}
 

@@ -27,7 +27,7 @@ use Rattle.ir_read.specs.Classes.{tokens, IsReal, refusal, the, the_at}
 use Rattle.ir_read.specs.FunctionHeads.{name_refusal}
 use Rattle.ir_read.specs.Metadata.{META}
 use Rattle.ir_read.specs.Operands.{LOCAL, REG, global_named}
-use Rattle.ir_read.specs.ShapeForms.{any_shape}
+use Rattle.ir_instructions.specs.ShapeForms.{any_shape}
 use Rattle.ir_read.specs.Targets.{layout_line, triple_line}
 use Rattle.ir_read.specs.TargetsAt.{comdat_line_at, source_line_at, target_line_at, LAYOUT, layout_line_at, triple_line_at}
 use Rattle.ir_read.specs.declared.function_heads.Role.TheVariants as roles

@@ -3,10 +3,10 @@ use Rattle.std.proofs.Common.{Bool, true, false, Some, None, refl}
 use Rattle.std.specs.Prelude.{codes}
 use Rattle.ir_lex.specs.Tok.{Tok}
 use Rattle.ir_lex.specs.declared.head.Head.TheVariants as heads
-use Rattle.ir_read.specs.Addressing.{any_slots}
+use Rattle.ir_instructions.specs.Addressing.{any_slots}
 use Rattle.ir_read.specs.Operands.{LOCAL, named}
 use Rattle.ir_read.specs.OperandsAt.{local_at}
-use Rattle.ir_read.specs.ShapeForms.{any_shape}
+use Rattle.ir_instructions.specs.ShapeForms.{any_shape}
 use Rattle.ir_read.proofs.Singles.{word}
 use Rattle.ir_bodies.specs.Blocks.{any_local}
 use Rattle.ir_bodies.specs.Lines.{GIVING, OPCODES, opcode_of, begun_of, operation, attended, kept, behind, lined, line_behind, named_line, plain_line, line}

@@ -8,10 +8,10 @@ use Rattle.lto_forms.specs.Rules.{is_class}
 use Rattle.ir_read.specs.Classes.{tokens, refusal}
 use Rattle.ir_read.specs.Metadata.{META}
 use Rattle.ir_read.specs.MetadataAt.{COMMA}
-use Rattle.ir_read.specs.Phis as phis
-use Rattle.ir_read.specs.Phis.{incoming, attaching, entering, behind_comma, further, entries, phi_of, phi}
-use Rattle.ir_read.specs.PhisAt.{begins, incoming_at, attaching_at, entering_at, behind_comma_at, further_at, entries_at, phi_of_at, phi_at}
-use Rattle.ir_read.specs.ShapeForms.{any_shape}
+use Rattle.ir_instructions.specs.Phis as phis
+use Rattle.ir_instructions.specs.Phis.{incoming, attaching, entering, behind_comma, further, entries, phi_of, phi}
+use Rattle.ir_instructions.specs.PhisAt.{begins, incoming_at, attaching_at, entering_at, behind_comma_at, further_at, entries_at, phi_of_at, phi_at}
+use Rattle.ir_instructions.specs.ShapeForms.{any_shape}
 use Rattle.ir_read.specs.declared.raw.Incoming.{Incoming}
 use Rattle.read_again.proofs.Exchanged.{Exchanges, alt, nothing, seq, token_begins}
 use Rattle.read_again.proofs.ExchangedChains.{chain}

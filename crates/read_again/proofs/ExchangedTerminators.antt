@@ -16,15 +16,15 @@ use Rattle.lto_forms.specs.declared.fault.FaultKind.TheVariants.{Syntax}
 use Rattle.ir_read.specs.Classes.{IsReal}
 use Rattle.ir_read.specs.Operands.{reg_of}
 use Rattle.ir_read.specs.OperandsAt.{reg_at}
-use Rattle.ir_read.specs.ShapeForms.{any_shape}
-use Rattle.ir_read.specs.Terminators.{ENDS, case_classes, matched_of, ending_of, returned, returning, target, branching, constant, case_of, case, switching, behind_end, terminator}
-use Rattle.ir_read.specs.TerminatorsAt.{LABEL, returned_at, returning_at, target_at, branching_at, constant_at, case_of_at, case_at, switching_at, behind_end_at, terminator_at}
+use Rattle.ir_instructions.specs.ShapeForms.{any_shape}
+use Rattle.ir_instructions.specs.Terminators.{ENDS, case_classes, matched_of, ending_of, returned, returning, target, branching, constant, case_of, case, switching, behind_end, terminator}
+use Rattle.ir_instructions.specs.TerminatorsAt.{LABEL, returned_at, returning_at, target_at, branching_at, constant_at, case_of_at, case_at, switching_at, behind_end_at, terminator_at}
 use Rattle.ir_read.specs.declared.raw.Terminator.TheVariants as terminators
-use Rattle.ir_read.specs.declared.terminators.End.TheVariants as end
-use Rattle.ir_read.specs.declared.terminators.End.{End}
-use Rattle.ir_read.specs.declared.terminators.Ended.{Ended}
+use Rattle.ir_instructions.specs.declared.terminators.End.TheVariants as end
+use Rattle.ir_instructions.specs.declared.terminators.End.{End}
+use Rattle.ir_instructions.specs.declared.terminators.Ended.{Ended}
 use Rattle.ir_read.proofs.Singles.{word}
-use Rattle.ir_read.proofs.TerminatorRules.{case_rule, constant_rule}
+use Rattle.ir_instructions.proofs.TerminatorRules.{case_rule, constant_rule}
 use Rattle.read_again.proofs.Exchanged.{Exchanges, alt, nothing, seq, taken, is_target}
 use Rattle.read_again.proofs.ExchangedNodes.{attachments_exchanged}
 use Rattle.read_again.proofs.ExchangedOperands.{bit_exchanged, integer_exchanged, local_exchanged, reg_exchanged, result_exchanged}

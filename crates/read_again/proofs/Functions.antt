@@ -30,7 +30,7 @@ use Rattle.read_again.specs.Within.{FunctionWithin, HasEntry, InstrWithin, ItemW
 use Rattle.printed_modules.specs.Bodies.{phi_as_line, stated}
 use Rattle.printed_modules.specs.ModulesReadable.{FunctionReadable}
 use Rattle.printed_modules.specs.Readable.{InstructionReadable, ResultReadable, LineReadable, BlockReadable, BodyReadable}
-use Rattle.printed_resolves.specs.Sorts.{IsNumbered}
+use Rattle.printed_modules.specs.Sorts.{IsNumbered}
 use Rattle.reading_back.proofs.Sound.{arguments_readable, item_typed, typed_readable}
 use Rattle.reading_back.specs.Readable.{ArgumentReadable, HeadReadable, IsSmall, ParamReadable, SymbolReadable, TerminatorReadable}
 use Rattle.reading_back.specs.Typed.{ItemTyped}

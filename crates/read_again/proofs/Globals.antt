@@ -35,10 +35,10 @@ use Rattle.read_again.proofs.Passing.{Right, Inner, names_in, names_append, all_
 use Rattle.printed_modules.specs.Modules.{global_value, IsFunctionOf, IsGlobalItem, IsItem}
 use Rattle.printed_modules.specs.ModulesReadable.{FunctionReadable, GlobalReadable}
 use Rattle.printed_modules.specs.Readable.{BlockReadable, BodyReadable}
-use Rattle.printed_resolves.proofs.Binds.{bound}
-use Rattle.printed_resolves.proofs.Functions.{declaration_again, definition_again}
-use Rattle.printed_resolves.proofs.Variables.{variable_again}
-use Rattle.printed_resolves.specs.Known.{FunctionKnown}
+use Rattle.printed_modules.proofs.Binds.{bound}
+use Rattle.printed_modules.proofs.Functions.{declaration_again, definition_again}
+use Rattle.printed_modules.proofs.ResolvedVariables.{variable_again}
+use Rattle.printed_modules.specs.Known.{FunctionKnown}
 use Rattle.reading_back.specs.Printed.{Paired, IsGlobal, IsDeclared}
 use Rattle.reading_back.specs.Readable.{HeadReadable}
 use Rattle.round_trip.specs.Printable.{IsName}

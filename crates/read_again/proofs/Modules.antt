@@ -26,7 +26,7 @@ use Rattle.read_again.proofs.Names.{fresh, names_differ, names_of}
 use Rattle.read_again.proofs.Passing.{Fresh, Right, globals_pass, no_types, within_pass}
 use Rattle.printed_modules.specs.Modules.{layout, triple, global_value, target, IsItem, AreItems}
 use Rattle.printed_modules.specs.ModulesReadable.{LayoutReadable, ModuleReadable}
-use Rattle.printed_resolves.proofs.Binds.{bound}
+use Rattle.printed_modules.proofs.Binds.{bound}
 use Rattle.reading_back.specs.Printed.{Paired, IsString}
 use Rattle.round_trip.proofs.Quoted.{string_content}
 

@@ -22,8 +22,8 @@ use Rattle.ir_tree.specs.declared.operand.Reg.{Reg}
 use Rattle.ir_tree.specs.declared.operand.Symbol as tree_symbol
 use Rattle.read_again.proofs.Names.{names_of, is_there, printed_name}
 use Rattle.read_again.proofs.Passing.{Inner}
-use Rattle.printed_resolves.proofs.Binds.{bound}
-use Rattle.printed_resolves.proofs.Shapes.{offset_again, shape_again}
+use Rattle.printed_modules.proofs.Binds.{bound}
+use Rattle.printed_modules.proofs.Shapes.{offset_again, shape_again}
 use Rattle.reading_back.specs.Printed.{written_shape, written_parts, IsGlobal, IsDisplaced, IsOperand}
 use Rattle.reading_back.specs.Readable.{SymbolReadable, OperandReadable, ShapeReadable}
 

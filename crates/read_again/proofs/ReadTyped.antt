@@ -52,8 +52,8 @@ use Rattle.reading_back.specs.Readable.{ShapeReadable}
 use Rattle.reading_back.specs.Typed.{ItemTyped, NumberTyped, OperandTyped}
 use Rattle.resolved_forms.specs.Laws.{ShapesAreWithin}
 use Rattle.resolved_forms.specs.Written.{ShapeWritten, TypesWritten}
-use Rattle.spelled_forms.specs.Items.{InitShaped, ItemWritten, PartShaped}
-use Rattle.spelled_forms.specs.Laws.{ItemsAreWritten, TokensAreSized, TypesAreWritten}
+use Rattle.ir_parse.specs.Items.{InitShaped, ItemWritten, PartShaped}
+use Rattle.ir_parse.specs.Spelled.{ItemsAreWritten, TokensAreSized, TypesAreWritten}
 use Rattle.spelled_within.specs.Laws.{ItemsAreWithin, TokensAreCut}
 use Rattle.spelled_within.specs.Spelled.{BeginningSpelled, BlockSpelled, ConstantSpelled, Counted, InitSpelled, ItemSpelled, PartSpelled}
 use Rattle.read_again.specs.Laws.{ReadIsTyped}

@@ -13,8 +13,8 @@ use Rattle.ir_tree.specs.declared.instr.Line.{Line}
 use Rattle.read_again.proofs.Names.{at_place}
 use Rattle.read_again.specs.Within.{FunctionWithin}
 use Rattle.printed_modules.specs.Bodies.{instructions, stated}
-use Rattle.printed_resolves.proofs.Places.{block_defined, local_defined}
-use Rattle.printed_resolves.specs.Sorts.{params_sorts, result_sort, lines_sorts, blocks_sorts, sorts, ParamsFollow, ResultFollows, LinesFollow, BlocksFollow, past, past_lines, past_params, IsNumbered}
+use Rattle.printed_modules.proofs.Places.{block_defined, local_defined}
+use Rattle.printed_modules.specs.Sorts.{params_sorts, result_sort, lines_sorts, blocks_sorts, sorts, ParamsFollow, ResultFollows, LinesFollow, BlocksFollow, past, past_lines, past_params, IsNumbered}
 use Rattle.reading_back.specs.Readable.{IsSmall}
 
 -- ---- how many definitions there are

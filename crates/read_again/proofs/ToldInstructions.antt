@@ -13,12 +13,12 @@ use Rattle.ir_read.specs.Classes.{tokens}
 use Rattle.ir_read.specs.Decimals.{is_alignment}
 use Rattle.ir_read.specs.declared.raw.Argument.{Argument}
 use Rattle.ir_read.specs.declared.raw.Operand.{Operand}
-use Rattle.ir_read.specs.Instructions.{WRAPS, is_nuw, flags, no_flags, PREDICATES, predicate_of}
+use Rattle.ir_instructions.specs.Instructions.{WRAPS, is_nuw, flags, no_flags, PREDICATES, predicate_of}
 use Rattle.ir_read.specs.MetadataAt.{COMMA}
 use Rattle.read_again.proofs.ToldMetadata.{attached_told, attachments_told}
 use Rattle.read_again.proofs.ToldOperands.{reg_told, integer_told, bit_told, scalar_told, maybe_told}
 use Rattle.read_again.proofs.ToldValues.{pointer_told, operand_told, argument_told}
-use Rattle.ir_read.specs.InstructionsAt.{ALIGN, wraps_at, on_two_at, wrapping_at, dividing_at, joining_at, comparing_at, casting_at, extending_at, narrowing_at, other_at, arms_at, selecting_at, freezing_at, aligned_at, align_at, loading_at, stored_at, storing_to_at, storing_at}
+use Rattle.ir_instructions.specs.InstructionsAt.{ALIGN, wraps_at, on_two_at, wrapping_at, dividing_at, joining_at, comparing_at, casting_at, extending_at, narrowing_at, other_at, arms_at, selecting_at, freezing_at, aligned_at, align_at, loading_at, stored_at, storing_to_at, storing_at}
 use Rattle.std.proofs.Common.{refl}
 
 pub wraps_told : Tells wraps_at

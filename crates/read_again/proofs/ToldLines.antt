@@ -6,17 +6,17 @@ use Rattle.ir_lex.specs.Tok.{Tok}
 use Rattle.ir_tree.specs.declared.instr.CastOp.TheVariants as casts
 use Rattle.lto_forms.specs.Alphabet.{among}
 use Rattle.lto_forms.specs.Readers.{Reader}
-use Rattle.ir_read.specs.AddressingAt.{reserving_at, addressing_at}
+use Rattle.ir_instructions.specs.AddressingAt.{reserving_at, addressing_at}
 use Rattle.read_again.proofs.ToldAddressing.{reserving_told, addressing_told}
 use Rattle.ir_read.specs.Classes.{tokens}
 use Rattle.ir_read.specs.declared.raw.Instr.{Instr}
-use Rattle.ir_read.specs.Instructions.{no_flags}
-use Rattle.ir_read.specs.InstructionsAt.{loading_at, storing_at}
+use Rattle.ir_instructions.specs.Instructions.{no_flags}
+use Rattle.ir_instructions.specs.InstructionsAt.{loading_at, storing_at}
 use Rattle.read_again.proofs.ToldInstructions.{on_two_told, wrapping_told, dividing_told, joining_told, comparing_told, casting_told, extending_told, narrowing_told, selecting_told, freezing_told, loading_told, storing_told}
 use Rattle.read_again.proofs.ToldMetadata.{attachments_told}
 use Rattle.ir_read.specs.Operands.{LOCAL}
 use Rattle.read_again.proofs.ToldOperands.{local_told}
-use Rattle.ir_read.specs.PhisAt.{phi_at}
+use Rattle.ir_instructions.specs.PhisAt.{phi_at}
 use Rattle.read_again.proofs.ToldPhis.{phi_told}
 use Rattle.read_again.proofs.ToldCalls.{calling_told, tail_calling_told}
 use Rattle.ir_bodies.specs.Lines.{GIVING, OPCODES, opcode_of, begun_of}

@@ -10,9 +10,9 @@ use Rattle.ir_read.specs.Metadata.{META}
 use Rattle.read_again.proofs.ToldMetadata.{attached_told}
 use Rattle.read_again.proofs.ToldOperands.{reg_told, local_told}
 use Rattle.read_again.proofs.ToldValues.{operand_told}
-use Rattle.ir_read.specs.Phis.{anywhere}
-use Rattle.ir_read.specs.PhisAt.{incoming_at, attaching_at, entering_at, behind_comma_at, further_at, begins, entries_at, phi_of_at, phi_at}
-use Rattle.ir_read.proofs.PhiRules.{further_rule}
+use Rattle.ir_instructions.specs.Phis.{anywhere}
+use Rattle.ir_instructions.specs.PhisAt.{incoming_at, attaching_at, entering_at, behind_comma_at, further_at, begins, entries_at, phi_of_at, phi_at}
+use Rattle.ir_instructions.proofs.PhiRules.{further_rule}
 
 pub incoming_told : (r : Reg) → Tells (incoming_at r)
 unfolding incoming_at

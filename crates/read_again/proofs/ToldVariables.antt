@@ -9,7 +9,7 @@ use Rattle.lto_forms.specs.Alphabet.{among}
 use Rattle.ir_read.specs.Classes.{tokens}
 use Rattle.ir_read.specs.Decimals.{is_alignment}
 use Rattle.ir_read.specs.FunctionHeads.{LINKAGES, linkage_word, QUALIFIERS, nothing_of, name_refusal}
-use Rattle.ir_read.specs.InstructionsAt.{ALIGN}
+use Rattle.ir_instructions.specs.InstructionsAt.{ALIGN}
 use Rattle.ir_read.specs.MetadataAt.{COMMA, PAREN}
 use Rattle.read_again.proofs.ToldMetadata.{attached_told}
 use Rattle.ir_read.specs.Operands.{global_named}

@@ -18,7 +18,7 @@ use Rattle.ir_tree.specs.declared.operand.Reg.{Reg}
 use Rattle.ir_tree.specs.declared.operand.Reg.TheVariants.{Int}
 use Rattle.ir_tree.specs.declared.operand.Symbol.{Symbol}
 use Rattle.read_again.proofs.Each.{front, back}
-use Rattle.printed_resolves.proofs.Variables.{type_again}
+use Rattle.printed_modules.proofs.ResolvedVariables.{type_again}
 use Rattle.read_again.specs.Typed.{InitialTyped, InitialsTyped, InitTyped}
 use Rattle.read_again.specs.Within.{NameWithin, OffsetFits, VariableWithin}
 use Rattle.printed_modules.specs.VariablesReadable.{ConstantReadable, InitialReadable, InitialsReadable, InitReadable, VariableReadable}

@@ -11,7 +11,7 @@ use Rattle.ir_read.specs.Classes.{IsReal, tokens}
 use Rattle.ir_read.specs.FunctionHeads.{GLOBAL, NUMBERED}
 use Rattle.ir_read.specs.MetadataAt.{PAREN}
 use Rattle.ir_read.specs.Operands.{REG}
-use Rattle.ir_read.specs.ShapeForms.{OPEN_ANGLE}
+use Rattle.ir_instructions.specs.ShapeForms.{OPEN_ANGLE}
 use Rattle.ir_read.specs.Targets.{STRING}
 use Rattle.lto_forms.specs.Alphabet.{among}
 use Rattle.lto_forms.specs.Faults.{Extends, LimitGoesOn, NoNumberGoesOn, NoneGoesOn, NumberGoesOn, Viable}

@@ -8,7 +8,7 @@ use ir_edit::{text_order_counts, text_order_is_sound};
 use ir_parse::read_is_parsed;
 use printed_modules::modules_are_read;
 use resolved_forms::shapes_are_within;
-use spelled_forms::{items_are_written, tokens_are_sized, types_are_written};
+use ir_parse::{items_are_written, tokens_are_sized, types_are_written};
 use spelled_within::{contents_are_bytes, items_are_within, tokens_are_cut};
 
 /// The kind of a fault fits the token at which the grammar stops: which tokens are told to be left out of the language, where a

@@ -13,7 +13,7 @@ use Rattle.ir_read.specs.Classes.{refusal}
 use Rattle.ir_read.specs.Decimals as read_decimal
 use Rattle.ir_read.specs.Operands.{is_numeral, named, named_by, LOCAL}
 use Rattle.ir_read.specs.Operands as read
-use Rattle.ir_read.specs.Terminators.{target}
+use Rattle.ir_instructions.specs.Terminators.{target}
 use Rattle.lto_forms.specs.Alphabet.{contains}
 use Rattle.reading_back.specs.Printed.{IsNumber}
 use Rattle.reading_back.specs.Reads.{Reads}

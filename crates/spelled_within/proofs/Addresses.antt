@@ -2,8 +2,8 @@
 use Rattle.std.proofs.Common.{Bool, true, false, [], Option, refl}
 use Rattle.std.specs.List.{AllByRecursion as Each}
 use Rattle.std.specs.Prelude.{IfSome}
-use Rattle.ir_read.specs.Addressing.{addressing, attaching, behind_comma, further, indexing, indices, keep}
-use Rattle.ir_read.specs.ShapeForms.{memory_shape}
+use Rattle.ir_instructions.specs.Addressing.{addressing, attaching, behind_comma, further, indexing, indices, keep}
+use Rattle.ir_instructions.specs.ShapeForms.{memory_shape}
 use Rattle.ir_tree.specs.declared.operand.Reg.TheVariants.{Ptr}
 use Rattle.spelled_within.specs.Spelled.{ArgumentSpelled, InstrSpelled}
 use Rattle.spelled_within.proofs.Means.{Means, chain_means, either_means, follow, kept_means, nothing, skip}

@@ -6,7 +6,7 @@ use Rattle.ir_lex.specs.Heads.{number}
 use Rattle.ir_lex.specs.Tok.{Tok}
 use Rattle.ir_lex.specs.declared.head.Head.TheVariants as heads
 use Rattle.ir_read.specs.FunctionHeads.{GLOBAL as function_names, NUMBERED, function_name, head, is_local, listed_params, params, some_params}
-use Rattle.ir_read.specs.Values.{GLOBAL}
+use Rattle.ir_instructions.specs.Values.{GLOBAL}
 use Rattle.ir_read.specs.declared.function_heads.Role.{Role}
 use Rattle.ir_read.specs.declared.function_heads.Role.TheVariants as roles
 use Rattle.ir_read.specs.declared.raw.Head.{Head}

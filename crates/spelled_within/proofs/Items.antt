@@ -14,7 +14,7 @@ use Rattle.ir_lex.specs.declared.head.Head.TheVariants as heads
 use Rattle.ir_names.specs.Types.{shape_if}
 use Rattle.ir_read.specs.Attributes.{attribute_group}
 use Rattle.ir_read.specs.Classes.{refusal}
-use Rattle.ir_read.specs.ShapeForms.{memory_shape}
+use Rattle.ir_instructions.specs.ShapeForms.{memory_shape}
 use Rattle.ir_read.specs.Targets.{fits_layout, is_layout, layout_line, target_line, triple_line}
 use Rattle.ir_read.specs.declared.function_heads.Role.TheVariants as roles
 use Rattle.ir_read.specs.declared.places.Before.{Before}

@@ -10,12 +10,12 @@ use Rattle.ir_bodies.specs.declared.opcodes.Operation.{Operation}
 use Rattle.ir_bodies.specs.declared.opcodes.Operation.TheVariants as operations
 use Rattle.ir_lex.specs.Heads.{width_of}
 use Rattle.ir_lex.specs.Tok.{Tok}
-use Rattle.ir_read.specs.Addressing.{slots_fit}
-use Rattle.ir_read.specs.Addressing.{fitting, many_slots, one_slot, reserving, slots_behind}
-use Rattle.ir_read.specs.Instructions as instr
+use Rattle.ir_instructions.specs.Addressing.{slots_fit}
+use Rattle.ir_instructions.specs.Addressing.{fitting, many_slots, one_slot, reserving, slots_behind}
+use Rattle.ir_instructions.specs.Instructions as instr
 use Rattle.ir_read.specs.Operands.{width}
-use Rattle.ir_read.specs.ShapeForms.{memory_shape, count_of}
-use Rattle.ir_read.specs.declared.addressing.Slots.{Slots}
+use Rattle.ir_instructions.specs.ShapeForms.{memory_shape, count_of}
+use Rattle.ir_instructions.specs.declared.addressing.Slots.{Slots}
 use Rattle.ir_read.specs.declared.raw.Instr.{Instr}
 use Rattle.ir_tree.specs.declared.instr.BinaryOp.{BinaryOp}
 use Rattle.ir_tree.specs.declared.instr.BinaryOp.TheVariants as ops

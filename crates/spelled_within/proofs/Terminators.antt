@@ -4,11 +4,11 @@ use Rattle.ir_lex.specs.Tok.{Tok}
 use Rattle.ir_lex.specs.declared.head.Head.{Head}
 use Rattle.ir_lex.specs.declared.head.Head.TheVariants as heads
 use Rattle.ir_read.specs.Literals.{literal}
-use Rattle.ir_read.specs.ShapeForms.{memory_shape}
-use Rattle.ir_read.specs.Terminators.{behind_end, branching, case, case_of, constant, matched, matched_by, matched_number, returned, returning, switching, terminator}
-use Rattle.ir_read.specs.declared.terminators.End.{End}
-use Rattle.ir_read.specs.declared.terminators.End.TheVariants as end
-use Rattle.ir_read.specs.declared.terminators.Matched.{Matched}
+use Rattle.ir_instructions.specs.ShapeForms.{memory_shape}
+use Rattle.ir_instructions.specs.Terminators.{behind_end, branching, case, case_of, constant, matched, matched_by, matched_number, returned, returning, switching, terminator}
+use Rattle.ir_instructions.specs.declared.terminators.End.{End}
+use Rattle.ir_instructions.specs.declared.terminators.End.TheVariants as end
+use Rattle.ir_instructions.specs.declared.terminators.Matched.{Matched}
 use Rattle.ir_tree.specs.declared.operand.Reg.{Reg}
 use Rattle.ir_tree.specs.declared.operand.Reg.TheVariants.{Int, Ptr}
 use Rattle.reading_back.specs.Typed.{NumberTyped}

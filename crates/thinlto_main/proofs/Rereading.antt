@@ -32,7 +32,7 @@ use Rattle.link_one.proofs.Bettering.{among_sound}
 use Rattle.link_one.proofs.Compiling.{AreAmong, pairs}
 use Rattle.link_one.proofs.Members.{Stands, all_joined, at_first, contained, either_part, filtered_from, further, mapped_from, of_each, standing, zip_back}
 use Rattle.link_one.proofs.Texts.{all_verified}
-use Rattle.printed_resolves.specs.Sorts.{IsNumbered}
+use Rattle.printed_modules.specs.Sorts.{IsNumbered}
 use Rattle.promote_rename.specs.Suffixes.{suffix_of}
 use Rattle.read_again.specs.Laws.{ReadIsNumbered, TextOrderIsNumbered, VerifiedIsRead}
 use Rattle.read_again.specs.Numbered.{LocalsNumbered, ModuleNumbered, StringsAreBytes}

@@ -5,7 +5,7 @@ use Rattle.ir_lex.specs.Tok.{Tok}
 use Rattle.lto_forms.proofs.Loops.{with_front}
 use Rattle.ir_read.specs.declared.raw.Argument.{Argument}
 use Rattle.ir_read.proofs.Fronts.{front_is}
-use Rattle.ir_read.proofs.Levels.{turns_on}
+use Rattle.ir_instructions.proofs.Levels.{turns_on}
 use Rattle.ir_bodies.specs.CallsAt.{further_of_at, each_further_at, each_behind_at}
 use Rattle.ir_bodies.proofs.Loops.{rest_from}
 use Rattle.ir_bodies.proofs.calls.each_behind_at.Goals as goal

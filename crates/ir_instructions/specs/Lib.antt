@@ -1,0 +1,13 @@
+pub mod Instructions
+pub mod InstructionsAt
+pub mod Terminators
+pub mod TerminatorsAt
+pub mod Phis
+pub mod PhisAt
+pub mod Extents
+pub mod ShapeForms
+pub mod ShapeFormsAt
+pub mod Values
+pub mod ValuesAt
+pub mod Addressing
+pub mod AddressingAt

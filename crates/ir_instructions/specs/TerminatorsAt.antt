@@ -1,0 +1,124 @@
+-- What the readers of terminators give.
+use Rattle.std.specs.Prelude.{ℕ, Option, Some, None, List, [], ◌∷◌}
+use Rattle.ir_lex.specs.declared.head.Head.TheVariants as heads
+use Rattle.ir_lex.specs.Heads.{number}
+use Rattle.ir_lex.specs.Tok.{Tok}
+use Rattle.ir_tree.specs.declared.operand.Reg.{Reg}
+use Rattle.ir_tree.specs.declared.operand.Reg.TheVariants.{Int}
+use Rattle.lto_forms.specs.Alphabet.{among}
+use Rattle.lto_forms.specs.Readers.{Reader, ◌>>=◌, done, pick, token_at, star_at}
+use Rattle.lto_forms.specs.Rules.{is_class, is_valued}
+use Rattle.ir_read.specs.Classes.{tokens, refusal, the_at, one_of_at}
+use Rattle.ir_read.specs.declared.raw.Case.{Case}
+use Rattle.ir_read.specs.declared.raw.Operand.{Operand}
+use Rattle.ir_read.specs.declared.raw.Terminator.{Terminator}
+use Rattle.ir_read.specs.declared.raw.Terminator.TheVariants as terminators
+use Rattle.ir_instructions.specs.declared.terminators.End.{End}
+use Rattle.ir_instructions.specs.declared.terminators.End.TheVariants as end
+use Rattle.ir_instructions.specs.declared.terminators.Ended.{Ended}
+use Rattle.ir_instructions.specs.declared.terminators.Matched.{Matched}
+use Rattle.ir_read.specs.MetadataAt.{attachments_at}
+use Rattle.ir_read.specs.Operands.{REG, type_refusal}
+use Rattle.ir_read.specs.OperandsAt.{reg_at, integer_at, bit_at, result_at, local_at}
+use Rattle.ir_instructions.specs.ValuesAt.{operand_at}
+use Rattle.ir_instructions.specs.Terminators.{case_classes, matched_of, ENDS, ending_of}
+
+abbrev pub LABEL : List ℕ
+LABEL = number heads.LabelType ∷ []
+
+abbrev pub returned_at : Option Reg → Reader Tok Terminator
+returned_at None = done (terminators.Return None)
+returned_at (Some r) = do
+  v ← operand_at r
+  done (terminators.Return (Some (record { reg = r; operand = v })))
+
+unfoldable pub returning_at : Reader Tok Terminator
+returning_at = do
+  r ← result_at
+  returned_at r
+
+unfoldable pub target_at : Reader Tok Tok
+target_at = do
+  _ ← the_at heads.LabelType
+  local_at
+
+-- behind the condition and the first target
+abbrev pub other_branch_at : Operand → Tok → Reader Tok Terminator
+other_branch_at condition if_true = do
+  _ ← the_at heads.Comma
+  if_false ← target_at
+  done (terminators.Branch condition if_true if_false)
+
+-- behind the condition
+abbrev pub branches_at : Operand → Reader Tok Terminator
+branches_at condition = do
+  _ ← the_at heads.Comma
+  if_true ← target_at
+  _ ← the_at heads.Comma
+  if_false ← target_at
+  done (terminators.Branch condition if_true if_false)
+
+unfoldable pub branching_at : Reader Tok Terminator
+branching_at = pick (among tokens LABEL)
+    (do
+      to ← target_at
+      done (terminators.Jump to))
+    (do
+      w ← bit_at
+      condition ← operand_at (Int w)
+      branches_at condition)
+
+abbrev pub constant_at : Reg → Reader Tok Matched
+constant_at r = token_at (is_valued tokens refusal (case_classes r) (matched_of r))
+
+unfoldable pub case_of_at : Reg → Reader Tok Case
+case_of_at r = do
+  m ← constant_at r
+  _ ← the_at heads.Comma
+  to ← target_at
+  done (record { reg = r; width = m.width; bits = m.bits; target = to })
+
+unfoldable pub case_at : Reader Tok Case
+case_at = do
+  r ← reg_at
+  case_of_at r
+
+abbrev pub cases_at : Reader Tok (List Case)
+cases_at = star_at (among tokens REG) case_at
+
+abbrev pub end_of_cases_at : Reader Tok (Unit {0})
+end_of_cases_at = token_at (is_class tokens type_refusal (number heads.CloseBracket))
+
+-- behind the target of what no case has
+abbrev pub switched_at : ℕ → Operand → Tok → Reader Tok Terminator
+switched_at w value default = do
+  _ ← the_at heads.OpenBracket
+  cases ← cases_at
+  _ ← end_of_cases_at
+  done (terminators.Switch w value default cases)
+
+-- behind the value
+abbrev pub switches_at : ℕ → Operand → Reader Tok Terminator
+switches_at w value = do
+  _ ← the_at heads.Comma
+  default ← target_at
+  switched_at w value default
+
+unfoldable pub switching_at : Reader Tok Terminator
+switching_at = do
+  w ← integer_at
+  value ← operand_at (Int w)
+  switches_at w value
+
+abbrev pub behind_end_at : End → Reader Tok Terminator
+behind_end_at end.Ret = returning_at
+behind_end_at end.Br = branching_at
+behind_end_at end.Switch = switching_at
+behind_end_at end.Unreachable = done terminators.Unreachable
+
+unfoldable pub terminator_at : Reader Tok Ended
+terminator_at = do
+  e ← one_of_at ENDS ending_of
+  t ← behind_end_at e.end
+  _ ← attachments_at
+  done (record { terminator = t; line = e.line })

@@ -1,0 +1,341 @@
+//! Reads `alloca` and `getelementptr` (LangRef, "alloca Instruction", "getelementptr Instruction").
+
+ghost use Rattle.std.specs.Prelude.{◌≡◌, ◌*◌, nat_le, true, OnOk};
+ghost use Rattle.ir_lex.specs.Tok.{tok};
+ghost use Rattle.lto_forms.specs.Alphabet.{among};
+ghost use Rattle.lto_forms.specs.Readers.{Gives};
+ghost use Rattle.ir_instructions.specs.Addressing.{keep, slots_fit};
+ghost use Rattle.ir_instructions.specs.AddressingAt.{addressing_at, behind_comma_at, count_in_at, count_means, further_at, indices_at, many_slots_at, one_slot_at, reserved_at, reserving_at, slots_at, slots_behind_at, stepped_at, stepping_by_at};
+ghost use Rattle.ir_read.specs.Classes.{tokens};
+ghost use Rattle.ir_read.specs.declared.raw.Instr.TheVariants as instrs;
+ghost use Rattle.ir_instructions.specs.Extents.{all_nest_within, extent_of, nests_within};
+ghost use Rattle.ir_read.specs.Literals.{IsWidth};
+ghost use Rattle.ir_instructions.specs.ShapeForms.{NUMBER};
+ghost use Rattle.ir_read.specs.Shapes.{parts_of};
+
+use crate::instructions::{align_at, aligned_at};
+use crate::shapes::{Measured, counted, memory_shape_at};
+use crate::values::{argument_at, operand_at, pointer_at, stepping_at};
+use ir_lex::{Head, Token};
+use ir_read::{Argument, Instr, Operand, Shape, ShapeNode, Tokens, Typed, attached_at, done, expect, integer_at, refusal};
+use ir_tree::{Reg, Rows};
+use lto_forms::{Fault, FaultKind, ReadError};
+use std::alloc::{AllocFailed, Global};
+
+/// How many of a shape an `alloca` takes, and their alignment in bytes, where it is written.
+#[derive(Clone, Copy)]
+pub struct Slots {
+    pub count: u64,
+    pub align: Option<u64>,
+}
+
+/// Whether a shape has at most so many levels of arrays and structures.
+#[cycle(levels)]
+fn nests_within(most: u32, shape: &Shape) -> bool
+    ensures { result ≡ nests_within most shape.now }
+{
+    match shape.node() {
+        ShapeNode::Int(_) | ShapeNode::Ptr | ShapeNode::Named(_) => true,
+        ShapeNode::Array(_, of) => 0 < most && nests_within(most - 1, of),
+        ShapeNode::Struct(_, parts) => 0 < most && all_nest_within(most - 1, parts),
+    }
+}
+
+/// Whether each of these shapes has at most so many levels.
+#[cycle(levels)]
+fn all_nest_within(most: u32, parts: &[Shape]) -> bool
+    ensures { result ≡ all_nest_within most (parts_of parts.now) }
+{
+    'each: for part in parts {
+        if !nests_within(most, part) {
+            return false;
+        }
+    }
+    true
+}
+
+/// Whether so many of this size are within the limit on bytes.
+fn is_within(count: u64, size: u64) -> bool
+    ensures { result ≡ nat_le (count * size) 2147483648 }
+{
+    match count.checked_mul(size) {
+        None => false,
+        Some(bytes) => bytes <= 2147483648,
+    }
+}
+
+/// Whether an array of so many of a shape is within the limits; a count of 1 makes none.
+fn slots_fit(shape: &Measured, count: u64) -> bool
+    requires { shape.now.extent ≡ extent_of shape.now.typed.shape }
+    ensures { result ≡ slots_fit shape.now.typed.shape count }
+{
+    count == 1 || nests_within(31, &shape.typed.shape) && is_within(count, shape.extent.size)
+}
+
+/// The count that a literal is, of so many bits, where it is within the limits.
+#[tactic(auto, using(crate::proofs::Counts::count_is))]
+fn fitting_count(shape: &Measured, width: u8, t: &Token) -> Result<u64, FaultKind>
+    requires measured { shape.now.extent ≡ extent_of shape.now.typed.shape }
+    requires ranged { IsWidth width }
+    requires number { among tokens NUMBER (tok t.now) ≡ true }
+    ensures { result ≡ count_means (slots_fit shape.now.typed.shape) width (tok t.now) }
+{
+    match counted(width, t.text) {
+        None => Err(FaultKind::Number),
+        Some(count) => {
+            if slots_fit(shape, count) {
+                Ok(count)
+            } else {
+                Err(FaultKind::Limit)
+            }
+        }
+    }
+}
+
+#[tactic(auto, unfolding(crate::specs::AddressingAt::count_means, lto_forms::specs::Rules::is_valued))]
+fn count_means(shape: &Measured, width: u8, t: &Token) -> Result<u64, FaultKind>
+    requires measured { shape.now.extent ≡ extent_of shape.now.typed.shape }
+    requires ranged { IsWidth width }
+    ensures { result ≡ count_means (slots_fit shape.now.typed.shape) width (tok t.now) }
+{
+    if t.head.is(Head::Number) {
+        fitting_count(shape, width, t)
+    } else {
+        Err(refusal(t.head))
+    }
+}
+
+/// Takes a count of so many bits, from 0 on, of this shape.
+fn count_in_at(shape: &Measured, width: u8, tokens: &mut Tokens) -> Result<u64, ReadError>
+    requires measured { shape.now.extent ≡ extent_of shape.now.typed.shape }
+    requires ranged { IsWidth width }
+    ensures { Gives (λ x. (x, tokens.new)) result (count_in_at (slots_fit shape.now.typed.shape) width tokens.old) }
+{
+    let left = tokens.left();
+    match tokens.take() {
+        None => Err(ReadError::Fault(Fault {
+            left,
+            kind: FaultKind::Syntax,
+        })),
+        Some(t) => match count_means(shape, width, &t) {
+            Ok(x) => Ok(x),
+            Err(kind) => Err(ReadError::Fault(Fault { left, kind })),
+        },
+    }
+}
+
+/// Reads `iN Number [, align N]` and the attachments.
+#[tactic(auto, unfolding(crate::specs::AddressingAt::many_slots_at))]
+fn many_slots_at(alloc: Global, shape: &Measured, tokens: &mut Tokens) -> Result<Slots, ReadError>
+    requires { shape.now.extent ≡ extent_of shape.now.typed.shape }
+    ensures { Gives (λ x. (x, tokens.new)) result (many_slots_at (slots_fit shape.now.typed.shape) tokens.old) }
+{
+    let width = integer_at(tokens)?;
+    let count = count_in_at(shape, width, tokens)?;
+    let align = align_at(alloc, tokens)?;
+    Ok(Slots { count, align })
+}
+
+/// Reads `align N`, or an attachment, and the attachments.
+#[tactic(auto, unfolding(crate::specs::AddressingAt::one_slot_at))]
+fn one_slot_at(alloc: Global, tokens: &mut Tokens) -> Result<Slots, ReadError>
+    ensures { Gives (λ x. (x, tokens.new)) result (one_slot_at tokens.old) }
+{
+    let align = aligned_at(alloc, tokens)?;
+    Ok(Slots { count: 1, align })
+}
+
+/// Reads `iN Number [, align N]` or `align N`, and the attachments.
+fn slots_at(alloc: Global, shape: &Measured, tokens: &mut Tokens) -> Result<Slots, ReadError>
+    requires { shape.now.extent ≡ extent_of shape.now.typed.shape }
+    ensures { Gives (λ x. (x, tokens.new)) result (slots_at (slots_fit shape.now.typed.shape) tokens.old) }
+{
+    if tokens.comes_aligned() {
+        one_slot_at(alloc, tokens)
+    } else {
+        many_slots_at(alloc, shape, tokens)
+    }
+}
+
+/// Reads `[, iN Number] [, align N]` and the attachments.
+#[tactic(auto, unfolding(crate::specs::AddressingAt::slots_behind_at))]
+fn slots_behind_at(alloc: Global, shape: &Measured, tokens: &mut Tokens) -> Result<Slots, ReadError>
+    requires { shape.now.extent ≡ extent_of shape.now.typed.shape }
+    ensures { Gives (λ x. (x, tokens.new)) result (slots_behind_at (slots_fit shape.now.typed.shape) tokens.old) }
+{
+    if !tokens.comes(Head::Comma) {
+        return Ok(Slots {
+            count: 1,
+            align: None,
+        });
+    }
+    expect(Head::Comma, tokens)?;
+    slots_at(alloc, shape, tokens)
+}
+
+fn reserved<'a>(typed: Typed<'a>, slots: Slots) -> Instr<'a>
+    ensures { result ≡ instrs.Alloca typed.entry slots.count slots.align }
+{
+    Instr::Alloca {
+        typed,
+        count: slots.count,
+        align: slots.align,
+    }
+}
+
+/// Reads what follows the shape of an `alloca`.
+fn reserved_at<'a>(
+    alloc: Global,
+    shape: Measured<'a>,
+    tokens: &mut Tokens<'_, 'a>,
+) -> Result<Instr<'a>, ReadError>
+    requires { shape.extent ≡ extent_of shape.typed.shape }
+    ensures { Gives (λ x. (x, tokens.new)) result (reserved_at shape.entry.typed tokens.old) }
+{
+    let slots = slots_behind_at(alloc, &shape, tokens)?;
+    done(reserved(shape.typed, slots))
+}
+
+/// Reads what follows `alloca`.
+#[tactic(auto, unfolding(crate::specs::AddressingAt::reserving_at))]
+pub fn reserving_at<'a>(alloc: Global, tokens: &mut Tokens<'_, 'a>) -> Result<Instr<'a>, ReadError>
+    ensures { Gives (λ x. (x, tokens.new)) result (reserving_at tokens.old) }
+{
+    reserved_at(alloc, memory_shape_at(alloc, tokens)?, tokens)
+}
+
+/// What a comma leads to: an index, or an attachment, behind which only attachments follow.
+#[derive(Drop)]
+struct Further<'a> {
+    index: Option<Argument<'a>>,
+    attached: bool,
+}
+
+/// Reads what follows a comma behind an index, or behind an attachment.
+#[tactic(auto, unfolding(crate::specs::AddressingAt::attaching_at, crate::specs::AddressingAt::indexing_at))]
+fn behind_comma_at<'a>(
+    alloc: Global,
+    attached: bool,
+    tokens: &mut Tokens<'_, 'a>,
+) -> Result<Further<'a>, ReadError>
+    ensures { Gives (λ x. ((x.index, x.attached), tokens.new)) result (behind_comma_at attached tokens.old) }
+{
+    if attached {
+        attached_at(alloc, tokens)?;
+        return Ok(Further {
+            index: None,
+            attached: true,
+        });
+    }
+    if tokens.comes_meta() {
+        attached_at(alloc, tokens)?;
+        Ok(Further {
+            index: None,
+            attached: true,
+        })
+    } else {
+        let index = argument_at(alloc, tokens)?;
+        Ok(Further {
+            index: Some(index),
+            attached: false,
+        })
+    }
+}
+
+#[tactic(auto, unfolding(crate::specs::AddressingAt::further_at))]
+fn further_at<'a>(
+    alloc: Global,
+    attached: bool,
+    tokens: &mut Tokens<'_, 'a>,
+) -> Result<Further<'a>, ReadError>
+    ensures { Gives (λ x. ((x.index, x.attached), tokens.new)) result (further_at attached tokens.old) }
+{
+    expect(Head::Comma, tokens)?;
+    behind_comma_at(alloc, attached, tokens)
+}
+
+/// Adds an index, where there is one.
+fn keep<'a>(
+    indices: &mut Vec<Argument<'a>>,
+    kept: Option<Argument<'a>>,
+) -> Result<(), AllocFailed<Argument<'a>>>
+    ensures { OnOk result (indices.new.items ≡ keep indices.old.items kept.entry) }
+{
+    match kept {
+        None => Ok(()),
+        Some(index) => indices.push(index),
+    }
+}
+
+/// Reads the indices, and the attachments.
+#[tactic(auto, unfolding(crate::specs::AddressingAt::indices_at))]
+fn indices_at<'a>(
+    alloc: Global,
+    tokens: &mut Tokens<'_, 'a>,
+) -> Result<Vec<Argument<'a>>, ReadError>
+    ensures { Gives (λ x. (x.items, tokens.new)) result (indices_at tokens.old) }
+{
+    let mut indices = Vec::new(alloc);
+    let mut attached = false;
+    'each: while tokens.comes(Head::Comma) {
+        let further = further_at(alloc, attached, tokens)?;
+        attached = further.attached;
+        keep(&mut indices, further.index)?;
+    }
+    Ok(indices)
+}
+
+fn stepped<'a>(
+    inbounds: bool,
+    typed: Typed<'a>,
+    base: Operand<'a>,
+    indices: Vec<Argument<'a>>,
+) -> Instr<'a>
+    ensures { result ≡ instrs.Address inbounds typed.entry base.entry indices.entry.items }
+{
+    Instr::Address {
+        inbounds,
+        typed,
+        base,
+        indices: Rows::of(indices),
+    }
+}
+
+/// Reads the indices of a `getelementptr`.
+fn stepped_at<'a>(
+    alloc: Global,
+    inbounds: bool,
+    typed: Typed<'a>,
+    base: Operand<'a>,
+    tokens: &mut Tokens<'_, 'a>,
+) -> Result<Instr<'a>, ReadError>
+    ensures { Gives (λ x. (x, tokens.new)) result (stepped_at inbounds typed.entry base.entry tokens.old) }
+{
+    let indices = indices_at(alloc, tokens)?;
+    done(stepped(inbounds, typed, base, indices))
+}
+
+/// Reads what follows the shape of a `getelementptr`.
+fn stepping_by_at<'a>(
+    alloc: Global,
+    inbounds: bool,
+    typed: Typed<'a>,
+    tokens: &mut Tokens<'_, 'a>,
+) -> Result<Instr<'a>, ReadError>
+    ensures { Gives (λ x. (x, tokens.new)) result (stepping_by_at inbounds typed.entry tokens.old) }
+{
+    expect(Head::Comma, tokens)?;
+    pointer_at(tokens)?;
+    let base = operand_at(alloc, Reg::Ptr, tokens)?;
+    stepped_at(alloc, inbounds, typed, base, tokens)
+}
+
+/// Reads what follows `getelementptr`.
+#[tactic(auto, unfolding(crate::specs::AddressingAt::addressing_at))]
+pub fn addressing_at<'a>(alloc: Global, tokens: &mut Tokens<'_, 'a>) -> Result<Instr<'a>, ReadError>
+    ensures { Gives (λ x. (x, tokens.new)) result (addressing_at tokens.old) }
+{
+    let inbounds = stepping_at(tokens)?;
+    let shape = memory_shape_at(alloc, tokens)?;
+    stepping_by_at(alloc, inbounds, shape.typed, tokens)
+}

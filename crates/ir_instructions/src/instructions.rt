@@ -1,0 +1,499 @@
+//! Reads instructions (LangRef, "Instruction Reference").
+
+ghost use Rattle.std.specs.Prelude.{◌≡◌};
+ghost use Rattle.lto_forms.specs.Alphabet.{among};
+ghost use Rattle.lto_forms.specs.Readers.{Gives, next_is};
+ghost use Rattle.ir_lex.specs.Tok.{tok};
+ghost use Rattle.lto_forms.specs.Rules.{is_among};
+ghost use Rattle.ir_read.specs.Operands.{IsReg};
+ghost use Rattle.ir_tree.specs.declared.operand.Reg.TheVariants.{Int};
+ghost use Rattle.ir_read.specs.declared.raw.Instr.TheVariants as instrs;
+ghost use Rattle.ir_read.specs.Classes.{tokens, refusal, one_of_at};
+ghost use Rattle.ir_instructions.specs.Instructions.{WRAPS, is_nuw, with_wrap, no_flags, PREDICATES, predicate_of};
+ghost use Rattle.ir_instructions.specs.InstructionsAt.{wraps_at, on_two_at, behind_left_at, wrapping_at, dividing_at, joining_at, comparing_at, compared_at, cast_to_at, casting_at, extending_at, narrowing_at, other_at, arms_at, selecting_at, freezing_at, aligned_at, align_at, loaded_at, loading_at, stored_at, storing_to_at, storing_at};
+
+use crate::values::{argument_at, operand_at, pointer_at};
+use ir_lex::{Head, Token};
+use ir_read::{Argument, Instr, Operand, Tokens, alignment_at, attached_at, attachments_at, bit_at, done, expect, integer_at, maybe_at, refusal, reg_at, scalar_at};
+use ir_tree::{BinaryOp, CastOp, Flags, Predicate, Reg};
+use lto_forms::{Fault, FaultKind, ReadError};
+use std::alloc::Global;
+
+/// Takes `nuw` or `nsw`; the answer is whether it is `nuw`.
+#[tactic(auto, unfolding(lto_forms::specs::Rules::is_among))]
+fn wrap_at(tokens: &mut Tokens) -> Result<bool, ReadError>
+    ensures { Gives (λ x. (x, tokens.new)) result (one_of_at WRAPS is_nuw tokens.old) }
+{
+    let left = tokens.left();
+    match tokens.take() {
+        None => Err(ReadError::Fault(Fault {
+            left,
+            kind: FaultKind::Syntax,
+        })),
+        Some(t) => match t.head {
+            Head::Nuw => Ok(true),
+            Head::Nsw => Ok(false),
+            head => Err(ReadError::Fault(Fault {
+                left,
+                kind: refusal(head),
+            })),
+        },
+    }
+}
+
+fn with_wrap(flags: Flags, nuw: bool) -> Flags
+    ensures { result ≡ with_wrap flags nuw }
+{
+    if nuw {
+        Flags {
+            nuw: true,
+            nsw: flags.nsw,
+            exact: flags.exact,
+        }
+    } else {
+        Flags {
+            nuw: flags.nuw,
+            nsw: true,
+            exact: flags.exact,
+        }
+    }
+}
+
+/// Reads the flags `nuw` and `nsw`, any number of them.
+#[tactic(auto, unfolding(crate::specs::InstructionsAt::wraps_at))]
+fn wraps_at(tokens: &mut Tokens) -> Result<Flags, ReadError>
+    ensures { Gives (λ x. (x, tokens.new)) result (wraps_at tokens.old) }
+{
+    let mut flags = Flags {
+        nuw: false,
+        nsw: false,
+        exact: false,
+    };
+    'each: while tokens.comes_wrap() {
+        let nuw = wrap_at(tokens)?;
+        flags = with_wrap(flags, nuw);
+    }
+    Ok(flags)
+}
+
+fn binary<'a>(
+    op: BinaryOp,
+    flags: Flags,
+    width: u8,
+    left: Operand<'a>,
+    right: Operand<'a>,
+) -> Instr<'a>
+    ensures { result ≡ instrs.Binary op flags width left.entry right.entry }
+{
+    Instr::Binary {
+        op,
+        flags,
+        width,
+        left,
+        right,
+    }
+}
+
+/// Reads what follows the left operand of an operation on integers.
+fn behind_left_at<'a>(
+    alloc: Global,
+    op: BinaryOp,
+    flags: Flags,
+    width: u8,
+    left: Operand<'a>,
+    tokens: &mut Tokens<'_, 'a>,
+) -> Result<Instr<'a>, ReadError>
+    requires { IsReg (Int width) }
+    ensures { Gives (λ x. (x, tokens.new)) result (behind_left_at op flags width left.entry tokens.old) }
+{
+    expect(Head::Comma, tokens)?;
+    done(binary(
+        op,
+        flags,
+        width,
+        left,
+        operand_at(alloc, Reg::Int(width), tokens)?,
+    ))
+}
+
+/// Reads `iN operand , operand`.
+#[tactic(auto, unfolding(crate::specs::InstructionsAt::on_two_at))]
+pub fn on_two_at<'a>(
+    alloc: Global,
+    op: BinaryOp,
+    flags: Flags,
+    tokens: &mut Tokens<'_, 'a>,
+) -> Result<Instr<'a>, ReadError>
+    ensures { Gives (λ x. (x, tokens.new)) result (on_two_at op flags tokens.old) }
+{
+    let width = integer_at(tokens)?;
+    let int = Reg::Int(width);
+    behind_left_at(
+        alloc,
+        op,
+        flags,
+        width,
+        operand_at(alloc, int, tokens)?,
+        tokens,
+    )
+}
+
+/// Reads what follows `add`, `sub`, `mul` or `shl`.
+#[tactic(auto, unfolding(crate::specs::InstructionsAt::wrapping_at))]
+pub fn wrapping_at<'a>(
+    alloc: Global,
+    op: BinaryOp,
+    tokens: &mut Tokens<'_, 'a>,
+) -> Result<Instr<'a>, ReadError>
+    ensures { Gives (λ x. (x, tokens.new)) result (wrapping_at op tokens.old) }
+{
+    let flags = wraps_at(tokens)?;
+    on_two_at(alloc, op, flags, tokens)
+}
+
+/// Reads what follows `udiv`, `sdiv`, `lshr` or `ashr`.
+#[tactic(auto, unfolding(crate::specs::InstructionsAt::dividing_at))]
+pub fn dividing_at<'a>(
+    alloc: Global,
+    op: BinaryOp,
+    tokens: &mut Tokens<'_, 'a>,
+) -> Result<Instr<'a>, ReadError>
+    ensures { Gives (λ x. (x, tokens.new)) result (dividing_at op tokens.old) }
+{
+    let exact = maybe_at(Head::Exact, tokens)?;
+    let flags = Flags {
+        nuw: false,
+        nsw: false,
+        exact,
+    };
+    on_two_at(alloc, op, flags, tokens)
+}
+
+/// Reads what follows `or`.
+#[tactic(auto, unfolding(crate::specs::InstructionsAt::joining_at))]
+pub fn joining_at<'a>(alloc: Global, tokens: &mut Tokens<'_, 'a>) -> Result<Instr<'a>, ReadError>
+    ensures { Gives (λ x. (x, tokens.new)) result (joining_at tokens.old) }
+{
+    maybe_at(Head::Disjoint, tokens)?;
+    let flags = Flags {
+        nuw: false,
+        nsw: false,
+        exact: false,
+    };
+    on_two_at(alloc, BinaryOp::Or, flags, tokens)
+}
+
+#[tactic(auto, unfolding(lto_forms::specs::Rules::is_among))]
+fn predicate_means(t: &Token) -> Result<Predicate, FaultKind>
+    ensures { result ≡ is_among tokens refusal PREDICATES predicate_of (tok t.now) }
+{
+    match t.head {
+        Head::Eq => Ok(Predicate::Eq),
+        Head::Ne => Ok(Predicate::Ne),
+        Head::Ugt => Ok(Predicate::Ugt),
+        Head::Uge => Ok(Predicate::Uge),
+        Head::Ult => Ok(Predicate::Ult),
+        Head::Ule => Ok(Predicate::Ule),
+        Head::Sgt => Ok(Predicate::Sgt),
+        Head::Sge => Ok(Predicate::Sge),
+        Head::Slt => Ok(Predicate::Slt),
+        Head::Sle => Ok(Predicate::Sle),
+        head => Err(refusal(head)),
+    }
+}
+
+/// Takes the condition of an `icmp`.
+fn predicate_at(tokens: &mut Tokens) -> Result<Predicate, ReadError>
+    ensures { Gives (λ x. (x, tokens.new)) result (one_of_at PREDICATES predicate_of tokens.old) }
+{
+    let left = tokens.left();
+    match tokens.take() {
+        None => Err(ReadError::Fault(Fault {
+            left,
+            kind: FaultKind::Syntax,
+        })),
+        Some(t) => match predicate_means(&t) {
+            Ok(x) => Ok(x),
+            Err(kind) => Err(ReadError::Fault(Fault { left, kind })),
+        },
+    }
+}
+
+fn compared<'a>(predicate: Predicate, reg: Reg, left: Operand<'a>, right: Operand<'a>) -> Instr<'a>
+    ensures { result ≡ instrs.Icmp predicate reg left.entry right.entry }
+{
+    Instr::Icmp {
+        predicate,
+        reg,
+        left,
+        right,
+    }
+}
+
+/// Reads what follows the left operand of an `icmp`.
+fn compared_at<'a>(
+    alloc: Global,
+    predicate: Predicate,
+    reg: Reg,
+    left: Operand<'a>,
+    tokens: &mut Tokens<'_, 'a>,
+) -> Result<Instr<'a>, ReadError>
+    requires { IsReg reg }
+    ensures { Gives (λ x. (x, tokens.new)) result (compared_at predicate reg left.entry tokens.old) }
+{
+    expect(Head::Comma, tokens)?;
+    done(compared(predicate, reg, left, operand_at(alloc, reg, tokens)?))
+}
+
+/// Reads what follows `icmp`.
+#[tactic(auto, unfolding(crate::specs::InstructionsAt::comparing_at))]
+pub fn comparing_at<'a>(alloc: Global, tokens: &mut Tokens<'_, 'a>) -> Result<Instr<'a>, ReadError>
+    ensures { Gives (λ x. (x, tokens.new)) result (comparing_at tokens.old) }
+{
+    maybe_at(Head::Samesign, tokens)?;
+    let predicate = predicate_at(tokens)?;
+    let reg = reg_at(tokens)?;
+    compared_at(
+        alloc,
+        predicate,
+        reg,
+        operand_at(alloc, reg, tokens)?,
+        tokens,
+    )
+}
+
+fn cast<'a>(op: CastOp, from: Reg, value: Operand<'a>, to: Reg) -> Instr<'a>
+    ensures { result ≡ instrs.Cast op from value.entry to }
+{
+    Instr::Cast {
+        op,
+        from,
+        value,
+        to,
+    }
+}
+
+/// Reads what follows the value that is cast.
+fn cast_to_at<'a>(
+    op: CastOp,
+    from: Reg,
+    value: Operand<'a>,
+    tokens: &mut Tokens<'_, 'a>,
+) -> Result<Instr<'a>, ReadError>
+    ensures { Gives (λ x. (x, tokens.new)) result (cast_to_at op from value.entry tokens.old) }
+{
+    expect(Head::To, tokens)?;
+    done(cast(op, from, value, reg_at(tokens)?))
+}
+
+/// Reads `reg operand to reg`.
+#[tactic(auto, unfolding(crate::specs::InstructionsAt::casting_at))]
+pub fn casting_at<'a>(
+    alloc: Global,
+    op: CastOp,
+    tokens: &mut Tokens<'_, 'a>,
+) -> Result<Instr<'a>, ReadError>
+    ensures { Gives (λ x. (x, tokens.new)) result (casting_at op tokens.old) }
+{
+    let from = reg_at(tokens)?;
+    cast_to_at(op, from, operand_at(alloc, from, tokens)?, tokens)
+}
+
+/// Reads what follows `zext`.
+#[tactic(auto, unfolding(crate::specs::InstructionsAt::extending_at))]
+pub fn extending_at<'a>(
+    alloc: Global,
+    op: CastOp,
+    tokens: &mut Tokens<'_, 'a>,
+) -> Result<Instr<'a>, ReadError>
+    ensures { Gives (λ x. (x, tokens.new)) result (extending_at op tokens.old) }
+{
+    maybe_at(Head::Nneg, tokens)?;
+    casting_at(alloc, op, tokens)
+}
+
+/// Reads what follows `trunc`.
+#[tactic(auto, unfolding(crate::specs::InstructionsAt::narrowing_at))]
+pub fn narrowing_at<'a>(
+    alloc: Global,
+    op: CastOp,
+    tokens: &mut Tokens<'_, 'a>,
+) -> Result<Instr<'a>, ReadError>
+    ensures { Gives (λ x. (x, tokens.new)) result (narrowing_at op tokens.old) }
+{
+    wraps_at(tokens)?;
+    casting_at(alloc, op, tokens)
+}
+
+fn selected<'a>(condition: Operand<'a>, if_true: Argument<'a>, if_false: Argument<'a>) -> Instr<'a>
+    ensures { result ≡ instrs.Select condition.entry if_true.entry if_false.entry }
+{
+    Instr::Select {
+        condition,
+        if_true,
+        if_false,
+    }
+}
+
+/// Reads the second arm of a `select`.
+fn other_at<'a>(
+    alloc: Global,
+    condition: Operand<'a>,
+    if_true: Argument<'a>,
+    tokens: &mut Tokens<'_, 'a>,
+) -> Result<Instr<'a>, ReadError>
+    ensures { Gives (λ x. (x, tokens.new)) result (other_at condition.entry if_true.entry tokens.old) }
+{
+    expect(Head::Comma, tokens)?;
+    done(selected(condition, if_true, argument_at(alloc, tokens)?))
+}
+
+/// Reads the arms of a `select`.
+fn arms_at<'a>(
+    alloc: Global,
+    condition: Operand<'a>,
+    tokens: &mut Tokens<'_, 'a>,
+) -> Result<Instr<'a>, ReadError>
+    ensures { Gives (λ x. (x, tokens.new)) result (arms_at condition.entry tokens.old) }
+{
+    expect(Head::Comma, tokens)?;
+    let if_true = argument_at(alloc, tokens)?;
+    other_at(alloc, condition, if_true, tokens)
+}
+
+/// Reads what follows `select`.
+#[tactic(auto, unfolding(crate::specs::InstructionsAt::selecting_at))]
+pub fn selecting_at<'a>(alloc: Global, tokens: &mut Tokens<'_, 'a>) -> Result<Instr<'a>, ReadError>
+    ensures { Gives (λ x. (x, tokens.new)) result (selecting_at tokens.old) }
+{
+    let width = bit_at(tokens)?;
+    let condition = operand_at(alloc, Reg::Int(width), tokens)?;
+    arms_at(alloc, condition, tokens)
+}
+
+fn frozen<'a>(reg: Reg, value: Operand<'a>) -> Instr<'a>
+    ensures { result ≡ instrs.Freeze reg value.entry }
+{
+    Instr::Freeze { reg, value }
+}
+
+/// Reads what follows `freeze`.
+#[tactic(auto, unfolding(crate::specs::InstructionsAt::freezing_at))]
+pub fn freezing_at<'a>(alloc: Global, tokens: &mut Tokens<'_, 'a>) -> Result<Instr<'a>, ReadError>
+    ensures { Gives (λ x. (x, tokens.new)) result (freezing_at tokens.old) }
+{
+    let reg = reg_at(tokens)?;
+    done(frozen(reg, operand_at(alloc, reg, tokens)?))
+}
+
+/// Reads what follows the comma behind an address: an alignment, or an attachment.
+#[tactic(auto, unfolding(crate::specs::InstructionsAt::aligned_at))]
+pub fn aligned_at(alloc: Global, tokens: &mut Tokens) -> Result<Option<u64>, ReadError>
+    ensures { Gives (λ x. (x, tokens.new)) result (aligned_at tokens.old) }
+{
+    if tokens.comes(Head::Align) {
+        expect(Head::Align, tokens)?;
+        let n = alignment_at(tokens)?;
+        attachments_at(alloc, tokens)?;
+        Ok(Some(n))
+    } else {
+        attached_at(alloc, tokens)?;
+        attachments_at(alloc, tokens)?;
+        Ok(None)
+    }
+}
+
+/// Reads the alignment behind an address, if one stands there, and the attachments.
+#[tactic(auto, unfolding(crate::specs::InstructionsAt::align_at))]
+pub fn align_at(alloc: Global, tokens: &mut Tokens) -> Result<Option<u64>, ReadError>
+    ensures { Gives (λ x. (x, tokens.new)) result (align_at tokens.old) }
+{
+    if tokens.comes(Head::Comma) {
+        expect(Head::Comma, tokens)?;
+        aligned_at(alloc, tokens)
+    } else {
+        Ok(None)
+    }
+}
+
+fn loaded<'a>(reg: Reg, address: Operand<'a>, align: Option<u64>) -> Instr<'a>
+    ensures { result ≡ instrs.Load reg address.entry align }
+{
+    Instr::Load {
+        reg,
+        address,
+        align,
+    }
+}
+
+/// Reads the alignment of a `load`.
+fn loaded_at<'a>(
+    alloc: Global,
+    reg: Reg,
+    address: Operand<'a>,
+    tokens: &mut Tokens<'_, 'a>,
+) -> Result<Instr<'a>, ReadError>
+    ensures { Gives (λ x. (x, tokens.new)) result (loaded_at reg address.entry tokens.old) }
+{
+    done(loaded(reg, address, align_at(alloc, tokens)?))
+}
+
+/// Reads what follows `load`.
+#[tactic(auto, unfolding(crate::specs::InstructionsAt::loading_at))]
+pub fn loading_at<'a>(alloc: Global, tokens: &mut Tokens<'_, 'a>) -> Result<Instr<'a>, ReadError>
+    ensures { Gives (λ x. (x, tokens.new)) result (loading_at tokens.old) }
+{
+    let reg = scalar_at(tokens)?;
+    expect(Head::Comma, tokens)?;
+    pointer_at(tokens)?;
+    loaded_at(alloc, reg, operand_at(alloc, Reg::Ptr, tokens)?, tokens)
+}
+
+fn stored<'a>(reg: Reg, value: Operand<'a>, address: Operand<'a>, align: Option<u64>) -> Instr<'a>
+    ensures { result ≡ instrs.Store reg value.entry address.entry align }
+{
+    Instr::Store {
+        reg,
+        value,
+        address,
+        align,
+    }
+}
+
+/// Reads the alignment of a `store`.
+fn stored_at<'a>(
+    alloc: Global,
+    reg: Reg,
+    value: Operand<'a>,
+    address: Operand<'a>,
+    tokens: &mut Tokens<'_, 'a>,
+) -> Result<Instr<'a>, ReadError>
+    ensures { Gives (λ x. (x, tokens.new)) result (stored_at reg value.entry address.entry tokens.old) }
+{
+    done(stored(reg, value, address, align_at(alloc, tokens)?))
+}
+
+/// Reads what follows the value of a `store`.
+fn storing_to_at<'a>(
+    alloc: Global,
+    reg: Reg,
+    value: Operand<'a>,
+    tokens: &mut Tokens<'_, 'a>,
+) -> Result<Instr<'a>, ReadError>
+    ensures { Gives (λ x. (x, tokens.new)) result (storing_to_at reg value.entry tokens.old) }
+{
+    expect(Head::Comma, tokens)?;
+    pointer_at(tokens)?;
+    let address = operand_at(alloc, Reg::Ptr, tokens)?;
+    stored_at(alloc, reg, value, address, tokens)
+}
+
+/// Reads what follows `store`.
+#[tactic(auto, unfolding(crate::specs::InstructionsAt::storing_at))]
+pub fn storing_at<'a>(alloc: Global, tokens: &mut Tokens<'_, 'a>) -> Result<Instr<'a>, ReadError>
+    ensures { Gives (λ x. (x, tokens.new)) result (storing_at tokens.old) }
+{
+    let reg = scalar_at(tokens)?;
+    let value = operand_at(alloc, reg, tokens)?;
+    storing_to_at(alloc, reg, value, tokens)
+}

@@ -1,0 +1,342 @@
+//! Reads terminators (LangRef, "Terminator Instructions").
+
+ghost use Rattle.std.specs.Prelude.{◌≡◌};
+ghost use Rattle.ir_lex.specs.Tok.{tok};
+ghost use Rattle.lto_forms.specs.Readers.{Gives};
+ghost use Rattle.lto_forms.specs.Rules.{is_among, is_valued};
+ghost use Rattle.ir_read.specs.Classes.{tokens, refusal, one_of_at};
+ghost use Rattle.ir_read.specs.declared.raw.Terminator.TheVariants as terminators;
+ghost use Rattle.ir_read.specs.Operands.{IsReg};
+ghost use Rattle.ir_instructions.specs.Terminators.{case_classes, matched_of, number_matched, ENDS, ending_of};
+ghost use Rattle.ir_instructions.specs.TerminatorsAt.{returning_at, target_at, other_branch_at, branches_at, branching_at, constant_at, case_of_at, case_at, cases_at, end_of_cases_at, switched_at, switches_at, switching_at, behind_end_at, terminator_at};
+
+use crate::values::operand_at;
+use ir_lex::{Head, Token};
+use ir_read::{Argument, Case, Name, Operand, Terminator, Tokens, attachments_at, bit_at, done, expect, integer_at, literal, local_at, refusal, reg_at, result_at, type_refusal};
+use ir_tree::{Reg, Rows};
+use lto_forms::{Fault, FaultKind, ReadError};
+use std::alloc::Global;
+
+/// What a terminator begins with.
+#[derive(Clone, Copy)]
+pub enum End {
+    Ret,
+    Br,
+    Switch,
+    Unreachable,
+}
+
+/// What a terminator begins with, and the line that it begins on.
+#[derive(Clone, Copy)]
+pub struct Ending {
+    pub end: End,
+    pub line: u32,
+}
+
+/// A terminator, and the line of its first token.
+#[derive(Drop)]
+pub struct Ended<'a> {
+    pub terminator: Terminator<'a>,
+    pub line: u32,
+}
+
+/// The number of a case: its width and its bits.
+#[derive(Clone, Copy)]
+pub struct Matched {
+    pub width: u8,
+    pub bits: u64,
+}
+
+/// Reads what follows `ret`.
+#[tactic(auto, unfolding(crate::specs::TerminatorsAt::returning_at))]
+fn returning_at<'a>(alloc: Global, tokens: &mut Tokens<'_, 'a>) -> Result<Terminator<'a>, ReadError>
+    ensures { Gives (λ x. (x, tokens.new)) result (returning_at tokens.old) }
+{
+    match result_at(tokens)? {
+        None => Ok(Terminator::Return(None)),
+        Some(reg) => {
+            let operand = operand_at(alloc, reg, tokens)?;
+            Ok(Terminator::Return(Some(Argument { reg, operand })))
+        }
+    }
+}
+
+/// Reads `label Local`.
+#[tactic(auto, unfolding(crate::specs::TerminatorsAt::target_at))]
+pub fn target_at<'a>(tokens: &mut Tokens<'_, 'a>) -> Result<Name<'a>, ReadError>
+    ensures { Gives (λ x. (x, tokens.new)) result (target_at tokens.old) }
+{
+    expect(Head::LabelType, tokens)?;
+    local_at(tokens)
+}
+
+fn branch<'a>(condition: Operand<'a>, if_true: Name<'a>, if_false: Name<'a>) -> Terminator<'a>
+    ensures { result ≡ terminators.Branch condition.entry if_true.entry if_false.entry }
+{
+    Terminator::Branch {
+        condition,
+        if_true,
+        if_false,
+    }
+}
+
+/// Reads the second target behind a condition.
+fn other_branch_at<'a>(
+    condition: Operand<'a>,
+    if_true: Name<'a>,
+    tokens: &mut Tokens<'_, 'a>,
+) -> Result<Terminator<'a>, ReadError>
+    ensures { Gives (λ x. (x, tokens.new)) result (other_branch_at condition.entry if_true.entry tokens.old) }
+{
+    expect(Head::Comma, tokens)?;
+    let if_false = target_at(tokens)?;
+    done(branch(condition, if_true, if_false))
+}
+
+/// Reads the targets behind a condition.
+fn branches_at<'a>(
+    condition: Operand<'a>,
+    tokens: &mut Tokens<'_, 'a>,
+) -> Result<Terminator<'a>, ReadError>
+    ensures { Gives (λ x. (x, tokens.new)) result (branches_at condition.entry tokens.old) }
+{
+    expect(Head::Comma, tokens)?;
+    let if_true = target_at(tokens)?;
+    other_branch_at(condition, if_true, tokens)
+}
+
+/// Reads what follows `br`.
+#[tactic(auto, unfolding(crate::specs::TerminatorsAt::branching_at))]
+fn branching_at<'a>(alloc: Global, tokens: &mut Tokens<'_, 'a>) -> Result<Terminator<'a>, ReadError>
+    ensures { Gives (λ x. (x, tokens.new)) result (branching_at tokens.old) }
+{
+    if tokens.comes(Head::LabelType) {
+        let to = target_at(tokens)?;
+        done(Terminator::Jump(to))
+    } else {
+        let width = bit_at(tokens)?;
+        let condition = operand_at(alloc, Reg::Int(width), tokens)?;
+        branches_at(condition, tokens)
+    }
+}
+
+fn number_matched(reg: Reg, t: &Token) -> Result<Matched, FaultKind>
+    requires { IsReg reg }
+    ensures { result ≡ number_matched reg (tok t.now) }
+{
+    match reg {
+        Reg::Ptr => Err(FaultKind::Syntax),
+        Reg::Int(width) => match literal(width, t.text) {
+            None => Err(FaultKind::Number),
+            Some(bits) => Ok(Matched { width, bits }),
+        },
+    }
+}
+
+#[tactic(auto, unfolding(lto_forms::specs::Rules::is_valued))]
+fn constant_means(reg: Reg, t: &Token) -> Result<Matched, FaultKind>
+    requires { IsReg reg }
+    ensures { result ≡ is_valued tokens refusal (case_classes reg) (matched_of reg) (tok t.now) }
+{
+    match t.head {
+        Head::Number => number_matched(reg, t),
+        Head::True => Ok(Matched { width: 1, bits: 1 }),
+        Head::False => Ok(Matched { width: 1, bits: 0 }),
+        head => Err(refusal(head)),
+    }
+}
+
+/// Takes the number of a case of this type, `true` or `false`.
+pub fn constant_at(reg: Reg, tokens: &mut Tokens) -> Result<Matched, ReadError>
+    requires { IsReg reg }
+    ensures { Gives (λ x. (x, tokens.new)) result (constant_at reg tokens.old) }
+{
+    let left = tokens.left();
+    match tokens.take() {
+        None => Err(ReadError::Fault(Fault {
+            left,
+            kind: FaultKind::Syntax,
+        })),
+        Some(t) => match constant_means(reg, &t) {
+            Ok(x) => Ok(x),
+            Err(kind) => Err(ReadError::Fault(Fault { left, kind })),
+        },
+    }
+}
+
+/// Reads a case: a type, a number of it, and a target.
+#[tactic(auto, unfolding(crate::specs::TerminatorsAt::case_at, crate::specs::TerminatorsAt::case_of_at))]
+fn case_at<'a>(tokens: &mut Tokens<'_, 'a>) -> Result<Case<'a>, ReadError>
+    ensures { Gives (λ x. (x, tokens.new)) result (case_at tokens.old) }
+{
+    let reg = reg_at(tokens)?;
+    let matched = constant_at(reg, tokens)?;
+    expect(Head::Comma, tokens)?;
+    let target = target_at(tokens)?;
+    Ok(Case {
+        reg,
+        width: matched.width,
+        bits: matched.bits,
+        target,
+    })
+}
+
+/// Reads all cases that stand here.
+fn cases_at<'a>(alloc: Global, tokens: &mut Tokens<'_, 'a>) -> Result<Vec<Case<'a>>, ReadError>
+    ensures { Gives (λ x. (x.items, tokens.new)) result (cases_at tokens.old) }
+{
+    let mut cases = Vec::new(alloc);
+    'each: while tokens.comes_reg() {
+        let case = case_at(tokens)?;
+        cases.push(case)?;
+    }
+    Ok(cases)
+}
+
+/// Takes the bracket behind the cases of a `switch`.
+#[tactic(auto, unfolding(lto_forms::specs::Rules::is_class))]
+fn end_of_cases_at(tokens: &mut Tokens) -> Result<(), ReadError>
+    ensures { Gives (λ x. (tt, tokens.new)) result (end_of_cases_at tokens.old) }
+{
+    let left = tokens.left();
+    match tokens.take() {
+        None => Err(ReadError::Fault(Fault {
+            left,
+            kind: FaultKind::Syntax,
+        })),
+        Some(t) => {
+            if t.head.is(Head::CloseBracket) {
+                Ok(())
+            } else {
+                Err(ReadError::Fault(Fault {
+                    left,
+                    kind: type_refusal(t.head),
+                }))
+            }
+        }
+    }
+}
+
+fn switch<'a>(
+    width: u8,
+    value: Operand<'a>,
+    default: Name<'a>,
+    cases: Vec<Case<'a>>,
+) -> Terminator<'a>
+    ensures { result ≡ terminators.Switch width value.entry default.entry cases.entry.items }
+{
+    Terminator::Switch {
+        width,
+        value,
+        default,
+        cases: Rows::of(cases),
+    }
+}
+
+/// Reads the cases of a `switch`.
+fn switched_at<'a>(
+    alloc: Global,
+    width: u8,
+    value: Operand<'a>,
+    default: Name<'a>,
+    tokens: &mut Tokens<'_, 'a>,
+) -> Result<Terminator<'a>, ReadError>
+    ensures { Gives (λ x. (x, tokens.new)) result (switched_at width value.entry default.entry tokens.old) }
+{
+    expect(Head::OpenBracket, tokens)?;
+    let cases = cases_at(alloc, tokens)?;
+    end_of_cases_at(tokens)?;
+    done(switch(width, value, default, cases))
+}
+
+/// Reads what follows the value of a `switch`.
+fn switches_at<'a>(
+    alloc: Global,
+    width: u8,
+    value: Operand<'a>,
+    tokens: &mut Tokens<'_, 'a>,
+) -> Result<Terminator<'a>, ReadError>
+    ensures { Gives (λ x. (x, tokens.new)) result (switches_at width value.entry tokens.old) }
+{
+    expect(Head::Comma, tokens)?;
+    let default = target_at(tokens)?;
+    switched_at(alloc, width, value, default, tokens)
+}
+
+/// Reads what follows `switch`.
+#[tactic(auto, unfolding(crate::specs::TerminatorsAt::switching_at))]
+fn switching_at<'a>(alloc: Global, tokens: &mut Tokens<'_, 'a>) -> Result<Terminator<'a>, ReadError>
+    ensures { Gives (λ x. (x, tokens.new)) result (switching_at tokens.old) }
+{
+    let width = integer_at(tokens)?;
+    let value = operand_at(alloc, Reg::Int(width), tokens)?;
+    switches_at(alloc, width, value, tokens)
+}
+
+#[tactic(auto, unfolding(lto_forms::specs::Rules::is_among))]
+fn ending_means(t: &Token) -> Result<Ending, FaultKind>
+    ensures { result ≡ is_among tokens refusal ENDS ending_of (tok t.now) }
+{
+    let line = t.line;
+    match t.head {
+        Head::Ret => Ok(Ending {
+            end: End::Ret,
+            line,
+        }),
+        Head::Br => Ok(Ending { end: End::Br, line }),
+        Head::Switch => Ok(Ending {
+            end: End::Switch,
+            line,
+        }),
+        Head::Unreachable => Ok(Ending {
+            end: End::Unreachable,
+            line,
+        }),
+        head => Err(refusal(head)),
+    }
+}
+
+fn ending_at(tokens: &mut Tokens) -> Result<Ending, ReadError>
+    ensures { Gives (λ x. (x, tokens.new)) result (one_of_at ENDS ending_of tokens.old) }
+{
+    let left = tokens.left();
+    match tokens.take() {
+        None => Err(ReadError::Fault(Fault {
+            left,
+            kind: FaultKind::Syntax,
+        })),
+        Some(t) => match ending_means(&t) {
+            Ok(x) => Ok(x),
+            Err(kind) => Err(ReadError::Fault(Fault { left, kind })),
+        },
+    }
+}
+
+fn behind_end_at<'a>(
+    alloc: Global,
+    end: End,
+    tokens: &mut Tokens<'_, 'a>,
+) -> Result<Terminator<'a>, ReadError>
+    ensures { Gives (λ x. (x, tokens.new)) result (behind_end_at end tokens.old) }
+{
+    match end {
+        End::Ret => returning_at(alloc, tokens),
+        End::Br => branching_at(alloc, tokens),
+        End::Switch => switching_at(alloc, tokens),
+        End::Unreachable => Ok(Terminator::Unreachable),
+    }
+}
+
+/// Reads a terminator and its attachments.
+#[tactic(auto, unfolding(crate::specs::TerminatorsAt::terminator_at))]
+pub fn terminator_at<'a>(alloc: Global, tokens: &mut Tokens<'_, 'a>) -> Result<Ended<'a>, ReadError>
+    ensures { Gives (λ x. (x, tokens.new)) result (terminator_at tokens.old) }
+{
+    let ending = ending_at(tokens)?;
+    let terminator = behind_end_at(alloc, ending.end, tokens)?;
+    attachments_at(alloc, tokens)?;
+    Ok(Ended {
+        terminator,
+        line: ending.line,
+    })
+}

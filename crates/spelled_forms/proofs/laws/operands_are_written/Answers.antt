@@ -1,8 +1,0 @@
-use Rattle.spelled_forms.proofs.Written.{arguments, operands}
-use Rattle.spelled_forms.proofs.laws.operands_are_written.Goals as goal
-
-pub returns-clause-operands : goal.returns-clause-operands
-returns-clause-operands c = operands
-
-pub returns-clause-arguments : goal.returns-clause-arguments
-returns-clause-arguments c = arguments

@@ -1,3 +1,0 @@
-pub mod Sized
-pub mod Items
-pub mod Laws
