@@ -21,13 +21,13 @@ use Rattle.lto_forms.proofs.Chains.{chain_lawful}
 use Rattle.lto_forms.proofs.Composed.{all_real}
 use Rattle.lto_forms.proofs.Rules as rules
 use Rattle.lto_forms.proofs.Rules.{apart_from, within_of}
+use Rattle.ir_read.specs.Ahead.{BRACKETS}
 use Rattle.ir_read.specs.Classes.{tokens, IsReal, the, the_at}
 use Rattle.ir_read.specs.declared.raw.InitHead.TheVariants as inits
 use Rattle.ir_read.specs.declared.raw.InitPart.{InitPart}
 use Rattle.ir_read.specs.declared.raw.InitPart.TheVariants as init_parts
 use Rattle.ir_read.specs.MetadataAt.{COMMA}
 use Rattle.ir_instructions.specs.ShapeForms.{any_shape, memory_shape, OPEN_BRACKET, OPEN_BRACE}
-use Rattle.ir_instructions.specs.ShapeFormsAt.{BRACKETS}
 use Rattle.ir_instructions.proofs.LeafRules.{brace_behind_angle_rule}
 use Rattle.ir_read.proofs.OperandRules.{memory_not_number, memory_not_limit}
 use Rattle.ir_instructions.proofs.ShapeRules.{memory_shape_rule}

@@ -9,6 +9,7 @@ use Rattle.lto_forms.specs.Alphabet.{among}
 use Rattle.lto_forms.specs.Chained.{chain_at}
 use Rattle.lto_forms.specs.Readers.{Reader, ◌>>=◌, done, pick, token_at}
 use Rattle.lto_forms.specs.Rules.{is_class}
+use Rattle.ir_read.specs.Ahead.{BRACKETS}
 use Rattle.ir_read.specs.Classes.{tokens, the_at, one_of_at}
 use Rattle.ir_read.specs.declared.raw.Init.{Init}
 use Rattle.ir_read.specs.declared.raw.InitHead.{InitHead}
@@ -19,7 +20,7 @@ use Rattle.ir_read.specs.declared.shape.Typed.{Typed}
 use Rattle.ir_read.specs.MetadataAt.{COMMA}
 use Rattle.ir_read.specs.Operands.{LOCAL, SCALAR}
 use Rattle.ir_instructions.specs.ShapeForms.{OPEN_BRACKET, OPEN_BRACE}
-use Rattle.ir_instructions.specs.ShapeFormsAt.{BRACKETS, brace_behind_angle_at, memory_shape_at}
+use Rattle.ir_instructions.specs.ShapeFormsAt.{brace_behind_angle_at, memory_shape_at}
 use Rattle.ir_globals.specs.ConstantsAt.{constant_at}
 use Rattle.ir_globals.specs.Initialisers.{scalar_of, BYTES, aggregate_of, closing_refusal, Spot, entered, outermost, is_none}
 use Rattle.ir_globals.specs.declared.initialisers.Aggregate.{Aggregate}

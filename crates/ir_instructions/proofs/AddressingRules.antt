@@ -19,9 +19,9 @@ use Rattle.lto_forms.proofs.Rules as rules
 use Rattle.lto_forms.proofs.Rules.{apart_from, within_of}
 use Rattle.ir_instructions.specs.Addressing.{slots_fit, any_slots, fitting, fitting_count, is_count, count_in, many_slots, one_slot, slots_behind, reserving, indexing, attaching, behind_comma, further, indices, addressing}
 use Rattle.ir_instructions.specs.AddressingAt.{passes, too_many, count_means, begins, count_in_at, many_slots_at, one_slot_at, slots_behind_at, reserving_at, indexing_at, attaching_at, behind_comma_at, further_at, indices_at, addressing_at}
+use Rattle.ir_read.specs.Ahead.{ALIGNED}
 use Rattle.ir_read.specs.Classes.{tokens, refusal, NUMERALS}
 use Rattle.ir_read.specs.Literals.{literal}
-use Rattle.ir_instructions.specs.InstructionsAt.{ALIGNED}
 use Rattle.ir_read.specs.Metadata.{META}
 use Rattle.ir_read.specs.MetadataAt.{COMMA, PAREN}
 use Rattle.ir_read.specs.Operands.{INTEGER, REG, SCALAR}

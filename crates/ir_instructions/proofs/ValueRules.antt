@@ -15,6 +15,7 @@ use Rattle.lto_forms.specs.Alphabet.{among, contains}
 use Rattle.lto_forms.specs.Forms.{Star}
 use Rattle.lto_forms.specs.Rules.{Rule, Opens, IsWithin, is_class}
 use Rattle.lto_forms.proofs.Rules as rules
+use Rattle.ir_read.specs.Ahead.{STEPPING}
 use Rattle.ir_read.specs.Classes.{tokens, IsReal, refusal, NUMERALS, the, the_at, one_of, one_of_at}
 use Rattle.ir_read.specs.declared.address.Index.{Index}
 use Rattle.ir_read.specs.declared.shape.Typed.{Typed}
@@ -22,7 +23,7 @@ use Rattle.ir_read.specs.Literals.{literal}
 use Rattle.ir_read.specs.MetadataAt.{COMMA}
 use Rattle.ir_read.specs.Operands.{REG, NUMBER_OPERAND, global_named, type_refusal}
 use Rattle.ir_instructions.specs.ShapeForms.{any_shape, memory_shape}
-use Rattle.ir_instructions.specs.Values.{STEPPING, is_inbounds, stepping, NUMBER, index_of, index_number, index, GLOBAL, global, closing_one, closing, opened, opening, reached, address_behind, address, operand, argument, pointer}
+use Rattle.ir_instructions.specs.Values.{is_inbounds, stepping, NUMBER, index_of, index_number, index, GLOBAL, global, closing_one, closing, opened, opening, reached, address_behind, address, operand, argument, pointer}
 use Rattle.ir_instructions.specs.ValuesAt.{ADDRESS, pointer_at, stepping_at, index_number_at, index_at, indices_at, closing_one_at, closing_at, opened_at, opening_at, openings_at, global_at, reached_at, address_behind_at, address_at, operand_at, argument_at}
 use Rattle.ir_read.proofs.OperandRules.{type_not_number, type_not_limit, zero_below, reg_rule, integer_rule, global_within, simple_rule}
 use Rattle.ir_instructions.proofs.ShapeRules.{SHAPE, memory_shape_rule}

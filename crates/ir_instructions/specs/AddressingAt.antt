@@ -9,6 +9,7 @@ use Rattle.lto_forms.specs.Chained.{chain_at}
 use Rattle.lto_forms.specs.declared.fault.FaultKind.{FaultKind}
 use Rattle.lto_forms.specs.declared.fault.FaultKind.TheVariants.{Limit}
 use Rattle.lto_forms.specs.Readers.{Reader, ◌>>=◌, done, pick, token_at}
+use Rattle.ir_read.specs.Ahead.{ALIGNED}
 use Rattle.ir_read.specs.Classes.{tokens, the_at}
 use Rattle.ir_instructions.specs.declared.addressing.Slots.{Slots}
 use Rattle.ir_read.specs.declared.raw.Argument.{Argument}
@@ -17,7 +18,7 @@ use Rattle.ir_read.specs.declared.raw.Instr.TheVariants as instrs
 use Rattle.ir_read.specs.declared.raw.Operand.{Operand}
 use Rattle.ir_read.specs.declared.shape.Typed.{Typed}
 use Rattle.ir_instructions.specs.Addressing.{slots, slots_fit, is_count, keep}
-use Rattle.ir_instructions.specs.InstructionsAt.{ALIGNED, aligned_at, align_at}
+use Rattle.ir_instructions.specs.InstructionsAt.{aligned_at, align_at}
 use Rattle.ir_read.specs.Metadata.{META}
 use Rattle.ir_read.specs.MetadataAt.{COMMA, attached_at}
 use Rattle.ir_read.specs.OperandsAt.{integer_at}

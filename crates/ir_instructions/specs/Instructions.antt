@@ -15,6 +15,7 @@ use Rattle.ir_tree.specs.declared.instr.Predicate.TheVariants as predicates
 use Rattle.ir_tree.specs.declared.operand.Reg.{Reg}
 use Rattle.ir_tree.specs.declared.operand.Reg.TheVariants.{Int, Ptr}
 use Rattle.lto_forms.specs.Forms.{Form, ◌>>=◌, either, gives, token, Star}
+use Rattle.ir_read.specs.Ahead.{WRAPS}
 use Rattle.ir_read.specs.Classes.{tokens, the, one_of}
 use Rattle.ir_read.specs.Decimals.{is_alignment}
 use Rattle.ir_read.specs.declared.raw.Instr.{Instr}
@@ -25,9 +26,6 @@ use Rattle.ir_read.specs.Operands.{reg, integer, bit, scalar, maybe}
 use Rattle.ir_instructions.specs.Values.{pointer, operand, argument}
 
 -- ---- flags
-
-abbrev pub WRAPS : List ℕ
-WRAPS = number heads.Nuw ∷ number heads.Nsw ∷ []
 
 abbrev pub is_nuw : Tok → Bool
 is_nuw t = nat_eq (number t.head) (number heads.Nuw)

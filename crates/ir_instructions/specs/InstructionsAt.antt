@@ -13,13 +13,14 @@ use Rattle.ir_tree.specs.declared.operand.Reg.{Reg}
 use Rattle.ir_tree.specs.declared.operand.Reg.TheVariants.{Int, Ptr}
 use Rattle.lto_forms.specs.Alphabet.{among}
 use Rattle.lto_forms.specs.Readers.{Reader, ◌>>=◌, done, pick, token_at, star_at}
+use Rattle.ir_read.specs.Ahead.{WRAPS}
 use Rattle.ir_read.specs.Classes.{tokens, the_at, one_of_at}
 use Rattle.ir_read.specs.Decimals.{is_alignment}
 use Rattle.ir_read.specs.declared.raw.Argument.{Argument}
 use Rattle.ir_read.specs.declared.raw.Instr.{Instr}
 use Rattle.ir_read.specs.declared.raw.Instr.TheVariants as instrs
 use Rattle.ir_read.specs.declared.raw.Operand.{Operand}
-use Rattle.ir_instructions.specs.Instructions.{WRAPS, is_nuw, flags, with_wrap, no_flags, PREDICATES, predicate_of}
+use Rattle.ir_instructions.specs.Instructions.{is_nuw, flags, with_wrap, no_flags, PREDICATES, predicate_of}
 use Rattle.ir_read.specs.Metadata.{META}
 use Rattle.ir_read.specs.MetadataAt.{COMMA, attached_at, attachments_at}
 use Rattle.ir_read.specs.OperandsAt.{reg_at, integer_at, bit_at, scalar_at, maybe_at}
@@ -27,10 +28,6 @@ use Rattle.ir_instructions.specs.ValuesAt.{pointer_at, operand_at, argument_at}
 
 abbrev pub ALIGN : List ℕ
 ALIGN = number heads.Align ∷ []
-
--- what may begin an alignment, or an attachment in its place
-abbrev pub ALIGNED : List ℕ
-ALIGNED = number heads.Align ∷ META
 
 unfoldable pub wraps_at : Reader Tok Flags
 wraps_at = do

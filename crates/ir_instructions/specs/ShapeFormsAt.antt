@@ -8,6 +8,7 @@ use Rattle.lto_forms.specs.Chained.{chain_at}
 use Rattle.lto_forms.specs.declared.fault.FaultKind.TheVariants.{Limit}
 use Rattle.lto_forms.specs.Readers.{Reader, ◌>>=◌, done, fault_at, pick, token_at}
 use Rattle.lto_forms.specs.Rules.{is_class, is_valued}
+use Rattle.ir_read.specs.Ahead.{BRACKETS}
 use Rattle.ir_read.specs.Classes.{tokens, refusal, the_at, one_of_at}
 use Rattle.ir_instructions.specs.declared.extents.Extent.{Extent}
 use Rattle.ir_instructions.specs.declared.extents.Room.{Room}
@@ -16,9 +17,6 @@ use Rattle.ir_instructions.specs.Extents.{extent_of, grown, left, no_bytes, shar
 use Rattle.ir_read.specs.MetadataAt.{COMMA}
 use Rattle.ir_instructions.specs.ShapeForms.{typed, line_of, leaf_means, NUMBER, count_of, OPEN_BRACKET, OPEN_BRACE, OPEN_ANGLE, anywhere, angle_refusal}
 use Rattle.ir_read.specs.Shapes.{Written, array, structure, parts_of}
-
-abbrev pub BRACKETS : List ℕ
-BRACKETS = number heads.OpenBracket ∷ number heads.OpenBrace ∷ number heads.OpenAngle ∷ []
 
 abbrev pub CLOSE_BRACE : List ℕ
 CLOSE_BRACE = number heads.CloseBrace ∷ []

@@ -7,6 +7,7 @@ use Rattle.ir_lex.specs.Tok.{Tok}
 use Rattle.ir_tree.specs.declared.operand.Reg.{Reg}
 use Rattle.lto_forms.specs.Forms.{Form, ◌>>=◌, either, gives, token, Star}
 use Rattle.lto_forms.specs.Rules.{is_class, is_valued}
+use Rattle.ir_read.specs.Ahead.{STEPPING}
 use Rattle.ir_read.specs.Classes.{tokens, refusal, the, one_of}
 use Rattle.ir_read.specs.declared.address.Index.{Index}
 use Rattle.ir_read.specs.declared.address.Level.{Level}
@@ -23,9 +24,6 @@ abbrev pub pointer : Form Tok (Unit {0})
 pointer = token (is_class tokens type_refusal (number heads.Ptr))
 
 -- ---- flags of getelementptr
-
-abbrev pub STEPPING : List ℕ
-STEPPING = number heads.Inbounds ∷ number heads.Nuw ∷ number heads.Nusw ∷ []
 
 abbrev pub is_inbounds : Tok → Bool
 is_inbounds t = nat_eq (number t.head) (number heads.Inbounds)

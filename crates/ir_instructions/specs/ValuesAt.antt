@@ -8,6 +8,7 @@ use Rattle.ir_tree.specs.declared.operand.Reg.{Reg}
 use Rattle.lto_forms.specs.Alphabet.{among}
 use Rattle.lto_forms.specs.Readers.{Reader, ◌>>=◌, done, pick, token_at, star_at}
 use Rattle.lto_forms.specs.Rules.{is_class, is_valued}
+use Rattle.ir_read.specs.Ahead.{STEPPING}
 use Rattle.ir_read.specs.Classes.{tokens, refusal, the_at, one_of_at}
 use Rattle.ir_read.specs.declared.address.Index.{Index}
 use Rattle.ir_read.specs.declared.address.Level.{Level}
@@ -19,7 +20,7 @@ use Rattle.ir_read.specs.MetadataAt.{COMMA}
 use Rattle.ir_read.specs.Operands.{type_refusal, global_named}
 use Rattle.ir_read.specs.OperandsAt.{reg_at, integer_at, simple_at}
 use Rattle.ir_instructions.specs.ShapeFormsAt.{memory_shape_at}
-use Rattle.ir_instructions.specs.Values.{STEPPING, is_inbounds, or_inbounds, NUMBER, index_of, GLOBAL, level, steps}
+use Rattle.ir_instructions.specs.Values.{is_inbounds, or_inbounds, NUMBER, index_of, GLOBAL, level, steps}
 
 abbrev pub ADDRESS : List ℕ
 ADDRESS = number heads.GetElementPtr ∷ []

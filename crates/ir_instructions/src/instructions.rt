@@ -5,11 +5,12 @@ ghost use Rattle.lto_forms.specs.Alphabet.{among};
 ghost use Rattle.lto_forms.specs.Readers.{Gives, next_is};
 ghost use Rattle.ir_lex.specs.Tok.{tok};
 ghost use Rattle.lto_forms.specs.Rules.{is_among};
+ghost use Rattle.ir_read.specs.Ahead.{WRAPS};
 ghost use Rattle.ir_read.specs.Operands.{IsReg};
 ghost use Rattle.ir_tree.specs.declared.operand.Reg.TheVariants.{Int};
 ghost use Rattle.ir_read.specs.declared.raw.Instr.TheVariants as instrs;
 ghost use Rattle.ir_read.specs.Classes.{tokens, refusal, one_of_at};
-ghost use Rattle.ir_instructions.specs.Instructions.{WRAPS, is_nuw, with_wrap, no_flags, PREDICATES, predicate_of};
+ghost use Rattle.ir_instructions.specs.Instructions.{is_nuw, with_wrap, no_flags, PREDICATES, predicate_of};
 ghost use Rattle.ir_instructions.specs.InstructionsAt.{wraps_at, on_two_at, behind_left_at, wrapping_at, dividing_at, joining_at, comparing_at, compared_at, cast_to_at, casting_at, extending_at, narrowing_at, other_at, arms_at, selecting_at, freezing_at, aligned_at, align_at, loaded_at, loading_at, stored_at, storing_to_at, storing_at};
 
 use crate::values::{argument_at, operand_at, pointer_at};

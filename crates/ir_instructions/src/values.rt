@@ -6,10 +6,11 @@ ghost use Rattle.ir_lex.specs.Tok.{tok};
 ghost use Rattle.lto_forms.specs.Alphabet.{among};
 ghost use Rattle.lto_forms.specs.Readers.{Gives, done, follow};
 ghost use Rattle.lto_forms.specs.Rules.{is_valued};
+ghost use Rattle.ir_read.specs.Ahead.{STEPPING};
 ghost use Rattle.ir_read.specs.Classes.{tokens, refusal, one_of_at};
 ghost use Rattle.ir_read.specs.Literals.{IsWidth};
 ghost use Rattle.ir_read.specs.Operands.{IsReg, global_named};
-ghost use Rattle.ir_instructions.specs.Values.{GLOBAL, NUMBER, STEPPING, index_of, is_inbounds, or_inbounds};
+ghost use Rattle.ir_instructions.specs.Values.{GLOBAL, NUMBER, index_of, is_inbounds, or_inbounds};
 ghost use Rattle.ir_instructions.specs.ValuesAt.{address_at, argument_at, closing_at, closing_one_at, global_at, index_at, index_number_at, indices_at, opened_at, opening_at, openings_at, operand_at, pointer_at, reached_at, stepping_at};
 
 use crate::shapes::memory_shape_at;

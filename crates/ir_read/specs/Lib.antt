@@ -6,6 +6,7 @@ pub mod Classes
 pub mod Decimals
 pub mod Metadata
 pub mod MetadataAt
+pub mod Ahead
 pub mod Shapes
 pub mod ShapeSizes
 pub mod ShapeViews

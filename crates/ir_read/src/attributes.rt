@@ -14,7 +14,7 @@ ghost use Rattle.ir_read.specs.Metadata.{META};
 ghost use Rattle.ir_read.specs.Operands.{group_named};
 
 use crate::brackets::{Bracket, group_at};
-use crate::done::done;
+use crate::finished::done;
 use crate::metadata::attached_at;
 use crate::name::Name;
 use crate::numerals::alignment_at;

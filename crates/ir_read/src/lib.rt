@@ -8,7 +8,7 @@
 mod address;
 mod attributes;
 mod brackets;
-mod done;
+mod finished;
 mod function_heads;
 mod literals;
 mod metadata;
@@ -41,7 +41,7 @@ pub use brackets::Bracket;
 pub use brackets::BracketMove;
 pub use brackets::group_at;
 pub use brackets::move_of;
-pub use done::done;
+pub use finished::done;
 pub use function_heads::Role;
 pub use function_heads::comes_qualifier;
 pub use function_heads::head_at;

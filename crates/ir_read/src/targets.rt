@@ -8,7 +8,7 @@ ghost use Rattle.ir_read.specs.declared.raw.Item.TheVariants as items;
 ghost use Rattle.ir_read.specs.Targets.{STRING, until, after, has_64_bits, fits_item, fits_layout, is_layout};
 ghost use Rattle.ir_read.specs.TargetsAt.{layout_line_at, triple_line_at, targeted_at, target_line_at, source_line_at, comdat_line_at};
 
-use crate::done::done;
+use crate::finished::done;
 use crate::name::Name;
 use crate::raw::Item;
 use crate::terminals::{expect, refusal};

@@ -5,13 +5,10 @@ ghost use Rattle.ir_lex.specs.Heads.{number};
 ghost use Rattle.ir_lex.specs.Tok.{tok, toks};
 ghost use Rattle.lto_forms.specs.Alphabet.{among};
 ghost use Rattle.lto_forms.specs.Readers.{next_is};
+ghost use Rattle.ir_read.specs.Ahead.{ALIGNED, BRACKETS, STEPPING, WRAPS};
 ghost use Rattle.ir_read.specs.Classes.{tokens, NextHead};
-ghost use Rattle.ir_instructions.specs.Instructions.{WRAPS};
-ghost use Rattle.ir_instructions.specs.InstructionsAt.{ALIGNED};
 ghost use Rattle.ir_read.specs.Metadata.{META};
 ghost use Rattle.ir_read.specs.Operands.{REG};
-ghost use Rattle.ir_instructions.specs.ShapeFormsAt.{BRACKETS};
-ghost use Rattle.ir_instructions.specs.Values.{STEPPING};
 
 use ir_lex::{Head, Token};
 use std::marker::Model;

@@ -15,8 +15,8 @@ use Rattle.lto_forms.specs.declared.fault.FaultKind.TheVariants.{Number, Limit}
 use Rattle.lto_forms.specs.declared.fault.FaultKind.{FaultKind}
 use Rattle.ir_instructions.specs.Addressing.{slots_fit, any_slots, one_slot, slots_behind, reserving, indexing, attaching, behind_comma, further, indices, addressing, fitting, is_count, count_in, many_slots}
 use Rattle.ir_instructions.specs.AddressingAt.{begins, one_slot_at, slots_behind_at, reserving_at, indexing_at, attaching_at, behind_comma_at, further_at, indices_at, addressing_at, passes, count_means, count_in_at, many_slots_at}
+use Rattle.ir_read.specs.Ahead.{ALIGNED}
 use Rattle.ir_read.specs.Classes.{tokens, refusal}
-use Rattle.ir_instructions.specs.InstructionsAt.{ALIGNED}
 use Rattle.ir_read.specs.Literals.{literal}
 use Rattle.ir_read.specs.Metadata.{META}
 use Rattle.ir_read.specs.MetadataAt.{COMMA}

@@ -21,11 +21,12 @@ use Rattle.lto_forms.specs.Rules.{is_class}
 use Rattle.lto_forms.specs.declared.fault.Fault.{Fault}
 use Rattle.lto_forms.specs.declared.fault.FaultKind.TheVariants.{Syntax, Profile, Limit}
 use Rattle.lto_forms.specs.declared.fault.FaultKind.{FaultKind}
+use Rattle.ir_read.specs.Ahead.{BRACKETS}
 use Rattle.ir_read.specs.Classes.{tokens, IsReal, refusal, the, the_at}
 use Rattle.ir_instructions.specs.Extents.{left, shared, whole}
 use Rattle.ir_read.specs.Operands.{memory_refusal}
 use Rattle.ir_instructions.specs.ShapeForms.{any_shape, OPEN_BRACKET, OPEN_BRACE, OPEN_ANGLE}
-use Rattle.ir_instructions.specs.ShapeFormsAt.{BRACKETS, array_at, innermost_at, leaf_at, memory_shape_at, packed_at, shape_at, shape_over_at, structure_at}
+use Rattle.ir_instructions.specs.ShapeFormsAt.{array_at, innermost_at, leaf_at, memory_shape_at, packed_at, shape_at, shape_over_at, structure_at}
 use Rattle.ir_instructions.specs.declared.extents.Extent.{Extent}
 use Rattle.ir_instructions.specs.declared.extents.Room.{Room}
 use Rattle.ir_read.specs.declared.raw.InitHead.TheVariants as inits

@@ -12,12 +12,13 @@ use Rattle.lto_forms.specs.Readers.{Reader, token_means}
 use Rattle.lto_forms.specs.Rules.{in_range, is_class, is_valued}
 use Rattle.lto_forms.specs.declared.fault.FaultKind.TheVariants.{Number, Limit}
 use Rattle.lto_forms.specs.declared.fault.FaultKind.{FaultKind}
+use Rattle.ir_read.specs.Ahead.{BRACKETS}
 use Rattle.ir_read.specs.Classes.{tokens, IsReal, refusal, the, the_at}
 use Rattle.ir_instructions.specs.Extents.{extent_of, grown, left, no_bytes, room_for, shared, whole}
 use Rattle.ir_read.specs.MetadataAt.{COMMA}
 use Rattle.ir_read.specs.Operands.{SCALAR, memory_refusal}
 use Rattle.ir_instructions.specs.ShapeForms.{NUMBER, OPEN_ANGLE, OPEN_BRACE, OPEN_BRACKET, angle_refusal, anywhere, any_shape, array_of, brace_behind_angle, count, count_of, elements, further, has_room, is_leaf, leaf, leaf_means, line_of, members, more_members, packed_behind, packed_of, scalar_align, scalar_typed, shape_over, structure_of, type_name}
-use Rattle.ir_instructions.specs.ShapeFormsAt.{BRACKETS, CLOSE_BRACE, leaf_at, innermost_at, count_at, elements_at, array_at, further_at, begins, more_members_at, members_at, structure_at, brace_behind_angle_at, packed_behind_at, packed_at, shape_over_at, shape_at, memory_shape_at}
+use Rattle.ir_instructions.specs.ShapeFormsAt.{CLOSE_BRACE, leaf_at, innermost_at, count_at, elements_at, array_at, further_at, begins, more_members_at, members_at, structure_at, brace_behind_angle_at, packed_behind_at, packed_at, shape_over_at, shape_at, memory_shape_at}
 use Rattle.ir_read.specs.Shapes.{Written}
 use Rattle.ir_instructions.specs.declared.extents.Align.TheVariants.{One, Two, Four, Eight}
 use Rattle.ir_instructions.specs.declared.extents.Align.{Align}

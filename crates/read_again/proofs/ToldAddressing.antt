@@ -6,12 +6,12 @@ use Rattle.ir_lex.specs.Tok.{Tok}
 use Rattle.ir_tree.specs.declared.operand.Reg.TheVariants.{Ptr}
 use Rattle.lto_forms.specs.Alphabet.{among}
 use Rattle.lto_forms.specs.declared.fault.FaultKind.TheVariants.{Limit}
+use Rattle.ir_read.specs.Ahead.{ALIGNED}
 use Rattle.ir_read.specs.Classes.{tokens, refusal}
 use Rattle.ir_read.specs.declared.raw.Operand.{Operand}
 use Rattle.ir_read.specs.declared.shape.Typed.{Typed}
 use Rattle.ir_instructions.specs.Addressing.{slots_fit, is_count, fitting_count}
 use Rattle.read_again.proofs.ToldInstructions.{aligned_told, align_told}
-use Rattle.ir_instructions.specs.InstructionsAt.{ALIGNED}
 use Rattle.ir_read.specs.Metadata.{META}
 use Rattle.ir_read.specs.MetadataAt.{COMMA}
 use Rattle.read_again.proofs.ToldMetadata.{attached_told}

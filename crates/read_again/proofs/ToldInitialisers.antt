@@ -6,10 +6,10 @@ use Rattle.ir_lex.specs.declared.head.Head.TheVariants as heads
 use Rattle.ir_lex.specs.Heads.{number}
 use Rattle.ir_tree.specs.declared.operand.Reg.{Reg}
 use Rattle.lto_forms.specs.Alphabet.{among}
+use Rattle.ir_read.specs.Ahead.{BRACKETS}
 use Rattle.ir_read.specs.Classes.{tokens}
 use Rattle.ir_read.specs.declared.raw.InitHead.TheVariants as inits
 use Rattle.ir_instructions.specs.ShapeForms.{OPEN_ANGLE, OPEN_BRACKET, OPEN_BRACE}
-use Rattle.ir_instructions.specs.ShapeFormsAt.{BRACKETS}
 use Rattle.read_again.proofs.ToldShapeForms.{memory_shape_told}
 use Rattle.read_again.proofs.ToldConstants.{constant_told}
 use Rattle.ir_globals.specs.Initialisers.{scalar_of, BYTES, aggregate_of, closing_refusal, Spot, outermost, is_none}

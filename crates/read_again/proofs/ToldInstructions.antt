@@ -9,11 +9,12 @@ use Rattle.ir_tree.specs.declared.instr.Flags.{Flags}
 use Rattle.ir_tree.specs.declared.operand.Reg.{Reg}
 use Rattle.ir_tree.specs.declared.operand.Reg.TheVariants.{Int, Ptr}
 use Rattle.lto_forms.specs.Alphabet.{among}
+use Rattle.ir_read.specs.Ahead.{WRAPS}
 use Rattle.ir_read.specs.Classes.{tokens}
 use Rattle.ir_read.specs.Decimals.{is_alignment}
 use Rattle.ir_read.specs.declared.raw.Argument.{Argument}
 use Rattle.ir_read.specs.declared.raw.Operand.{Operand}
-use Rattle.ir_instructions.specs.Instructions.{WRAPS, is_nuw, flags, no_flags, PREDICATES, predicate_of}
+use Rattle.ir_instructions.specs.Instructions.{is_nuw, flags, no_flags, PREDICATES, predicate_of}
 use Rattle.ir_read.specs.MetadataAt.{COMMA}
 use Rattle.read_again.proofs.ToldMetadata.{attached_told, attachments_told}
 use Rattle.read_again.proofs.ToldOperands.{reg_told, integer_told, bit_told, scalar_told, maybe_told}

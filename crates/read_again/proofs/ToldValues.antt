@@ -5,13 +5,14 @@ use Rattle.ir_lex.specs.declared.head.Head.TheVariants as heads
 use Rattle.ir_lex.specs.Heads.{number}
 use Rattle.ir_tree.specs.declared.operand.Reg.{Reg}
 use Rattle.lto_forms.specs.Alphabet.{among}
+use Rattle.ir_read.specs.Ahead.{STEPPING}
 use Rattle.ir_read.specs.Classes.{tokens, refusal}
 use Rattle.ir_read.specs.declared.shape.Typed.{Typed}
 use Rattle.ir_read.specs.MetadataAt.{COMMA}
 use Rattle.ir_read.specs.Operands.{type_refusal, global_named}
 use Rattle.read_again.proofs.ToldOperands.{reg_told, integer_told, simple_told}
 use Rattle.read_again.proofs.ToldShapeForms.{memory_shape_told}
-use Rattle.ir_instructions.specs.Values.{STEPPING, is_inbounds, NUMBER, index_of, GLOBAL}
+use Rattle.ir_instructions.specs.Values.{is_inbounds, NUMBER, index_of, GLOBAL}
 use Rattle.ir_instructions.specs.ValuesAt.{ADDRESS, pointer_at, stepping_at, index_number_at, index_at, indices_at, closing_one_at, closing_at, opened_at, opening_at, openings_at, global_at, reached_at, address_behind_at, address_at, operand_at, argument_at}
 use Rattle.std.proofs.Common.{refl}
 

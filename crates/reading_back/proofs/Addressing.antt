@@ -12,10 +12,11 @@ use Rattle.ir_print.specs.Operands.{further_typed}
 use Rattle.ir_print.specs.Tokens.{space, word, comma, optional}
 use Rattle.ir_print.specs.Types.{shape}
 use Rattle.ir_instructions.specs.Addressing.{one_slot, slots_behind, reserving, indexing, further, keep, indices, addressing, slots_fit}
+use Rattle.ir_read.specs.Ahead.{STEPPING}
 use Rattle.ir_read.specs.Classes.{refusal, one_of}
 use Rattle.ir_instructions.specs.Phis.{anywhere}
 use Rattle.ir_instructions.specs.ShapeForms.{memory_shape}
-use Rattle.ir_instructions.specs.Values.{STEPPING, is_inbounds, or_inbounds, stepping}
+use Rattle.ir_instructions.specs.Values.{is_inbounds, or_inbounds, stepping}
 use Rattle.ir_tree.specs.Formed.{IsAlignment}
 use Rattle.ir_tree.specs.Forms.{Form}
 use Rattle.ir_tree.specs.declared.instr.Instr.TheVariants.{Alloca, Address}

@@ -14,11 +14,12 @@ use Rattle.ir_print.specs.Instructions.{opcode, condition, conversion, both, arm
 use Rattle.ir_print.specs.Operands.{operand, typed}
 use Rattle.ir_print.specs.Tokens.{space, word, width, natural, comma, optional}
 use Rattle.ir_print.specs.Types.{register}
+use Rattle.ir_read.specs.Ahead.{WRAPS}
 use Rattle.ir_read.specs.Classes.{refusal, the, one_of}
 use Rattle.ir_read.specs.Decimals as read_decimal
 use Rattle.ir_read.specs.Decimals.{ALIGNMENTS, alignment_of, is_alignment}
 use Rattle.ir_instructions.specs.Instructions as read
-use Rattle.ir_instructions.specs.Instructions.{WRAPS, is_nuw, with_wrap, no_flags, on_two, wrapping, dividing, joining, PREDICATES, predicate_by, predicate_of, comparing, casting, extending, narrowing, selecting, freezing, align, aligned, loading, storing, wraps}
+use Rattle.ir_instructions.specs.Instructions.{is_nuw, with_wrap, no_flags, on_two, wrapping, dividing, joining, PREDICATES, predicate_by, predicate_of, comparing, casting, extending, narrowing, selecting, freezing, align, aligned, loading, storing, wraps}
 use Rattle.ir_read.specs.Metadata.{attachments}
 use Rattle.ir_read.specs.Operands.{maybe}
 use Rattle.ir_instructions.specs.ShapeForms.{memory_shape}

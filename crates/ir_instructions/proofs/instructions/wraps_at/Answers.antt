@@ -3,8 +3,9 @@ use Rattle.lto_forms.specs.Alphabet.{among}
 use Rattle.lto_forms.specs.Readers.{star_at, folded}
 use Rattle.lto_forms.proofs.Stars.{takes, folds_on}
 use Rattle.ir_tree.specs.declared.instr.Flags.{Flags}
+use Rattle.ir_read.specs.Ahead.{WRAPS}
 use Rattle.ir_read.specs.Classes.{tokens, one_of_at}
-use Rattle.ir_instructions.specs.Instructions.{WRAPS, is_nuw, with_wrap}
+use Rattle.ir_instructions.specs.Instructions.{is_nuw, with_wrap}
 use Rattle.ir_instructions.proofs.InstructionRules.{wrap_rule}
 use Rattle.ir_instructions.proofs.instructions.wraps_at.Goals as goal
 

@@ -1,8 +1,9 @@
 use Rattle.std.proofs.Common.{◌≡◌, length}
 use Rattle.lto_forms.specs.Alphabet.{among}
 use Rattle.lto_forms.specs.Readers.{star_at, folded}
+use Rattle.ir_read.specs.Ahead.{WRAPS}
 use Rattle.ir_read.specs.Classes.{tokens, one_of_at}
-use Rattle.ir_instructions.specs.Instructions.{WRAPS, is_nuw, with_wrap, no_flags}
+use Rattle.ir_instructions.specs.Instructions.{is_nuw, with_wrap, no_flags}
 use Rattle.ir_instructions.proofs.instructions.wraps_at.Given as goal
 
 abbrev pub invariant-each : goal.invariant-each

@@ -2,8 +2,9 @@ use Rattle.std.proofs.Common.{Bool, ap, ◌∙◌}
 use Rattle.lto_forms.specs.Alphabet.{among}
 use Rattle.lto_forms.specs.Readers.{star_at, folded}
 use Rattle.lto_forms.proofs.Stars.{takes, folds_on}
+use Rattle.ir_read.specs.Ahead.{STEPPING}
 use Rattle.ir_read.specs.Classes.{tokens, one_of_at}
-use Rattle.ir_instructions.specs.Values.{STEPPING, is_inbounds, or_inbounds}
+use Rattle.ir_instructions.specs.Values.{is_inbounds, or_inbounds}
 use Rattle.ir_instructions.proofs.ValueRules.{flag_rule}
 use Rattle.ir_instructions.proofs.values.stepping_at.Goals as goal
 

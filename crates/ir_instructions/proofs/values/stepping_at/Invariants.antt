@@ -1,8 +1,9 @@
 use Rattle.std.proofs.Common.{◌≡◌, length, false}
 use Rattle.lto_forms.specs.Alphabet.{among}
 use Rattle.lto_forms.specs.Readers.{star_at, folded}
+use Rattle.ir_read.specs.Ahead.{STEPPING}
 use Rattle.ir_read.specs.Classes.{tokens, one_of_at}
-use Rattle.ir_instructions.specs.Values.{STEPPING, is_inbounds, or_inbounds}
+use Rattle.ir_instructions.specs.Values.{is_inbounds, or_inbounds}
 use Rattle.ir_instructions.proofs.values.stepping_at.Given as goal
 
 abbrev pub invariant-each : goal.invariant-each
