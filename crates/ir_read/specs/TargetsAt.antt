@@ -27,10 +27,6 @@ triple_line_at = do
   triple ← one_of_at STRING itself
   done (Triple triple)
 
--- behind the first word
-abbrev pub targeted_at : Reader Tok Item
-targeted_at = pick (among tokens LAYOUT) layout_line_at triple_line_at
-
 unfoldable pub target_line_at : Reader Tok Item
 target_line_at = do
   _ ← the_at heads.Target

@@ -23,83 +23,32 @@ mod targets;
 mod terminals;
 mod tokens;
 
-pub use address::Address;
-pub use address::Index;
-pub use address::Level;
-pub use address::Steps;
-pub use attributes::Attribute;
-pub use attributes::Kept;
-pub use attributes::Place;
-pub use attributes::attribute_group_at;
-pub use attributes::call_attributes_at;
-pub use attributes::definition_attributes_at;
-pub use attributes::head_attribute_at;
-pub use attributes::is_attribute_word;
-pub use attributes::parameter_attribute_at;
-pub use attributes::parameter_attributes_at;
-pub use brackets::Bracket;
-pub use brackets::BracketMove;
-pub use brackets::group_at;
-pub use brackets::move_of;
+pub use address::{Address, Index, Level, Steps};
+pub use attributes::{
+    Attribute, Kept, Place, attribute_group_at, call_attributes_at, definition_attributes_at,
+    head_attribute_at, is_attribute_word, parameter_attribute_at, parameter_attributes_at,
+};
+pub use brackets::{Bracket, BracketMove, group_at, move_of};
 pub use finished::done;
-pub use function_heads::Role;
-pub use function_heads::comes_qualifier;
-pub use function_heads::head_at;
-pub use function_heads::is_local;
-pub use function_heads::is_qualifier;
-pub use function_heads::linkage_by;
-pub use function_heads::name_refusal;
-pub use function_heads::qualifier_word_at;
-pub use function_heads::with_linkage;
+pub use function_heads::{
+    Role, comes_qualifier, head_at, is_local, is_qualifier, linkage_by, name_refusal,
+    qualifier_word_at, with_linkage,
+};
 pub use literals::literal;
-pub use metadata::attached_at;
-pub use metadata::attachments_at;
-pub use metadata::meta_at;
-pub use metadata::metadata_line_at;
-pub use metadata::rest_of_line_at;
-pub use metadata_behind::metadata_behind_at;
-pub use metadata_behind::node_yet_at;
+pub use metadata::{attached_at, attachments_at, meta_at, metadata_line_at, rest_of_line_at};
+pub use metadata_behind::{metadata_behind_at, node_yet_at};
 pub use name::Name;
-pub use numerals::alignment_at;
-pub use numerals::decimal;
-pub use operands::bit_at;
-pub use operands::global_named;
-pub use operands::integer_at;
-pub use operands::local_at;
-pub use operands::maybe_at;
-pub use operands::memory_refusal;
-pub use operands::named;
-pub use operands::operand_means;
-pub use operands::reg_at;
-pub use operands::reg_of;
-pub use operands::result_at;
-pub use operands::scalar_at;
-pub use operands::simple_at;
-pub use operands::type_refusal;
-pub use operands::width;
-pub use places::Before;
-pub use places::Position;
-pub use raw::Argument;
-pub use raw::Block;
-pub use raw::Case;
-pub use raw::Head;
-pub use raw::Incoming;
-pub use raw::Init;
-pub use raw::InitHead;
-pub use raw::InitPart;
-pub use raw::Instr;
-pub use raw::Item;
-pub use raw::Line;
-pub use raw::Operand;
-pub use raw::Param;
-pub use raw::Terminator;
-pub use raw::Variable;
-pub use shape::Shape;
-pub use shape::ShapeNode;
-pub use shape::Typed;
-pub use targets::comdat_line_at;
-pub use targets::source_line_at;
-pub use targets::target_line_at;
-pub use terminals::expect;
-pub use terminals::refusal;
+pub use numerals::{alignment_at, decimal};
+pub use operands::{
+    bit_at, global_named, integer_at, local_at, maybe_at, memory_refusal, named, operand_means,
+    reg_at, reg_of, result_at, scalar_at, simple_at, type_refusal, width,
+};
+pub use places::{Before, Position};
+pub use raw::{
+    Argument, Block, Case, Head, Incoming, Init, InitHead, InitPart, Instr, Item, Line, Operand,
+    Param, Terminator, Variable,
+};
+pub use shape::{Shape, ShapeNode, Typed};
+pub use targets::{comdat_line_at, layout_line_at, source_line_at, triple_line_at};
+pub use terminals::{expect, refusal};
 pub use tokens::Tokens;

@@ -6,11 +6,9 @@ ghost use Rattle.lto_forms.specs.Readers.{Gives, token_at};
 ghost use Rattle.ir_read.specs.Classes.{one_of_at, itself};
 ghost use Rattle.ir_read.specs.declared.raw.Item.TheVariants as items;
 ghost use Rattle.ir_read.specs.Targets.{STRING, until, after, has_64_bits, fits_item, fits_layout, is_layout};
-ghost use Rattle.ir_read.specs.TargetsAt.{layout_line_at, triple_line_at, targeted_at, target_line_at, source_line_at, comdat_line_at};
+ghost use Rattle.ir_read.specs.TargetsAt.{layout_line_at, triple_line_at, source_line_at, comdat_line_at};
 
-use crate::finished::done;
 use crate::name::Name;
-use crate::raw::Item;
 use crate::terminals::{expect, refusal};
 use crate::tokens::Tokens;
 use ir_lex::Head;
@@ -134,56 +132,25 @@ fn string_at<'a>(tokens: &mut Tokens<'_, 'a>) -> Result<Name<'a>, ReadError>
     }
 }
 
-fn layout_item<'a>(layout: Name<'a>) -> Item<'a>
-    ensures { result ≡ items.Datalayout layout.entry }
-{
-    Item::Datalayout(layout)
-}
-
+/// Reads what follows `target` where that is `datalayout`: its string.
 #[tactic(auto, unfolding(crate::specs::TargetsAt::layout_line_at))]
-fn layout_line_at<'a>(alloc: Global, tokens: &mut Tokens<'_, 'a>) -> Result<Item<'a>, ReadError>
-    ensures { Gives (λ x. (x, tokens.new)) result (layout_line_at tokens.old) }
+pub fn layout_line_at<'a>(alloc: Global, tokens: &mut Tokens<'_, 'a>) -> Result<Name<'a>, ReadError>
+    ensures { Gives (λ x. (items.Datalayout x, tokens.new)) result (layout_line_at tokens.old) }
 {
     expect(Head::Datalayout, tokens)?;
     expect(Head::Equals, tokens)?;
-    let layout = layout_at(alloc, tokens)?;
-    done(layout_item(layout))
+    layout_at(alloc, tokens)
 }
 
-fn triple_item<'a>(triple: Name<'a>) -> Item<'a>
-    ensures { result ≡ items.Triple triple.entry }
-{
-    Item::Triple(triple)
-}
-
+/// Reads what follows `target` where that is `triple`: its string, as in
+/// `target triple = "x86_64-pc-linux-gnu"`.
 #[tactic(auto, unfolding(crate::specs::TargetsAt::triple_line_at))]
-fn triple_line_at<'a>(tokens: &mut Tokens<'_, 'a>) -> Result<Item<'a>, ReadError>
-    ensures { Gives (λ x. (x, tokens.new)) result (triple_line_at tokens.old) }
+pub fn triple_line_at<'a>(tokens: &mut Tokens<'_, 'a>) -> Result<Name<'a>, ReadError>
+    ensures { Gives (λ x. (items.Triple x, tokens.new)) result (triple_line_at tokens.old) }
 {
     expect(Head::Triple, tokens)?;
     expect(Head::Equals, tokens)?;
-    let triple = string_at(tokens)?;
-    done(triple_item(triple))
-}
-
-/// Reads what follows `target`.
-fn targeted_at<'a>(alloc: Global, tokens: &mut Tokens<'_, 'a>) -> Result<Item<'a>, ReadError>
-    ensures { Gives (λ x. (x, tokens.new)) result (targeted_at tokens.old) }
-{
-    if tokens.comes(Head::Datalayout) {
-        layout_line_at(alloc, tokens)
-    } else {
-        triple_line_at(tokens)
-    }
-}
-
-/// Reads a target line: `target triple = "x86_64-pc-linux-gnu"`.
-#[tactic(auto, unfolding(crate::specs::TargetsAt::target_line_at))]
-pub fn target_line_at<'a>(alloc: Global, tokens: &mut Tokens<'_, 'a>) -> Result<Item<'a>, ReadError>
-    ensures { Gives (λ x. (x, tokens.new)) result (target_line_at tokens.old) }
-{
-    expect(Head::Target, tokens)?;
-    targeted_at(alloc, tokens)
+    string_at(tokens)
 }
 
 /// Reads the name of the source, and drops it: `source_filename = "t.c"`.
