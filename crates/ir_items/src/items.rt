@@ -6,7 +6,7 @@ ghost use Rattle.lto_forms.specs.Alphabet.{contains, among};
 ghost use Rattle.lto_forms.specs.declared.fault.ReadError.TheVariants.{NoMemory};
 ghost use Rattle.lto_forms.specs.Readers.{Gives, next_is};
 ghost use Rattle.ir_read.specs.AttributesAt.{HEAD, attribute_group_at};
-ghost use Rattle.ir_read.specs.TargetsAt.{target_line_at};
+ghost use Rattle.ir_read.specs.TargetsAt.{layout_line_at, target_line_at, triple_line_at};
 ghost use Rattle.ir_read.specs.Classes.{tokens};
 ghost use Rattle.ir_bodies.specs.BlocksAt.{definition_at};
 ghost use Rattle.ir_globals.specs.TypeDefinitionsAt.{type_line_at};
@@ -21,8 +21,8 @@ use ir_globals::{type_line_at, variable_line_at};
 use ir_lex::Head;
 use ir_read::{
     Before, Item, Position, Role, Tokens, attached_at, attribute_group_at, comdat_line_at, expect,
-    head_at, head_attribute_at, is_attribute_word, metadata_behind_at, metadata_line_at,
-    node_yet_at, source_line_at, target_line_at,
+    head_at, head_attribute_at, is_attribute_word, layout_line_at, metadata_behind_at,
+    metadata_line_at, node_yet_at, source_line_at, triple_line_at,
 };
 use lto_forms::{Fault, FaultKind, ReadError};
 use std::alloc::Global;
@@ -36,7 +36,32 @@ fn put<T: Drop>(list: &mut Vec<T>, read: Result<T, ReadError>) -> Result<Before,
     Ok(Before::Item)
 }
 
-/// Reads a line on the target, and adds it.
+/// Reads the layout of the target, and adds it.
+fn layout_into<'a>(
+    alloc: Global,
+    items: &mut Vec<Item<'a>>,
+    tokens: &mut Tokens<'_, 'a>,
+) -> Result<Before, ReadError>
+    ensures { Gives (λ b. ((items.new.items, b), tokens.new)) result (behind_at items.old.items (kept_at layout_line_at) tokens.old) }
+{
+    let layout = layout_line_at(alloc, tokens)?;
+    push(items, Item::Datalayout(layout))?;
+    Ok(Before::Item)
+}
+
+/// Reads the triple of the target, and adds it.
+fn triple_into<'a>(
+    items: &mut Vec<Item<'a>>,
+    tokens: &mut Tokens<'_, 'a>,
+) -> Result<Before, ReadError>
+    ensures { Gives (λ b. ((items.new.items, b), tokens.new)) result (behind_at items.old.items (kept_at triple_line_at) tokens.old) }
+{
+    let triple = triple_line_at(tokens)?;
+    push(items, Item::Triple(triple))?;
+    Ok(Before::Item)
+}
+
+/// Reads a line on the target, and adds it: `target triple = "x86_64-pc-linux-gnu"`.
 fn target_into<'a>(
     alloc: Global,
     items: &mut Vec<Item<'a>>,
@@ -44,7 +69,12 @@ fn target_into<'a>(
 ) -> Result<Before, ReadError>
     ensures { Gives (λ b. ((items.new.items, b), tokens.new)) result (behind_at items.old.items (kept_at target_line_at) tokens.old) }
 {
-    put(items, target_line_at(alloc, tokens))
+    expect(Head::Target, tokens)?;
+    if tokens.comes(Head::Datalayout) {
+        layout_into(alloc, items, tokens)
+    } else {
+        triple_into(items, tokens)
+    }
 }
 
 /// Reads the definition of a type, and adds it.

@@ -57,3 +57,10 @@ module _ (types : Types) (locals : Known) where
       ∙ makes b next x (drop (k + 1) lines) i h
       ∙ ap (λ (c : Body). onto c (lines_in types locals (behind_line next x) (drop (k + 1) lines))) (ap (λ m. placed b (record { local = m; instr = i })) (sym named) ∙ ap (or_else b2) put)
       ∙ ap (λ m. onto b2 (lines_in types locals m (drop (k + 1) lines))) (ap (or_else next2) behind)
+
+  -- so where the line is resolved as it is placed
+  pub continues : (b b2 : Body) (next next2 : ℕ) (lines : List raw_line.Line) (k : ℕ) (x : raw_line.Line) (r : Result Instr Fault) → k < length lines → x ≡ get_or lines k x → instr_in types locals x.instr ≡ r
+      → (r >>= λ i. ok (placed b (record { local = local_at next x; instr = i }))) ≡ ok b2 → ok (behind_line next x) ≡ ok next2
+      → onto b (lines_in types locals next (drop k lines)) ≡ onto b2 (lines_in types locals next2 (drop (k + 1) lines))
+  continues b b2 next next2 lines k x (Ok i) at is h put behind = goes_on b b2 next next2 lines k x i (local_at next x) at is h refl put behind
+  continues b b2 next next2 lines k x (Err e) at is h put behind = absurd put

@@ -1,9 +1,15 @@
 -- Bodies of blocks, a line at a time.
-use Rattle.std.specs.Prelude.{List, [], ◌∷◌, ◌++◌, Option, None, Some}
+use Rattle.std.specs.Prelude.{ℕ, List, [], ◌∷◌, ◌++◌, Option, None, Some, Result, Ok}
 use Rattle.ir_tree.specs.declared.instr.Line.{Line}
 use Rattle.ir_tree.specs.declared.instr.Phi.{Phi}
 use Rattle.ir_names.specs.declared.block.Body.{Body}
+use Rattle.ir_names.specs.declared.fault.Fault.{Fault}
 use Rattle.ir_names.specs.Blocks.{as_phi, phis_of, rest_of}
+use Rattle.ir_names.specs.Bodies.{instr_in, local_at}
+use Rattle.ir_names.specs.Locals.{Known}
+use Rattle.ir_names.specs.Settled.{◌>>=◌}
+use Rattle.ir_names.specs.Types.{Types}
+use Rattle.ir_read.specs.declared.raw.Line as raw_line
 
 abbrev pub placed_first : List Phi → Line → Option Phi → Body
 placed_first phis l None = record { phis = phis; lines = l ∷ [] }
@@ -23,3 +29,7 @@ followed_in phis (k ∷ ks) more = record { phis = phis; lines = k ∷ ks ++ mor
 
 abbrev pub followed : Body → List Line → Body
 followed b more = followed_in b.phis b.lines more
+
+-- a body with one more line, whose names are resolved
+abbrev pub line_onto : Types → Known → ℕ → raw_line.Line → Body → Result Body Fault
+line_onto types locals number line b = instr_in types locals line.instr >>= λ i. Ok (placed b (record { local = local_at number line; instr = i }))

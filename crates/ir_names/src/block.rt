@@ -2,7 +2,7 @@
 ghost use Rattle.std.specs.Prelude.{◌≡◌, ◌+◌, OnOk, Ok, IfOk};
 ghost use Rattle.ir_names.specs.Bodies.{local_at, behind_line, behind_lines};
 ghost use Rattle.ir_names.specs.Blocks.{body_in, block_of};
-ghost use Rattle.ir_names.specs.BodyLaws.{placed};
+ghost use Rattle.ir_names.specs.BodyLaws.{line_onto, placed};
 ghost use Rattle.ir_names.specs.Settled.{Settles};
 
 use crate::fault::ResolveError;
@@ -72,6 +72,21 @@ fn place(body: &mut Body, local: Option<u32>, instr: Instr) -> Result<(), Resolv
     }
 }
 
+/// Resolves one more line of a body, which takes this number, where it takes one.
+fn line_into<'t, 'a>(
+    alloc: Global,
+    types: &Types<'t, 'a>,
+    locals: &Locals<'a>,
+    number: u32,
+    line: &'t WrittenLine<'a>,
+    body: &mut Body,
+) -> Result<(), ResolveError>
+    ensures { Settles (λ _. body.new) result (line_onto types.now locals.now number line.now body.old) }
+{
+    let made = instr_in(alloc, types, locals, &line.instr)?;
+    place(body, local_at(number, line), made)
+}
+
 /// The phis and the lines of a block whose first line takes this number, where it takes one.
 pub fn body_in<'t, 'a>(
     alloc: Global,
@@ -88,8 +103,7 @@ pub fn body_in<'t, 'a>(
     };
     let mut next = first;
     'each: for line in lines {
-        let made = instr_in(alloc, types, locals, &line.instr)?;
-        place(&mut body, local_at(next, line), made)?;
+        line_into(alloc, types, locals, next, line, &mut body)?;
         next = behind_line(next, line)?;
     }
     Ok(body)
