@@ -5,8 +5,9 @@
 //! grammar alone; behind it the first stage that finds a fault tells it (`specs/FirstFault.antt`).
 //!
 //! Below stand tokens (`ir_lex`), items (`ir_items`), the stages (`ir_stages`), functions and variables (`ir_definitions`),
-//! names (`ir_names`), and the laws by which what is read is formed (`resolved_forms`, `spelled_forms`). Its promise: exactly
-//! what `specs/Reading.antt` reads is answered, and each other text is refused for its first fault, unless memory runs out.
+//! names (`ir_names`), and the laws by which what resolves is formed (`resolved_forms`). What those laws ask for holds of all
+//! that the grammar spells, as laws beside the reader say (`specs/Spelled.antt`). Its promise: exactly what
+//! `specs/Reading.antt` reads is answered, and each other text is refused for its first fault, unless memory runs out.
 //! Reading is linear in the text, but for chains of type names that stand for each other. Tokens and items borrow the text;
 //! nothing recurses in a depth that a text chooses.
 #![tactic(auto)]
@@ -23,4 +24,7 @@ mod values;
 pub use fault::{FaultKind, ReadError, ReadFault};
 pub use laws::{decided, one_reading, read_is_parsed};
 pub use reading::parse;
-pub use spelled::{front_is_sized, items_are_written, operands_are_written, shapes_are_written, tokens_are_sized, types_are_written};
+pub use spelled::{
+    front_is_sized, items_are_written, operands_are_written, shapes_are_written, tokens_are_sized,
+    types_are_written,
+};

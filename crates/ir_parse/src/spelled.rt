@@ -1,4 +1,10 @@
-//! The laws, as functions whose contracts state them.
+//! What the grammar spells is such as resolution asks of a text.
+//!
+//! Laws that tie the grammar's forms to what a written function or variable has to be so that what it
+//! resolves to is formed. They go over tokens of which each that names an integer in memory writes
+//! 8, 16, 32 or 64 bits, as the tokens of every text do (`ir_lex`). From a whole module on down: each
+//! item of one that the grammar spells is written so, and so are its type names, its shapes, its
+//! operands and its arguments. The laws are functions whose contracts state them; nothing here runs.
 ghost use Rattle.ir_parse.specs.Spelled.{ArgumentsAreWritten, FrontIsSized, ItemsAreWritten, OperandsAreWritten, ShapesAreWritten, TokensAreSized, TypesAreWritten};
 
 /// The tokens of any text: one of the class of integers in memory is `i8`, `i16`, `i32` or `i64`
