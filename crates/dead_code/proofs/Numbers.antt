@@ -27,10 +27,6 @@ operand_same new Null = refl
 operand_same new (Poison reg) = refl
 operand_same new (Named symbol offset) = refl
 
-arguments_same : (operand : Operand → Operand) (as' : List Argument) → map (argument_edited operand) as' ≡ map (argument_edited operand) as'
-arguments_same operand [] = refl
-arguments_same operand (a ∷ more) = ap (λ (l : List Argument). argument_edited operand a ∷ l) (arguments_same operand more)
-
 instr_same : (new : ℕ → ℕ) (i : Instr) → instr_edited new (operand_renumbered new) i ≡ instr_renumbered new i
 instr_same new (Binary op flags width left right) = refl
 instr_same new (Icmp predicate reg left right) = refl
@@ -40,8 +36,8 @@ instr_same new (Freeze reg value) = refl
 instr_same new (Alloca shape align) = refl
 instr_same new (Load reg address align) = refl
 instr_same new (Store reg value address align) = refl
-instr_same new (Address inbounds shape base indices) = ap (λ (l : List Argument). Address inbounds shape (operand_renumbered new base) l) (arguments_same (operand_renumbered new) indices)
-instr_same new (Call result callee arguments) = ap (λ (l : List Argument). Call result (operand_renumbered new callee) l) (arguments_same (operand_renumbered new) arguments)
+instr_same new (Address inbounds shape base indices) = refl
+instr_same new (Call result callee arguments) = refl
 instr_same new (StrayPhi reg incoming) = refl
 
 end_same : (new : ℕ → ℕ) (e : Terminator) → end_edited new (operand_renumbered new) e ≡ end_renumbered new e

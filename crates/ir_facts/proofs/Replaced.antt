@@ -20,24 +20,7 @@ use Rattle.ir_tree.specs.declared.operand.Reg.{Reg}
 use Rattle.ir_better.specs.Facts.{Facts, behind_local, block_replaced, blocks_replaced, end_replaced, function_replaced, lines_replaced, phis_replaced, replaced}
 use Rattle.ir_tree.specs.Edited.{argument_edited, case_edited, end_edited, instr_edited, line_edited, with_operands}
 
--- ---- an instruction or a terminator with its operands changed, in either form
-
-each_is : (h : Operand → Operand) (as' : List Argument) → map (argument_edited h) as' ≡ map (argument_edited h) as'
-each_is h [] = refl
-each_is h (a ∷ more) = ap (λ (rest : List Argument). argument_edited h a ∷ rest) (each_is h more)
-
-pub instr_is : (h : Operand → Operand) (i : Instr) → with_operands h i ≡ instr_edited (λ x. x) h i
-instr_is h (Binary op flags w l r) = refl
-instr_is h (Icmp p reg l r) = refl
-instr_is h (Cast op from o to) = refl
-instr_is h (Select t a b) = refl
-instr_is h (Freeze reg o) = refl
-instr_is h (Alloca shape align) = refl
-instr_is h (Load reg o align) = refl
-instr_is h (Store reg o d align) = refl
-instr_is h (Address inbounds shape o is) = ap (λ (as' : List Argument). Address inbounds shape (h o) as') (each_is h is)
-instr_is h (Call result o args) = ap (λ (as' : List Argument). Call result (h o) as') (each_is h args)
-instr_is h (StrayPhi reg es) = refl
+-- ---- a line or a terminator with its operands changed, in either form
 
 own : (o : Option ℕ) → o ≡ option_map (λ x. x) o
 own None = refl
@@ -47,7 +30,7 @@ abbrev line_then : (Operand → Operand) → Line → Line
 line_then h l = record { local = l.local; instr = with_operands h l.instr }
 
 pub line_is : (h : Operand → Operand) (l : Line) → line_then h l ≡ line_edited (λ x. x) h l
-line_is h l = λ i. record { local = own l.local i; instr = instr_is h l.instr i }
+line_is h l = λ i. record { local = own l.local i; instr = with_operands h l.instr }
 
 cases_are : (cs : List Case) → cs ≡ map (case_edited (λ x. x)) cs
 cases_are [] = refl

@@ -16,7 +16,7 @@ use Rattle.ir_better.specs.Facts.{Facts, behind_local, edge_operand, edges_repla
 use Rattle.ir_better.specs.Needed.{EndReads, IsKept, Reads}
 use Rattle.ir_facts.proofs.Covers.{BlockCovered, Covers, EdgesCovered, HasEntry, LinesCovered, PhisCovered, PhisEntered, TakenAt, closing, opening, with_named}
 use Rattle.ir_facts.proofs.Holding.{Known, known_one}
-use Rattle.ir_facts.proofs.Replaced.{all_still, availability_still, block_then, block_there, block_was, definitions_still, edges_still, end_is, instr_is, phis_still}
+use Rattle.ir_facts.proofs.Replaced.{all_still, availability_still, block_then, block_there, block_was, definitions_still, edges_still, end_is, phis_still}
 use Rattle.ir_facts.proofs.RightSources.{AreSources, LineSources}
 use Rattle.ir_facts.proofs.Substituting.{Less, Sourced, Takes, at_ends_of, end_taken, instr_taken, less_open, named_less, named_sourced, no_phi, sourced_open, wide_justified, wider}
 
@@ -51,8 +51,8 @@ lines_kept : (c : ℕ → Option Operand) (ls : List Line) (s s' : ℕ → Bool)
     → LinesCovered s' (lines_replaced c fs ls)
 lines_kept c [] s s' fs known less src own cov = tt
 lines_kept c (l ∷ ls) s s' fs known less src own cov = (
-  subst IsNoPhi (sym (instr_is (replaced fs) l.instr)) (no_phi (replaced fs) l.instr cov.0),
-  subst (Reads s') (sym (instr_is (replaced fs) l.instr)) (instr_taken s s' (replaced fs) (facts_take c s s' less src fs known) l.instr cov.1),
+  no_phi (replaced fs) l.instr cov.0,
+  instr_taken s s' (replaced fs) (facts_take c s s' less src fs known) l.instr cov.1,
   lines_kept c ls (with_named s l.local) (with_named s' l.local) (behind_local c l.local fs) (known_one c l.local fs known) (named_less s s' l.local less)
       (named_sourced c s s' l less src own.0 cov.1) own.1 cov.2,
 )

@@ -14,7 +14,7 @@ use Rattle.local_names.specs.Membership.{is_member}
 use Rattle.local_names.specs.Naming.{block_names, blocks_name, end_names, entries_name, instr_names, lines_name, phis_name}
 use Rattle.ir_facts.specs.Steps.{IsSolution, IsStep, candidate_of, ends_of}
 use Rattle.ir_facts.proofs.Holding.{Known, known_one, local_none}
-use Rattle.ir_facts.proofs.Replaced.{end_is, instr_is}
+use Rattle.ir_facts.proofs.Replaced.{end_is}
 use Rattle.ir_facts.proofs.StepsSound.{ends_known}
 use Rattle.local_names.proofs.Neither.{neither}
 use Rattle.ir_facts.proofs.Unnamed.{end_same, instr_same}
@@ -34,7 +34,7 @@ module _ (among : ℕ → Bool) (c : ℕ → Option Operand) (out : (x : ℕ) �
   lines_stay [] fs known h = refl
   lines_stay (l ∷ ls) fs known h =
       let two = neither (instr_names among l.instr) (lines_name among ls) h in
-      λ i. record { local = l.local; instr = (instr_is (replaced fs) l.instr ∙ instr_same among (replaced fs) (operand_stays fs known) l.instr two.0) i }
+      λ i. record { local = l.local; instr = instr_same among (replaced fs) (operand_stays fs known) l.instr two.0 i }
       ∷ lines_stay ls (behind_local c l.local fs) (known_one c l.local fs known) two.1 i
 
   module _ (starts ends : ℕ → Facts) (known : (n : ℕ) → Known c (starts n)) (at_ends : (n : ℕ) → Known c (ends n)) where

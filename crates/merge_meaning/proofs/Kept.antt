@@ -64,23 +64,6 @@ module _ (t : Naming) (v : Initial) (root new_root : InitHead) (parts new_parts 
 
 -- ---- functions
 
-arguments_kept : (op : Operand → Operand) (args : List Argument) → map (argument_edited op) args ≡ map (argument_edited op) args
-arguments_kept op [] = refl
-arguments_kept op (a ∷ more) = ap (λ (l : List Argument). argument_edited op a ∷ l) (arguments_kept op more)
-
-instr_kept : (op : Operand → Operand) (i : Instr) → instr_edited (λ x. x) op i ≡ with_operands op i
-instr_kept op (Binary o f w l r) = refl
-instr_kept op (Icmp p reg l r) = refl
-instr_kept op (Cast o from v to) = refl
-instr_kept op (Select c l r) = refl
-instr_kept op (Freeze w o) = refl
-instr_kept op (Alloca shape align) = refl
-instr_kept op (Load reg o align) = refl
-instr_kept op (Store reg o d align) = refl
-instr_kept op (Address inbounds shape o is) = ap (λ (l : List Argument). Address inbounds shape (op o) l) (arguments_kept op is)
-instr_kept op (Call result c args) = ap (λ (l : List Argument). Call result (op c) l) (arguments_kept op args)
-instr_kept op (StrayPhi reg es) = refl
-
 local_kept : (l : Option ℕ) → option_map (λ (x : ℕ). x) l ≡ l
 local_kept None = refl
 local_kept (Some x) = refl
@@ -89,7 +72,7 @@ lines_kept : (t : Naming) (ls : List Line) → map (line_edited (λ x. x) (opera
 lines_kept t [] = refl
 lines_kept t (l ∷ ls) =
     ap₂ (λ (x : Line). λ (xs : List Line). x ∷ xs)
-    (ap₂ (λ (x : Option ℕ). λ (i : Instr). record { local = x; instr = i }) (local_kept l.local) (instr_kept (operand_under t) l.instr))
+    (ap (λ (x : Option ℕ). record { local = x; instr = with_operands (operand_under t) l.instr }) (local_kept l.local))
     (lines_kept t ls)
 
 cases_kept : (cs : List Case) → map (case_edited (λ x. x)) cs ≡ cs

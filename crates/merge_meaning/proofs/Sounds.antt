@@ -93,10 +93,6 @@ module _ (t : Naming) where
 
   -- ---- what items read
 
-  moved_map : (args : List Argument) → map (argument_edited (operand_under t)) args ≡ map (argument_under t) args
-  moved_map [] = refl
-  moved_map (a ∷ more) = ap (λ (l : List Argument). argument_under t a ∷ l) (moved_map more)
-
   taken_same : (reg : Reg) (es : List Incoming) → taken_as reg (map (edge_under t) es) ≡ map (argument_under t) (taken_as reg es)
   taken_same reg es = map_square (edge_under t) (λ e. typed reg e.value) (argument_under t) (λ e. typed reg e.value) (λ e. refl) es
 
@@ -109,8 +105,8 @@ module _ (t : Naming) where
   reads_same (kind.Alloca shape align) = refl
   reads_same (kind.Load reg address align) = refl
   reads_same (kind.Store reg value address align) = refl
-  reads_same (kind.Address inbounds shape base indices) = ap (λ (l : List Argument). argument_under t (typed Ptr base) ∷ l) (moved_map indices)
-  reads_same (kind.Call result callee arguments) = ap (λ (l : List Argument). argument_under t (typed Ptr callee) ∷ l) (moved_map arguments)
+  reads_same (kind.Address inbounds shape base indices) = refl
+  reads_same (kind.Call result callee arguments) = refl
   reads_same (kind.Phi reg incoming) = refl
 
   phi_reads_same : (i : Instr) → phi_reads (instr_under i) ≡ map (argument_under t) (phi_reads i)
