@@ -63,4 +63,4 @@ module _ (types : Types) (locals : Known) where
       → (r >>= λ i. ok (placed b (record { local = local_at next x; instr = i }))) ≡ ok b2 → ok (behind_line next x) ≡ ok next2
       → onto b (lines_in types locals next (drop k lines)) ≡ onto b2 (lines_in types locals next2 (drop (k + 1) lines))
   continues b b2 next next2 lines k x (Ok i) at is h put behind = goes_on b b2 next next2 lines k x i (local_at next x) at is h refl put behind
-  continues b b2 next next2 lines k x (Err e) at is h put behind = absurd put
+  continues b b2 next next2 lines k x (Err e) at is h put behind = absurd (cc put)

@@ -1,6 +1,6 @@
 -- Chains of type names, and how far they may be gone along.
 use Rattle.std.specs.Prelude.{IfSome}
-use Rattle.std.proofs.Common.{◌≡◌, refl, sym, ap, subst, ◌∙◌, ℕ, zero, suc, ◌+◌, ◌<◌, ◌≤◌, List, [], ◌∷◌, length, get_or, set, replicate, Option, None, Some, Result, Ok, Err, arith}
+use Rattle.std.proofs.Common.{◌≡◌, sym, ap, subst, ◌∙◌, ℕ, zero, suc, ◌+◌, ◌<◌, ◌≤◌, List, [], ◌∷◌, length, get_or, set, replicate, Option, None, Some, Result, Ok, Err, arith}
 use Rattle.ir_lex.specs.Tok.{Tok}
 use Rattle.ir_read.specs.Shapes.{Written, int, pointer, array, structure, named}
 use Rattle.ir_names.specs.declared.fault.Fault.{Fault}

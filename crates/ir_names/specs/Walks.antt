@@ -1,5 +1,5 @@
 -- Walks over a graph that is given by rows: the row of a place has the places at the other ends of its edges.
-use Rattle.std.specs.Prelude.{◌≡◌, ℕ, zero, suc, Bool, false, ◌||◌, ◌⊎◌, nat_eq, List, [], length, slice_index_or}
+use Rattle.std.specs.Prelude.{ℕ, zero, suc, Bool, false, ◌||◌, nat_eq, List, [], length, slice_index_or}
 use Rattle.std.specs.List.{list_any}
 
 abbrev pub Graph : Type 0
