@@ -1,5 +1,5 @@
 -- A function under other numbers is what the law of other numbers speaks of.
-use Rattle.std.proofs.Common.{◌≡◌, ℕ, ◌+◌, List, [], ◌∷◌, map, option_map, refl, sym, ◌∙◌, ap, subst, arith}
+use Rattle.std.proofs.Common.{◌≡◌, ℕ, ◌+◌, [], ◌∷◌, map, option_map, refl, sym, ◌∙◌, ap, subst, arith}
 use Rattle.ir_tree.specs.declared.block.Block.{Block}
 use Rattle.ir_tree.specs.declared.block.Terminator.{Terminator}
 use Rattle.ir_tree.specs.declared.block.Terminator.TheVariants.{Branch, Jump, Return, Switch, Unreachable}
@@ -7,7 +7,6 @@ use Rattle.ir_tree.specs.declared.function.Function.{Function}
 use Rattle.ir_tree.specs.declared.instr.Instr.{Instr}
 use Rattle.ir_tree.specs.declared.instr.Instr.TheVariants.{Address, Alloca, Binary, Call, Cast, Freeze, Icmp, Load, Phi as StrayPhi, Select, Store}
 use Rattle.ir_tree.specs.declared.instr.Line.{Line}
-use Rattle.ir_tree.specs.declared.operand.Argument.{Argument}
 use Rattle.ir_tree.specs.declared.operand.Operand.{Operand}
 use Rattle.ir_tree.specs.declared.operand.Operand.TheVariants.{Local, Number, Null, Poison, Symbol as Named}
 use Rattle.ir_meaning.specs.Near.{BetterThan}
@@ -15,7 +14,7 @@ use Rattle.ir_meaning.specs.Program.{Program}
 use Rattle.ir_better.specs.Formed.{IsFormed}
 use Rattle.ir_better.specs.Renumber.{IsOneToOne, block_renumbered, end_renumbered, instr_renumbered, line_renumbered, operand_renumbered, phi_renumbered, param_renumbered, renumbered}
 use Rattle.ir_better.proofs.Numbers.Renumbered.{renumbered_better}
-use Rattle.ir_tree.specs.Edited.{argument_edited, block_edited, edited, end_edited, instr_edited, line_edited, operand_renamed, renamed}
+use Rattle.ir_tree.specs.Edited.{block_edited, edited, end_edited, instr_edited, line_edited, operand_renamed, renamed}
 use Rattle.ir_edit.specs.Numbered.{new_number, numbers_of}
 use Rattle.ir_edit.proofs.Apart.{is_one_to_one}
 use Rattle.dead_code.specs.Laws.{ShiftedIsBetter, TextOrderIsBetter}

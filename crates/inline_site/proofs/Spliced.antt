@@ -27,7 +27,7 @@ use Rattle.ir_edit.specs.Substituted.{or_local}
 use Rattle.ir_edit.proofs.Tally.{tally, tally_both, tally_same}
 use Rattle.ir_better.specs.Formed.{IsFormed}
 use Rattle.ir_better.specs.Inline as law
-use Rattle.ir_better.specs.Inline.{CanInline, EdgesBelow, argument_of, below, block_renamed, blocks_moved, blocks_renamed, edges_renamed, first_part, inlined_blocks, join_phis, moved, or_moved, phis_renamed, return_edges, second_part}
+use Rattle.ir_better.specs.Inline.{CanInline, EdgesBelow, below, block_renamed, blocks_moved, blocks_renamed, edges_renamed, first_part, inlined_blocks, join_phis, moved, phis_renamed, second_part}
 use Rattle.ir_better.specs.Needed.{AllKept, Reads}
 use Rattle.ir_better.specs.Renumber.{block_renumbered, incoming_renumbered, operand_renumbered, param_renumbered, phi_renumbered, renumbered}
 use Rattle.ir_better.proofs.Between.InARow.{in_a_row}

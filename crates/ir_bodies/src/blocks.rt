@@ -16,8 +16,8 @@ ghost use Rattle.ir_bodies.specs.LinesAt.{LINE};
 
 use crate::adding::push;
 use crate::lines::line_into;
-use ir_lex::{Head, Token};
 use ir_instructions::{Ended, terminator_at};
+use ir_lex::{Head, Token};
 use ir_read::{Block, Line, Name, Tokens, named, refusal};
 use ir_tree::Rows;
 use lto_forms::{Fault, FaultKind, ReadError};

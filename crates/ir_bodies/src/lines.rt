@@ -12,8 +12,12 @@ ghost use Rattle.ir_bodies.specs.LinesAt.{operation_at, attended_at, behind_at, 
 use crate::adding::{kept, push};
 use crate::calls::{calling_at, tail_calling_at};
 use crate::opcodes::{Opcode, Operation, begun_at, giving_at};
+use ir_instructions::{
+    addressing_at, casting_at, comparing_at, dividing_at, extending_at, freezing_at, joining_at,
+    loading_at, narrowing_at, on_two_at, phi_at, reserving_at, selecting_at, storing_at,
+    wrapping_at,
+};
 use ir_lex::Head;
-use ir_instructions::{addressing_at, casting_at, comparing_at, dividing_at, extending_at, freezing_at, joining_at, loading_at, narrowing_at, on_two_at, phi_at, reserving_at, selecting_at, storing_at, wrapping_at};
 use ir_read::{Instr, Line, Name, Tokens, attachments_at, expect, local_at};
 use ir_tree::{CastOp, Flags};
 use lto_forms::ReadError;

@@ -14,11 +14,10 @@ use Rattle.ir_tree.specs.declared.instr.Instr.{Instr}
 use Rattle.ir_tree.specs.declared.instr.Instr.TheVariants.{Address, Alloca, Binary, Call, Cast, Freeze, Icmp, Load, Phi as StrayPhi, Select, Store}
 use Rattle.ir_tree.specs.declared.instr.Line.{Line}
 use Rattle.ir_tree.specs.declared.instr.Phi.{Phi}
-use Rattle.ir_tree.specs.declared.operand.Argument.{Argument}
 use Rattle.ir_tree.specs.declared.operand.Operand.{Operand}
 use Rattle.ir_tree.specs.declared.operand.Reg.{Reg}
 use Rattle.ir_better.specs.Facts.{Facts, behind_local, block_replaced, blocks_replaced, end_replaced, function_replaced, lines_replaced, phis_replaced, replaced}
-use Rattle.ir_tree.specs.Edited.{argument_edited, case_edited, end_edited, instr_edited, line_edited, with_operands}
+use Rattle.ir_tree.specs.Edited.{case_edited, end_edited, line_edited, with_operands}
 
 -- ---- a line or a terminator with its operands changed, in either form
 

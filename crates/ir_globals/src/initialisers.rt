@@ -15,9 +15,12 @@ ghost use Rattle.ir_globals.specs.InitialisersAt.{bytes_at, aggregate_begin_at, 
 
 use crate::constants::constant_at;
 use crate::pairs::beside;
-use ir_lex::Head;
 use ir_instructions::{brace_behind_angle_at, memory_shape_at};
-use ir_read::{Init, InitHead, InitPart, Name, Shape, ShapeNode, Tokens, Typed, expect, memory_refusal, refusal};
+use ir_lex::Head;
+use ir_read::{
+    Init, InitHead, InitPart, Name, Shape, ShapeNode, Tokens, Typed, expect, memory_refusal,
+    refusal,
+};
 use ir_tree::{Reg, Rows};
 use lto_forms::{Fault, FaultKind, ReadError};
 use std::alloc::{AllocFailed, Global};

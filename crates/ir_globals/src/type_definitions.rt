@@ -5,8 +5,8 @@ ghost use Rattle.lto_forms.specs.Readers.{Gives};
 ghost use Rattle.ir_read.specs.declared.raw.Item.TheVariants as items;
 ghost use Rattle.ir_globals.specs.TypeDefinitionsAt.{defined_at, type_line_at};
 
-use ir_lex::Head;
 use ir_instructions::memory_shape_at;
+use ir_lex::Head;
 use ir_read::{Item, Name, Tokens, Typed, expect, local_at};
 use lto_forms::ReadError;
 use std::alloc::Global;

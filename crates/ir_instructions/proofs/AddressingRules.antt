@@ -24,7 +24,7 @@ use Rattle.ir_read.specs.Classes.{tokens, refusal, NUMERALS}
 use Rattle.ir_read.specs.Literals.{literal}
 use Rattle.ir_read.specs.Metadata.{META}
 use Rattle.ir_read.specs.MetadataAt.{COMMA, PAREN}
-use Rattle.ir_read.specs.Operands.{INTEGER, REG, SCALAR}
+use Rattle.ir_read.specs.Operands.{INTEGER, REG}
 use Rattle.ir_instructions.specs.Phis.{anywhere}
 use Rattle.ir_instructions.specs.ShapeForms.{any_shape, memory_shape, NUMBER, counted, count_of}
 use Rattle.ir_read.specs.Shapes.{Written, pointer}

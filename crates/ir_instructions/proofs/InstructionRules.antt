@@ -1,12 +1,12 @@
 -- The readers of instructions on integers and on any values read them.
-use Rattle.std.proofs.Common.{◌≡◌, ℕ, true, false, List, [], ◌∷◌, Ok, refl}
+use Rattle.std.proofs.Common.{◌≡◌, ℕ, true, false, [], ◌∷◌, refl}
 use Rattle.std.specs.Prelude.{codes}
 use Rattle.ir_lex.specs.declared.head.Head.TheVariants as heads
 use Rattle.ir_lex.specs.Heads.{number}
 use Rattle.ir_tree.specs.declared.instr.BinaryOp.{BinaryOp}
 use Rattle.ir_tree.specs.declared.instr.CastOp.{CastOp}
 use Rattle.ir_tree.specs.declared.instr.Flags.{Flags}
-use Rattle.ir_tree.specs.declared.operand.Reg.TheVariants.{Int, Ptr}
+use Rattle.ir_tree.specs.declared.operand.Reg.TheVariants.{Int}
 use Rattle.lto_forms.specs.Rules.{Rule}
 use Rattle.lto_forms.proofs.Rules as rules
 use Rattle.ir_read.specs.Ahead.{WRAPS}

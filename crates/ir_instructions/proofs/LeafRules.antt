@@ -1,5 +1,5 @@
 -- The readers of scalars, type names and counts read them.
-use Rattle.std.proofs.Common.{◌≡◌, ℕ, Bool, true, false, cond, ◌&&◌, ◌||◌, not, nat_eq, Option, Some, None, option_map, List, [], ◌∷◌, Result, Ok, Err, refl, sym, ap, subst, ◌∙◌, arith, ◌⊎◌, inl, inr}
+use Rattle.std.proofs.Common.{◌≡◌, ℕ, Bool, true, false, cond, ◌&&◌, ◌||◌, not, nat_eq, Option, Some, None, List, [], ◌∷◌, Result, Ok, Err, refl, sym, ap, subst, ◌∙◌, arith, ◌⊎◌, inl, inr}
 use Rattle.std.specs.Prelude.{codes, nat_lt}
 use Rattle.ir_lex.specs.Bytes.{has}
 use Rattle.ir_lex.specs.declared.head.Head.TheVariants as heads
@@ -12,7 +12,7 @@ use Rattle.ir_lex.specs.Tok.{Tok}
 use Rattle.lto_forms.specs.Alphabet.{among, contains, is_number, AllReal}
 use Rattle.lto_forms.specs.declared.fault.FaultKind.{FaultKind}
 use Rattle.lto_forms.specs.declared.fault.FaultKind.TheVariants.{Syntax, Profile, Number, Limit}
-use Rattle.lto_forms.specs.Lawful.{Lawful, IsRanged, SameRefusal}
+use Rattle.lto_forms.specs.Lawful.{Lawful, SameRefusal}
 use Rattle.lto_forms.specs.Forms as form
 use Rattle.lto_forms.specs.Readers.{Reader, fault_at, pick, token_at, token_means}
 use Rattle.lto_forms.specs.Rules.{Rule, IsWithin, in_range, is_class, is_valued}

@@ -1,5 +1,5 @@
 -- The readers of phis read them.
-use Rattle.std.proofs.Common.{◌≡◌, ℕ, Bool, true, false, Option, Some, None, List, [], ◌∷◌, refl, sym, ap}
+use Rattle.std.proofs.Common.{◌≡◌, ℕ, Bool, true, false, List, [], ◌∷◌, refl, sym, ap}
 use Rattle.ir_lex.specs.declared.head.Head.TheVariants as heads
 use Rattle.ir_lex.specs.Heads.{number}
 use Rattle.ir_tree.specs.declared.operand.Reg.{Reg}
@@ -14,7 +14,7 @@ use Rattle.ir_read.specs.declared.raw.Incoming.{Incoming}
 use Rattle.ir_read.specs.Metadata.{META}
 use Rattle.ir_read.specs.MetadataAt.{COMMA, PAREN}
 use Rattle.ir_read.specs.Operands.{REG}
-use Rattle.ir_instructions.specs.Phis.{anywhere, keep, incoming, attaching, entering, behind_comma, further, entries, phi_of, phi}
+use Rattle.ir_instructions.specs.Phis.{anywhere, incoming, attaching, entering, behind_comma, further, entries, phi_of, phi}
 use Rattle.ir_instructions.specs.PhisAt.{begins, incoming_at, attaching_at, entering_at, behind_comma_at, further_at, entries_at, phi_of_at, phi_at}
 use Rattle.ir_instructions.specs.ShapeForms.{any_shape, memory_shape}
 use Rattle.ir_read.proofs.Nodes.{attached_rule}

@@ -1,29 +1,28 @@
 -- The readers of shapes read them.
-use Rattle.std.proofs.Common.{◌≡◌, ℕ, zero, suc, ◌+◌, Bool, true, false, cond, ◌||◌, ◌⊎◌, inl, inr, List, [], ◌∷◌, ◌++◌, Result, Ok, Err, refl, sym, ap, subst, ◌∙◌, arith}
+use Rattle.std.proofs.Common.{◌≡◌, ℕ, zero, suc, ◌+◌, Bool, true, false, cond, ◌||◌, ◌⊎◌, inl, inr, List, [], ◌∷◌, ◌++◌, Ok, Err, refl, sym, ap, subst, ◌∙◌, arith}
 use Rattle.std.specs.Prelude.{codes}
 use Rattle.ir_lex.specs.declared.head.Head.TheVariants as heads
 use Rattle.ir_lex.specs.Heads.{number}
 use Rattle.ir_lex.specs.Tok.{Tok}
-use Rattle.lto_forms.specs.Alphabet.{among, contains, is_number, AllReal}
+use Rattle.lto_forms.specs.Alphabet.{among, contains}
 use Rattle.lto_forms.specs.Chained.{Chain, chain_at}
-use Rattle.lto_forms.specs.declared.fault.FaultKind.TheVariants.{Limit}
 use Rattle.lto_forms.specs.Forms as form
 use Rattle.lto_forms.specs.Forms.{Form, either}
-use Rattle.lto_forms.specs.Readers.{Reader, fault_at, pick}
+use Rattle.lto_forms.specs.Readers.{Reader}
 use Rattle.lto_forms.specs.Rules.{Rule, Opens, is_among, subset}
 use Rattle.lto_forms.proofs.Chains.{chain_lawful}
 use Rattle.lto_forms.proofs.Composed.{Begun, same_form, widened}
 use Rattle.lto_forms.proofs.Rules as rules
 use Rattle.lto_forms.proofs.Rules.{apart_from, within_of}
 use Rattle.ir_read.specs.Ahead.{BRACKETS}
-use Rattle.ir_read.specs.Classes.{tokens, refusal, one_of, one_of_at}
+use Rattle.ir_read.specs.Classes.{tokens, refusal, one_of}
 use Rattle.ir_instructions.specs.declared.extents.Extent.{Extent}
 use Rattle.ir_instructions.specs.declared.extents.Room.{Room}
 use Rattle.ir_read.specs.declared.shape.Typed.{Typed}
 use Rattle.ir_instructions.specs.Extents.{shared, left, no_bytes, whole}
 use Rattle.ir_read.specs.MetadataAt.{COMMA}
 use Rattle.ir_read.specs.Operands.{SCALAR}
-use Rattle.ir_instructions.specs.ShapeForms.{line_of, leaf, count, NUMBER, OPEN_BRACKET, OPEN_BRACE, OPEN_ANGLE, elements, array_of, anywhere, further, more_members, members, structure_of, packed_behind, packed_of, shape_over, shape, levels, any_shape, memory_shape}
+use Rattle.ir_instructions.specs.ShapeForms.{line_of, leaf, NUMBER, OPEN_BRACKET, OPEN_BRACE, OPEN_ANGLE, elements, array_of, anywhere, further, more_members, members, structure_of, packed_behind, packed_of, shape_over, shape, levels, any_shape, memory_shape}
 use Rattle.ir_instructions.specs.ShapeFormsAt.{CLOSE_BRACE, leaf_at, innermost_at, begins, elements_at, array_at, further_at, more_members_at, members_at, structure_at, packed_behind_at, packed_at, shape_over_at, shape_at, memory_shape_at}
 use Rattle.ir_read.specs.Shapes.{Written}
 use Rattle.ir_instructions.proofs.Barred.{barred_here}

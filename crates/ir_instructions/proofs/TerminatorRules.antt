@@ -1,5 +1,5 @@
 -- The readers of terminators read them.
-use Rattle.std.proofs.Common.{◌≡◌, ℕ, ◌^◌, Bool, true, false, cond, nat_lt, Option, Some, None, option_map, List, [], ◌∷◌, Ok, refl, sym, ap}
+use Rattle.std.proofs.Common.{◌≡◌, ℕ, ◌^◌, Bool, true, false, cond, Option, Some, None, option_map, List, [], ◌∷◌, refl, sym, ap}
 use Rattle.std.specs.Prelude.{codes}
 use Rattle.ir_lex.specs.Bytes.{has}
 use Rattle.ir_lex.specs.declared.head.Head.{Head}
@@ -16,7 +16,7 @@ use Rattle.lto_forms.specs.Alphabet.{contains}
 use Rattle.lto_forms.specs.Forms.{Star}
 use Rattle.lto_forms.specs.Rules.{Rule, Opens, IsWithin, is_class}
 use Rattle.lto_forms.proofs.Rules as rules
-use Rattle.ir_read.specs.Classes.{tokens, refusal, NUMERALS, IsReal, one_of, one_of_at}
+use Rattle.ir_read.specs.Classes.{tokens, refusal, NUMERALS, IsReal, one_of}
 use Rattle.ir_instructions.specs.declared.terminators.End.{End}
 use Rattle.ir_instructions.specs.declared.terminators.End.TheVariants as end
 use Rattle.ir_read.specs.Literals.{literal}

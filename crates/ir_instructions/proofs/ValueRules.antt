@@ -1,5 +1,5 @@
 -- The readers of constant addresses and operands read them.
-use Rattle.std.proofs.Common.{◌≡◌, ℕ, Bool, true, false, cond, ◌||◌, nat_eq, Option, Some, None, option_map, List, [], ◌∷◌, refl, sym, ap, ◌∙◌, reverse, arith}
+use Rattle.std.proofs.Common.{◌≡◌, ℕ, Bool, true, false, cond, ◌||◌, nat_eq, Some, None, option_map, List, [], ◌∷◌, refl, sym, ap, ◌∙◌, reverse, arith}
 use Rattle.std.specs.Prelude.{codes}
 use Rattle.ir_lex.specs.Bytes.{has}
 use Rattle.ir_lex.specs.declared.head.Head.TheVariants as heads
@@ -10,7 +10,7 @@ use Rattle.ir_lex.specs.Quotes.{is_zero_name, content}
 use Rattle.ir_lex.specs.Rows.{best_fit, rest_fit, label_len, number_len, word_len, name_len, meta_len, dots_len, other_len, string_len}
 use Rattle.ir_lex.specs.Tok.{Tok}
 use Rattle.ir_tree.specs.declared.operand.Reg.{Reg}
-use Rattle.ir_tree.specs.declared.operand.Reg.TheVariants.{Int, Ptr}
+use Rattle.ir_tree.specs.declared.operand.Reg.TheVariants.{Ptr}
 use Rattle.lto_forms.specs.Alphabet.{among, contains}
 use Rattle.lto_forms.specs.Forms.{Star}
 use Rattle.lto_forms.specs.Rules.{Rule, Opens, IsWithin, is_class}
@@ -26,7 +26,7 @@ use Rattle.ir_instructions.specs.ShapeForms.{any_shape, memory_shape}
 use Rattle.ir_instructions.specs.Values.{is_inbounds, stepping, NUMBER, index_of, index_number, index, GLOBAL, global, closing_one, closing, opened, opening, reached, address_behind, address, operand, argument, pointer}
 use Rattle.ir_instructions.specs.ValuesAt.{ADDRESS, pointer_at, stepping_at, index_number_at, index_at, indices_at, closing_one_at, closing_at, opened_at, opening_at, openings_at, global_at, reached_at, address_behind_at, address_at, operand_at, argument_at}
 use Rattle.ir_read.proofs.OperandRules.{type_not_number, type_not_limit, zero_below, reg_rule, integer_rule, global_within, simple_rule}
-use Rattle.ir_instructions.proofs.ShapeRules.{SHAPE, memory_shape_rule}
+use Rattle.ir_instructions.proofs.ShapeRules.{memory_shape_rule}
 use Rattle.ir_read.proofs.Singles.{sample, word, not_number, not_limit, the_rule, the_opens, one_rule, one_opens, comma_rule, open_paren_rule, close_paren_rule}
 use Rattle.ir_read.proofs.Words.{pointer_real, zero_real}
 

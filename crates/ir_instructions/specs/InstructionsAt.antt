@@ -1,5 +1,5 @@
 -- What the readers of instructions give.
-use Rattle.std.specs.Prelude.{ℕ, Bool, true, false, Option, Some, None, List, [], ◌∷◌}
+use Rattle.std.specs.Prelude.{ℕ, false, Option, Some, None, List, [], ◌∷◌}
 use Rattle.std.specs.List.{fold}
 use Rattle.ir_lex.specs.declared.head.Head.TheVariants as heads
 use Rattle.ir_lex.specs.Heads.{number}
@@ -21,7 +21,6 @@ use Rattle.ir_read.specs.declared.raw.Instr.{Instr}
 use Rattle.ir_read.specs.declared.raw.Instr.TheVariants as instrs
 use Rattle.ir_read.specs.declared.raw.Operand.{Operand}
 use Rattle.ir_instructions.specs.Instructions.{is_nuw, flags, with_wrap, no_flags, PREDICATES, predicate_of}
-use Rattle.ir_read.specs.Metadata.{META}
 use Rattle.ir_read.specs.MetadataAt.{COMMA, attached_at, attachments_at}
 use Rattle.ir_read.specs.OperandsAt.{reg_at, integer_at, bit_at, scalar_at, maybe_at}
 use Rattle.ir_instructions.specs.ValuesAt.{pointer_at, operand_at, argument_at}

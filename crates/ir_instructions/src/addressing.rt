@@ -17,7 +17,10 @@ use crate::instructions::{align_at, aligned_at};
 use crate::shapes::{Measured, counted, memory_shape_at};
 use crate::values::{argument_at, operand_at, pointer_at, stepping_at};
 use ir_lex::{Head, Token};
-use ir_read::{Argument, Instr, Operand, Shape, ShapeNode, Tokens, Typed, attached_at, done, expect, integer_at, refusal};
+use ir_read::{
+    Argument, Instr, Operand, Shape, ShapeNode, Tokens, Typed, attached_at, done, expect,
+    integer_at, refusal,
+};
 use ir_tree::{Reg, Rows};
 use lto_forms::{Fault, FaultKind, ReadError};
 use std::alloc::{AllocFailed, Global};

@@ -16,7 +16,9 @@ ghost use Rattle.ir_read.specs.Shapes.{parts_of};
 
 use crate::extents::{Align, Extent, Room};
 use ir_lex::{Head, Token};
-use ir_read::{Shape, Tokens, Typed, decimal, expect, literal, memory_refusal, named, refusal, width};
+use ir_read::{
+    Shape, Tokens, Typed, decimal, expect, literal, memory_refusal, named, refusal, width,
+};
 use lto_forms::{Fault, FaultKind, ReadError};
 use std::alloc::Global;
 

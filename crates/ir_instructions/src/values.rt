@@ -15,7 +15,10 @@ ghost use Rattle.ir_instructions.specs.ValuesAt.{address_at, argument_at, closin
 
 use crate::shapes::memory_shape_at;
 use ir_lex::{Head, Token};
-use ir_read::{Address, Argument, Index, Level, Name, Operand, Steps, Tokens, Typed, expect, global_named, integer_at, literal, refusal, reg_at, simple_at, type_refusal};
+use ir_read::{
+    Address, Argument, Index, Level, Name, Operand, Steps, Tokens, Typed, expect, global_named,
+    integer_at, literal, refusal, reg_at, simple_at, type_refusal,
+};
 use ir_tree::{Reg, Rows};
 use lto_forms::{Fault, FaultKind, ReadError};
 use std::alloc::Global;

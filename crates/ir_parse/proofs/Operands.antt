@@ -1,15 +1,12 @@
 -- Types, operands and arguments that the grammar spells.
-use Rattle.std.proofs.Common.{◌≡◌, ℕ, ◌-◌, ◌%◌, ◌^◌, ◌<◌, max, min, nat_eq, nat_le, nat_lt, ◌||◌, Bool, true, false, ◌⊎◌, inl, inr, List, drop, Option, Some, None, option_map, refl, subst, arith, if◌then◌else◌}
-use Rattle.std.proofs.lemmas.Bool.{eqb-true, ltb-true, or_cases}
-use Rattle.std.proofs.lemmas.Nat.{pow_pos}
+use Rattle.std.proofs.Common.{◌≡◌, ℕ, ◌-◌, ◌%◌, ◌^◌, ◌<◌, max, min, nat_eq, ◌||◌, Bool, true, false, ◌⊎◌, inl, inr, drop, Option, Some, None, option_map, refl, subst, arith, if◌then◌else◌}
+use Rattle.std.proofs.lemmas.Bool.{eqb-true, or_cases}
 use Rattle.ir_lex.specs.Heads.{number, width_of}
-use Rattle.ir_lex.specs.Rows.{begins}
 use Rattle.ir_lex.specs.Tok.{Tok}
 use Rattle.ir_lex.specs.declared.head.Head.{Head}
 use Rattle.ir_lex.specs.declared.head.Head.TheVariants as heads
 use Rattle.lto_forms.specs.Alphabet.{contains}
 use Rattle.lto_forms.specs.Forms.{Form}
-use Rattle.ir_read.specs.Decimals.{decimal}
 use Rattle.ir_read.specs.Literals.{literal}
 use Rattle.ir_read.proofs.LiteralRange.{literal_fits}
 use Rattle.ir_read.specs.Operands.{SCALAR, bit, bits_of, integer, named, operand_by, reg, reg_of, result, result_of, scalar, simple, width}

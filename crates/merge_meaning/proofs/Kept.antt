@@ -10,13 +10,9 @@ use Rattle.ir_tree.specs.declared.function.Param.{Param}
 use Rattle.ir_tree.specs.declared.init_node.InitHead.{InitHead}
 use Rattle.ir_tree.specs.declared.init_node.InitPart.{InitPart}
 use Rattle.ir_tree.specs.declared.init_node.InitPart.TheVariants.{End, Typed}
-use Rattle.ir_tree.specs.declared.instr.Instr.{Instr}
-use Rattle.ir_tree.specs.declared.instr.Instr.TheVariants.{Address, Alloca, Binary, Call, Cast, Freeze, Icmp, Load, Phi as StrayPhi, Select, Store}
 use Rattle.ir_tree.specs.declared.instr.Line.{Line}
-use Rattle.ir_tree.specs.declared.operand.Argument.{Argument}
-use Rattle.ir_tree.specs.declared.operand.Operand.{Operand}
 use Rattle.ir_tree.specs.declared.operand.Symbol.{Symbol}
-use Rattle.ir_tree.specs.Edited.{argument_edited, block_edited, case_edited, edited, end_edited, instr_edited, line_edited, param_edited, with_operands}
+use Rattle.ir_tree.specs.Edited.{block_edited, case_edited, edited, end_edited, line_edited, param_edited, with_operands}
 use Rattle.ir_meaning.specs.Refine.{Naming}
 use Rattle.ir_better.specs.Rename.{block_under, end_under, line_under, operand_under}
 use Rattle.merge_meaning.specs.Globals.{function_under, initial_under, initials_under}

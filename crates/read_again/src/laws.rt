@@ -5,10 +5,9 @@ ghost use Rattle.read_again.specs.Refusals.{StuckFits};
 ghost use Rattle.read_again.specs.Laws.{NumberedAnewIsRead, ReadIsKnown, ReadIsNumbered, ReadIsReadAgain, ReadIsTyped, ReadIsWithin, ReadableIsRead, TextOrderIsNumbered, VerifiedIsRead};
 
 use ir_edit::{text_order_counts, text_order_is_sound};
-use ir_parse::read_is_parsed;
+use ir_parse::{items_are_written, read_is_parsed, tokens_are_sized, types_are_written};
 use printed_modules::modules_are_read;
 use resolved_forms::shapes_are_within;
-use ir_parse::{items_are_written, tokens_are_sized, types_are_written};
 use spelled_within::{contents_are_bytes, items_are_within, tokens_are_cut};
 
 /// The kind of a fault fits the token at which the grammar stops: which tokens are told to be left out of the language, where a

@@ -12,7 +12,7 @@ use Rattle.ir_print.specs.Operands.{address, displaced}
 use Rattle.ir_print.specs.Tokens as piece
 use Rattle.ir_print.specs.Tokens.{tight, space, word, mark, comma, width, global, signed, signed_piece}
 use Rattle.ir_read.specs.Operands.{global_by, global_named}
-use Rattle.ir_read.specs.Classes.{tokens, refusal, one_of, itself}
+use Rattle.ir_read.specs.Classes.{tokens, refusal}
 use Rattle.ir_read.specs.Literals.{literal}
 use Rattle.ir_read.specs.Operands.{classes_of, operand_by, operand_of, simple}
 use Rattle.ir_instructions.specs.ShapeForms.{memory_shape}
@@ -44,7 +44,7 @@ use Rattle.reading_back.proofs.Constants.{ReadsNumbers, number_read}
 use Rattle.reading_back.proofs.Names.{local_text, local_class, local_named, is_number}
 use Rattle.reading_back.proofs.Numerals.{signed_again, signed_nonempty}
 use Rattle.reading_back.proofs.Shapes.{bytes_read}
-use Rattle.reading_back.proofs.Tokens.{IsToken, class_of, Means, single, piece_read, by_classes, by_value}
+use Rattle.reading_back.proofs.Tokens.{IsToken, class_of, Means, single, piece_read, by_value}
 use Rattle.reading_back.proofs.Types.{register_read, integer_read, pointer_read}
 use Rattle.reading_back.proofs.Words.{comma_read, open_paren_read, close_paren_read, address_word_read}
 

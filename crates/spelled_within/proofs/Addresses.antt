@@ -1,5 +1,5 @@
 -- `getelementptr` that the grammar spells: counts of its shape, and constants among its base and its indices.
-use Rattle.std.proofs.Common.{Bool, true, false, [], Option, refl}
+use Rattle.std.proofs.Common.{Bool, true, false, [], refl}
 use Rattle.std.specs.List.{AllByRecursion as Each}
 use Rattle.std.specs.Prelude.{IfSome}
 use Rattle.ir_instructions.specs.Addressing.{addressing, attaching, behind_comma, further, indexing, indices, keep}

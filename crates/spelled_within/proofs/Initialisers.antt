@@ -19,7 +19,6 @@ use Rattle.ir_read.specs.declared.raw.InitHead.{InitHead}
 use Rattle.ir_read.specs.declared.raw.InitHead.TheVariants as inits
 use Rattle.ir_read.specs.Operands.{named}
 use Rattle.ir_read.specs.declared.raw.Operand.TheVariants as operands
-use Rattle.ir_read.specs.declared.shape.Typed.{Typed}
 use Rattle.spelled_within.specs.Spelled.{BeginningSpelled, ConstantSpelled, Counted, InitSpelled, PartSpelled}
 use Rattle.spelled_within.proofs.Means.{Means, among_means, chain_means, either_means, follow, nothing, pushed, skip, valued_means}
 use Rattle.spelled_within.proofs.Operands.{address_means, from_literal}

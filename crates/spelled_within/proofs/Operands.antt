@@ -1,5 +1,5 @@
 -- Operands and arguments that the grammar spells are of the types that stand before them.
-use Rattle.std.proofs.Common.{◌≡◌, ◌∙◌, ℕ, ◌&&◌, nat_eq, Bool, true, false, inl, inr, Option, Some, None, option_map, Ok, refl, sym, subst}
+use Rattle.std.proofs.Common.{◌≡◌, ◌∙◌, ℕ, ◌&&◌, true, inl, inr, Option, Some, None, option_map, Ok, refl, sym, subst}
 use Rattle.std.proofs.lemmas.Bool.{and_parts, eqb-true}
 use Rattle.ir_lex.specs.Heads.{number}
 use Rattle.ir_lex.specs.Tok.{Tok}

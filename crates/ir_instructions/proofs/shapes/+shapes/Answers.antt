@@ -12,7 +12,7 @@ use Rattle.ir_instructions.specs.declared.extents.Room.{Room}
 use Rattle.ir_instructions.specs.Extents.{Fits, extent, extent_of, grown, left, members_extent, no_bytes}
 use Rattle.ir_read.specs.MetadataAt.{COMMA}
 use Rattle.ir_instructions.specs.ShapeForms.{anywhere}
-use Rattle.ir_instructions.specs.ShapeFormsAt.{begins, further_at, more_members_at, shape_at, shape_over_at}
+use Rattle.ir_instructions.specs.ShapeFormsAt.{begins, further_at, more_members_at, shape_at}
 use Rattle.ir_read.specs.Shapes.{Written, parts_of}
 use Rattle.ir_instructions.proofs.ExtentLaws.{elements_fit, fits_most, one_member_more}
 use Rattle.ir_instructions.proofs.Levels.{first_and_others, gives_as, then_closed}
