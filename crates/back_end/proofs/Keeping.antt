@@ -37,7 +37,7 @@ use Rattle.slot_promote.specs.Promoted.{End, blocks_with, end_at, end_with, entr
 use Rattle.slot_promote.specs.Slots.{promoted_slots}
 use Rattle.slot_promote.specs.Values.{at_start, behind_line, fetches, goes, instr_with, is_there, load_with, makes, placed, reg_of, regs, use_of, without_slots, writes}
 use Rattle.slot_promote.specs.Values as slots
-use Rattle.edge_counts.specs.Counted.{sources, times}
+use Rattle.ir_better.specs.Counted.{sources, times}
 use Rattle.inline_site.specs.Laws.{InlinedIsKnown, InlinedIsSound}
 use Rattle.back_end.specs.Inlinable.{AreSound}
 use Rattle.back_end.specs.Laws.{AreKnown, MadeIsKnown}

@@ -23,9 +23,9 @@ use Rattle.ir_better.specs.Reshape.{GoesQuietly, IsShape, IsStuck, Layout, Leave
 use Rattle.ir_better.proofs.Alike.Itself.{same_better}
 use Rattle.ir_better.proofs.Between.InARow.{in_a_row}
 use Rattle.ir_better.proofs.Blocks.Reshaped.{reshaped_is_better}
-use Rattle.edge_counts.specs.Counted.{sources, times}
-use Rattle.edge_counts.proofs.Counting.{distinct_rest, edges_from, not_again, number_at, numbers_in, out_to}
-use Rattle.edge_counts.proofs.Exits.{end_in, end_of, exit_among, found_at, number_found}
+use Rattle.ir_better.specs.Counted.{sources, times}
+use Rattle.ir_better.proofs.Counting.{distinct_rest, edges_from, not_again, number_at, numbers_in, out_to}
+use Rattle.ir_better.proofs.Exits.{end_in, end_of, exit_among, found_at, number_found}
 use Rattle.block_merge.specs.Laws.{MergeIsBetter}
 use Rattle.block_merge.specs.Merged.{CanJoin, IsOneOf, Joins, behind_entry, entry_named, joined, joined_block, joined_blocks, phi_named, renamed}
 use Rattle.block_merge.proofs.Fitting.{Fits, fits_still, in_behind, sound_fits}

@@ -7,7 +7,7 @@ use Rattle.ir_tree.specs.Flow.{targets}
 use Rattle.ir_tree.specs.Formed.{Distinct, numbers}
 use Rattle.ir_tree.specs.declared.block.Block.{Block}
 use Rattle.ir_tree.specs.declared.function.Function.{Function}
-use Rattle.edge_counts.proofs.Counting.{number_at, numbers_in}
+use Rattle.ir_better.proofs.Counting.{number_at, numbers_in}
 use Rattle.block_merge.specs.Counts.{counted, edges_counted}
 use Rattle.block_merge.specs.Merged.{IsMergeOf, IsOneOf}
 use Rattle.block_merge.specs.Working.{HasContents, IsContentOf, IsNumber, Joined, block_of, blocks_taken, left, may_go, naming, next, with_block, without}

@@ -5,7 +5,7 @@ use Rattle.ir_tree.specs.Formed.{Distinct, numbers}
 use Rattle.ir_tree.specs.Rules.{place}
 use Rattle.ir_tree.specs.declared.block.Block.{Block}
 use Rattle.ir_tree.specs.declared.function.Function.{Function}
-use Rattle.edge_counts.proofs.Counting.{place_is}
+use Rattle.ir_better.proofs.Counting.{place_is}
 use Rattle.block_merge.specs.Working.{IsTurnOf, next}
 use Rattle.block_merge.specs.declared.joining.Joining.{Joining}
 use Rattle.block_merge.proofs.Loops.{element_at}

@@ -5,7 +5,7 @@ use Rattle.std.proofs.lemmas.Bool.{eq-eqb, eqb-true}
 use Rattle.ir_tree.specs.Flow.{leading, repeated, targets}
 use Rattle.ir_tree.specs.Formed.{Distinct}
 use Rattle.ir_tree.specs.declared.block.Block.{Block}
-use Rattle.edge_counts.proofs.Counting.{distinct_rest, not_again, number_at, numbers_in}
+use Rattle.ir_better.proofs.Counting.{distinct_rest, not_again, number_at, numbers_in}
 use Rattle.block_merge.specs.Counts.{counted, edges_counted}
 use Rattle.block_merge.specs.Working.{IsNumber, blocks_of, with_block}
 use Rattle.block_merge.specs.declared.joining.Content.{Content}

@@ -5,7 +5,7 @@
 //! another, and that no blocks are left there to be joined (`specs/Merged.antt`): there is one such function. Of a sound
 //! function the result is sound, and better in every program.
 //!
-//! Below this crate stand `ir_tree`, and `ir_meaning`, `ir_better`, `ir_flow`, `ir_edit` and `edge_counts` for what is proved.
+//! Below this crate stand `ir_tree`, and `ir_meaning`, `ir_better`, `ir_flow` and `ir_edit` for what is proved.
 //! Time and memory are linear in the function: edges are counted once, two blocks are joined in constant time, since their
 //! lines stand in linked lists until all are joined, so that each instruction moves once, and phi entries are renamed by one
 //! table.

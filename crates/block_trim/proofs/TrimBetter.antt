@@ -18,9 +18,9 @@ use Rattle.ir_better.specs.Formed.{IsFormed}
 use Rattle.ir_better.specs.Reshape.{IsShape, IsStuck, Layout, LeavesAlike, Spot, laid, spot_of}
 use Rattle.ir_better.proofs.Alike.Itself.{same_better}
 use Rattle.ir_better.proofs.Blocks.Reshaped.{reshaped_is_better}
-use Rattle.edge_counts.specs.Counted.{times}
-use Rattle.edge_counts.proofs.Counting.{among_times, edges_from, out_to}
-use Rattle.edge_counts.proofs.Exits.{end_in, end_of, exit_among, found_at, number_found}
+use Rattle.ir_better.specs.Counted.{times}
+use Rattle.ir_better.proofs.Counting.{among_times, edges_from, out_to}
+use Rattle.ir_better.proofs.Exits.{end_in, end_of, exit_among, found_at, number_found}
 use Rattle.block_trim.specs.Laws.{TrimIsBetter, TrimIsOne}
 use Rattle.block_trim.specs.Trimmed.{AreReached, IsReached, block_in, blocks_in, entries_in, phi_in, trimmed}
 

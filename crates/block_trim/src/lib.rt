@@ -5,7 +5,7 @@
 //! better in every program, and sound where the function is.
 //!
 //! Below this crate stand `ir_tree`, `ir_flow` for the blocks that are reached, which are a set of `lto_sets`, and
-//! `ir_meaning`, `ir_better`, `ir_edit` and `edge_counts` for what is proved. Time and memory are linear in the function
+//! `ir_meaning`, `ir_better` and `ir_edit` for what is proved. Time and memory are linear in the function
 //! and the greatest number of a block.
 #![tactic(auto)]
 

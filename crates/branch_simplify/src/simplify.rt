@@ -4,7 +4,7 @@ ghost use Rattle.ir_tree.specs.Rules.{Sound};
 ghost use Rattle.ir_meaning.specs.Near.{BetterThan};
 ghost use Rattle.ir_meaning.specs.Program.{Program};
 ghost use Rattle.ir_better.specs.Formed.{IsFormed};
-ghost use Rattle.edge_counts.specs.Counted.{times};
+ghost use Rattle.ir_better.specs.Counted.{times};
 ghost use Rattle.branch_simplify.specs.Simplified.{lost_into, phi_left, simplified, simplified_block};
 ghost use Rattle.branch_simplify.specs.Tables.{lost_at};
 

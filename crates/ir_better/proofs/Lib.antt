@@ -9,3 +9,7 @@ pub mod Slots
 pub mod Blocks
 pub mod Names
 pub mod Numbers
+pub mod Counting
+pub mod Entries
+pub mod Everywhere
+pub mod Exits

@@ -9,3 +9,5 @@ pub mod Laws
 pub mod Rename
 pub mod Renumber
 pub mod Table
+pub mod Counted
+pub mod EdgeCounts

@@ -8,8 +8,8 @@ use Rattle.ir_meaning.specs.Frame.{Locals, cons_index, index_of}
 use Rattle.ir_meaning.specs.Memory.{Memory as MeantMemory, object_size}
 use Rattle.ir_meaning.specs.declared.value.Base.{Base as MeantBase}
 use Rattle.ir_meaning.specs.declared.value.Value.TheVariants.{Pointer, Poison}
-use Rattle.ir_address.specs.Walking.{ends_at}
-use Rattle.ir_address.specs.declared.walk.Walk.{Walk}
+use Rattle.ir_machine.specs.Walking.{ends_at}
+use Rattle.ir_machine.specs.declared.walk.Walk.{Walk}
 use Rattle.ir_machine.specs.Meant.{meant}
 use Rattle.ir_machine.specs.declared.memory.Memory.{Memory}
 use Rattle.ir_machine.specs.declared.scalar.Pointer.{Pointer as ScalarPointer}

@@ -15,8 +15,7 @@ ghost use Rattle.ir_frames.specs.Tasks.{indices_meant, offset_by};
 
 use crate::registers::Registers;
 use crate::source::{Source, Typed};
-use ir_address::Walk;
-use ir_machine::{Base, Pointer, Scalar, bits};
+use ir_machine::{Base, Pointer, Scalar, Walk, bits};
 use ir_tree::{Reg, Shape};
 use lto_bits::widen;
 

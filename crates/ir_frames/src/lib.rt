@@ -17,7 +17,7 @@
 //! that `putchar` writes. [`enter`] makes the registers that a callee begins with, and [`end_slots`] ends the
 //! lives of the stack blocks of a frame that is left.
 //!
-//! Below this crate stand `ir_tree`, `lto_bits`, `ir_meaning`, `ir_machine` and `ir_address`. Its promise:
+//! Below this crate stand `ir_tree`, `lto_bits`, `ir_meaning` and `ir_machine`. Its promise:
 //! registers and memory that stand for a frame's locals and memory still do behind each call, and each answer
 //! is the definition's for all locals that the registers stand for. An instruction takes time in proportion
 //! to its own operands and bytes, a call to its arguments, a `switch` to its cases. Memory is taken only by

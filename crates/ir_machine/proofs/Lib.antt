@@ -9,3 +9,6 @@ pub mod Ending
 pub mod Filling
 pub mod Comparing
 pub mod Origins
+mod Parts
+mod Walks
+mod Wraps

@@ -5,3 +5,5 @@ pub mod Origins
 pub mod Blocks
 pub mod Memories
 pub mod Names
+pub mod Leading
+pub mod Walking

@@ -12,8 +12,12 @@
 //! memory stands for the definition's, in which every block that was ever made has its number, is a
 //! relation (`specs/Memories.antt`) that each call keeps.
 //!
+//! A [`Walk`] computes an address: from an offset of an object by one index after another, each a signed
+//! number whose value need not be known before (LangRef, "getelementptr Instruction").
+//!
 //! Below this crate stand `ir_tree`, `lto_bits` and `ir_meaning`. Its promise: loads, stores, new stack
-//! blocks and tests on handles are the definitions', for all memories that the machine's stands for.
+//! blocks and tests on handles are the definitions', for all memories that the machine's stands for, and
+//! a walk by a list of indices ends at the definition's `new_offset` of that list.
 //! Each takes time in proportion to the bytes that it touches, whatever the number of blocks; a pointer's load
 //! and store look once into the block's table. Only stores of pointers and new blocks take memory.
 #![tactic(auto)]
@@ -25,7 +29,9 @@ mod mark;
 mod memory;
 mod operate;
 mod outcome;
+mod part;
 mod scalar;
+mod walk;
 
 pub use block::{Block, Stored};
 pub use bytes::Bytes;
@@ -34,3 +40,4 @@ pub use memory::Memory;
 pub use operate::{binary, bits, cast, compare_integers, freeze, select};
 pub use outcome::Outcome;
 pub use scalar::{Base, Handle, Pointer, Scalar};
+pub use walk::Walk;

@@ -8,7 +8,7 @@ use Rattle.ir_instructions.specs.Addressing.{addressing, attaching, behind_comma
 use Rattle.ir_instructions.specs.ShapeForms.{memory_shape}
 use Rattle.ir_instructions.specs.declared.addressing.Slots.{Slots}
 use Rattle.ir_tree.specs.declared.operand.Reg.TheVariants.{Ptr}
-use Rattle.resolved_forms.specs.Written.{AlignWritten, ArgumentWritten}
+use Rattle.ir_parse.specs.Written.{AlignWritten, ArgumentWritten}
 use Rattle.ir_parse.proofs.Alignments.{align_written, aligned_written}
 use Rattle.ir_parse.proofs.Instructions.{Named}
 use Rattle.ir_parse.proofs.Means.{Means, chain_means, either_means, follow, kept_means, nothing, skip}

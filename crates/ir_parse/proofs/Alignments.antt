@@ -12,7 +12,7 @@ use Rattle.ir_read.specs.Classes.{refusal}
 use Rattle.ir_read.specs.Decimals.{ALIGNMENTS, alignment_of, decimal, is_alignment}
 use Rattle.ir_instructions.specs.Instructions as instructions
 use Rattle.ir_tree.specs.Formed.{IsAlignment}
-use Rattle.resolved_forms.specs.Written.{AlignWritten}
+use Rattle.ir_parse.specs.Written.{AlignWritten}
 use Rattle.ir_parse.proofs.Means.{Means, accepted, either_means, follow, nothing, skip, token_means}
 
 -- ---- powers of two

@@ -8,7 +8,7 @@ use Rattle.ir_read.specs.Operands.{local}
 use Rattle.ir_read.specs.declared.function_heads.Role.TheVariants as roles
 use Rattle.ir_read.specs.declared.raw.Block.{Block}
 use Rattle.ir_tree.specs.Formed.{IsReg}
-use Rattle.resolved_forms.specs.Written.{BlockWritten, LineWritten}
+use Rattle.ir_parse.specs.Written.{BlockWritten, LineWritten}
 use Rattle.ir_parse.specs.Items.{ItemWritten}
 use Rattle.ir_parse.proofs.Heads.{head_written}
 use Rattle.ir_parse.proofs.Lines.{line_written}

@@ -11,7 +11,7 @@ use Rattle.ir_read.specs.declared.raw.Operand.{Operand}
 use Rattle.ir_tree.specs.Formed.{IsReg, IsResult}
 use Rattle.ir_tree.specs.declared.operand.Reg.{Reg}
 use Rattle.ir_tree.specs.declared.operand.Reg.TheVariants.{Ptr}
-use Rattle.resolved_forms.specs.Written.{ArgumentWritten, OperandWritten}
+use Rattle.ir_parse.specs.Written.{ArgumentWritten, OperandWritten}
 use Rattle.ir_parse.proofs.Instructions.{Named}
 use Rattle.ir_parse.proofs.Means.{Means, either_means, exact_means, follow, nothing, skip, star_means, valued_means}
 use Rattle.ir_parse.proofs.Operands.{address_written, operand_written, reg_is, reg_written, result_written, token_written}

@@ -30,10 +30,10 @@ use Rattle.ir_names.specs.Symbols.{symbol_name, symbol_of}
 use Rattle.ir_names.specs.TypeNames.{type_names}
 use Rattle.ir_names.specs.Types.{Types}
 use Rattle.ir_names.specs.Variables.{variable_in}
-use Rattle.ir_definitions.specs.LineLaws.{LinesFit}
-use Rattle.ir_definitions.specs.Lines.{item_lines, lines_of, block_lines}
-use Rattle.resolved_forms.specs.Laws.{FunctionsAreFormed, VariablesAreFormed}
-use Rattle.resolved_forms.specs.Written.{IsWritten, TypesWritten, VariableWritten}
+use Rattle.ir_stages.specs.LineLaws.{LinesFit}
+use Rattle.ir_stages.specs.Lines.{item_lines, lines_of, block_lines}
+use Rattle.ir_parse.specs.Resolved.{FunctionsAreFormed, VariablesAreFormed}
+use Rattle.ir_parse.specs.Written.{IsWritten, TypesWritten, VariableWritten}
 use Rattle.ir_parse.specs.Items.{ItemWritten}
 use Rattle.ir_parse.specs.Spelled.{ItemsAreWritten, TokensAreSized, TypesAreWritten}
 use Rattle.ir_parse.specs.Laws.{ReadIsParsed}

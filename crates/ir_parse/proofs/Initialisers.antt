@@ -22,7 +22,7 @@ use Rattle.ir_read.specs.declared.raw.Operand.TheVariants as operands
 use Rattle.ir_tree.specs.Formed.{IsReg, IsResult}
 use Rattle.ir_tree.specs.declared.operand.Reg.{Reg}
 use Rattle.ir_tree.specs.declared.operand.Reg.TheVariants.{Int, Ptr}
-use Rattle.resolved_forms.specs.Written.{HeadWritten, InitWritten, PartWritten, ShapeWritten}
+use Rattle.ir_parse.specs.Written.{HeadWritten, InitWritten, PartWritten, ShapeWritten}
 use Rattle.ir_parse.specs.Items.{InitShaped, PartShaped}
 use Rattle.ir_parse.proofs.Instructions.{stored_width}
 use Rattle.ir_parse.proofs.Means.{Means, among_means, chain_means, either_means, follow, nothing, pushed, skip, valued_means}

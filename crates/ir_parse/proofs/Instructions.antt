@@ -12,7 +12,7 @@ use Rattle.ir_tree.specs.declared.instr.CastOp.{CastOp}
 use Rattle.ir_tree.specs.declared.instr.Flags.{Flags}
 use Rattle.ir_tree.specs.declared.operand.Reg.{Reg}
 use Rattle.ir_tree.specs.declared.operand.Reg.TheVariants.{Int, Ptr}
-use Rattle.resolved_forms.specs.Written.{InstrWritten, NameWritten}
+use Rattle.ir_parse.specs.Written.{InstrWritten, NameWritten}
 use Rattle.ir_parse.proofs.Alignments.{align_written}
 use Rattle.ir_parse.proofs.Means.{Means, follow, nothing, skip}
 use Rattle.ir_parse.proofs.Operands.{argument_written, bit_written, integer_written, operand_written, reg_written, scalar_written}

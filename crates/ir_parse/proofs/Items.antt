@@ -20,7 +20,7 @@ use Rattle.ir_read.specs.declared.raw.Head.{Head}
 use Rattle.ir_read.specs.declared.raw.Item.{Item}
 use Rattle.ir_read.specs.declared.raw.Item.TheVariants.{Declaration}
 use Rattle.ir_tree.specs.Formed.{IsReg}
-use Rattle.resolved_forms.specs.Written.{BlockWritten}
+use Rattle.ir_parse.specs.Written.{BlockWritten}
 use Rattle.ir_parse.specs.Items.{ItemWritten}
 use Rattle.ir_parse.specs.Spelled.{ItemsAreWritten}
 use Rattle.ir_parse.specs.Sized.{IsSized}

@@ -27,3 +27,13 @@ mod Types
 mod Variables
 mod Words
 mod Written
+pub mod ResolvedAlignments
+mod Examples
+mod Functions
+mod ResolvedGives
+mod ResolvedItems
+mod Numbering
+mod Positions
+mod ResolvedShapes
+mod Uses
+mod ResolvedVariables

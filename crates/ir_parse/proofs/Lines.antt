@@ -19,7 +19,7 @@ use Rattle.ir_read.specs.declared.raw.Instr.{Instr}
 use Rattle.ir_tree.specs.Formed.{FlagsFormed}
 use Rattle.ir_tree.specs.declared.instr.CastOp.TheVariants as casts
 use Rattle.ir_tree.specs.declared.instr.Flags.{Flags}
-use Rattle.resolved_forms.specs.Written.{LineWritten}
+use Rattle.ir_parse.specs.Written.{LineWritten}
 use Rattle.ir_parse.proofs.Addresses.{addressing_written, reserving_written}
 use Rattle.ir_parse.proofs.Calls.{calling_written, tail_calling_written}
 use Rattle.ir_parse.proofs.Instructions.{Named, casting_written, comparing_written, dividing_written, extending_written, freezing_written, joining_written, loading_written, narrowing_written, on_two_written, selecting_written, storing_written, wrapping_written}

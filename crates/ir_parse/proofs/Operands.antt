@@ -17,7 +17,7 @@ use Rattle.ir_read.specs.declared.shape.Typed.{Typed}
 use Rattle.ir_tree.specs.Formed.{IsReg, IsResult, IsScalar, IsStored, IsWidth}
 use Rattle.ir_tree.specs.declared.operand.Reg.{Reg}
 use Rattle.ir_tree.specs.declared.operand.Reg.TheVariants.{Int, Ptr}
-use Rattle.resolved_forms.specs.Written.{ArgumentWritten, OperandWritten}
+use Rattle.ir_parse.specs.Written.{ArgumentWritten, OperandWritten}
 use Rattle.ir_parse.specs.Sized.{IsSized}
 use Rattle.ir_parse.proofs.Means.{Means, among_means, either_means, exact_means, nothing, skip, follow, valued_means}
 

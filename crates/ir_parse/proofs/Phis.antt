@@ -9,7 +9,7 @@ use Rattle.ir_instructions.specs.ShapeForms.{memory_shape}
 use Rattle.ir_read.specs.declared.raw.Incoming.{Incoming}
 use Rattle.ir_tree.specs.Formed.{IsReg}
 use Rattle.ir_tree.specs.declared.operand.Reg.{Reg}
-use Rattle.resolved_forms.specs.Written.{OperandWritten}
+use Rattle.ir_parse.specs.Written.{OperandWritten}
 use Rattle.ir_parse.proofs.Instructions.{Named}
 use Rattle.ir_parse.proofs.Means.{Means, chain_means, either_means, follow, kept_means, nothing, skip}
 use Rattle.ir_parse.proofs.Operands.{operand_written, reg_written}

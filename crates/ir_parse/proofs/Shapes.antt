@@ -19,7 +19,7 @@ use Rattle.ir_instructions.specs.declared.extents.Room.{Room}
 use Rattle.ir_read.specs.declared.shape.Typed.{Typed}
 use Rattle.ir_tree.specs.Formed.{IsScalar}
 use Rattle.ir_tree.specs.declared.operand.Reg.TheVariants.{Int, Ptr}
-use Rattle.resolved_forms.specs.Written.{ShapeWritten, PartsWritten}
+use Rattle.ir_parse.specs.Written.{ShapeWritten, PartsWritten}
 use Rattle.ir_parse.specs.Sized.{IsSized}
 use Rattle.ir_parse.proofs.Means.{Means, accepted, valued, chain_means, either_means, nothing, skip, follow, token_means}
 use Rattle.ir_parse.proofs.Operands.{mapped, scalar_is}

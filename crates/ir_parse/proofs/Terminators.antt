@@ -14,7 +14,7 @@ use Rattle.ir_instructions.specs.declared.terminators.Matched.{Matched}
 use Rattle.ir_tree.specs.Formed.{IsReg, IsResult, IsWidth}
 use Rattle.ir_tree.specs.declared.operand.Reg.{Reg}
 use Rattle.ir_tree.specs.declared.operand.Reg.TheVariants.{Int, Ptr}
-use Rattle.resolved_forms.specs.Written.{CaseWritten, EndWritten}
+use Rattle.ir_parse.specs.Written.{CaseWritten, EndWritten}
 use Rattle.ir_parse.proofs.Means.{Means, either_means, follow, nothing, skip, star_means, valued_means}
 use Rattle.ir_parse.proofs.Operands.{bit_written, integer_written, mapped, one_bit, operand_written, reg_written, result_written}
 

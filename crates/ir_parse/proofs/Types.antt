@@ -30,7 +30,7 @@ use Rattle.ir_read.specs.declared.raw.Terminator.{Terminator}
 use Rattle.ir_read.specs.declared.raw.Terminator.TheVariants as end
 use Rattle.ir_read.specs.declared.raw.Variable.{Variable}
 use Rattle.ir_read.specs.declared.shape.Typed.{Typed}
-use Rattle.resolved_forms.specs.Written.{TypeWritten}
+use Rattle.ir_parse.specs.Written.{TypeWritten}
 use Rattle.ir_parse.specs.Items.{ItemWritten}
 use Rattle.ir_parse.specs.Spelled.{TypesAreWritten}
 use Rattle.ir_parse.proofs.Means.{joined, pushed}

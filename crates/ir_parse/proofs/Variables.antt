@@ -12,7 +12,7 @@ use Rattle.ir_tree.specs.Formed.{IsResult}
 use Rattle.ir_tree.specs.declared.function.Linkage.{Linkage}
 use Rattle.ir_tree.specs.declared.function.Linkage.TheVariants as linkages
 use Rattle.ir_tree.specs.declared.operand.Reg.{Reg}
-use Rattle.resolved_forms.specs.Written.{AlignWritten, InitWritten, TypeWritten}
+use Rattle.ir_parse.specs.Written.{AlignWritten, InitWritten, TypeWritten}
 use Rattle.ir_parse.specs.Items.{InitShaped, ItemWritten}
 use Rattle.ir_parse.proofs.Alignments.{alignment_written}
 use Rattle.ir_parse.proofs.Initialisers.{initialiser_written, scalar_written}

@@ -8,7 +8,7 @@ use Rattle.ir_read.specs.declared.raw.InitPart.TheVariants as parts
 use Rattle.ir_read.specs.declared.raw.Item.{Item}
 use Rattle.ir_read.specs.declared.raw.Item.TheVariants as item
 use Rattle.ir_names.specs.Types.{shape_if}
-use Rattle.resolved_forms.specs.Written.{IsWritten, ShapeWritten, TypeWritten, VariableWritten}
+use Rattle.ir_parse.specs.Written.{IsWritten, ShapeWritten, TypeWritten, VariableWritten}
 
 -- no attribute of a declaration is kept
 pub record IsDeclared (head : Head) : Type 0 where

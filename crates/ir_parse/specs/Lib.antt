@@ -9,3 +9,6 @@ pub mod Laws
 pub mod Sized
 pub mod Items
 pub mod Spelled
+pub mod Written
+pub mod Worked
+pub mod Resolved

@@ -14,7 +14,7 @@ use Rattle.ir_read.specs.declared.raw.Operand.{Operand}
 use Rattle.ir_read.specs.declared.shape.Typed.{Typed}
 use Rattle.ir_tree.specs.Formed.{IsReg}
 use Rattle.ir_tree.specs.declared.operand.Reg.{Reg}
-use Rattle.resolved_forms.specs.Written.{ArgumentWritten, OperandWritten, ShapeWritten, TypesWritten}
+use Rattle.ir_parse.specs.Written.{ArgumentWritten, OperandWritten, ShapeWritten, TypesWritten}
 use Rattle.ir_parse.specs.Items.{ItemWritten}
 use Rattle.ir_parse.specs.Sized.{IsSized}
 

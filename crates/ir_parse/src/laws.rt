@@ -1,9 +1,9 @@
 //! Laws of reading, as functions whose contracts state them.
 ghost use Rattle.ir_parse.specs.Laws.{Apart, Decided, OneFault, OneReading, ReadIsParsed};
 
+use crate::resolved::{functions_are_formed, variables_are_formed};
 use crate::spelled::{items_are_written, tokens_are_sized, types_are_written};
-use ir_definitions::lines_fit;
-use resolved_forms::{functions_are_formed, variables_are_formed};
+use ir_stages::lines_fit;
 
 /// No bytes are read as two modules, none that are read have a fault, and none have two first faults.
 pub fn one_reading()

@@ -4,3 +4,6 @@ mod Levels
 mod Runs
 mod Marked
 mod Within
+mod Closings
+mod Initials
+pub mod Lined

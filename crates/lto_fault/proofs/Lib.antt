@@ -1,0 +1,3 @@
+pub mod Pushing
+pub mod Escaping
+pub mod Lines

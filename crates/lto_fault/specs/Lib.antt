@@ -1,3 +1,6 @@
 pub mod Statuses
 pub mod Texts
 pub mod Answers
+pub mod Pushing
+pub mod Parts
+pub mod Returned

@@ -8,7 +8,7 @@ use Rattle.machine_steps.specs.Code.{counted_before}
 use Rattle.machine_steps.specs.declared.code.Block.{Block}
 use Rattle.machine_code.specs.Blocks.{AreBlocksFor, IsBlockFor}
 use Rattle.machine_code.specs.declared.addresses.Addresses.{Addresses}
-use Rattle.machine_memory.proofs.Lists.{got_pushed, read_got}
+use Rattle.machine_code.proofs.Lists.{got_pushed, read_got}
 
 pub no_blocks : (t : Addresses) (blocks : List MeantBlock) (cs : List Block) → cs ≡ [] → AreBlocksFor t blocks cs
 no_blocks t blocks cs e q b c f g = absurd (none q (ap (λ (ds : List Block). slice_get ds q) (sym e) ∙ g)) where

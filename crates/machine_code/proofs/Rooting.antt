@@ -24,7 +24,7 @@ use Rattle.machine_steps.specs.declared.code.Function.{Function}
 use Rattle.machine_code.specs.Addresses.{base_in}
 use Rattle.machine_code.specs.Blocks.{IsFunctionFor}
 use Rattle.machine_code.specs.Lowered.{IsMadeOf}
-use Rattle.machine_memory.specs.Tables.{base_of, bytes_of, kind_at, number_at}
+use Rattle.machine_code.specs.Tables.{base_of, bytes_of, kind_at, number_at}
 use Rattle.machine_code.specs.Programs.{IsBodyFor, IsBodyOf, IsEntityFor}
 use Rattle.machine_code.specs.Roots.{IsRoot, are_integers, index_in, integers_of, only_integers}
 use Rattle.machine_code.specs.declared.code.Lowered.{Lowered}

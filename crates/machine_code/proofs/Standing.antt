@@ -21,7 +21,7 @@ use Rattle.ir_frames.specs.Locals.{AreKnown, IsValid}
 use Rattle.ir_frames.specs.Tasks as tasks
 use Rattle.ir_frames.specs.declared.source.Source.TheVariants.{Known, Register}
 use Rattle.ir_frames.specs.declared.source.Typed.{Typed}
-use Rattle.machine_memory.specs.Addresses.{address_at}
+use Rattle.machine_code.specs.MemoryAddresses.{address_at}
 use Rattle.machine_code.specs.Addresses.{AreValid, HasAddresses, base_in}
 use Rattle.machine_code.specs.Sources.{IsTyped, StandsFor}
 use Rattle.machine_code.specs.declared.addresses.Addresses.{Addresses}

@@ -26,12 +26,12 @@ use Rattle.machine_steps.specs.Code.{IsBody, IsCode, IsFunction, IsRunnable, Kno
 use Rattle.machine_steps.specs.declared.code.Block.{Block}
 use Rattle.machine_steps.specs.declared.code.Code.{Code}
 use Rattle.machine_steps.specs.declared.code.Function.{Function}
-use Rattle.machine_memory.specs.Addresses.{address_at}
-use Rattle.machine_memory.specs.Openings.{HoldsVariables}
-use Rattle.machine_memory.specs.Tables.{IsTable, bytes_of, number_at}
-use Rattle.machine_memory.proofs.Addressing.{base_valid, has_addresses}
-use Rattle.machine_memory.proofs.Lists.{there}
-use Rattle.machine_memory.proofs.Naming.{code_is, distinct_symbols, global_there, kind_is, symbol_is}
+use Rattle.machine_code.specs.MemoryAddresses.{address_at}
+use Rattle.machine_code.specs.Openings.{HoldsVariables}
+use Rattle.machine_code.specs.Tables.{IsTable, bytes_of, number_at}
+use Rattle.machine_code.proofs.Addressing.{base_valid, has_addresses}
+use Rattle.machine_code.proofs.Lists.{there}
+use Rattle.machine_code.proofs.Naming.{code_is, distinct_symbols, global_there, kind_is, symbol_is}
 use Rattle.machine_code.specs.Addresses.{AreValid, base_in}
 use Rattle.machine_code.specs.Blocks.{IsBlockFor, IsFunctionFor}
 use Rattle.machine_code.specs.Lowered.{IsLowered}

@@ -6,8 +6,8 @@ use Rattle.ir_meaning.specs.Memory.{Memory as MeantMemory}
 use Rattle.ir_machine.specs.declared.memory.Memory.{Memory}
 use Rattle.ir_machine.specs.declared.scalar.Base.{Base}
 use Rattle.ir_frames.specs.Locals.{IsValid}
-use Rattle.machine_memory.specs.Addresses as symbols
-use Rattle.machine_memory.specs.Addresses.{address_at}
+use Rattle.machine_code.specs.MemoryAddresses as symbols
+use Rattle.machine_code.specs.MemoryAddresses.{address_at}
 use Rattle.machine_code.specs.declared.addresses.Addresses.{Addresses}
 
 -- what the address of a symbol is based on, where it has one

@@ -5,3 +5,7 @@ pub mod Blocks
 pub mod Programs
 pub mod Lowered
 pub mod Roots
+pub mod MemoryAddresses
+pub mod Tables
+pub mod Images
+pub mod Openings

@@ -9,8 +9,8 @@ use Rattle.ir_machine.specs.declared.memory.Memory.{Memory}
 use Rattle.ir_program.specs.Programs.{program_of}
 use Rattle.machine_steps.specs.Code.{IsCode, IsRunnable, Knows}
 use Rattle.machine_steps.specs.declared.code.Code.{Code}
-use Rattle.machine_memory.specs.Openings.{HoldsVariables}
-use Rattle.machine_memory.specs.Tables.{IsTable}
+use Rattle.machine_code.specs.Openings.{HoldsVariables}
+use Rattle.machine_code.specs.Tables.{IsTable}
 use Rattle.machine_code.specs.Programs.{IsBodyFor, IsEntityFor}
 use Rattle.machine_code.specs.declared.code.Lowered.{Lowered}
 

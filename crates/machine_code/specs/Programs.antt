@@ -10,7 +10,7 @@ use Rattle.ir_frames.specs.declared.call.Entity.{Entity}
 use Rattle.ir_frames.specs.declared.host.Host.{Host}
 use Rattle.ir_program.specs.Programs.{defined_blocks}
 use Rattle.machine_steps.specs.declared.code.Function.{Function as CodeFunction}
-use Rattle.machine_memory.specs.Tables.{kind_at}
+use Rattle.machine_code.specs.Tables.{kind_at}
 use Rattle.machine_code.specs.Blocks.{HasSoundInstrs, IsFunctionFor}
 use Rattle.machine_code.specs.declared.addresses.Addresses.{Addresses}
 

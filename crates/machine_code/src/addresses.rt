@@ -3,10 +3,10 @@ ghost use Rattle.std.specs.Prelude.{IfOk};
 ghost use Rattle.std.specs.List.{AllZip};
 ghost use Rattle.machine_code.specs.Sources.{IsTyped, StandsFor};
 
+use crate::bases::Bases;
 use ir_frames::{Source, Typed};
 use ir_machine::{Base, Pointer, Scalar};
 use ir_tree::{Argument, Operand};
-use machine_memory::Bases;
 use std::alloc::{AllocError, Global};
 
 /// The addresses of symbols, by what each is based on.

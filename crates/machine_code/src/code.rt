@@ -6,10 +6,10 @@ ghost use Rattle.machine_code.specs.Lowered.{IsLowered, IsMadeOf};
 ghost use Rattle.machine_code.specs.Programs.{IsBodyFor, IsSoundGlobal};
 
 use crate::addresses::Addresses;
+use crate::bases::Bases;
 use crate::symbol::entities;
 use ir_program::defined_blocks;
 use ir_tree::GlobalValue;
-use machine_memory::Bases;
 use machine_steps::{Code, Function};
 use std::alloc::{AllocError, Global};
 

@@ -9,10 +9,10 @@ ghost use Rattle.machine_code.specs.Lowered.{IsMadeOf};
 ghost use Rattle.machine_code.specs.Roots.{IsRoot, are_integers, index_in, integers_of, only_integers};
 
 use crate::code::Lowered;
+use crate::key::Key;
 use ir_frames::Entity;
 use ir_machine::Base;
 use ir_tree::Reg;
-use machine_memory::Key;
 
 /// A function in which a run can begin: the index of its symbol, and the types of its parameters, which are integers.
 #[derive(Clone, Copy)]

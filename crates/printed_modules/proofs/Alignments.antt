@@ -19,11 +19,11 @@ use Rattle.lto_forms.specs.Alphabet.{contains}
 use Rattle.lto_forms.specs.declared.fault.FaultKind.{FaultKind}
 use Rattle.lto_forms.specs.declared.fault.FaultKind.TheVariants as faults
 use Rattle.lto_forms.specs.Forms.{Star, token}
-use Rattle.reading_back.specs.Reads.{Reads}
-use Rattle.reading_back.proofs.Composed.{then, last, nothing, left, right, no_more, one_more}
-use Rattle.reading_back.proofs.Numerals.{decimal_again, decimal_nonempty, no_minus}
-use Rattle.reading_back.proofs.Tokens.{piece_read}
-use Rattle.reading_back.proofs.Words.{comma_read, align_read}
+use Rattle.printed_modules.specs.Reads.{Reads}
+use Rattle.printed_modules.proofs.Composed.{then, last, nothing, left, right, no_more, one_more}
+use Rattle.printed_modules.proofs.Numerals.{decimal_again, decimal_nonempty, no_minus}
+use Rattle.printed_modules.proofs.Tokens.{piece_read}
+use Rattle.printed_modules.proofs.Words.{comma_read, align_read}
 
 -- ---- powers of two up to this one are alignments
 

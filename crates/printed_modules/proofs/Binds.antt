@@ -2,7 +2,7 @@
 use Rattle.std.proofs.Common.{◌≡◌, Result, Ok, List, [], ◌∷◌, refl, ap, ◌∙◌}
 use Rattle.std.specs.List.{AllByRecursion as Each}
 use Rattle.ir_names.specs.Settled.{◌>>=◌, each}
-use Rattle.reading_back.specs.Printed.{Paired}
+use Rattle.printed_modules.specs.PartsPrinted.{Paired}
 
 pub bound : {A B E : Type 0} {r : Result A E} {x : A} {s : Result B E} (f : A → Result B E) → r ≡ Ok x → f x ≡ s → r >>= f ≡ s
 bound f e g = ap (λ r. r >>= f) e ∙ g

@@ -24,12 +24,12 @@ use Rattle.printed_modules.specs.Printed.{IsLine, IsContent, IsEntry, IsLabelOf,
 use Rattle.printed_modules.specs.Readable.{LineReadable, BlockReadable, BodyReadable}
 use Rattle.printed_modules.proofs.Lines.{line_read}
 use Rattle.printed_modules.proofs.Successive.{no_more_pieces, one_more_piece}
-use Rattle.reading_back.specs.Printed.{Paired}
-use Rattle.reading_back.specs.Reads.{Reads}
-use Rattle.reading_back.proofs.Composed.{then, last, nothing, known_as, left, right, no_more_within, one_more_within}
-use Rattle.reading_back.proofs.Kept.{Kept, kept_none, kept_more, kept}
-use Rattle.reading_back.proofs.Labels.{label_read}
-use Rattle.reading_back.proofs.Terminators.{terminator_read}
+use Rattle.printed_modules.specs.PartsPrinted.{Paired}
+use Rattle.printed_modules.specs.Reads.{Reads}
+use Rattle.printed_modules.proofs.Composed.{then, last, nothing, known_as, left, right, no_more_within, one_more_within}
+use Rattle.printed_modules.proofs.Kept.{Kept, kept_none, kept_more, kept}
+use Rattle.printed_modules.proofs.Labels.{label_read}
+use Rattle.printed_modules.proofs.Terminators.{terminator_read}
 
 -- ---- lines
 

@@ -29,15 +29,15 @@ use Rattle.lto_forms.specs.Forms.{Form, Star, token, optional}
 use Rattle.lto_forms.specs.Rules.{in_range, is_valued}
 use Rattle.printed_modules.specs.Printed.{IsSomeWith, IsInstruction}
 use Rattle.printed_modules.specs.Readable.{CallReadable}
-use Rattle.reading_back.specs.Printed.{Paired, IsOperand, IsArgument}
-use Rattle.reading_back.specs.Readable.{OperandReadable, ArgumentReadable}
-use Rattle.reading_back.specs.Reads.{Reads, Any}
-use Rattle.reading_back.proofs.Composed.{then, next, last, nothing, left, right, no_more, one_more}
-use Rattle.reading_back.proofs.Instructions.{no_attachments}
-use Rattle.reading_back.proofs.Operands.{operand_read}
-use Rattle.reading_back.proofs.Tokens.{single, by_class}
-use Rattle.reading_back.proofs.Types.{register_read, result_read}
-use Rattle.reading_back.proofs.Words.{comma_read, open_paren_read, close_paren_read}
+use Rattle.printed_modules.specs.PartsPrinted.{Paired, IsOperand, IsArgument}
+use Rattle.printed_modules.specs.PartsReadable.{OperandReadable, ArgumentReadable}
+use Rattle.printed_modules.specs.Reads.{Reads, Any}
+use Rattle.printed_modules.proofs.Composed.{then, next, last, nothing, left, right, no_more, one_more}
+use Rattle.printed_modules.proofs.PartsInstructions.{no_attachments}
+use Rattle.printed_modules.proofs.PartsOperands.{operand_read}
+use Rattle.printed_modules.proofs.Tokens.{single, by_class}
+use Rattle.printed_modules.proofs.Types.{register_read, result_read}
+use Rattle.printed_modules.proofs.Words.{comma_read, open_paren_read, close_paren_read}
 
 -- ---- what isn't printed
 

@@ -16,8 +16,8 @@ use Rattle.lto_forms.specs.declared.fault.FaultKind.{FaultKind}
 use Rattle.lto_forms.specs.Forms as form
 use Rattle.lto_forms.specs.Forms.{Form, token}
 use Rattle.lto_forms.specs.Rules.{in_range, is_valued}
-use Rattle.round_trip.specs.Texts.{tokens_before}
-use Rattle.reading_back.specs.Reads.{Reads}
+use Rattle.printed_modules.specs.Texts.{tokens_before}
+use Rattle.printed_modules.specs.Reads.{Reads}
 
 abbrev pub IsClassed : Tok → Type 0
 IsClassed t = t.head ≡ head_of t.kind t.text []

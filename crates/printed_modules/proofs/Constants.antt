@@ -32,15 +32,15 @@ use Rattle.lto_forms.specs.Rules.{is_valued}
 use Rattle.printed_modules.specs.Variables.{IsInitHead}
 use Rattle.printed_modules.specs.VariablesReadable.{ConstantReadable}
 use Rattle.ir_tree.specs.declared.init_node.InitHead.TheVariants.{Plain}
-use Rattle.round_trip.proofs.Classes.{global_class}
-use Rattle.round_trip.specs.Texts.{tokens_before}
-use Rattle.reading_back.specs.Printed.{IsOperand}
-use Rattle.reading_back.specs.Readable.{NumberReadable, SymbolReadable}
-use Rattle.reading_back.specs.Reads.{Reads}
-use Rattle.reading_back.proofs.Composed.{last, left, nothing, right}
-use Rattle.reading_back.proofs.Constants.{ReadsNumbers, number_read}
-use Rattle.reading_back.proofs.Operands.{operand_read}
-use Rattle.reading_back.proofs.Tokens.{Means, single, by_value}
+use Rattle.printed_modules.proofs.Classes.{global_class}
+use Rattle.printed_modules.specs.Texts.{tokens_before}
+use Rattle.printed_modules.specs.PartsPrinted.{IsOperand}
+use Rattle.printed_modules.specs.PartsReadable.{NumberReadable, SymbolReadable}
+use Rattle.printed_modules.specs.Reads.{Reads}
+use Rattle.printed_modules.proofs.Composed.{last, left, nothing, right}
+use Rattle.printed_modules.proofs.PartsConstants.{ReadsNumbers, number_read}
+use Rattle.printed_modules.proofs.PartsOperands.{operand_read}
+use Rattle.printed_modules.proofs.Tokens.{Means, single, by_value}
 
 -- ---- numbers
 

@@ -15,13 +15,13 @@ use Rattle.ir_read.specs.declared.raw.Item.TheVariants as items
 use Rattle.ir_tree.specs.declared.function.Function.{Function}
 use Rattle.printed_modules.specs.Printed.{IsSomeWith, IsDeclaration}
 use Rattle.printed_modules.proofs.Classed.{IsClassed, of_tokens, name_classed}
-use Rattle.round_trip.proofs.Classes.{global_class}
-use Rattle.reading_back.specs.Printed.{IsGlobal}
-use Rattle.reading_back.specs.Readable.{HeadReadable}
-use Rattle.reading_back.specs.Reads.{Reads, Any}
-use Rattle.reading_back.proofs.Composed.{then, last, nothing, no_more}
-use Rattle.reading_back.proofs.Heads.{declared_read}
-use Rattle.reading_back.proofs.Words.{declare_read}
+use Rattle.printed_modules.proofs.Classes.{global_class}
+use Rattle.printed_modules.specs.PartsPrinted.{IsGlobal}
+use Rattle.printed_modules.specs.PartsReadable.{HeadReadable}
+use Rattle.printed_modules.specs.Reads.{Reads, Any}
+use Rattle.printed_modules.proofs.Composed.{then, last, nothing, no_more}
+use Rattle.printed_modules.proofs.Heads.{declared_read}
+use Rattle.printed_modules.proofs.Words.{declare_read}
 
 none_attached : Reads attached_before Any []
 unfolding attached_before

@@ -10,11 +10,11 @@ use Rattle.ir_tree.specs.declared.function.Function.{Function}
 use Rattle.printed_modules.specs.Printed.{IsDefinition}
 use Rattle.printed_modules.specs.Readable.{DefinitionReadable}
 use Rattle.printed_modules.proofs.Blocks.{blocks_read}
-use Rattle.reading_back.specs.Reads.{Reads}
-use Rattle.reading_back.proofs.Attributes.{attributes_read}
-use Rattle.reading_back.proofs.Composed.{then, last, nothing}
-use Rattle.reading_back.proofs.Heads.{head_read, definition_pieces}
-use Rattle.reading_back.proofs.Words.{open_brace_read, close_brace_read, define_read}
+use Rattle.printed_modules.specs.Reads.{Reads}
+use Rattle.printed_modules.proofs.Attributes.{attributes_read}
+use Rattle.printed_modules.proofs.Composed.{then, last, nothing}
+use Rattle.printed_modules.proofs.Heads.{head_read, definition_pieces}
+use Rattle.printed_modules.proofs.Words.{open_brace_read, close_brace_read, define_read}
 
 pub definition_read : (room : ℕ) (f : Function) → DefinitionReadable room f → Reads (read.definition room) (IsDefinition f) (printed.definition f)
 unfolding read.definition

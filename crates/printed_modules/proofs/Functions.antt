@@ -31,8 +31,8 @@ use Rattle.printed_modules.proofs.Symbols.{symbol_again}
 use Rattle.printed_modules.proofs.Uses.{known_with}
 use Rattle.printed_modules.specs.Known.{LineKnown, BlockKnown, FunctionKnown}
 use Rattle.printed_modules.specs.Sorts.{params_sorts, sorts, ParamsFollow, BlocksFollow, past_params}
-use Rattle.reading_back.specs.Printed.{Paired, IsParam, IsType, IsDeclared}
-use Rattle.reading_back.specs.Readable.{HeadReadable}
+use Rattle.printed_modules.specs.PartsPrinted.{Paired, IsParam, IsType, IsDeclared}
+use Rattle.printed_modules.specs.PartsReadable.{HeadReadable}
 
 -- ---- parameters
 

@@ -32,13 +32,13 @@ use Rattle.lto_forms.specs.Chained.{Chain}
 use Rattle.printed_modules.specs.Variables.{IsInitHead, IsInitPart, IsInit}
 use Rattle.printed_modules.specs.VariablesReadable.{InitialReadable, InitialsReadable}
 use Rattle.printed_modules.proofs.Constants.{constant_read}
-use Rattle.reading_back.specs.Printed.{Paired, written_shape}
-use Rattle.reading_back.specs.Readable.{ShapeReadable}
-use Rattle.reading_back.specs.Reads.{Reads, Any}
-use Rattle.reading_back.proofs.Composed.{then, next, last, nothing, known_as, left, right, chain_ends, chain_goes_on}
-use Rattle.reading_back.proofs.Rooms.{memory_shape_read}
-use Rattle.reading_back.proofs.Tokens.{single, by_class, by_classes, the_read}
-use Rattle.reading_back.proofs.Words.{comma_read, open_bracket_read, open_brace_read, close_angle_read}
+use Rattle.printed_modules.specs.PartsPrinted.{Paired, written_shape}
+use Rattle.printed_modules.specs.PartsReadable.{ShapeReadable}
+use Rattle.printed_modules.specs.Reads.{Reads, Any}
+use Rattle.printed_modules.proofs.Composed.{then, next, last, nothing, known_as, left, right, chain_ends, chain_goes_on}
+use Rattle.printed_modules.proofs.Rooms.{memory_shape_read}
+use Rattle.printed_modules.proofs.Tokens.{single, by_class, by_classes, the_read}
+use Rattle.printed_modules.proofs.Words.{comma_read, open_bracket_read, open_brace_read, close_angle_read}
 
 -- ---- what an initialiser begins with
 

@@ -33,8 +33,8 @@ use Rattle.printed_modules.proofs.Operands.{operand_again, argument_again, targe
 use Rattle.printed_modules.proofs.Shapes.{shape_again}
 use Rattle.printed_modules.proofs.Uses.{known_with}
 use Rattle.printed_modules.specs.Known.{IsDefinedAs, ArgumentKnown, EndKnown}
-use Rattle.reading_back.specs.Printed.{Paired, IsArgument, IsIncoming, IsCase, IsTerminator}
-use Rattle.reading_back.specs.Readable.{ArgumentReadable, IncomingReadable, CaseReadable, EntriesReadable, TerminatorReadable}
+use Rattle.printed_modules.specs.PartsPrinted.{Paired, IsArgument, IsIncoming, IsCase, IsTerminator}
+use Rattle.printed_modules.specs.PartsReadable.{ArgumentReadable, IncomingReadable, CaseReadable, EntriesReadable, TerminatorReadable}
 
 -- both of two
 abbrev Both : {A : Type 0} → (A → Type 0) → (A → Type 0) → A → Type 0

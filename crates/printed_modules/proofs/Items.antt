@@ -22,9 +22,9 @@ use Rattle.printed_modules.specs.Printed.{IsSomeWith}
 use Rattle.printed_modules.proofs.Declarations.{declaration_read}
 use Rattle.printed_modules.proofs.Definitions.{definition_read}
 use Rattle.printed_modules.proofs.Variables.{variable_read}
-use Rattle.reading_back.specs.Reads.{Reads}
-use Rattle.reading_back.proofs.Composed.{last, nothing, left, right}
-use Rattle.reading_back.proofs.Targets.{layout_read, triple_read}
+use Rattle.printed_modules.specs.Reads.{Reads}
+use Rattle.printed_modules.proofs.Composed.{last, nothing, left, right}
+use Rattle.printed_modules.proofs.Targets.{layout_read, triple_read}
 
 -- what stands before the item behind a global
 abbrev pub function_left : List Block → Before

@@ -9,10 +9,10 @@ use Rattle.ir_lex.specs.Tok.{Tok}
 use Rattle.ir_lex.specs.declared.bytes.Set.TheVariants.{Digits}
 use Rattle.ir_names.specs.Keys.{Key, written, spelled, decimal_from, decimal_of, is_numeral, number_of, key_of}
 use Rattle.ir_read.specs.Decimals.{with_digit}
-use Rattle.round_trip.proofs.Numbers.{numeral}
-use Rattle.reading_back.specs.Printed.{IsNumber, IsLabel}
-use Rattle.reading_back.specs.Readable.{IsSmall}
-use Rattle.reading_back.proofs.Numerals.{decimal_again}
+use Rattle.printed_modules.proofs.Numbers.{numeral}
+use Rattle.printed_modules.specs.PartsPrinted.{IsNumber, IsLabel}
+use Rattle.printed_modules.specs.PartsReadable.{IsSmall}
+use Rattle.printed_modules.proofs.Numerals.{decimal_again}
 
 -- ---- digits
 

@@ -35,22 +35,22 @@ use Rattle.lto_forms.specs.Forms.{Form, ◌>>=◌, gives}
 use Rattle.printed_modules.specs.Printed.{IsSomeWith, IsInstruction, IsLine}
 use Rattle.printed_modules.specs.Readable.{InstructionReadable, MayHaveName, ResultReadable, LineReadable}
 use Rattle.printed_modules.proofs.Calls.{calling_read}
-use Rattle.round_trip.specs.Classes.{binary_class, cast_class}
-use Rattle.round_trip.proofs.Classes.{opcode_class, conversion_class}
-use Rattle.reading_back.specs.Behind.{word_class, behind_opcode}
-use Rattle.reading_back.specs.Printed.{IsInstr}
-use Rattle.reading_back.specs.Readable.{IsSmall, OperandReadable}
-use Rattle.reading_back.specs.Reads.{Reads}
-use Rattle.reading_back.proofs.Addressing.{alloca_read, address_read}
-use Rattle.reading_back.proofs.Composed.{then, next, last, nothing, regroup, left, right}
-use Rattle.reading_back.proofs.Instructions.{no_attachments, binary_read, icmp_read, cast_read, select_read, freeze_read, load_read, store_read}
-use Rattle.reading_back.proofs.Names.{local_read}
-use Rattle.reading_back.proofs.Operands.{operand_read}
-use Rattle.reading_back.proofs.Phis.{phi_read}
-use Rattle.reading_back.proofs.Rooms.{memory_shape_read}
-use Rattle.reading_back.proofs.Tokens.{NonEmpty, piece_read, by_classes}
-use Rattle.reading_back.proofs.Types.{register_read}
-use Rattle.reading_back.proofs.Words.{to_read, equals_read}
+use Rattle.printed_modules.specs.Classes.{binary_class, cast_class}
+use Rattle.printed_modules.proofs.Classes.{opcode_class, conversion_class}
+use Rattle.printed_modules.specs.Behind.{word_class, behind_opcode}
+use Rattle.printed_modules.specs.PartsPrinted.{IsInstr}
+use Rattle.printed_modules.specs.PartsReadable.{IsSmall, OperandReadable}
+use Rattle.printed_modules.specs.Reads.{Reads}
+use Rattle.printed_modules.proofs.Addressing.{alloca_read, address_read}
+use Rattle.printed_modules.proofs.Composed.{then, next, last, nothing, regroup, left, right}
+use Rattle.printed_modules.proofs.PartsInstructions.{no_attachments, binary_read, icmp_read, cast_read, select_read, freeze_read, load_read, store_read}
+use Rattle.printed_modules.proofs.Names.{local_read}
+use Rattle.printed_modules.proofs.PartsOperands.{operand_read}
+use Rattle.printed_modules.proofs.Phis.{phi_read}
+use Rattle.printed_modules.proofs.Rooms.{memory_shape_read}
+use Rattle.printed_modules.proofs.Tokens.{NonEmpty, piece_read, by_classes}
+use Rattle.printed_modules.proofs.Types.{register_read}
+use Rattle.printed_modules.proofs.Words.{to_read, equals_read}
 
 -- ---- words
 

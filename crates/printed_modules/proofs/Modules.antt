@@ -20,11 +20,11 @@ use Rattle.printed_modules.specs.Modules.{Entry, layout, triple, global_value, t
 use Rattle.printed_modules.specs.ModulesReadable.{GlobalReadable, LayoutReadable, ModuleReadable}
 use Rattle.printed_modules.proofs.Items.{before_next, behind_entry, IsPlaced, global_at, layout_at, triple_at}
 use Rattle.printed_modules.proofs.Printable.{module_printable}
-use Rattle.round_trip.proofs.Modules.{module_cut}
-use Rattle.round_trip.specs.Texts.{line_after, tokens_before, tokens_in}
-use Rattle.reading_back.specs.Printed.{Paired}
-use Rattle.reading_back.specs.Reads.{Reads}
-use Rattle.reading_back.proofs.Kept.{Kept, kept_none, kept_more, kept}
+use Rattle.printed_modules.proofs.PartsModules.{module_cut}
+use Rattle.printed_modules.specs.Texts.{line_after, tokens_before, tokens_in}
+use Rattle.printed_modules.specs.PartsPrinted.{Paired}
+use Rattle.printed_modules.specs.Reads.{Reads}
+use Rattle.printed_modules.proofs.Kept.{Kept, kept_none, kept_more, kept}
 
 -- ---- entries
 

@@ -25,8 +25,8 @@ use Rattle.printed_modules.proofs.Binds.{bound}
 use Rattle.printed_modules.proofs.Keys.{local_key, label_key}
 use Rattle.printed_modules.proofs.Uses.{keys_from, known_with}
 use Rattle.printed_modules.specs.Sorts.{params_sorts, result_sort, lines_sorts, blocks_sorts, ParamsFollow, ResultFollows, LinesFollow, BlocksFollow, past, past_lines, past_params}
-use Rattle.reading_back.specs.Printed.{Paired, IsNamed, IsParam}
-use Rattle.reading_back.specs.Readable.{ParamReadable}
+use Rattle.printed_modules.specs.PartsPrinted.{Paired, IsNamed, IsParam}
+use Rattle.printed_modules.specs.PartsReadable.{ParamReadable}
 
 -- ---- one definition more
 

@@ -24,8 +24,8 @@ use Rattle.printed_modules.proofs.Shapes.{offset_again}
 use Rattle.printed_modules.proofs.Symbols.{symbol_again}
 use Rattle.printed_modules.proofs.Uses.{known_with, number_again}
 use Rattle.printed_modules.specs.Known.{IsDefinedAs, OperandKnown, ArgumentKnown}
-use Rattle.reading_back.specs.Printed.{IsNumber, IsOperand, IsArgument, IsIncoming}
-use Rattle.reading_back.specs.Readable.{IsSmall, OperandReadable, ArgumentReadable, IncomingReadable}
+use Rattle.printed_modules.specs.PartsPrinted.{IsNumber, IsOperand, IsArgument, IsIncoming}
+use Rattle.printed_modules.specs.PartsReadable.{IsSmall, OperandReadable, ArgumentReadable, IncomingReadable}
 
 module _ (types : Types) (ss : List Sort) where
   pub target_again : (n : ℕ) (t : Tok) → IsSmall n → IsDefinedAs ss Block n → IsNumber n t → number_in (known_with ss) Block t ≡ Ok n

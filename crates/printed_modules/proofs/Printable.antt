@@ -28,8 +28,8 @@ use Rattle.printed_modules.specs.Bodies.{phi_as_line}
 use Rattle.printed_modules.specs.ModulesReadable.{FunctionReadable, GlobalReadable, ModuleReadable}
 use Rattle.printed_modules.specs.Readable.{InstructionReadable, LineReadable, BlockReadable, BodyReadable}
 use Rattle.printed_modules.specs.VariablesReadable.{ConstantReadable, InitialReadable, InitialsReadable, InitReadable}
-use Rattle.reading_back.specs.Readable.{OperandReadable, ArgumentReadable, IncomingReadable, TerminatorReadable}
-use Rattle.round_trip.specs.Printable.{OperandPrintable, FunctionPrintable, GlobalPrintable, IsPrintable}
+use Rattle.printed_modules.specs.PartsReadable.{OperandReadable, ArgumentReadable, IncomingReadable, TerminatorReadable}
+use Rattle.printed_modules.specs.Printable.{OperandPrintable, FunctionPrintable, GlobalPrintable, IsPrintable}
 
 -- ---- operands
 

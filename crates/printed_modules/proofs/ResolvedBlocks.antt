@@ -20,7 +20,7 @@ use Rattle.printed_modules.proofs.Numbering.{defined_again}
 use Rattle.printed_modules.proofs.Uses.{known_with}
 use Rattle.printed_modules.specs.Known.{LineKnown, FirstIsNoPhi, BlockKnown}
 use Rattle.printed_modules.specs.Sorts.{ResultFollows, LinesFollow, BlocksFollow, past, past_lines}
-use Rattle.reading_back.specs.Printed.{Paired}
+use Rattle.printed_modules.specs.PartsPrinted.{Paired}
 
 module _ (types : Types) (ss : List Sort) where
   -- ---- lines

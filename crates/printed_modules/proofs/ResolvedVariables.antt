@@ -38,9 +38,9 @@ use Rattle.printed_modules.proofs.Operands.{operand_again}
 use Rattle.printed_modules.proofs.Shapes.{shape_again}
 use Rattle.printed_modules.proofs.Symbols.{symbol_again}
 use Rattle.printed_modules.specs.Known.{OperandKnown, InitialKnown, InitialsKnown, InitKnown, VariableKnown}
-use Rattle.reading_back.specs.Printed.{written_shape}
-use Rattle.reading_back.specs.Readable.{OperandReadable, ShapeReadable}
-use Rattle.round_trip.proofs.Quoted.{byte_string_content}
+use Rattle.printed_modules.specs.PartsPrinted.{written_shape}
+use Rattle.printed_modules.specs.PartsReadable.{OperandReadable, ShapeReadable}
+use Rattle.printed_modules.proofs.Quoted.{byte_string_content}
 
 -- ---- beginnings
 

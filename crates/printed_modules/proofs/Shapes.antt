@@ -12,7 +12,7 @@ use Rattle.ir_read.specs.declared.shape.Typed.{Typed}
 use Rattle.ir_tree.specs.Formed.{AreStored, AllStored, nesting, deepest, IsShape}
 use Rattle.ir_tree.specs.Forms.{Form, Forms, int, pointer, array, structure, no_parts, part, forms_of, list_of}
 use Rattle.ir_tree.specs.Layout.{size, IsLaidOut, AreLaidOut}
-use Rattle.reading_back.specs.Printed.{written_shape, written_parts, IsDisplaced}
+use Rattle.printed_modules.specs.PartsPrinted.{written_shape, written_parts, IsDisplaced}
 use Rattle.printed_modules.proofs.Binds.{bound}
 
 -- ---- shapes

@@ -4,9 +4,9 @@ use Rattle.ir_bodies.specs.Successive.{Successive}
 use Rattle.ir_lex.specs.Pieces.{Piece}
 use Rattle.ir_lex.specs.Tok.{Tok}
 use Rattle.lto_forms.specs.Forms.{Form}
-use Rattle.round_trip.specs.Texts.{line_after, tokens_before}
-use Rattle.reading_back.specs.Reads.{Reads}
-use Rattle.reading_back.proofs.Composed.{tokens_append}
+use Rattle.printed_modules.specs.Texts.{line_after, tokens_before}
+use Rattle.printed_modules.specs.Reads.{Reads}
+use Rattle.printed_modules.proofs.Composed.{tokens_append}
 
 module _ {S A : Type 0} (piece : S → Form Tok (A × S)) where
   pub no_more_pieces : (room : ℕ) (s : S) {P : List A → Type 0} → P [] → Reads (Successive piece room s) P []

@@ -11,9 +11,9 @@ use Rattle.ir_names.specs.Keys.{is_numeral}
 use Rattle.ir_names.specs.Symbols.{trimmed, symbol_name, symbol_of}
 use Rattle.ir_tree.specs.Names.{quoted}
 use Rattle.ir_tree.specs.declared.operand.Symbol.{Symbol}
-use Rattle.reading_back.specs.Printed.{IsGlobal}
-use Rattle.round_trip.specs.Printable.{IsName}
-use Rattle.round_trip.proofs.Quoted.{name_text, name_content}
+use Rattle.printed_modules.specs.PartsPrinted.{IsGlobal}
+use Rattle.printed_modules.specs.Printable.{IsName}
+use Rattle.printed_modules.proofs.Quoted.{name_text, name_content}
 
 not_digits : (c : ℕ) (cs : List ℕ) → has Digits c ≡ false → is_numeral (c ∷ cs) ≡ false
 unfolding has

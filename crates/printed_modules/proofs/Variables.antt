@@ -27,15 +27,15 @@ use Rattle.printed_modules.specs.Variables.{IsInitOf, IsVariableItem, linkage_of
 use Rattle.printed_modules.specs.VariablesReadable.{InitReadable, VariableReadable}
 use Rattle.printed_modules.proofs.Alignments.{tail_read}
 use Rattle.printed_modules.proofs.Initialisers.{initialiser_read}
-use Rattle.round_trip.specs.Classes.{IsOrdinary}
-use Rattle.round_trip.specs.Printable.{IsName}
-use Rattle.round_trip.proofs.Classes.{global_class}
-use Rattle.reading_back.specs.Printed.{IsGlobal, written_shape}
-use Rattle.reading_back.specs.Reads.{Reads, Any}
-use Rattle.reading_back.proofs.Composed.{then, next, last, nothing, left, right, no_more}
-use Rattle.reading_back.proofs.Rooms.{memory_shape_read}
-use Rattle.reading_back.proofs.Tokens.{single, by_classes, by_value}
-use Rattle.reading_back.proofs.Words.{equals_read}
+use Rattle.printed_modules.specs.Classes.{IsOrdinary}
+use Rattle.printed_modules.specs.Printable.{IsName}
+use Rattle.printed_modules.proofs.Classes.{global_class}
+use Rattle.printed_modules.specs.PartsPrinted.{IsGlobal, written_shape}
+use Rattle.printed_modules.specs.Reads.{Reads, Any}
+use Rattle.printed_modules.proofs.Composed.{then, next, last, nothing, left, right, no_more}
+use Rattle.printed_modules.proofs.Rooms.{memory_shape_read}
+use Rattle.printed_modules.proofs.Tokens.{single, by_classes, by_value}
+use Rattle.printed_modules.proofs.Words.{equals_read}
 
 -- ---- before the shape
 

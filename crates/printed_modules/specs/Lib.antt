@@ -8,3 +8,16 @@ pub mod ModulesReadable
 pub mod Sorts
 pub mod Known
 pub mod Homeless
+pub mod Reads
+pub mod PartsPrinted
+pub mod PartsReadable
+pub mod Behind
+pub mod Pieces
+pub mod Writable
+pub mod Typed
+pub mod Classes
+pub mod Printable
+pub mod Texts
+pub mod Tokens
+pub mod Spelled
+pub mod Laws

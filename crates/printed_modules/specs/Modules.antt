@@ -8,7 +8,7 @@ use Rattle.ir_tree.specs.declared.module.GlobalValue.TheVariants as globals
 use Rattle.ir_tree.specs.declared.module.Module.{Module}
 use Rattle.printed_modules.specs.Printed.{IsDeclaration, IsDefinition}
 use Rattle.printed_modules.specs.Variables.{IsVariableItem}
-use Rattle.reading_back.specs.Printed.{Paired, IsLayout, IsTriple}
+use Rattle.printed_modules.specs.PartsPrinted.{Paired, IsLayout, IsTriple}
 
 -- what is printed as an entry of its own
 pub data Entry : Type 0 where

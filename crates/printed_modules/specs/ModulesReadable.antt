@@ -12,7 +12,7 @@ use Rattle.ir_tree.specs.declared.module.GlobalValue.TheVariants as globals
 use Rattle.ir_tree.specs.declared.module.Module.{Module}
 use Rattle.printed_modules.specs.Readable.{DefinitionReadable}
 use Rattle.printed_modules.specs.VariablesReadable.{VariableReadable}
-use Rattle.reading_back.specs.Readable.{HeadReadable}
+use Rattle.printed_modules.specs.PartsReadable.{HeadReadable}
 
 -- with so many parameters at most behind the first
 abbrev pub FunctionReadable : ℕ → List Block → Function → Type 0

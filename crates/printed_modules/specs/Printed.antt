@@ -18,7 +18,7 @@ use Rattle.ir_read.specs.declared.raw.Item.{Item}
 use Rattle.ir_read.specs.declared.raw.Item.TheVariants as items
 use Rattle.ir_read.specs.declared.raw.Line as raw_line
 use Rattle.printed_modules.specs.Bodies.{stated}
-use Rattle.reading_back.specs.Printed.{Paired, IsLabel, IsGlobal, IsNamed, IsOperand, IsArgument, IsInstr, IsTerminator, IsParam, IsDeclared}
+use Rattle.printed_modules.specs.PartsPrinted.{Paired, IsLabel, IsGlobal, IsNamed, IsOperand, IsArgument, IsInstr, IsTerminator, IsParam, IsDeclared}
 
 -- there is a value, with this property
 abbrev pub IsSomeWith : {A : Type 0} → (A → Type 0) → Option A → Type 0

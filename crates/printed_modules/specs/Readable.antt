@@ -14,7 +14,7 @@ use Rattle.ir_tree.specs.declared.operand.Operand.{Operand}
 use Rattle.ir_tree.specs.declared.operand.Reg.{Reg}
 use Rattle.ir_tree.specs.declared.operand.Reg.TheVariants.{Ptr}
 use Rattle.printed_modules.specs.Bodies.{stated, instructions}
-use Rattle.reading_back.specs.Readable.{IsSmall, OperandReadable, ArgumentReadable, InstrReadable, TerminatorReadable, HeadReadable}
+use Rattle.printed_modules.specs.PartsReadable.{IsSmall, OperandReadable, ArgumentReadable, InstrReadable, TerminatorReadable, HeadReadable}
 
 -- ---- lines
 

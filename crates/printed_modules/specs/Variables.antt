@@ -19,7 +19,7 @@ use Rattle.ir_tree.specs.declared.init_node.InitHead.{InitHead}
 use Rattle.ir_tree.specs.declared.init_node.InitHead.TheVariants.{Plain, Zeros, Bytes, Array, Struct}
 use Rattle.ir_tree.specs.declared.init_node.InitPart.{InitPart}
 use Rattle.ir_tree.specs.declared.init_node.InitPart.TheVariants.{Typed, End}
-use Rattle.reading_back.specs.Printed.{Paired, IsGlobal, IsOperand, written_shape}
+use Rattle.printed_modules.specs.PartsPrinted.{Paired, IsGlobal, IsOperand, written_shape}
 
 -- ---- initialisers
 

@@ -10,10 +10,10 @@ use Rattle.ir_tree.specs.declared.function.Variable.{Variable}
 use Rattle.ir_tree.specs.declared.operand.Operand.{Operand}
 use Rattle.ir_tree.specs.declared.operand.Operand.TheVariants.{Local}
 use Rattle.ir_tree.specs.declared.operand.Reg.{Reg}
-use Rattle.reading_back.specs.Printed.{written_shape}
-use Rattle.reading_back.specs.Readable.{OperandReadable, ShapeReadable}
-use Rattle.round_trip.specs.Classes.{IsOrdinary}
-use Rattle.round_trip.specs.Printable.{IsName}
+use Rattle.printed_modules.specs.PartsPrinted.{written_shape}
+use Rattle.printed_modules.specs.PartsReadable.{OperandReadable, ShapeReadable}
+use Rattle.printed_modules.specs.Classes.{IsOrdinary}
+use Rattle.printed_modules.specs.Printable.{IsName}
 
 -- an operand that is no local
 abbrev pub ConstantReadable : Reg → Operand → Type 0

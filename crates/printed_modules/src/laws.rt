@@ -39,9 +39,9 @@ ghost use Rattle.printed_modules.specs.Printed.{IsInstruction, IsLine, AreBlocks
 ghost use Rattle.printed_modules.specs.Readable.{CallReadable, LineReadable, BodyReadable, DefinitionReadable};
 ghost use Rattle.printed_modules.specs.Variables.{IsInit, IsVariableItem};
 ghost use Rattle.printed_modules.specs.VariablesReadable.{InitialReadable, VariableReadable};
-ghost use Rattle.reading_back.specs.Printed.{written_shape};
-ghost use Rattle.reading_back.specs.Reads.{Reads};
-ghost use Rattle.round_trip.specs.Texts.{tokens_in};
+ghost use Rattle.printed_modules.specs.PartsPrinted.{written_shape};
+ghost use Rattle.printed_modules.specs.Reads.{Reads};
+ghost use Rattle.printed_modules.specs.Texts.{tokens_in};
 
 /// A printed call is read behind its word, with a name before it or not, and is never dropped
 /// (LangRef, "call Instruction").

@@ -23,8 +23,8 @@ ghost use Rattle.printed_modules.specs.VariablesReadable.{VariableReadable};
 ghost use Rattle.printed_modules.specs.Homeless.{ItemHomeless};
 ghost use Rattle.printed_modules.specs.Known.{FunctionKnown, VariableKnown};
 ghost use Rattle.printed_modules.specs.Sorts.{IsNumbered};
-ghost use Rattle.reading_back.specs.Printed.{IsDeclared};
-ghost use Rattle.reading_back.specs.Readable.{HeadReadable};
+ghost use Rattle.printed_modules.specs.PartsPrinted.{IsDeclared};
+ghost use Rattle.printed_modules.specs.PartsReadable.{HeadReadable};
 
 use ir_edit::text_order_counts;
 

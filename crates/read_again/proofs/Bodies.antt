@@ -40,8 +40,8 @@ use Rattle.printed_modules.specs.Printed.{IsInstruction, IsLine, IsContent, IsLa
 use Rattle.printed_modules.specs.Readable.{InstructionReadable, LineReadable, BlockReadable}
 use Rattle.printed_modules.proofs.Binds.{bound}
 use Rattle.printed_modules.proofs.Shapes.{shape_again}
-use Rattle.reading_back.specs.Printed.{Paired, written_shape, IsOperand, IsArgument, IsIncoming, IsTerminator}
-use Rattle.reading_back.specs.Readable.{OperandReadable, ArgumentReadable, IncomingReadable, EntriesReadable, ShapeReadable, TerminatorReadable}
+use Rattle.printed_modules.specs.PartsPrinted.{Paired, written_shape, IsOperand, IsArgument, IsIncoming, IsTerminator}
+use Rattle.printed_modules.specs.PartsReadable.{OperandReadable, ArgumentReadable, IncomingReadable, EntriesReadable, ShapeReadable, TerminatorReadable}
 
 module _ (known : List Symbol) where
   -- ---- names that are used

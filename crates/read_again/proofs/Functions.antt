@@ -31,10 +31,10 @@ use Rattle.printed_modules.specs.Bodies.{phi_as_line, stated}
 use Rattle.printed_modules.specs.ModulesReadable.{FunctionReadable}
 use Rattle.printed_modules.specs.Readable.{InstructionReadable, ResultReadable, LineReadable, BlockReadable, BodyReadable}
 use Rattle.printed_modules.specs.Sorts.{IsNumbered}
-use Rattle.reading_back.proofs.Sound.{arguments_readable, item_typed, typed_readable}
-use Rattle.reading_back.specs.Readable.{ArgumentReadable, HeadReadable, IsSmall, ParamReadable, SymbolReadable, TerminatorReadable}
-use Rattle.reading_back.specs.Typed.{ItemTyped}
-use Rattle.reading_back.specs.Writable.{EntriesWritable, InstrWritable, ItemReadable, ItemWritable, KindWritable, OperandWritable}
+use Rattle.printed_modules.proofs.PartsSound.{arguments_readable, item_typed, typed_readable}
+use Rattle.printed_modules.specs.PartsReadable.{ArgumentReadable, HeadReadable, IsSmall, ParamReadable, SymbolReadable, TerminatorReadable}
+use Rattle.printed_modules.specs.Typed.{ItemTyped}
+use Rattle.printed_modules.specs.Writable.{EntriesWritable, InstrWritable, ItemReadable, ItemWritable, KindWritable, OperandWritable}
 
 module _ (known : List Symbol) (names : (s : Symbol) → Contains known s → NameWithin s) (f : Function) (w : FunctionWithin f) (n : IsNumbered f) where
   -- ---- operands

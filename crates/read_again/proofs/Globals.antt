@@ -39,9 +39,9 @@ use Rattle.printed_modules.proofs.Binds.{bound}
 use Rattle.printed_modules.proofs.Functions.{declaration_again, definition_again}
 use Rattle.printed_modules.proofs.ResolvedVariables.{variable_again}
 use Rattle.printed_modules.specs.Known.{FunctionKnown}
-use Rattle.reading_back.specs.Printed.{Paired, IsGlobal, IsDeclared}
-use Rattle.reading_back.specs.Readable.{HeadReadable}
-use Rattle.round_trip.specs.Printable.{IsName}
+use Rattle.printed_modules.specs.PartsPrinted.{Paired, IsGlobal, IsDeclared}
+use Rattle.printed_modules.specs.PartsReadable.{HeadReadable}
+use Rattle.printed_modules.specs.Printable.{IsName}
 
 body_readable : (bs : List Block) → BodyReadable bs → Each BlockReadable bs
 body_readable [] h = absurd h

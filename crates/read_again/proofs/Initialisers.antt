@@ -26,8 +26,8 @@ use Rattle.read_again.proofs.Operands.{Marks, operand_inner, typed_inner}
 use Rattle.read_again.proofs.Passing.{Inner}
 use Rattle.printed_modules.specs.Variables.{IsInitHead, IsInitPart, IsInit, IsInitOf}
 use Rattle.printed_modules.specs.VariablesReadable.{ConstantReadable, InitialReadable, InitialsReadable, InitReadable}
-use Rattle.reading_back.specs.Printed.{written_shape}
-use Rattle.reading_back.specs.Readable.{OperandReadable, ShapeReadable}
+use Rattle.printed_modules.specs.PartsPrinted.{written_shape}
+use Rattle.printed_modules.specs.PartsReadable.{OperandReadable, ShapeReadable}
 
 as_operand : (reg : Reg) (x : Operand) → ConstantReadable reg x → OperandReadable reg x
 as_operand reg (Local n) h = absurd h

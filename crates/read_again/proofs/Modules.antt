@@ -2,7 +2,7 @@
 use Rattle.std.proofs.Common.{◌≡◌, ℕ, None, Ok, List, [], ◌∷◌, ◌++◌, map, refl, sym, ap, subst, ◌∙◌}
 use Rattle.std.specs.List.{AllByRecursion as Each}
 use Rattle.std.proofs.lemmas.List.Elements.{recursion_from_All}
-use Rattle.ir_definitions.specs.Lines.{lines_of}
+use Rattle.ir_stages.specs.Lines.{lines_of}
 use Rattle.ir_items.specs.Modules.{whole_module}
 use Rattle.ir_lex.specs.Lexing.{AreTokens}
 use Rattle.ir_lex.specs.Quotes.{content}
@@ -27,8 +27,8 @@ use Rattle.read_again.proofs.Passing.{Fresh, Right, globals_pass, no_types, with
 use Rattle.printed_modules.specs.Modules.{layout, triple, global_value, target, IsItem, AreItems}
 use Rattle.printed_modules.specs.ModulesReadable.{LayoutReadable, ModuleReadable}
 use Rattle.printed_modules.proofs.Binds.{bound}
-use Rattle.reading_back.specs.Printed.{Paired, IsString}
-use Rattle.round_trip.proofs.Quoted.{string_content}
+use Rattle.printed_modules.specs.PartsPrinted.{Paired, IsString}
+use Rattle.printed_modules.proofs.Quoted.{string_content}
 
 -- ---- target lines
 

@@ -15,9 +15,9 @@ use Rattle.ir_tree.specs.Formed.{Distinct}
 use Rattle.ir_tree.specs.declared.operand.Symbol.{Symbol}
 use Rattle.read_again.proofs.Passing.{Fresh}
 use Rattle.printed_modules.proofs.Symbols.{symbol_again}
-use Rattle.reading_back.specs.Printed.{IsGlobal}
-use Rattle.round_trip.specs.Printable.{IsName}
-use Rattle.round_trip.proofs.Quoted.{name_text}
+use Rattle.printed_modules.specs.PartsPrinted.{IsGlobal}
+use Rattle.printed_modules.specs.Printable.{IsName}
+use Rattle.printed_modules.proofs.Quoted.{name_text}
 
 -- ---- places in lists
 

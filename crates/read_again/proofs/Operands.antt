@@ -24,8 +24,8 @@ use Rattle.read_again.proofs.Names.{names_of, is_there, printed_name}
 use Rattle.read_again.proofs.Passing.{Inner}
 use Rattle.printed_modules.proofs.Binds.{bound}
 use Rattle.printed_modules.proofs.Shapes.{offset_again, shape_again}
-use Rattle.reading_back.specs.Printed.{written_shape, written_parts, IsGlobal, IsDisplaced, IsOperand}
-use Rattle.reading_back.specs.Readable.{SymbolReadable, OperandReadable, ShapeReadable}
+use Rattle.printed_modules.specs.PartsPrinted.{written_shape, written_parts, IsGlobal, IsDisplaced, IsOperand}
+use Rattle.printed_modules.specs.PartsReadable.{SymbolReadable, OperandReadable, ShapeReadable}
 
 -- ---- shapes
 

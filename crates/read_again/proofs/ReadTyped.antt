@@ -48,14 +48,14 @@ use Rattle.ir_tree.specs.declared.module.GlobalValue.{GlobalValue}
 use Rattle.ir_tree.specs.declared.module.GlobalValue.TheVariants as globals
 use Rattle.ir_tree.specs.declared.operand.Operand.{Operand}
 use Rattle.ir_tree.specs.declared.operand.Operand.TheVariants as to
-use Rattle.reading_back.specs.Readable.{ShapeReadable}
-use Rattle.reading_back.specs.Typed.{ItemTyped, NumberTyped, OperandTyped}
-use Rattle.resolved_forms.specs.Laws.{ShapesAreWithin}
-use Rattle.resolved_forms.specs.Written.{ShapeWritten, TypesWritten}
+use Rattle.printed_modules.specs.PartsReadable.{ShapeReadable}
+use Rattle.printed_modules.specs.Typed.{ItemTyped, NumberTyped, OperandTyped}
+use Rattle.ir_parse.specs.Resolved.{ShapesAreWithin}
+use Rattle.ir_parse.specs.Written.{ShapeWritten, TypesWritten}
 use Rattle.ir_parse.specs.Items.{InitShaped, ItemWritten, PartShaped}
 use Rattle.ir_parse.specs.Spelled.{ItemsAreWritten, TokensAreSized, TypesAreWritten}
-use Rattle.spelled_within.specs.Laws.{ItemsAreWithin, TokensAreCut}
-use Rattle.spelled_within.specs.Spelled.{BeginningSpelled, BlockSpelled, ConstantSpelled, Counted, InitSpelled, ItemSpelled, PartSpelled}
+use Rattle.printed_modules.specs.Laws.{ItemsAreWithin, TokensAreCut}
+use Rattle.printed_modules.specs.Spelled.{BeginningSpelled, BlockSpelled, ConstantSpelled, Counted, InitSpelled, ItemSpelled, PartSpelled}
 use Rattle.read_again.specs.Laws.{ReadIsTyped}
 use Rattle.read_again.specs.Typed.{FunctionTyped, InitialTyped, InitialsTyped, InitTyped, ValueTyped}
 use Rattle.read_again.proofs.Counts.{TypesCounted, expanded_counts}

@@ -52,9 +52,9 @@ use Rattle.ir_tree.specs.declared.operand.Operand.{Operand}
 use Rattle.ir_tree.specs.declared.operand.Operand.TheVariants as to
 use Rattle.printed_modules.specs.Bodies.{instructions, stated}
 use Rattle.printed_modules.specs.ModulesReadable.{LayoutReadable}
-use Rattle.spelled_within.specs.Laws.{ContentsAreBytes, ItemsAreWithin, TokensAreCut}
-use Rattle.spelled_within.specs.Spelled.{BodySpelled, Counted, FewParams, HeadSpelled, ItemSpelled, LayoutSpelled, NameSpelled, count_in, count_of, lines_in as raw_lines}
-use Rattle.spelled_within.proofs.Means.{joined}
+use Rattle.printed_modules.specs.Laws.{ContentsAreBytes, ItemsAreWithin, TokensAreCut}
+use Rattle.printed_modules.specs.Spelled.{BodySpelled, Counted, FewParams, HeadSpelled, ItemSpelled, LayoutSpelled, NameSpelled, count_in, count_of, lines_in as raw_lines}
+use Rattle.printed_modules.proofs.Means.{joined}
 use Rattle.read_again.specs.Laws.{ReadIsWithin}
 use Rattle.read_again.specs.Within.{FunctionWithin, NameWithin, OffsetFits, ValueWithin, VariableWithin}
 use Rattle.read_again.proofs.Counts.{TypesCounted, expanded_counts}

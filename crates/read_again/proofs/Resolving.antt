@@ -45,10 +45,10 @@ use Rattle.ir_tree.specs.declared.operand.Operand.TheVariants as to
 use Rattle.ir_tree.specs.declared.operand.Reg.{Reg}
 use Rattle.ir_tree.specs.declared.operand.Reg.TheVariants.{Int, Ptr}
 use Rattle.printed_modules.specs.Bodies.{phi_as_line}
-use Rattle.reading_back.specs.Readable.{CountsReadable}
-use Rattle.reading_back.specs.Typed.{ArgumentTyped, CaseTyped, EndTyped, ItemTyped, OperandTyped}
-use Rattle.spelled_within.specs.Spelled.{ArgumentSpelled, BlockSpelled, CaseSpelled, Counted, EndSpelled, HasIncoming, IncomingSpelled, InstrSpelled, OperandSpelled}
-use Rattle.spelled_within.proofs.Means.{joined}
+use Rattle.printed_modules.specs.PartsReadable.{CountsReadable}
+use Rattle.printed_modules.specs.Typed.{ArgumentTyped, CaseTyped, EndTyped, ItemTyped, OperandTyped}
+use Rattle.printed_modules.specs.Spelled.{ArgumentSpelled, BlockSpelled, CaseSpelled, Counted, EndSpelled, HasIncoming, IncomingSpelled, InstrSpelled, OperandSpelled}
+use Rattle.printed_modules.proofs.Means.{joined}
 use Rattle.read_again.specs.Within.{HasEntry, InstrWithin, ItemWithin, OffsetFits}
 use Rattle.read_again.proofs.Counts.{TypesCounted, expanded_counts, expand_counts, within_counts}
 use Rattle.read_again.proofs.Stages.{one, parted, took}

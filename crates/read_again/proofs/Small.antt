@@ -15,7 +15,7 @@ use Rattle.read_again.specs.Within.{FunctionWithin}
 use Rattle.printed_modules.specs.Bodies.{instructions, stated}
 use Rattle.printed_modules.proofs.Places.{block_defined, local_defined}
 use Rattle.printed_modules.specs.Sorts.{params_sorts, result_sort, lines_sorts, blocks_sorts, sorts, ParamsFollow, ResultFollows, LinesFollow, BlocksFollow, past, past_lines, past_params, IsNumbered}
-use Rattle.reading_back.specs.Readable.{IsSmall}
+use Rattle.printed_modules.specs.PartsReadable.{IsSmall}
 
 -- ---- how many definitions there are
 

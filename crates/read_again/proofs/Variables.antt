@@ -22,8 +22,8 @@ use Rattle.printed_modules.proofs.ResolvedVariables.{type_again}
 use Rattle.read_again.specs.Typed.{InitialTyped, InitialsTyped, InitTyped}
 use Rattle.read_again.specs.Within.{NameWithin, OffsetFits, VariableWithin}
 use Rattle.printed_modules.specs.VariablesReadable.{ConstantReadable, InitialReadable, InitialsReadable, InitReadable, VariableReadable}
-use Rattle.reading_back.specs.Readable.{AllCountsReadable, ShapeReadable}
-use Rattle.reading_back.specs.Typed.{OperandTyped}
+use Rattle.printed_modules.specs.PartsReadable.{AllCountsReadable, ShapeReadable}
+use Rattle.printed_modules.specs.Typed.{OperandTyped}
 
 -- ---- shapes of parts
 

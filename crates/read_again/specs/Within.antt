@@ -19,8 +19,8 @@ use Rattle.ir_tree.specs.declared.operand.Operand.TheVariants.{Symbol as symbol_
 use Rattle.ir_tree.specs.declared.operand.Symbol.{Symbol}
 use Rattle.printed_modules.specs.Bodies.{instructions}
 use Rattle.printed_modules.specs.ModulesReadable.{LayoutReadable}
-use Rattle.reading_back.specs.Readable.{CountsReadable}
-use Rattle.spelled_within.specs.Tokens.{IsWritable}
+use Rattle.printed_modules.specs.PartsReadable.{CountsReadable}
+use Rattle.printed_modules.specs.Tokens.{IsWritable}
 
 -- ---- items
 

@@ -5,10 +5,10 @@ ghost use Rattle.read_again.specs.Refusals.{StuckFits};
 ghost use Rattle.read_again.specs.Laws.{NumberedAnewIsRead, ReadIsKnown, ReadIsNumbered, ReadIsReadAgain, ReadIsTyped, ReadIsWithin, ReadableIsRead, TextOrderIsNumbered, VerifiedIsRead};
 
 use ir_edit::{text_order_counts, text_order_is_sound};
-use ir_parse::{items_are_written, read_is_parsed, tokens_are_sized, types_are_written};
-use printed_modules::modules_are_read;
-use resolved_forms::shapes_are_within;
-use spelled_within::{contents_are_bytes, items_are_within, tokens_are_cut};
+use ir_parse::{
+    items_are_written, read_is_parsed, shapes_are_within, tokens_are_sized, types_are_written,
+};
+use printed_modules::{contents_are_bytes, items_are_within, modules_are_read, tokens_are_cut};
 
 /// The kind of a fault fits the token at which the grammar stops: which tokens are told to be left out of the language, where a
 /// number is out of range, and that a limit is told only where it is one (LangRef, "Identifiers", "Type System").

@@ -19,20 +19,20 @@ use Rattle.ir_program.specs.Programs.{program_of}
 use Rattle.lto_fault.specs.declared.cause.Cause.{Cause}
 use Rattle.lto_fault.specs.declared.refusal.Refusal.{Refusal}
 use Rattle.lto_fault.specs.declared.refusal.Refusal.TheVariants.{Undefined, Uninit}
-use Rattle.lto_notes.specs.declared.returned.Returned as line
+use Rattle.lto_fault.specs.declared.returned.Returned as line
 use Rattle.lto_words.specs.declared.list.Decimal.{Decimal}
 use Rattle.machine_steps.specs.Steps.{HasBegun, IsRunning, numbers_meant}
 use Rattle.machine_steps.specs.declared.machine.Machine.{Machine}
-use Rattle.run_parts.specs.Said.{IsTold}
+use Rattle.run_program.specs.Said.{IsTold}
 use Rattle.run_program.specs.Causes.{Because, Causes, Comes, never}
 use Rattle.run_program.specs.Endings.{IsSaid, Unbegun, given_up}
 use Rattle.run_program.specs.Runs.{EndsSo, GaveUp, ReturnsSo, RunEnds, StopsSo, run_causes}
 use Rattle.run_program.specs.Streams.{INPUT, OUTPUT, Streams}
-use Rattle.run_parts.specs.Said.{answer_said, ending_refusal}
-use Rattle.run_parts.specs.Starting.{beginning, result_of, root_of}
+use Rattle.run_program.specs.Said.{answer_said, ending_refusal}
+use Rattle.run_program.specs.Starting.{beginning, result_of, root_of}
 use Rattle.run_program.specs.declared.streams.StreamNames.{StreamNames}
 use Rattle.run_program.proofs.Causes.{because_map}
-use Rattle.run_parts.proofs.Lists.{none_dropped}
+use Rattle.run_program.proofs.Lists.{none_dropped}
 use Rattle.run_program.proofs.Mapping.{if_some_map}
 
 -- ---- where it failed

@@ -23,16 +23,16 @@ use Rattle.ir_program.specs.Runnable.{AreRunnable, IsRunnableFunction, IsRunnabl
 use Rattle.lto_words.specs.declared.list.Decimal.{Decimal}
 use Rattle.machine_code.proofs.Rooting.{long_types}
 use Rattle.machine_code.specs.Roots as lowered
-use Rattle.machine_memory.proofs.Lists.{all_got}
-use Rattle.machine_memory.proofs.Naming.{code_is, symbol_is}
-use Rattle.machine_memory.specs.Tables.{number_at}
+use Rattle.machine_code.proofs.Lists.{all_got}
+use Rattle.machine_code.proofs.Naming.{code_is, symbol_is}
+use Rattle.machine_code.specs.Tables.{number_at}
 use Rattle.machine_steps.specs.Steps.{CanBegin, numbers_meant}
 use Rattle.machine_steps.specs.declared.code.Code.{Code}
-use Rattle.run_parts.specs.Arguments.{IsGiven, IsTyped}
+use Rattle.run_program.specs.Arguments.{IsGiven, IsTyped}
 use Rattle.run_program.specs.Roots.{IsBegun, IsRoot, NoRoot, begun_with, function_in}
-use Rattle.run_parts.specs.Starting.{arguments, result_of, root_of, started, taken_by}
+use Rattle.run_program.specs.Starting.{arguments, result_of, root_of, started, taken_by}
 use Rattle.run_program.specs.declared.root.Begun.{Begun}
-use Rattle.run_parts.proofs.Taking.{as_many_taken, integers_taken, params_typed, reg_typed}
+use Rattle.run_program.proofs.Taking.{as_many_taken, integers_taken, params_typed, reg_typed}
 
 -- ---- the program's function at a place
 

@@ -7,8 +7,8 @@ use Rattle.ir_interp.specs.declared.end.RunFault.{RunFault}
 use Rattle.ir_interp.specs.declared.end.RunFault.TheVariants as fault
 use Rattle.lto_fault.specs.declared.refusal.Refusal.{Refusal}
 use Rattle.lto_fault.specs.declared.refusal.Refusal.TheVariants.{NoMemory, ReadFault, WriteFault}
-use Rattle.lto_notes.specs.declared.returned.Returned as line
-use Rattle.run_parts.specs.Said.{answer_said}
+use Rattle.lto_fault.specs.declared.returned.Returned as line
+use Rattle.run_program.specs.Said.{answer_said}
 use Rattle.run_program.specs.Streams.{Streams}
 use Rattle.run_program.specs.declared.streams.StreamNames.{StreamNames}
 

@@ -4,3 +4,7 @@ pub mod Roots
 pub mod Runs
 pub mod Merged
 pub mod Endings
+pub mod Files
+pub mod Starting
+pub mod Arguments
+pub mod Said

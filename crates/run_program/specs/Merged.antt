@@ -4,7 +4,7 @@ use Rattle.ir_tree.specs.declared.module.Module.{Module}
 use Rattle.ir_tree.specs.declared.operand.Symbol.{Symbol}
 use Rattle.lto_words.specs.declared.list.Decimal.{Decimal}
 use Rattle.merge_meaning.specs.Merged.{merged}
-use Rattle.run_parts.specs.Files.{file_in}
+use Rattle.run_program.specs.Files.{file_in}
 use Rattle.symbol_resolve.specs.Resolved.{symbols}
 use Rattle.run_program.specs.Causes.{Causes}
 use Rattle.run_program.specs.Runs.{run_causes}

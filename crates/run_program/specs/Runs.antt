@@ -9,13 +9,13 @@ use Rattle.ir_interp.specs.Runs.{HasFedPart, HasSentPart, IsFed, bytes_read, wri
 use Rattle.ir_interp.specs.declared.end.RunFault.{RunFault}
 use Rattle.ir_interp.specs.declared.end.RunFault.TheVariants as lack
 use Rattle.lto_fault.specs.declared.refusal.Refusal.{Refusal}
-use Rattle.lto_notes.specs.Pushing.{Hears}
-use Rattle.lto_notes.specs.Returned.{returned_text}
-use Rattle.lto_notes.specs.declared.returned.Returned as line
+use Rattle.lto_fault.specs.Pushing.{Hears}
+use Rattle.lto_fault.specs.Returned.{returned_text}
+use Rattle.lto_fault.specs.declared.returned.Returned as line
 use Rattle.lto_outside.specs.Cause.{Rose}
 use Rattle.lto_words.specs.declared.list.Decimal.{Decimal}
-use Rattle.run_parts.specs.Said.{answer_said, ending_refusal}
-use Rattle.run_parts.specs.Starting.{beginning, result_of, root_of}
+use Rattle.run_program.specs.Said.{answer_said, ending_refusal}
+use Rattle.run_program.specs.Starting.{beginning, result_of, root_of}
 use Rattle.run_program.specs.Causes.{Causes, never}
 use Rattle.run_program.specs.Streams.{INPUT, Notes, OUTPUT, Streams}
 

@@ -2,18 +2,17 @@
 ghost use Rattle.std.specs.Prelude.{◌≡◌, IfErr, IfOk, Some};
 ghost use Rattle.ir_tree.specs.Wholes.{symbols};
 ghost use Rattle.ir_interp.specs.Runs.{ending_meant};
-ghost use Rattle.run_parts.specs.Arguments.{IsGiven};
-ghost use Rattle.run_parts.specs.Files.{file_in};
-ghost use Rattle.run_parts.specs.Said.{ending_refusal};
+ghost use Rattle.run_program.specs.Arguments.{IsGiven};
+ghost use Rattle.run_program.specs.Files.{file_in};
+ghost use Rattle.run_program.specs.Said.{ending_refusal};
 ghost use Rattle.run_program.specs.Causes.{Because, never};
 ghost use Rattle.run_program.specs.Endings.{IsSaid};
 
+use crate::telling::{returned, undefined, uninit};
 use ir_interp::RunEnd;
 use ir_tree::{GlobalValue, Reg};
-use lto_fault::Refusal;
-use lto_notes::Returned;
+use lto_fault::{Refusal, Returned};
 use lto_words::FileName;
-use run_parts::{returned, undefined, uninit};
 use std::alloc::Global;
 use symbol_resolve::Resolution;
 

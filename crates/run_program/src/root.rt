@@ -3,13 +3,13 @@ ghost use Rattle.std.specs.Prelude.{◌≡◌, All, IfOk, IfSome, None, length, 
 ghost use Rattle.ir_program.specs.Runnable.{AreRunnable};
 ghost use Rattle.machine_code.specs.Lowered.{IsMadeOf};
 ghost use Rattle.machine_steps.specs.Steps.{CanBegin};
-ghost use Rattle.run_parts.specs.Arguments.{IsGiven, IsTyped};
+ghost use Rattle.run_program.specs.Arguments.{IsGiven, IsTyped};
 ghost use Rattle.run_program.specs.Roots.{IsBegun, IsRoot, NoRoot, begun_with, function_in};
 
+use crate::given::arguments;
 use ir_tree::{Function, GlobalValue, Reg, Rows, Text};
 use lto_words::Decimal;
 use machine_code::Lowered;
-use run_parts::arguments;
 use std::alloc::{AllocError, Global};
 
 /// What a run is asked for.

@@ -12,9 +12,9 @@ use Rattle.ir_meaning.specs.Program.{Program}
 use Rattle.ir_better.specs.Formed.{IsFormed}
 use Rattle.ir_better.specs.Reshape.{IsShape, IsStuck, LeavesAlike, Spot, spot_of}
 use Rattle.ir_better.proofs.Blocks.Reshaped.{shape_better}
-use Rattle.edge_counts.specs.Counted.{times}
-use Rattle.edge_counts.proofs.Counting.{among_times, edges_from, out_to}
-use Rattle.edge_counts.proofs.Exits.{exit_among, number_found}
+use Rattle.ir_better.specs.Counted.{times}
+use Rattle.ir_better.proofs.Counting.{among_times, edges_from, out_to}
+use Rattle.ir_better.proofs.Exits.{exit_among, number_found}
 use Rattle.slot_promote.proofs.Reached.{next_reached, reached}
 
 -- the first block of a number stands at the number's place

@@ -27,11 +27,11 @@ use Rattle.ir_better.proofs.Between.InARow.{in_a_row}
 use Rattle.ir_better.proofs.Between.LargerBounds.{wider}
 use Rattle.ir_better.proofs.Slots.Promoted.{promoted_is_better}
 use Rattle.ir_edit.proofs.Tally.{tally, tally_same}
-use Rattle.edge_counts.specs.Counted.{times}
-use Rattle.edge_counts.proofs.Counting.{among_times, edges_from, here, later, numbers_in, out_to, place_is}
-use Rattle.edge_counts.proofs.Entries.{apart}
-use Rattle.edge_counts.proofs.Everywhere.{all_among}
-use Rattle.edge_counts.proofs.Exits.{number_found}
+use Rattle.ir_better.specs.Counted.{times}
+use Rattle.ir_better.proofs.Counting.{among_times, edges_from, here, later, numbers_in, out_to, place_is}
+use Rattle.ir_better.proofs.Entries.{apart}
+use Rattle.ir_better.proofs.Everywhere.{all_among}
+use Rattle.ir_better.proofs.Exits.{number_found}
 use Rattle.slot_promote.specs.Laws.{PromotedIsBetter, longest}
 use Rattle.slot_promote.specs.Promoted.{block_with, blocks_with, end_at, end_with, entries_of, first_at, free, new_phis, next_number, phis_from, promoted_with}
 use Rattle.slot_promote.specs.Slots.{promoted_slots}

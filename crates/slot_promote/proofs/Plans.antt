@@ -30,7 +30,7 @@ use Rattle.ir_better.specs.Promote.{Current, Fetches, LineRight, LinesRight, Loc
 use Rattle.ir_tree.specs.Layout.{size as size_of}
 use Rattle.ir_meaning.specs.Bytes.{reg_size}
 use Rattle.ir_better.specs.Rules.{IsStorable}
-use Rattle.edge_counts.proofs.Everywhere.{all_front}
+use Rattle.ir_better.proofs.Everywhere.{all_front}
 use Rattle.ir_edit.proofs.Tally.{tally, tally_both}
 use Rattle.slot_promote.specs.Laws.{longest}
 use Rattle.slot_promote.specs.Promoted.{end_at, first_at, new_phis}

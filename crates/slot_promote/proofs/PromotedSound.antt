@@ -40,11 +40,11 @@ use Rattle.slot_promote.proofs.Paths.{found_new, moved}
 use Rattle.slot_promote.proofs.Plans.{LineFits, fits_at, kept_end, kept_entries, line_fact, made_here, made_slot, plan, slot_accessed, slot_stored}
 use Rattle.slot_promote.proofs.Shapes.{edges_stay, numbers_stay, place_stays, promoted_at, promoted_from, put_is}
 use Rattle.slot_promote.proofs.Slotted.{AreRight, Gives, Made, are_right, scalar_reg}
-use Rattle.edge_counts.proofs.Everywhere.{all_front}
-use Rattle.edge_counts.proofs.Counting.{numbers_in, place_is, times_is}
-use Rattle.edge_counts.specs.Counted.{times}
+use Rattle.ir_better.proofs.Everywhere.{all_front}
+use Rattle.ir_better.proofs.Counting.{numbers_in, place_is, times_is}
+use Rattle.ir_better.specs.Counted.{times}
 use Rattle.std.proofs.lemmas.List.Recursion.{is_count_by}
-use Rattle.edge_counts.proofs.Entries.{apart}
+use Rattle.ir_better.proofs.Entries.{apart}
 use Rattle.ir_flow.proofs.Reaching.{edge-from}
 
 abbrev Kept : (ℕ → Bool) → List Argument → Type 0

@@ -11,7 +11,7 @@
 //! exactly it. Of a sound function the result is better in every program, and sound.
 //!
 //! Below this crate stand `ir_tree`, `ir_flow` over `lto_sets` for predecessor edges, and `ir_meaning`, `ir_better`,
-//! `ir_edit` and `edge_counts` for what is proved. Time is linear in the function's uses and in what is made: slots that
+//! `ir_edit` for what is proved. Time is linear in the function's uses and in what is made: slots that
 //! are promoted times predecessor edges; a slot's value costs one look-up in a table of what its block stores.
 #![tactic(auto)]
 

@@ -5,3 +5,7 @@ pub mod Clashing
 pub mod Lacking
 pub mod Reports
 pub mod Apart
+mod Sorting
+mod Tables
+mod Listings
+mod Parts

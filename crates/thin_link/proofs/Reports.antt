@@ -8,9 +8,9 @@ use Rattle.std.specs.Ordering.{is_lt}
 use Rattle.combined_index.specs.Combined.{Combined}
 use Rattle.liveness.specs.Liveness.{AreLive}
 use Rattle.import_plan.specs.Plans.{IsPlan}
-use Rattle.index_report.specs.Lines.{definition_line, import_line, module_line, text_of}
-use Rattle.index_report.specs.Listed.{IsInOrder, Listed, listed_cmp}
-use Rattle.index_report.specs.Reports.{AreLines, IsReport}
+use Rattle.thin_link.specs.Lines.{definition_line, import_line, module_line, text_of}
+use Rattle.thin_link.specs.Listed.{IsInOrder, Listed, listed_cmp}
+use Rattle.thin_link.specs.Reports.{AreLines, IsReport}
 use Rattle.thin_link.proofs.Determined.{same_marks, same_rising, same_sorted}
 
 pub one_live : (c : Combined) (exports : List (List ℕ)) (marks others : List Bool) → AreLive c exports marks → AreLive c exports others → marks ≡ others

@@ -9,7 +9,7 @@ use Rattle.combined_index.specs.Combined.{Combined}
 use Rattle.combined_index.specs.Indexed.{IsCombined}
 use Rattle.liveness.specs.Liveness.{AllExported, AreLive, NoneUndefined}
 use Rattle.import_plan.specs.Plans.{IsPlan}
-use Rattle.index_report.specs.Reports.{IsReport}
+use Rattle.thin_link.specs.Reports.{IsReport}
 
 -- the combined index of the modules: their summaries, with the definitions that prevail
 abbrev pub IsIndex : List Module → Combined → Type 0

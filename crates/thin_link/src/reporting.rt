@@ -5,12 +5,12 @@ ghost use Rattle.thin_link.specs.Linking.{IsIndexReport};
 ghost use Rattle.thin_link.specs.Refusing.{IsRefused};
 
 use crate::deciding::thin_link;
-use index_report::report;
+use crate::report_text::report;
 use ir_tree::{Text, Verified};
 use lto_fault::Refusal;
 use std::alloc::Global;
 
-/// What the thin link of these modules decides, as text (`index_report`), or why it is refused, as
+/// What the thin link of these modules decides, as text ([`report`]), or why it is refused, as
 /// [`thin_link`] says.
 pub fn index(
     alloc: Global,

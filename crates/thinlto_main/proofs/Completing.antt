@@ -24,10 +24,10 @@ use Rattle.merge_meaning.specs.Merged.{merged}
 use Rattle.thinlto_main.specs.Running.{OfModules}
 use Rattle.run_program.specs.Merged.{file_of}
 use Rattle.run_program.specs.Runs.{CannotSend, CannotTake, DidReturn, EndedOtherwise, EndsSo, IsUnfit, RunEnds}
-use Rattle.run_parts.specs.Said.{ending_refusal}
+use Rattle.run_program.specs.Said.{ending_refusal}
 use Rattle.thinlto_main.specs.Seen.{InputSeen, Seen, streams_of}
 use Rattle.run_program.specs.Streams.{Streams}
-use Rattle.run_parts.specs.Starting.{beginning}
+use Rattle.run_program.specs.Starting.{beginning}
 use Rattle.thinlto_main.specs.Telling.{CanBeDone, CanDo, CanLink, EndsOver, Held, HoldFirstBad, HoldModules, HoldReport, HoldUnlinkable, HoldUnlinked, HoldsModule, IsTold, LinkHeld, MustNotBegin, MustNotLink, MustNotReturn, MustRefuse, RunComesTo, RunIsTold, told}
 use Rattle.run_program.proofs.Causes.{Implies}
 use Rattle.thinlto_main.proofs.Held.{hold_modules, none_bad, one_first_bad, one_inputs, one_list}

@@ -2,9 +2,9 @@
 use Rattle.std.proofs.Common.{ℕ, List, [], ◌∷◌, OnOk, Result, Ok, Err, inl, inr}
 use Rattle.ir_tree.specs.declared.module.Module.{Module}
 use Rattle.lto_fault.specs.declared.refusal.Refusal.{Refusal}
-use Rattle.lto_notes.specs.Pushing.{Hears}
-use Rattle.lto_notes.specs.Returned.{returned_text}
-use Rattle.lto_notes.specs.declared.returned.Returned as line
+use Rattle.lto_fault.specs.Pushing.{Hears}
+use Rattle.lto_fault.specs.Returned.{returned_text}
+use Rattle.lto_fault.specs.declared.returned.Returned as line
 use Rattle.lto_outside.specs.Seen.{FilesSeen}
 use Rattle.lto_words.specs.declared.list.Decimal.{Decimal}
 use Rattle.thin_link.specs.Refusing.{IsRefused}

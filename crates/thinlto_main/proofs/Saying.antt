@@ -2,7 +2,7 @@
 use Rattle.std.proofs.Common.{◌≡◌, ℕ, List, OnErr, OnOk, Option, Result, Ok, Err, IfErr, subst, sym}
 use Rattle.lto_fault.specs.Texts.{refusal_text}
 use Rattle.lto_fault.specs.declared.refusal.Refusal.{Refusal}
-use Rattle.lto_notes.specs.Pushing.{Hears, note_of}
+use Rattle.lto_fault.specs.Pushing.{Hears, note_of}
 use Rattle.lto_outside.specs.Seen.{stream_seen}
 use Rattle.run_program.specs.Streams.{Notes, notes_seen}
 

@@ -2,7 +2,7 @@
 use Rattle.std.specs.Prelude.{◌≡◌, ℕ, Bool, false, List, Option}
 use Rattle.std.specs.List.{AllZip}
 use Rattle.ir_tree.specs.declared.module.Module.{Module}
-use Rattle.lto_notes.specs.Pushing.{Pushes}
+use Rattle.lto_fault.specs.Pushing.{Pushes}
 use Rattle.thin_link.specs.Linking.{IsIndexReport}
 use Rattle.thinlto_main.specs.Modules.{AreFetched, IsRead}
 use Rattle.run_program.specs.Streams.{OUTPUT}

@@ -14,7 +14,7 @@ use Rattle.lto_fault.specs.declared.refusal.Refusal.{Refusal}
 use Rattle.lto_words.specs.declared.list.Decimal.{Decimal}
 use Rattle.lto_words.specs.declared.request.Command.{Command}
 use Rattle.lto_words.specs.declared.request.Command.TheVariants.{Link, Batch, Index, Run, Gen}
-use Rattle.lto_notes.specs.Pushing.{Pushes}
+use Rattle.lto_fault.specs.Pushing.{Pushes}
 use Rattle.link_one.specs.Accepted.{Accepts, Refuses}
 use Rattle.link_one.specs.Linking.{IsLinkOf, IsOnlyLinkOf}
 use Rattle.link_one.specs.Refusing.{IsUnlinked}
@@ -26,9 +26,9 @@ use Rattle.run_program.specs.Causes.{Causes, free, never}
 use Rattle.merge_meaning.specs.Merged.{merged}
 use Rattle.thinlto_main.specs.Running.{OfModules, running_by}
 use Rattle.run_program.specs.Merged.{file_of, merged_causes}
-use Rattle.run_parts.specs.Said.{ending_refusal}
+use Rattle.run_program.specs.Said.{ending_refusal}
 use Rattle.thinlto_main.specs.Seen.{InputSeen, Seen, streams_of}
-use Rattle.run_parts.specs.Starting.{beginning}
+use Rattle.run_program.specs.Starting.{beginning}
 use Rattle.lto_words.specs.declared.request.LinkOptions.{LinkOptions}
 
 -- ---- what a file holds

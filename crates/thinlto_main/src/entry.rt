@@ -3,7 +3,7 @@ ghost use Rattle.std.specs.Prelude.{ℕ, List, ◌↔◌, ◌≡◌, ◌≤◌, 
 ghost use Rattle.lto_fault.specs.Texts.{refusal_text};
 ghost use Rattle.lto_fault.specs.declared.kind.Kind.{Kind};
 ghost use Rattle.lto_fault.specs.declared.refusal.Refusal.{Refusal};
-ghost use Rattle.lto_notes.specs.Pushing.{Hears};
+ghost use Rattle.lto_fault.specs.Pushing.{Hears};
 ghost use Rattle.lto_outside.specs.Calls.{DidNoPut};
 ghost use Rattle.lto_outside.specs.Seen.{stream_seen};
 ghost use Rattle.lto_outside.specs.Store.{Stays};
@@ -18,7 +18,7 @@ ghost use Rattle.thinlto_main.specs.Telling.{CanDo, MustNotBegin, MustNotLink, M
 use crate::command::do_command;
 use crate::status::Status;
 use link_one::{accepted_is_not_refused, refused_is_one, unlinked_is_one};
-use lto_notes::say;
+use lto_fault::say;
 use lto_outside::{ByteIn, ByteOut, CacheDisk, Files, Gate};
 use lto_words::one_command;
 use std::alloc::Global;

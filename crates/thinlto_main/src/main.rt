@@ -6,9 +6,9 @@
 //!
 //! What words ask for is said by `lto_words`; a command fetches its files (`lto_fetch`) and reads each (`link_one`), and by
 //! the modules' summaries it is decided what is kept and imported (`thin_link`). `link` puts the linked module, `index` prints
-//! what was decided, and `run` merges the modules (`merge_meaning`), lowers what they mean together (`machine_code`), opens its
-//! memory (`machine_memory`) and runs it with the input and the output (`ir_interp`). A refusal (`lto_fault`) and what a run
-//! returned are told on the notes (`lto_notes`).
+//! what was decided, and `run` merges the modules (`merge_meaning`), lowers what they mean together and opens its memory
+//! (`machine_code`), and runs it with the input and the output (`ir_interp`). A refusal and what a run returned are told on the
+//! notes (`lto_fault`).
 //! Which answer comes when is one definition by cases on the command (`specs/Answers.antt`), and what files that tell hold is
 //! another (`specs/Telling.antt`).
 //!

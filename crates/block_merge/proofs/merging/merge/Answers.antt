@@ -1,7 +1,7 @@
 use Rattle.std.proofs.Common.{◌∙◌, List, sym, ap, subst}
 use Rattle.ir_tree.specs.Formed.{Distinct, numbers}
 use Rattle.ir_tree.specs.declared.block.Block.{Block}
-use Rattle.edge_counts.proofs.Entries.{apart}
+use Rattle.ir_better.proofs.Entries.{apart}
 use Rattle.block_merge.specs.Merged.{IsMergeOf, IsOneOf}
 use Rattle.block_merge.specs.Working.{blocks_taken, left, naming}
 use Rattle.block_merge.proofs.Better.{is_better}

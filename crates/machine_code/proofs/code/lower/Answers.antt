@@ -1,6 +1,6 @@
 use Rattle.machine_steps.specs.declared.code.Code.{Code}
-use Rattle.machine_memory.specs.Tables.{IsTable}
-use Rattle.machine_memory.proofs.Beginning.{laid_globals}
+use Rattle.machine_code.specs.Tables.{IsTable}
+use Rattle.machine_code.proofs.Beginning.{laid_globals}
 use Rattle.machine_code.specs.declared.addresses.Addresses.{Addresses}
 use Rattle.machine_code.proofs.Whole.{is_lowered, sound_globals}
 use Rattle.machine_code.proofs.code.lower.Goals as goal

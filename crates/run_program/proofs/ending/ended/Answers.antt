@@ -4,8 +4,8 @@ use Rattle.ir_machine.specs.Meant.{symbol_at}
 use Rattle.ir_interp.specs.Runs.{ending_meant}
 use Rattle.ir_interp.specs.declared.end.RunEnd.{RunEnd}
 use Rattle.machine_steps.specs.Scenes.{answer_meant}
-use Rattle.run_parts.specs.Files.{file_in}
-use Rattle.run_parts.specs.Said.{ending_refusal, told_cause}
+use Rattle.run_program.specs.Files.{file_in}
+use Rattle.run_program.specs.Said.{ending_refusal, told_cause}
 use Rattle.run_program.proofs.Interpreting.{tells_undefined, tells_uninit}
 use Rattle.run_program.proofs.ending.ended.Goals as goal
 

@@ -3,7 +3,7 @@ use Rattle.ir_tree.specs.declared.module.GlobalValue.{GlobalValue}
 use Rattle.ir_program.specs.Programs.{program_of}
 use Rattle.ir_program.specs.Runnable.{AreRunnable}
 use Rattle.merge_meaning.specs.Merged.{merged_globals}
-use Rattle.run_parts.specs.Files.{file_in}
+use Rattle.run_program.specs.Files.{file_in}
 use Rattle.symbol_resolve.specs.Resolved.{Symbols}
 use Rattle.run_program.specs.Causes.{Comes}
 use Rattle.run_program.specs.Runs.{ReturnsSo, run_causes}

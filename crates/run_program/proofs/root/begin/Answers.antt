@@ -3,9 +3,9 @@ use Rattle.std.specs.Prelude.{All}
 use Rattle.ir_tree.specs.declared.function.Param.{Param}
 use Rattle.lto_words.specs.declared.list.Decimal.{Decimal}
 use Rattle.machine_steps.specs.Steps.{CanBegin}
-use Rattle.run_parts.specs.Arguments.{IsGiven, IsTyped}
+use Rattle.run_program.specs.Arguments.{IsGiven, IsTyped}
 use Rattle.run_program.specs.Roots.{IsBegun, IsRoot, NoRoot}
-use Rattle.run_parts.specs.Starting.{arguments}
+use Rattle.run_program.specs.Starting.{arguments}
 use Rattle.run_program.specs.declared.root.Begun.{Begun}
 use Rattle.run_program.proofs.Rooting.{begun_gives, can_begin, none_begins, root_begins}
 use Rattle.run_program.proofs.root.begin.Goals as goal

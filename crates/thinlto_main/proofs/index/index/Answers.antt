@@ -1,6 +1,6 @@
 use Rattle.std.proofs.Common.{ℕ, List, refl, subst, sym, true, false}
 use Rattle.ir_tree.specs.declared.module.Module.{Module}
-use Rattle.lto_notes.specs.Pushing.{Pushes}
+use Rattle.lto_fault.specs.Pushing.{Pushes}
 use Rattle.lto_outside.specs.Calls.{Call}
 use Rattle.lto_outside.specs.Seen.{stream_seen}
 use Rattle.thinlto_main.specs.Modules.{AreRead}

@@ -3,7 +3,7 @@ use Rattle.std.proofs.lemmas.Int.{to_z-of_z}
 use Rattle.ir_tree.specs.declared.operand.Reg.TheVariants.{Int}
 use Rattle.ir_meaning.specs.Frame.{index_of}
 use Rattle.ir_meaning.specs.declared.value.Value.{Value as MeantValue}
-use Rattle.ir_address.specs.Walking.{ends_at}
+use Rattle.ir_machine.specs.Walking.{ends_at}
 use Rattle.ir_frames.specs.Locals.{source_meant}
 use Rattle.ir_frames.specs.Tasks.{indices_meant}
 use Rattle.ir_frames.specs.declared.source.Source.TheVariants.{Register}

@@ -2,7 +2,7 @@ use Rattle.std.proofs.Common.{◌≡◌, List, drop}
 use Rattle.ir_tree.specs.declared.operand.Symbol.{Symbol}
 use Rattle.ir_meaning.specs.Frame.{Locals}
 use Rattle.ir_meaning.specs.Memory.{Memory as MeantMemory}
-use Rattle.ir_address.specs.Walking.{IsSized}
+use Rattle.ir_machine.specs.Walking.{IsSized}
 use Rattle.ir_machine.specs.declared.memory.Memory.{Memory}
 use Rattle.ir_frames.specs.Locals.{AreKnown, AreLocals}
 use Rattle.ir_frames.specs.Tasks.{indices_meant, offset_by}

@@ -1,4 +1,0 @@
-mod Sorting
-mod Tables
-mod Listings
-mod Parts

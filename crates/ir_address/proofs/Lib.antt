@@ -1,3 +1,0 @@
-mod Parts
-mod Walks
-mod Wraps

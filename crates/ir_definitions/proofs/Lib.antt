@@ -1,3 +1,0 @@
-mod Closings
-mod Initials
-pub mod Lined

@@ -1,0 +1,5 @@
+use Rattle.std.proofs.Common.{sym}
+use Rattle.lto_fault.proofs.line.push_both.Goals as goal
+
+pub returns-clause-pushed : goal.returns-clause-pushed
+returns-clause-pushed g c = rw (sym c.as_slice.ensures, sym c.as_slice-2.ensures) c.push_named.ensures.pushed

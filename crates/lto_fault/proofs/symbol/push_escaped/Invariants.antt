@@ -1,0 +1,10 @@
+use Rattle.std.proofs.Common.{◌≤◌, take}
+use Rattle.std.specs.Io.KnownBytes.{Appends}
+use Rattle.ir_tree.specs.Names.{escaped}
+use Rattle.lto_fault.proofs.symbol.push_escaped.Given as goal
+
+abbrev pub invariant-loop-byte : goal.invariant-loop-byte
+invariant-loop-byte g l = record {
+  sent : Appends (g.N.ByteOut.sent l.fn.out) (g.N.ByteOut.sent l.out) (escaped (take l.byte-index l.name));
+  later : g.N.ByteOut.faults l.fn.out ≤ g.N.ByteOut.faults l.out;
+}

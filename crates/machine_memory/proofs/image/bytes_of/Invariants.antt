@@ -1,6 +1,0 @@
-use Rattle.std.proofs.Common.{drop}
-use Rattle.machine_memory.proofs.Writing.{IsUnder}
-use Rattle.machine_memory.proofs.image.bytes_of.Given as goal
-
-abbrev pub invariant-each : goal.invariant-each
-invariant-each l = IsUnder l.bases l.shape l.init l.image (drop l.part-index l.parts)

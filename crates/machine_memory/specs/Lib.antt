@@ -1,4 +1,0 @@
-pub mod Addresses
-pub mod Tables
-pub mod Images
-pub mod Openings

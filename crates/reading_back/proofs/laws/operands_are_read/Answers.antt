@@ -1,8 +1,0 @@
-use Rattle.reading_back.proofs.Operands.{operand_read, argument_read}
-use Rattle.reading_back.proofs.laws.operands_are_read.Goals as goal
-
-pub returns-clause-operand : goal.returns-clause-operand
-returns-clause-operand c = operand_read
-
-pub returns-clause-argument : goal.returns-clause-argument
-returns-clause-argument c = argument_read

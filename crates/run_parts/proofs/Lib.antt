@@ -1,3 +1,0 @@
-pub mod Lists
-mod Widths
-pub mod Taking

@@ -1,7 +1,0 @@
-use Rattle.std.proofs.Common.{◌≡◌, drop}
-use Rattle.run_parts.specs.Starting.{arguments}
-use Rattle.run_parts.proofs.Taking.{behind}
-use Rattle.run_parts.proofs.given.arguments.Given as goal
-
-abbrev pub invariant-loop-place : goal.invariant-loop-place
-invariant-loop-place l = behind l.numbers (arguments (drop l.place l.params) (drop l.place l.given)) ≡ arguments l.params l.given

@@ -1,4 +1,0 @@
-pub mod Files
-pub mod Starting
-pub mod Arguments
-pub mod Said
