@@ -8,7 +8,6 @@ use Rattle.ir_meaning.specs.Bytes.{are_fragments, are_zero, has_spoilt, has_unse
 use Rattle.ir_meaning.specs.Operate.{Answer, Is, Unwritten}
 use Rattle.ir_meaning.specs.Symbols.{base_eq}
 use Rattle.ir_tree.proofs.Symbols.{symbol_self}
-use Rattle.ir_tree.specs.Symbols.{symbol_eq}
 use Rattle.ir_meaning.specs.declared.value.Base.{Base as MeantBase}
 use Rattle.ir_meaning.specs.declared.value.Base.TheVariants.{Cell, Code, Nowhere}
 use Rattle.ir_meaning.specs.declared.value.Value.{Value as MeantValue}

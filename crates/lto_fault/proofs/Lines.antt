@@ -1,5 +1,5 @@
 -- The lines of refusals, part by part.
-use Rattle.std.proofs.Common.{◌≡◌, ◌∙◌, ℕ, List, [], ◌∷◌, ◌++◌, refl, ap, sym, append_assoc}
+use Rattle.std.proofs.Common.{◌≡◌, ◌∙◌, ℕ, List, ◌++◌, refl, ap, append_assoc}
 use Rattle.std.specs.Prelude.{codes, decimal}
 use Rattle.ir_tree.specs.Names.{quoted}
 use Rattle.lto_fault.specs.Texts.{as_function, as_variable, at_instruction, cause_text, in_both, in_function, kind_text, place_text, refusal_text, symbol_text, target_text}
