@@ -7,19 +7,9 @@ use Rattle.lto_forms.specs.declared.fault.ReadError.TheVariants as errors
 use Rattle.lto_forms.specs.Readers.{Reader, Fails, Gives, done, follow, ◌>>=◌, optional_at, pick}
 use Rattle.lto_forms.proofs.Composed.{reads_is}
 use Rattle.lto_forms.proofs.Loops.{with_front}
-use Rattle.ir_bodies.specs.Adding.{IsKept}
 use Rattle.ir_bodies.specs.Blocks.{keep}
 
 -- ---- what is kept
-
-pub kept_gives : {A : Type 0} (rest : List Tok) (read : Result A ReadError) (result : Result (Option A) ReadError) (r : Result (A × List Tok) Fault) → Gives (λ x. (x, rest)) read r → IsKept read result → Gives (λ x. (x, rest)) result (follow r (λ a. done (Some a)))
-kept_gives rest (Ok a) (Ok o) r g k = let e : o ≡ Some a = cc in rw (g, e) refl
-kept_gives rest (Ok a) (Err e) r g k = absurd cc
-kept_gives rest (Err e) (Ok o) r g k = absurd cc
-kept_gives rest (Err errors.NoMemory) (Err errors.NoMemory) r g k = tt
-kept_gives rest (Err errors.NoMemory) (Err (errors.Fault f)) r g k = absurd cc
-kept_gives rest (Err (errors.Fault d)) (Err errors.NoMemory) r g k = tt
-kept_gives rest (Err (errors.Fault d)) (Err (errors.Fault f)) r g k = rw g cc
 
 -- where more was put behind what stood there, it was read
 pub kept_read : {A : Type 0} (front new : List A) (rest : List Tok) (r : Result (Option A × List Tok) Fault) → follow r (λ x. done (keep front x)) ≡ Ok (new, rest) → (x : Option A) × (r ≡ Ok (x, rest)) × (new ≡ keep front x)

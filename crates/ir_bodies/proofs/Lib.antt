@@ -1,10 +1,10 @@
 mod Additions
-mod Attended
 pub mod BlockRules
 pub mod CallRules
 mod Grouping
 pub mod FirstWords
 pub mod LineRules
+mod Listed
 pub mod Loops
 pub mod Samples
 pub mod SuccessiveRules

@@ -1,7 +1,6 @@
 -- Lists that what is read is added to.
-use Rattle.std.specs.Prelude.{◌≡◌, Option, Some, Result, Ok, Err, List, [], ◌∷◌, ◌++◌}
+use Rattle.std.specs.Prelude.{Option, List, [], ◌∷◌, ◌++◌}
 use Rattle.ir_lex.specs.Tok.{Tok}
-use Rattle.lto_forms.specs.declared.fault.ReadError.{ReadError}
 use Rattle.lto_forms.specs.Readers.{Reader, ◌>>=◌, done}
 use Rattle.ir_bodies.specs.Blocks.{keep}
 
@@ -22,8 +21,3 @@ abbrev pub joined_at : {A : Type 0} → List A → Reader Tok (List A) → Reade
 joined_at front f = do
   more ← f
   done (front ++ more)
-
--- what was read isn't dropped
-abbrev pub IsKept : {A : Type 0} → Result A ReadError → Result (Option A) ReadError → Type 0
-IsKept (Ok a) r = r ≡ Ok (Some a)
-IsKept (Err e) r = r ≡ Err e

@@ -44,11 +44,16 @@ lines_at room = do
   ls ← all_lines_at room
   done (fold keep [] ls, room - length ls)
 
+-- behind the lines
+abbrev pub ended_at : Option Tok → List Line → ℕ → Reader Tok (Block × ℕ)
+ended_at name lines left = do
+  e ← terminator_at
+  done (block_of name lines e, left)
+
 unfoldable pub block_behind_at : ℕ → Option Tok → Reader Tok (Block × ℕ)
 block_behind_at room name = do
   ls ← lines_at room
-  e ← terminator_at
-  done (block_of name ls.0 e, ls.1)
+  ended_at name ls.0 ls.1
 
 unfoldable pub block_at : ℕ → Reader Tok (Block × ℕ)
 block_at room = pick (among tokens LABEL)

@@ -1,9 +1,9 @@
 pub mod Adding
-pub mod Attended
 pub mod Blocks
 pub mod BlocksAt
 pub mod Calls
 pub mod CallsAt
 pub mod Lines
 pub mod LinesAt
+pub mod Listed
 pub mod Successive

@@ -5,7 +5,6 @@
 
 ghost use Rattle.std.specs.Prelude.{◌≡◌, ◌++◌, ◌∷◌, [], IfErr, OnOk};
 ghost use Rattle.lto_forms.specs.declared.fault.ReadError.TheVariants.{NoMemory};
-ghost use Rattle.ir_bodies.specs.Adding.{IsKept};
 
 use lto_forms::ReadError;
 
@@ -16,12 +15,4 @@ pub fn push<T: Drop>(list: &mut Vec<T>, value: T) -> Result<(), ReadError>
 {
     list.push(value)?;
     Ok(())
-}
-
-/// What was read, as something that isn't dropped.
-pub fn kept<T: Drop>(read: Result<T, ReadError>) -> Result<Option<T>, ReadError>
-    ensures { IsKept read result }
-{
-    let value = read?;
-    Ok(Some(value))
 }

@@ -9,19 +9,27 @@ ghost use Rattle.lto_forms.specs.Rules.{is_valued};
 ghost use Rattle.ir_read.specs.Classes.{tokens, refusal};
 ghost use Rattle.ir_read.specs.Operands.{named};
 ghost use Rattle.ir_instructions.specs.Terminators.{ENDS};
-ghost use Rattle.ir_bodies.specs.Blocks.{LABEL, block_of};
+ghost use Rattle.ir_bodies.specs.Blocks.{LABEL};
 ghost use Rattle.ir_bodies.specs.Adding.{added_at};
-ghost use Rattle.ir_bodies.specs.BlocksAt.{BLOCK, label_at, maybe_label_at, lines_at, block_behind_at, block_at, blocks_from_at, blocks_at};
+ghost use Rattle.ir_bodies.specs.BlocksAt.{BLOCK, label_at, maybe_label_at, lines_at, ended_at, block_behind_at, block_at, blocks_from_at, blocks_at};
 ghost use Rattle.ir_bodies.specs.LinesAt.{LINE};
 
 use crate::adding::push;
 use crate::lines::line_into;
-use ir_instructions::{Ended, terminator_at};
+use ir_instructions::{Listing, terminator_at};
 use ir_lex::{Head, Token};
 use ir_read::{Block, Line, Name, Tokens, named, refusal};
 use ir_tree::Rows;
 use lto_forms::{Fault, FaultKind, ReadError};
 use std::alloc::Global;
+
+/// The blocks of a function while they are read.
+///
+/// A type of its own, so that what is proved of a list that is dropped is proved once.
+#[derive(Drop)]
+pub struct Blocks<'a> {
+    pub list: Vec<Block<'a>>,
+}
 
 /// The lines of a block, and how many instructions the function may still have.
 #[derive(Drop)]
@@ -143,7 +151,11 @@ fn lines_at<'a>(
 ) -> Result<Lines<'a>, ReadError>
     ensures { Gives (λ x. ((x.lines.items, x.left), tokens.new)) result (lines_at room tokens.old) }
 {
-    let mut lines = Vec::new(alloc);
+    let mut list = Listing {
+        lines: Vec::new(alloc),
+        name: None,
+        line: 0,
+    };
     let mut left = room;
     'each: while comes_line(tokens) {
         if left == 0 {
@@ -152,22 +164,35 @@ fn lines_at<'a>(
                 kind: FaultKind::Limit,
             }));
         }
-        line_into(alloc, &mut lines, tokens)?;
+        line_into(alloc, &mut list, tokens)?;
         left -= 1;
     }
-    Ok(Lines { lines, left })
+    Ok(Lines {
+        lines: list.lines,
+        left,
+    })
 }
 
-/// A block of these parts.
-fn block_of<'a>(label: Option<Name<'a>>, lines: Vec<Line<'a>>, ended: Ended<'a>) -> Block<'a>
-    ensures { result ≡ block_of label.entry lines.entry.items ended.entry }
+/// Reads the terminator of a block behind its lines, and adds the block. Gives `left` back.
+fn ended_into<'a>(
+    alloc: Global,
+    label: Option<Name<'a>>,
+    lines: Vec<Line<'a>>,
+    left: usize,
+    blocks: &mut Vec<Block<'a>>,
+    tokens: &mut Tokens<'_, 'a>,
+) -> Result<usize, ReadError>
+    ensures { Gives (λ left. ((blocks.new.items, left), tokens.new)) result (added_at blocks.old.items (ended_at label.entry lines.entry.items left) tokens.old) }
 {
-    Block {
+    let ended = terminator_at(alloc, tokens)?;
+    let block = Block {
         label,
         lines: Rows::of(lines),
         end: ended.terminator,
         end_line: ended.line,
-    }
+    };
+    push(blocks, block)?;
+    Ok(left)
 }
 
 /// Reads a block behind its label, and adds it. Gives how many instructions the function may still
@@ -183,9 +208,7 @@ fn block_behind_into<'a>(
     ensures { Gives (λ left. ((blocks.new.items, left), tokens.new)) result (added_at blocks.old.items (block_behind_at room label.entry) tokens.old) }
 {
     let Lines { lines, left } = lines_at(alloc, room, tokens)?;
-    let ended = terminator_at(alloc, tokens)?;
-    push(blocks, block_of(label, lines, ended))?;
-    Ok(left)
+    ended_into(alloc, label, lines, left, blocks, tokens)
 }
 
 /// Reads the label of a block, where it has one.
@@ -248,11 +271,12 @@ pub fn blocks_at<'a>(
     further: usize,
     instructions: usize,
     tokens: &mut Tokens<'_, 'a>,
-) -> Result<Vec<Block<'a>>, ReadError>
-    ensures { Gives (λ x. (x.items, tokens.new)) result (blocks_at further instructions tokens.old) }
+) -> Result<Blocks<'a>, ReadError>
+    ensures { Gives (λ x. (x.list.items, tokens.new)) result (blocks_at further instructions tokens.old) }
 {
-    let mut blocks = Vec::new(alloc);
-    let left = block_into(alloc, instructions, &mut blocks, tokens)?;
-    further_blocks_into(alloc, further, left, &mut blocks, tokens)?;
+    let list = Vec::new(alloc);
+    let mut blocks = Blocks { list };
+    let left = block_into(alloc, instructions, &mut blocks.list, tokens)?;
+    further_blocks_into(alloc, further, left, &mut blocks.list, tokens)?;
     Ok(blocks)
 }

@@ -1,19 +1,20 @@
 //! Reads calls (LangRef, "call Instruction").
 
-ghost use Rattle.std.specs.Prelude.{◌≡◌, ◌∷◌, Some, IfOk};
+ghost use Rattle.std.specs.Prelude.{◌≡◌, ◌∷◌, IfErr, IfOk, OnOk};
 ghost use Rattle.ir_lex.specs.Tok.{tok};
 ghost use Rattle.lto_forms.specs.Alphabet.{among};
+ghost use Rattle.lto_forms.specs.declared.fault.ReadError.TheVariants.{NoMemory};
 ghost use Rattle.lto_forms.specs.Readers.{Gives, next_is};
 ghost use Rattle.lto_forms.specs.Rules.{is_among, is_class, is_exact, is_valued};
 ghost use Rattle.ir_read.specs.Classes.{tokens, itself};
 ghost use Rattle.ir_read.specs.FunctionHeadsAt.{end_of_none_at};
 ghost use Rattle.ir_read.specs.Operands.{IsReg, REG, type_refusal, reg_of, classes_of, operand_of};
 ghost use Rattle.ir_tree.specs.declared.operand.Reg.TheVariants.{Ptr};
-ghost use Rattle.ir_bodies.specs.Attended.{behind_arguments_at};
+ghost use Rattle.ir_bodies.specs.Listed.{kept_in, listed_at};
 ghost use Rattle.ir_bodies.specs.Calls.{same_reg, is_type, marker_refusal, called};
 ghost use Rattle.ir_bodies.specs.CallsAt.{CONVENTIONS, convention_at, conventions_at, written_type_at, further_type_at, types_behind_at, some_types_at, listed_types_at, types_at, argument_behind_at, argument_at, further_argument_at, arguments_behind_at, some_arguments_at, any_arguments_at, type_again_at, argument_of_at, further_of_at, each_behind_at, some_of_at, arguments_of_at, arguments_at, called_value_at, marker_at, unmarked_at, unmarked_value_at, callee_at, maybe_types_at, called_at, calling_with_at, calling_of_at, calling_at, tail_calling_at};
 
-use ir_instructions::{address_at, operand_at};
+use ir_instructions::{Listing, address_at, operand_at};
 use ir_lex::{Head, Token};
 use ir_read::{
     Argument, Instr, Name, Operand, Tokens, attachments_at, call_attributes_at, expect,
@@ -464,31 +465,6 @@ fn callee_at<'a>(
     }
 }
 
-/// A call of a value.
-fn call_of<'a>(reg: Option<Reg>, callee: Operand<'a>, arguments: Vec<Argument<'a>>) -> Instr<'a>
-    ensures { Some result ≡ called reg (Some callee.entry) arguments.entry.items }
-{
-    Instr::Call {
-        result: reg,
-        callee,
-        arguments: Rows::of(arguments),
-    }
-}
-
-/// A call, unless it is dropped.
-fn called<'a>(
-    reg: Option<Reg>,
-    callee: Option<Operand<'a>>,
-    arguments: Vec<Argument<'a>>,
-) -> Option<Instr<'a>>
-    ensures { result ≡ called reg callee.entry arguments.entry.items }
-{
-    match callee {
-        None => None,
-        Some(callee) => Some(call_of(reg, callee, arguments)),
-    }
-}
-
 /// Reads the types of the callee's parameters, where they are written.
 fn maybe_types_at<'a>(
     alloc: Global,
@@ -504,82 +480,99 @@ fn maybe_types_at<'a>(
     }
 }
 
-/// Reads what follows the arguments of a call, and gives the call back. Its type is a parameter, so
-/// that what is proved of it isn't proved of each field of an instruction.
-fn behind_arguments_at<T: Drop>(alloc: Global, call: T, tokens: &mut Tokens) -> Result<T, ReadError>
-    ensures { Gives (λ x. (x, tokens.new)) result (behind_arguments_at call tokens.old) }
+/// Adds a call, unless it is dropped.
+fn put_call<'a>(
+    reg: Option<Reg>,
+    callee: Option<Operand<'a>>,
+    arguments: Vec<Argument<'a>>,
+    list: &mut Listing<'a>,
+) -> Result<(), ReadError>
+    ensures put { OnOk result (list.new.lines.items ≡ kept_in list.old (called reg callee.entry arguments.entry.items)) }
+    ensures memory { IfErr result (λ e. e ≡ NoMemory) }
 {
-    call_attributes_at(alloc, tokens)?;
-    attachments_at(alloc, tokens)?;
-    Ok(call)
+    match callee {
+        None => Ok(()),
+        Some(callee) => list.put(Instr::Call {
+            result: reg,
+            callee,
+            arguments: Rows::of(arguments),
+        }),
+    }
 }
 
-/// Reads what follows the arguments of a call.
-fn called_at<'a>(
+/// Adds a call, and reads what follows its arguments.
+fn called_into<'a>(
     alloc: Global,
     reg: Option<Reg>,
     callee: Option<Operand<'a>>,
     arguments: Vec<Argument<'a>>,
+    list: &mut Listing<'a>,
     tokens: &mut Tokens<'_, 'a>,
-) -> Result<Option<Instr<'a>>, ReadError>
-    ensures { Gives (λ x. (x, tokens.new)) result (called_at reg callee.entry arguments.entry.items tokens.old) }
+) -> Result<(), ReadError>
+    ensures { Gives (λ _. (list.new.lines.items, tokens.new)) result (listed_at list.old (called_at reg callee.entry arguments.entry.items) tokens.old) }
 {
-    behind_arguments_at(alloc, called(reg, callee, arguments), tokens)
+    put_call(reg, callee, arguments, list)?;
+    call_attributes_at(alloc, tokens)?;
+    attachments_at(alloc, tokens)
 }
 
 /// Reads what follows the callee of a call: arguments of the types that are written, where they are.
-fn calling_with_at<'a>(
+fn calling_with_into<'a>(
     alloc: Global,
     reg: Option<Reg>,
     types: &Option<Rows<Name>>,
     callee: Option<Operand<'a>>,
+    list: &mut Listing<'a>,
     tokens: &mut Tokens<'_, 'a>,
-) -> Result<Option<Instr<'a>>, ReadError>
-    ensures { Gives (λ x. (x, tokens.new)) result (calling_with_at reg types.now callee.entry tokens.old) }
+) -> Result<(), ReadError>
+    ensures { Gives (λ _. (list.new.lines.items, tokens.new)) result (listed_at list.old (calling_with_at reg types.now callee.entry) tokens.old) }
 {
     expect(Head::OpenParen, tokens)?;
     let arguments = arguments_at(alloc, types, tokens)?;
-    called_at(alloc, reg, callee, arguments, tokens)
+    called_into(alloc, reg, callee, arguments, list, tokens)
 }
 
 /// Reads what follows the result of a call.
-fn calling_of_at<'a>(
+fn calling_of_into<'a>(
     alloc: Global,
     named: bool,
     reg: Option<Reg>,
+    list: &mut Listing<'a>,
     tokens: &mut Tokens<'_, 'a>,
-) -> Result<Option<Instr<'a>>, ReadError>
-    ensures { Gives (λ x. (x, tokens.new)) result (calling_of_at named reg tokens.old) }
+) -> Result<(), ReadError>
+    ensures { Gives (λ _. (list.new.lines.items, tokens.new)) result (listed_at list.old (calling_of_at named reg) tokens.old) }
 {
     let types = maybe_types_at(alloc, tokens)?;
     let callee = callee_at(alloc, named, reg, tokens)?;
-    calling_with_at(alloc, reg, &types, callee, tokens)
+    calling_with_into(alloc, reg, &types, callee, list, tokens)
 }
 
-/// Reads what follows `call`, with the name of a result before it or not: `None` where the callee is a
-/// lifetime marker.
+/// Reads what follows `call`, with the name of a result before it or not. Where the callee is a lifetime
+/// marker, the call is dropped.
 #[tactic(auto, unfolding(crate::specs::CallsAt::calling_at))]
-pub fn calling_at<'a>(
+pub fn calling_into<'a>(
     alloc: Global,
     named: bool,
+    list: &mut Listing<'a>,
     tokens: &mut Tokens<'_, 'a>,
-) -> Result<Option<Instr<'a>>, ReadError>
-    ensures { Gives (λ x. (x, tokens.new)) result (calling_at named tokens.old) }
+) -> Result<(), ReadError>
+    ensures { Gives (λ _. (list.new.lines.items, tokens.new)) result (listed_at list.old (calling_at named) tokens.old) }
 {
     conventions_at(alloc, tokens)?;
     let result = result_at(tokens)?;
-    calling_of_at(alloc, named, result, tokens)
+    calling_of_into(alloc, named, result, list, tokens)
 }
 
 /// Reads what follows `tail` or `notail`.
 #[tactic(auto, unfolding(crate::specs::CallsAt::tail_calling_at))]
-pub fn tail_calling_at<'a>(
+pub fn tail_calling_into<'a>(
     alloc: Global,
     named: bool,
+    list: &mut Listing<'a>,
     tokens: &mut Tokens<'_, 'a>,
-) -> Result<Option<Instr<'a>>, ReadError>
-    ensures { Gives (λ x. (x, tokens.new)) result (tail_calling_at named tokens.old) }
+) -> Result<(), ReadError>
+    ensures { Gives (λ _. (list.new.lines.items, tokens.new)) result (listed_at list.old (tail_calling_at named) tokens.old) }
 {
     expect(Head::Call, tokens)?;
-    calling_at(alloc, named, tokens)
+    calling_into(alloc, named, list, tokens)
 }

@@ -2,15 +2,23 @@
 
 ghost use Rattle.std.specs.Prelude.{◌≡◌};
 ghost use Rattle.lto_forms.specs.Readers.{Gives};
+ghost use Rattle.ir_read.specs.declared.raw.Item.TheVariants.{Definition};
 ghost use Rattle.ir_bodies.specs.Blocks.{FURTHER_BLOCKS, INSTRUCTIONS, with_kept};
 ghost use Rattle.ir_bodies.specs.BlocksAt.{heading_at, braced_at, definition_at};
 
-use crate::blocks::blocks_at;
+use crate::blocks::{Blocks, blocks_at};
 use ir_lex::Head;
-use ir_read::{Block, Item, Kept, Role, Tokens, definition_attributes_at, expect, head_at};
+use ir_read::{Block, Kept, Role, Tokens, definition_attributes_at, expect, head_at};
 use ir_tree::Rows;
 use lto_forms::ReadError;
 use std::alloc::Global;
+
+/// A definition of a function: its head, with what is kept of the attributes behind it, and its blocks.
+#[derive(Drop)]
+pub struct Defined<'a> {
+    pub head: ir_read::Head<'a>,
+    pub blocks: Rows<Block<'a>>,
+}
 
 /// How many blocks may stand behind the first of a function.
 #[tactic(auto, unfolding(crate::specs::Blocks::FURTHER_BLOCKS))]
@@ -58,8 +66,8 @@ fn heading_at<'a>(
 }
 
 /// Reads the blocks of a function, in their braces.
-fn braced_at<'a>(alloc: Global, tokens: &mut Tokens<'_, 'a>) -> Result<Vec<Block<'a>>, ReadError>
-    ensures { Gives (λ x. (x.items, tokens.new)) result (braced_at tokens.old) }
+fn braced_at<'a>(alloc: Global, tokens: &mut Tokens<'_, 'a>) -> Result<Blocks<'a>, ReadError>
+    ensures { Gives (λ x. (x.list.items, tokens.new)) result (braced_at tokens.old) }
 {
     expect(Head::OpenBrace, tokens)?;
     let blocks = blocks_at(alloc, further_blocks(), instructions(), tokens)?;
@@ -74,10 +82,13 @@ pub fn definition_at<'a>(
     alloc: Global,
     room: usize,
     tokens: &mut Tokens<'_, 'a>,
-) -> Result<Item<'a>, ReadError>
-    ensures { Gives (λ x. (x, tokens.new)) result (definition_at room tokens.old) }
+) -> Result<Defined<'a>, ReadError>
+    ensures { Gives (λ x. (Definition x.head x.blocks, tokens.new)) result (definition_at room tokens.old) }
 {
     let head = heading_at(alloc, room, tokens)?;
     let blocks = braced_at(alloc, tokens)?;
-    Ok(Item::Definition(head, Rows::of(blocks)))
+    Ok(Defined {
+        head,
+        blocks: Rows::of(blocks.list),
+    })
 }

@@ -15,6 +15,6 @@ mod lines;
 mod opcodes;
 
 pub use adding::push;
-pub use definitions::definition_at;
+pub use definitions::{Defined, definition_at};
 pub use laws::definition_rule;
 pub use opcodes::{Begun, Opcode, Operation};

@@ -1,119 +1,90 @@
 //! Reads instructions with the names of their results (LangRef, "Instruction Reference").
 
-ghost use Rattle.std.specs.Prelude.{◌≡◌, IfErr, OnOk};
-ghost use Rattle.lto_forms.specs.declared.fault.ReadError.TheVariants.{NoMemory};
+ghost use Rattle.std.specs.Prelude.{◌≡◌};
 ghost use Rattle.lto_forms.specs.Readers.{Gives};
+ghost use Rattle.ir_instructions.specs.Listing.{put_at};
 ghost use Rattle.ir_bodies.specs.Adding.{kept_at};
-ghost use Rattle.ir_bodies.specs.Attended.{IsAttended};
-ghost use Rattle.ir_bodies.specs.Blocks.{keep};
-ghost use Rattle.ir_bodies.specs.Lines.{lined};
 ghost use Rattle.ir_bodies.specs.LinesAt.{operation_at, attended_at, behind_at, line_behind_at, named_line_at, plain_line_at, line_at};
+ghost use Rattle.ir_bodies.specs.Listed.{listed_at};
 
-use crate::adding::{kept, push};
-use crate::calls::{calling_at, tail_calling_at};
+use crate::calls::{calling_into, tail_calling_into};
 use crate::opcodes::{Opcode, Operation, begun_at, giving_at};
 use ir_instructions::{
-    addressing_at, casting_at, comparing_at, dividing_at, extending_at, freezing_at, joining_at,
-    loading_at, narrowing_at, on_two_at, phi_at, reserving_at, selecting_at, storing_at,
-    wrapping_at,
+    Listing, addressing_into, casting_into, comparing_into, dividing_into, extending_into,
+    freezing_into, joining_into, loading_into, narrowing_into, on_two_into, phi_into,
+    reserving_into, selecting_into, storing_into, wrapping_into,
 };
 use ir_lex::Head;
-use ir_read::{Instr, Line, Name, Tokens, attachments_at, expect, local_at};
+use ir_read::{Name, Tokens, attachments_at, expect, local_at};
 use ir_tree::{CastOp, Flags};
 use lto_forms::ReadError;
 use std::alloc::Global;
 
 /// Reads what follows the first word of an operation on values, but for its attachments.
-fn operation_at<'a>(
+fn operation_into<'a>(
     alloc: Global,
     operation: Operation,
+    list: &mut Listing<'a>,
     tokens: &mut Tokens<'_, 'a>,
-) -> Result<Instr<'a>, ReadError>
-    ensures { Gives (λ x. (x, tokens.new)) result (operation_at operation tokens.old) }
+) -> Result<(), ReadError>
+    ensures { Gives (λ _. (list.new.lines.items, tokens.new)) result (put_at list.old (operation_at operation) tokens.old) }
 {
     match operation {
-        Operation::Wrapping(op) => wrapping_at(alloc, op, tokens),
-        Operation::Dividing(op) => dividing_at(alloc, op, tokens),
+        Operation::Wrapping(op) => wrapping_into(alloc, op, list, tokens),
+        Operation::Dividing(op) => dividing_into(alloc, op, list, tokens),
         Operation::Plain(op) => {
             let flags = Flags {
                 nuw: false,
                 nsw: false,
                 exact: false,
             };
-            on_two_at(alloc, op, flags, tokens)
+            on_two_into(alloc, op, flags, list, tokens)
         }
-        Operation::Or => joining_at(alloc, tokens),
-        Operation::Icmp => comparing_at(alloc, tokens),
-        Operation::Zext => extending_at(alloc, CastOp::Zext, tokens),
-        Operation::Sext => casting_at(alloc, CastOp::Sext, tokens),
-        Operation::Trunc => narrowing_at(alloc, CastOp::Trunc, tokens),
-        Operation::Select => selecting_at(alloc, tokens),
-        Operation::Freeze => freezing_at(alloc, tokens),
+        Operation::Or => joining_into(alloc, list, tokens),
+        Operation::Icmp => comparing_into(alloc, list, tokens),
+        Operation::Zext => extending_into(alloc, CastOp::Zext, list, tokens),
+        Operation::Sext => casting_into(alloc, CastOp::Sext, list, tokens),
+        Operation::Trunc => narrowing_into(alloc, CastOp::Trunc, list, tokens),
+        Operation::Select => selecting_into(alloc, list, tokens),
+        Operation::Freeze => freezing_into(alloc, list, tokens),
     }
-}
-
-/// What was read, as something that isn't dropped, where its attachments follow. Its type is a
-/// parameter, so that what is proved of it isn't proved of each field of an instruction.
-fn attended<T: Drop>(
-    alloc: Global,
-    read: Result<T, ReadError>,
-    tokens: &mut Tokens,
-) -> Result<Option<T>, ReadError>
-    ensures { IsAttended read tokens.old result tokens.new }
-{
-    let value = read?;
-    attachments_at(alloc, tokens)?;
-    Ok(Some(value))
 }
 
 /// Reads what follows the first word of an operation on values, its attachments too.
-fn attended_at<'a>(
+#[tactic(auto, using(crate::proofs::Listed::attended_listed))]
+fn attended_into<'a>(
     alloc: Global,
     operation: Operation,
+    list: &mut Listing<'a>,
     tokens: &mut Tokens<'_, 'a>,
-) -> Result<Option<Instr<'a>>, ReadError>
-    ensures { Gives (λ x. (x, tokens.new)) result (attended_at (operation_at operation) tokens.old) }
+) -> Result<(), ReadError>
+    ensures { Gives (λ _. (list.new.lines.items, tokens.new)) result (listed_at list.old (attended_at (operation_at operation)) tokens.old) }
 {
-    let instr = operation_at(alloc, operation, tokens);
-    attended(alloc, instr, tokens)
+    operation_into(alloc, operation, list, tokens)?;
+    attachments_at(alloc, tokens)
 }
 
-/// Reads what follows the first word of an instruction, with the name of a result before it or not:
-/// `None` for a call that is dropped.
-#[tactic(auto, unfolding(crate::specs::LinesAt::some_at))]
-fn behind_at<'a>(
+/// Reads what follows the first word of an instruction, with the name of a result before it or not. A
+/// call that is dropped adds no line.
+#[tactic(auto, using(crate::proofs::Listed::some_listed))]
+fn behind_into<'a>(
     alloc: Global,
     named: bool,
     opcode: Opcode,
+    list: &mut Listing<'a>,
     tokens: &mut Tokens<'_, 'a>,
-) -> Result<Option<Instr<'a>>, ReadError>
-    ensures { Gives (λ x. (x, tokens.new)) result (behind_at named opcode tokens.old) }
+) -> Result<(), ReadError>
+    ensures { Gives (λ _. (list.new.lines.items, tokens.new)) result (listed_at list.old (behind_at named opcode) tokens.old) }
 {
     match opcode {
-        Opcode::Value(operation) => attended_at(alloc, operation, tokens),
-        Opcode::Phi => kept(phi_at(alloc, tokens)),
-        Opcode::Alloca => kept(reserving_at(alloc, tokens)),
-        Opcode::Load => kept(loading_at(alloc, tokens)),
-        Opcode::GetElementPtr => kept(addressing_at(alloc, tokens)),
-        Opcode::Store => kept(storing_at(alloc, tokens)),
-        Opcode::Tail => tail_calling_at(alloc, named, tokens),
-        Opcode::Call => calling_at(alloc, named, tokens),
-    }
-}
-
-/// Adds a line, unless its call is dropped.
-fn push_line<'a>(
-    lines: &mut Vec<Line<'a>>,
-    name: Option<Name<'a>>,
-    line: u32,
-    instr: Option<Instr<'a>>,
-) -> Result<(), ReadError>
-    ensures kept { OnOk result (lines.new.items ≡ keep lines.old.items (lined name.entry line instr.entry)) }
-    ensures memory { IfErr result (λ e. e ≡ NoMemory) }
-{
-    match instr {
-        None => Ok(()),
-        Some(instr) => push(lines, Line { name, instr, line }),
+        Opcode::Value(operation) => attended_into(alloc, operation, list, tokens),
+        Opcode::Phi => phi_into(alloc, list, tokens),
+        Opcode::Alloca => reserving_into(alloc, list, tokens),
+        Opcode::Load => loading_into(alloc, list, tokens),
+        Opcode::GetElementPtr => addressing_into(alloc, list, tokens),
+        Opcode::Store => storing_into(alloc, list, tokens),
+        Opcode::Tail => tail_calling_into(alloc, named, list, tokens),
+        Opcode::Call => calling_into(alloc, named, list, tokens),
     }
 }
 
@@ -122,41 +93,42 @@ fn push_line<'a>(
 fn line_behind_into<'a>(
     alloc: Global,
     name: Name<'a>,
-    lines: &mut Vec<Line<'a>>,
+    list: &mut Listing<'a>,
     tokens: &mut Tokens<'_, 'a>,
 ) -> Result<(), ReadError>
-    ensures { Gives (λ _. (lines.new.items, tokens.new)) result (kept_at lines.old.items (line_behind_at name.entry) tokens.old) }
+    ensures { Gives (λ _. (list.new.lines.items, tokens.new)) result (kept_at list.old.lines.items (line_behind_at name.entry) tokens.old) }
 {
-    let line = name.line();
+    list.line = name.line();
+    list.name = Some(name);
     expect(Head::Equals, tokens)?;
     let opcode = giving_at(tokens)?;
-    let instr = behind_at(alloc, true, opcode, tokens)?;
-    push_line(lines, Some(name), line, instr)
+    behind_into(alloc, true, opcode, list, tokens)
 }
 
 #[tactic(auto, unfolding(crate::specs::LinesAt::named_line_at))]
 fn named_line_into<'a>(
     alloc: Global,
-    lines: &mut Vec<Line<'a>>,
+    list: &mut Listing<'a>,
     tokens: &mut Tokens<'_, 'a>,
 ) -> Result<(), ReadError>
-    ensures { Gives (λ _. (lines.new.items, tokens.new)) result (kept_at lines.old.items named_line_at tokens.old) }
+    ensures { Gives (λ _. (list.new.lines.items, tokens.new)) result (kept_at list.old.lines.items named_line_at tokens.old) }
 {
     let name = local_at(tokens)?;
-    line_behind_into(alloc, name, lines, tokens)
+    line_behind_into(alloc, name, list, tokens)
 }
 
 #[tactic(auto, unfolding(crate::specs::LinesAt::plain_line_at))]
 fn plain_line_into<'a>(
     alloc: Global,
-    lines: &mut Vec<Line<'a>>,
+    list: &mut Listing<'a>,
     tokens: &mut Tokens<'_, 'a>,
 ) -> Result<(), ReadError>
-    ensures { Gives (λ _. (lines.new.items, tokens.new)) result (kept_at lines.old.items plain_line_at tokens.old) }
+    ensures { Gives (λ _. (list.new.lines.items, tokens.new)) result (kept_at list.old.lines.items plain_line_at tokens.old) }
 {
     let begun = begun_at(tokens)?;
-    let instr = behind_at(alloc, false, begun.opcode, tokens)?;
-    push_line(lines, None, begun.line, instr)
+    list.line = begun.line;
+    list.name = None;
+    behind_into(alloc, false, begun.opcode, list, tokens)
 }
 
 /// Reads an instruction with the name of its result, where it has one, and its attachments, and adds
@@ -164,14 +136,14 @@ fn plain_line_into<'a>(
 #[tactic(auto, unfolding(crate::specs::LinesAt::line_at))]
 pub fn line_into<'a>(
     alloc: Global,
-    lines: &mut Vec<Line<'a>>,
+    list: &mut Listing<'a>,
     tokens: &mut Tokens<'_, 'a>,
 ) -> Result<(), ReadError>
-    ensures { Gives (λ _. (lines.new.items, tokens.new)) result (kept_at lines.old.items line_at tokens.old) }
+    ensures { Gives (λ _. (list.new.lines.items, tokens.new)) result (kept_at list.old.lines.items line_at tokens.old) }
 {
     if tokens.comes(Head::Local) {
-        named_line_into(alloc, lines, tokens)
+        named_line_into(alloc, list, tokens)
     } else {
-        plain_line_into(alloc, lines, tokens)
+        plain_line_into(alloc, list, tokens)
     }
 }

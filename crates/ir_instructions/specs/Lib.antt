@@ -1,3 +1,4 @@
+pub mod Listing
 pub mod Instructions
 pub mod InstructionsAt
 pub mod Terminators

@@ -7,19 +7,20 @@ ghost use Rattle.lto_forms.specs.Readers.{Gives};
 ghost use Rattle.ir_instructions.specs.Addressing.{keep, slots_fit};
 ghost use Rattle.ir_instructions.specs.AddressingAt.{addressing_at, behind_comma_at, count_in_at, count_means, further_at, indices_at, many_slots_at, one_slot_at, reserved_at, reserving_at, slots_at, slots_behind_at, stepped_at, stepping_by_at};
 ghost use Rattle.ir_read.specs.Classes.{tokens};
-ghost use Rattle.ir_read.specs.declared.raw.Instr.TheVariants as instrs;
 ghost use Rattle.ir_instructions.specs.Extents.{all_nest_within, extent_of, nests_within};
 ghost use Rattle.ir_read.specs.Literals.{IsWidth};
+ghost use Rattle.ir_instructions.specs.Listing.{put_at};
 ghost use Rattle.ir_instructions.specs.ShapeForms.{NUMBER};
 ghost use Rattle.ir_read.specs.Shapes.{parts_of};
 
 use crate::instructions::{align_at, aligned_at};
+use crate::listing::Listing;
 use crate::shapes::{Measured, counted, memory_shape_at};
 use crate::values::{argument_at, operand_at, pointer_at, stepping_at};
 use ir_lex::{Head, Token};
 use ir_read::{
-    Argument, Instr, Operand, Shape, ShapeNode, Tokens, Typed, attached_at, done, expect,
-    integer_at, refusal,
+    Argument, Instr, Operand, Shape, ShapeNode, Tokens, Typed, attached_at, expect, integer_at,
+    refusal,
 };
 use ir_tree::{Reg, Rows};
 use lto_forms::{Fault, FaultKind, ReadError};
@@ -176,35 +177,35 @@ fn slots_behind_at(alloc: Global, shape: &Measured, tokens: &mut Tokens) -> Resu
     slots_at(alloc, shape, tokens)
 }
 
-fn reserved<'a>(typed: Typed<'a>, slots: Slots) -> Instr<'a>
-    ensures { result ≡ instrs.Alloca typed.entry slots.count slots.align }
-{
-    Instr::Alloca {
-        typed,
-        count: slots.count,
-        align: slots.align,
-    }
-}
-
 /// Reads what follows the shape of an `alloca`.
-fn reserved_at<'a>(
+fn reserved_into<'a>(
     alloc: Global,
     shape: Measured<'a>,
+    list: &mut Listing<'a>,
     tokens: &mut Tokens<'_, 'a>,
-) -> Result<Instr<'a>, ReadError>
+) -> Result<(), ReadError>
     requires { shape.extent ≡ extent_of shape.typed.shape }
-    ensures { Gives (λ x. (x, tokens.new)) result (reserved_at shape.entry.typed tokens.old) }
+    ensures { Gives (λ _. (list.new.lines.items, tokens.new)) result (put_at list.old (reserved_at shape.entry.typed) tokens.old) }
 {
     let slots = slots_behind_at(alloc, &shape, tokens)?;
-    done(reserved(shape.typed, slots))
+    list.put(Instr::Alloca {
+        typed: shape.typed,
+        count: slots.count,
+        align: slots.align,
+    })
 }
 
 /// Reads what follows `alloca`.
 #[tactic(auto, unfolding(crate::specs::AddressingAt::reserving_at))]
-pub fn reserving_at<'a>(alloc: Global, tokens: &mut Tokens<'_, 'a>) -> Result<Instr<'a>, ReadError>
-    ensures { Gives (λ x. (x, tokens.new)) result (reserving_at tokens.old) }
+pub fn reserving_into<'a>(
+    alloc: Global,
+    list: &mut Listing<'a>,
+    tokens: &mut Tokens<'_, 'a>,
+) -> Result<(), ReadError>
+    ensures { Gives (λ _. (list.new.lines.items, tokens.new)) result (put_at list.old reserving_at tokens.old) }
 {
-    reserved_at(alloc, memory_shape_at(alloc, tokens)?, tokens)
+    let shape = memory_shape_at(alloc, tokens)?;
+    reserved_into(alloc, shape, list, tokens)
 }
 
 /// What a comma leads to: an index, or an attachment, behind which only attachments follow.
@@ -288,57 +289,52 @@ fn indices_at<'a>(
     Ok(indices)
 }
 
-fn stepped<'a>(
+/// Reads the indices of a `getelementptr`.
+fn stepped_into<'a>(
+    alloc: Global,
     inbounds: bool,
     typed: Typed<'a>,
     base: Operand<'a>,
-    indices: Vec<Argument<'a>>,
-) -> Instr<'a>
-    ensures { result ≡ instrs.Address inbounds typed.entry base.entry indices.entry.items }
+    list: &mut Listing<'a>,
+    tokens: &mut Tokens<'_, 'a>,
+) -> Result<(), ReadError>
+    ensures { Gives (λ _. (list.new.lines.items, tokens.new)) result (put_at list.old (stepped_at inbounds typed.entry base.entry) tokens.old) }
 {
-    Instr::Address {
+    let indices = Rows::of(indices_at(alloc, tokens)?);
+    list.put(Instr::Address {
         inbounds,
         typed,
         base,
-        indices: Rows::of(indices),
-    }
-}
-
-/// Reads the indices of a `getelementptr`.
-fn stepped_at<'a>(
-    alloc: Global,
-    inbounds: bool,
-    typed: Typed<'a>,
-    base: Operand<'a>,
-    tokens: &mut Tokens<'_, 'a>,
-) -> Result<Instr<'a>, ReadError>
-    ensures { Gives (λ x. (x, tokens.new)) result (stepped_at inbounds typed.entry base.entry tokens.old) }
-{
-    let indices = indices_at(alloc, tokens)?;
-    done(stepped(inbounds, typed, base, indices))
+        indices,
+    })
 }
 
 /// Reads what follows the shape of a `getelementptr`.
-fn stepping_by_at<'a>(
+fn stepping_by_into<'a>(
     alloc: Global,
     inbounds: bool,
     typed: Typed<'a>,
+    list: &mut Listing<'a>,
     tokens: &mut Tokens<'_, 'a>,
-) -> Result<Instr<'a>, ReadError>
-    ensures { Gives (λ x. (x, tokens.new)) result (stepping_by_at inbounds typed.entry tokens.old) }
+) -> Result<(), ReadError>
+    ensures { Gives (λ _. (list.new.lines.items, tokens.new)) result (put_at list.old (stepping_by_at inbounds typed.entry) tokens.old) }
 {
     expect(Head::Comma, tokens)?;
     pointer_at(tokens)?;
     let base = operand_at(alloc, Reg::Ptr, tokens)?;
-    stepped_at(alloc, inbounds, typed, base, tokens)
+    stepped_into(alloc, inbounds, typed, base, list, tokens)
 }
 
 /// Reads what follows `getelementptr`.
 #[tactic(auto, unfolding(crate::specs::AddressingAt::addressing_at))]
-pub fn addressing_at<'a>(alloc: Global, tokens: &mut Tokens<'_, 'a>) -> Result<Instr<'a>, ReadError>
-    ensures { Gives (λ x. (x, tokens.new)) result (addressing_at tokens.old) }
+pub fn addressing_into<'a>(
+    alloc: Global,
+    list: &mut Listing<'a>,
+    tokens: &mut Tokens<'_, 'a>,
+) -> Result<(), ReadError>
+    ensures { Gives (λ _. (list.new.lines.items, tokens.new)) result (put_at list.old addressing_at tokens.old) }
 {
     let inbounds = stepping_at(tokens)?;
     let shape = memory_shape_at(alloc, tokens)?;
-    stepping_by_at(alloc, inbounds, shape.typed, tokens)
+    stepping_by_into(alloc, inbounds, shape.typed, list, tokens)
 }

@@ -8,16 +8,17 @@ ghost use Rattle.lto_forms.specs.Rules.{is_among};
 ghost use Rattle.ir_read.specs.Ahead.{WRAPS};
 ghost use Rattle.ir_read.specs.Operands.{IsReg};
 ghost use Rattle.ir_tree.specs.declared.operand.Reg.TheVariants.{Int};
-ghost use Rattle.ir_read.specs.declared.raw.Instr.TheVariants as instrs;
 ghost use Rattle.ir_read.specs.Classes.{tokens, refusal, one_of_at};
 ghost use Rattle.ir_instructions.specs.Instructions.{is_nuw, with_wrap, no_flags, PREDICATES, predicate_of};
+ghost use Rattle.ir_instructions.specs.Listing.{put_at};
 ghost use Rattle.ir_instructions.specs.InstructionsAt.{wraps_at, on_two_at, behind_left_at, wrapping_at, dividing_at, joining_at, comparing_at, compared_at, cast_to_at, casting_at, extending_at, narrowing_at, other_at, arms_at, selecting_at, freezing_at, aligned_at, align_at, loaded_at, loading_at, stored_at, storing_to_at, storing_at};
 
+use crate::listing::Listing;
 use crate::values::{argument_at, operand_at, pointer_at};
 use ir_lex::{Head, Token};
 use ir_read::{
-    Argument, Instr, Operand, Tokens, alignment_at, attached_at, attachments_at, bit_at, done,
-    expect, integer_at, maybe_at, refusal, reg_at, scalar_at,
+    Argument, Instr, Operand, Tokens, alignment_at, attached_at, attachments_at, bit_at, expect,
+    integer_at, maybe_at, refusal, reg_at, scalar_at,
 };
 use ir_tree::{BinaryOp, CastOp, Flags, Predicate, Reg};
 use lto_forms::{Fault, FaultKind, ReadError};
@@ -80,89 +81,69 @@ fn wraps_at(tokens: &mut Tokens) -> Result<Flags, ReadError>
     Ok(flags)
 }
 
-fn binary<'a>(
+/// Reads what follows the left operand of an operation on integers.
+fn behind_left_into<'a>(
+    alloc: Global,
     op: BinaryOp,
     flags: Flags,
     width: u8,
     left: Operand<'a>,
-    right: Operand<'a>,
-) -> Instr<'a>
-    ensures { result ≡ instrs.Binary op flags width left.entry right.entry }
+    list: &mut Listing<'a>,
+    tokens: &mut Tokens<'_, 'a>,
+) -> Result<(), ReadError>
+    requires { IsReg (Int width) }
+    ensures { Gives (λ _. (list.new.lines.items, tokens.new)) result (put_at list.old (behind_left_at op flags width left.entry) tokens.old) }
 {
-    Instr::Binary {
+    expect(Head::Comma, tokens)?;
+    let right = operand_at(alloc, Reg::Int(width), tokens)?;
+    list.put(Instr::Binary {
         op,
         flags,
         width,
         left,
         right,
-    }
-}
-
-/// Reads what follows the left operand of an operation on integers.
-fn behind_left_at<'a>(
-    alloc: Global,
-    op: BinaryOp,
-    flags: Flags,
-    width: u8,
-    left: Operand<'a>,
-    tokens: &mut Tokens<'_, 'a>,
-) -> Result<Instr<'a>, ReadError>
-    requires { IsReg (Int width) }
-    ensures { Gives (λ x. (x, tokens.new)) result (behind_left_at op flags width left.entry tokens.old) }
-{
-    expect(Head::Comma, tokens)?;
-    done(binary(
-        op,
-        flags,
-        width,
-        left,
-        operand_at(alloc, Reg::Int(width), tokens)?,
-    ))
+    })
 }
 
 /// Reads `iN operand , operand`.
 #[tactic(auto, unfolding(crate::specs::InstructionsAt::on_two_at))]
-pub fn on_two_at<'a>(
+pub fn on_two_into<'a>(
     alloc: Global,
     op: BinaryOp,
     flags: Flags,
+    list: &mut Listing<'a>,
     tokens: &mut Tokens<'_, 'a>,
-) -> Result<Instr<'a>, ReadError>
-    ensures { Gives (λ x. (x, tokens.new)) result (on_two_at op flags tokens.old) }
+) -> Result<(), ReadError>
+    ensures { Gives (λ _. (list.new.lines.items, tokens.new)) result (put_at list.old (on_two_at op flags) tokens.old) }
 {
     let width = integer_at(tokens)?;
-    let int = Reg::Int(width);
-    behind_left_at(
-        alloc,
-        op,
-        flags,
-        width,
-        operand_at(alloc, int, tokens)?,
-        tokens,
-    )
+    let left = operand_at(alloc, Reg::Int(width), tokens)?;
+    behind_left_into(alloc, op, flags, width, left, list, tokens)
 }
 
 /// Reads what follows `add`, `sub`, `mul` or `shl`.
 #[tactic(auto, unfolding(crate::specs::InstructionsAt::wrapping_at))]
-pub fn wrapping_at<'a>(
+pub fn wrapping_into<'a>(
     alloc: Global,
     op: BinaryOp,
+    list: &mut Listing<'a>,
     tokens: &mut Tokens<'_, 'a>,
-) -> Result<Instr<'a>, ReadError>
-    ensures { Gives (λ x. (x, tokens.new)) result (wrapping_at op tokens.old) }
+) -> Result<(), ReadError>
+    ensures { Gives (λ _. (list.new.lines.items, tokens.new)) result (put_at list.old (wrapping_at op) tokens.old) }
 {
     let flags = wraps_at(tokens)?;
-    on_two_at(alloc, op, flags, tokens)
+    on_two_into(alloc, op, flags, list, tokens)
 }
 
 /// Reads what follows `udiv`, `sdiv`, `lshr` or `ashr`.
 #[tactic(auto, unfolding(crate::specs::InstructionsAt::dividing_at))]
-pub fn dividing_at<'a>(
+pub fn dividing_into<'a>(
     alloc: Global,
     op: BinaryOp,
+    list: &mut Listing<'a>,
     tokens: &mut Tokens<'_, 'a>,
-) -> Result<Instr<'a>, ReadError>
-    ensures { Gives (λ x. (x, tokens.new)) result (dividing_at op tokens.old) }
+) -> Result<(), ReadError>
+    ensures { Gives (λ _. (list.new.lines.items, tokens.new)) result (put_at list.old (dividing_at op) tokens.old) }
 {
     let exact = maybe_at(Head::Exact, tokens)?;
     let flags = Flags {
@@ -170,13 +151,17 @@ pub fn dividing_at<'a>(
         nsw: false,
         exact,
     };
-    on_two_at(alloc, op, flags, tokens)
+    on_two_into(alloc, op, flags, list, tokens)
 }
 
 /// Reads what follows `or`.
 #[tactic(auto, unfolding(crate::specs::InstructionsAt::joining_at))]
-pub fn joining_at<'a>(alloc: Global, tokens: &mut Tokens<'_, 'a>) -> Result<Instr<'a>, ReadError>
-    ensures { Gives (λ x. (x, tokens.new)) result (joining_at tokens.old) }
+pub fn joining_into<'a>(
+    alloc: Global,
+    list: &mut Listing<'a>,
+    tokens: &mut Tokens<'_, 'a>,
+) -> Result<(), ReadError>
+    ensures { Gives (λ _. (list.new.lines.items, tokens.new)) result (put_at list.old joining_at tokens.old) }
 {
     maybe_at(Head::Disjoint, tokens)?;
     let flags = Flags {
@@ -184,7 +169,7 @@ pub fn joining_at<'a>(alloc: Global, tokens: &mut Tokens<'_, 'a>) -> Result<Inst
         nsw: false,
         exact: false,
     };
-    on_two_at(alloc, BinaryOp::Or, flags, tokens)
+    on_two_into(alloc, BinaryOp::Or, flags, list, tokens)
 }
 
 #[tactic(auto, unfolding(lto_forms::specs::Rules::is_among))]
@@ -223,171 +208,166 @@ fn predicate_at(tokens: &mut Tokens) -> Result<Predicate, ReadError>
     }
 }
 
-fn compared<'a>(predicate: Predicate, reg: Reg, left: Operand<'a>, right: Operand<'a>) -> Instr<'a>
-    ensures { result ≡ instrs.Icmp predicate reg left.entry right.entry }
-{
-    Instr::Icmp {
-        predicate,
-        reg,
-        left,
-        right,
-    }
-}
-
 /// Reads what follows the left operand of an `icmp`.
-fn compared_at<'a>(
+fn compared_into<'a>(
     alloc: Global,
     predicate: Predicate,
     reg: Reg,
     left: Operand<'a>,
+    list: &mut Listing<'a>,
     tokens: &mut Tokens<'_, 'a>,
-) -> Result<Instr<'a>, ReadError>
+) -> Result<(), ReadError>
     requires { IsReg reg }
-    ensures { Gives (λ x. (x, tokens.new)) result (compared_at predicate reg left.entry tokens.old) }
+    ensures { Gives (λ _. (list.new.lines.items, tokens.new)) result (put_at list.old (compared_at predicate reg left.entry) tokens.old) }
 {
     expect(Head::Comma, tokens)?;
-    done(compared(predicate, reg, left, operand_at(alloc, reg, tokens)?))
+    let right = operand_at(alloc, reg, tokens)?;
+    list.put(Instr::Icmp {
+        predicate,
+        reg,
+        left,
+        right,
+    })
 }
 
 /// Reads what follows `icmp`.
 #[tactic(auto, unfolding(crate::specs::InstructionsAt::comparing_at))]
-pub fn comparing_at<'a>(alloc: Global, tokens: &mut Tokens<'_, 'a>) -> Result<Instr<'a>, ReadError>
-    ensures { Gives (λ x. (x, tokens.new)) result (comparing_at tokens.old) }
+pub fn comparing_into<'a>(
+    alloc: Global,
+    list: &mut Listing<'a>,
+    tokens: &mut Tokens<'_, 'a>,
+) -> Result<(), ReadError>
+    ensures { Gives (λ _. (list.new.lines.items, tokens.new)) result (put_at list.old comparing_at tokens.old) }
 {
     maybe_at(Head::Samesign, tokens)?;
     let predicate = predicate_at(tokens)?;
     let reg = reg_at(tokens)?;
-    compared_at(
-        alloc,
-        predicate,
-        reg,
-        operand_at(alloc, reg, tokens)?,
-        tokens,
-    )
+    let left = operand_at(alloc, reg, tokens)?;
+    compared_into(alloc, predicate, reg, left, list, tokens)
 }
 
-fn cast<'a>(op: CastOp, from: Reg, value: Operand<'a>, to: Reg) -> Instr<'a>
-    ensures { result ≡ instrs.Cast op from value.entry to }
+/// Reads what follows the value that is cast.
+fn cast_to_into<'a>(
+    op: CastOp,
+    from: Reg,
+    value: Operand<'a>,
+    list: &mut Listing<'a>,
+    tokens: &mut Tokens<'_, 'a>,
+) -> Result<(), ReadError>
+    ensures { Gives (λ _. (list.new.lines.items, tokens.new)) result (put_at list.old (cast_to_at op from value.entry) tokens.old) }
 {
-    Instr::Cast {
+    expect(Head::To, tokens)?;
+    let to = reg_at(tokens)?;
+    list.put(Instr::Cast {
         op,
         from,
         value,
         to,
-    }
-}
-
-/// Reads what follows the value that is cast.
-fn cast_to_at<'a>(
-    op: CastOp,
-    from: Reg,
-    value: Operand<'a>,
-    tokens: &mut Tokens<'_, 'a>,
-) -> Result<Instr<'a>, ReadError>
-    ensures { Gives (λ x. (x, tokens.new)) result (cast_to_at op from value.entry tokens.old) }
-{
-    expect(Head::To, tokens)?;
-    done(cast(op, from, value, reg_at(tokens)?))
+    })
 }
 
 /// Reads `reg operand to reg`.
 #[tactic(auto, unfolding(crate::specs::InstructionsAt::casting_at))]
-pub fn casting_at<'a>(
+pub fn casting_into<'a>(
     alloc: Global,
     op: CastOp,
+    list: &mut Listing<'a>,
     tokens: &mut Tokens<'_, 'a>,
-) -> Result<Instr<'a>, ReadError>
-    ensures { Gives (λ x. (x, tokens.new)) result (casting_at op tokens.old) }
+) -> Result<(), ReadError>
+    ensures { Gives (λ _. (list.new.lines.items, tokens.new)) result (put_at list.old (casting_at op) tokens.old) }
 {
     let from = reg_at(tokens)?;
-    cast_to_at(op, from, operand_at(alloc, from, tokens)?, tokens)
+    let value = operand_at(alloc, from, tokens)?;
+    cast_to_into(op, from, value, list, tokens)
 }
 
 /// Reads what follows `zext`.
 #[tactic(auto, unfolding(crate::specs::InstructionsAt::extending_at))]
-pub fn extending_at<'a>(
+pub fn extending_into<'a>(
     alloc: Global,
     op: CastOp,
+    list: &mut Listing<'a>,
     tokens: &mut Tokens<'_, 'a>,
-) -> Result<Instr<'a>, ReadError>
-    ensures { Gives (λ x. (x, tokens.new)) result (extending_at op tokens.old) }
+) -> Result<(), ReadError>
+    ensures { Gives (λ _. (list.new.lines.items, tokens.new)) result (put_at list.old (extending_at op) tokens.old) }
 {
     maybe_at(Head::Nneg, tokens)?;
-    casting_at(alloc, op, tokens)
+    casting_into(alloc, op, list, tokens)
 }
 
 /// Reads what follows `trunc`.
 #[tactic(auto, unfolding(crate::specs::InstructionsAt::narrowing_at))]
-pub fn narrowing_at<'a>(
+pub fn narrowing_into<'a>(
     alloc: Global,
     op: CastOp,
+    list: &mut Listing<'a>,
     tokens: &mut Tokens<'_, 'a>,
-) -> Result<Instr<'a>, ReadError>
-    ensures { Gives (λ x. (x, tokens.new)) result (narrowing_at op tokens.old) }
+) -> Result<(), ReadError>
+    ensures { Gives (λ _. (list.new.lines.items, tokens.new)) result (put_at list.old (narrowing_at op) tokens.old) }
 {
     wraps_at(tokens)?;
-    casting_at(alloc, op, tokens)
-}
-
-fn selected<'a>(condition: Operand<'a>, if_true: Argument<'a>, if_false: Argument<'a>) -> Instr<'a>
-    ensures { result ≡ instrs.Select condition.entry if_true.entry if_false.entry }
-{
-    Instr::Select {
-        condition,
-        if_true,
-        if_false,
-    }
+    casting_into(alloc, op, list, tokens)
 }
 
 /// Reads the second arm of a `select`.
-fn other_at<'a>(
+fn other_into<'a>(
     alloc: Global,
     condition: Operand<'a>,
     if_true: Argument<'a>,
+    list: &mut Listing<'a>,
     tokens: &mut Tokens<'_, 'a>,
-) -> Result<Instr<'a>, ReadError>
-    ensures { Gives (λ x. (x, tokens.new)) result (other_at condition.entry if_true.entry tokens.old) }
+) -> Result<(), ReadError>
+    ensures { Gives (λ _. (list.new.lines.items, tokens.new)) result (put_at list.old (other_at condition.entry if_true.entry) tokens.old) }
 {
     expect(Head::Comma, tokens)?;
-    done(selected(condition, if_true, argument_at(alloc, tokens)?))
+    let if_false = argument_at(alloc, tokens)?;
+    list.put(Instr::Select {
+        condition,
+        if_true,
+        if_false,
+    })
 }
 
 /// Reads the arms of a `select`.
-fn arms_at<'a>(
+fn arms_into<'a>(
     alloc: Global,
     condition: Operand<'a>,
+    list: &mut Listing<'a>,
     tokens: &mut Tokens<'_, 'a>,
-) -> Result<Instr<'a>, ReadError>
-    ensures { Gives (λ x. (x, tokens.new)) result (arms_at condition.entry tokens.old) }
+) -> Result<(), ReadError>
+    ensures { Gives (λ _. (list.new.lines.items, tokens.new)) result (put_at list.old (arms_at condition.entry) tokens.old) }
 {
     expect(Head::Comma, tokens)?;
     let if_true = argument_at(alloc, tokens)?;
-    other_at(alloc, condition, if_true, tokens)
+    other_into(alloc, condition, if_true, list, tokens)
 }
 
 /// Reads what follows `select`.
 #[tactic(auto, unfolding(crate::specs::InstructionsAt::selecting_at))]
-pub fn selecting_at<'a>(alloc: Global, tokens: &mut Tokens<'_, 'a>) -> Result<Instr<'a>, ReadError>
-    ensures { Gives (λ x. (x, tokens.new)) result (selecting_at tokens.old) }
+pub fn selecting_into<'a>(
+    alloc: Global,
+    list: &mut Listing<'a>,
+    tokens: &mut Tokens<'_, 'a>,
+) -> Result<(), ReadError>
+    ensures { Gives (λ _. (list.new.lines.items, tokens.new)) result (put_at list.old selecting_at tokens.old) }
 {
     let width = bit_at(tokens)?;
     let condition = operand_at(alloc, Reg::Int(width), tokens)?;
-    arms_at(alloc, condition, tokens)
-}
-
-fn frozen<'a>(reg: Reg, value: Operand<'a>) -> Instr<'a>
-    ensures { result ≡ instrs.Freeze reg value.entry }
-{
-    Instr::Freeze { reg, value }
+    arms_into(alloc, condition, list, tokens)
 }
 
 /// Reads what follows `freeze`.
 #[tactic(auto, unfolding(crate::specs::InstructionsAt::freezing_at))]
-pub fn freezing_at<'a>(alloc: Global, tokens: &mut Tokens<'_, 'a>) -> Result<Instr<'a>, ReadError>
-    ensures { Gives (λ x. (x, tokens.new)) result (freezing_at tokens.old) }
+pub fn freezing_into<'a>(
+    alloc: Global,
+    list: &mut Listing<'a>,
+    tokens: &mut Tokens<'_, 'a>,
+) -> Result<(), ReadError>
+    ensures { Gives (λ _. (list.new.lines.items, tokens.new)) result (put_at list.old freezing_at tokens.old) }
 {
     let reg = reg_at(tokens)?;
-    done(frozen(reg, operand_at(alloc, reg, tokens)?))
+    let value = operand_at(alloc, reg, tokens)?;
+    list.put(Instr::Freeze { reg, value })
 }
 
 /// Reads what follows the comma behind an address: an alignment, or an attachment.
@@ -420,84 +400,86 @@ pub fn align_at(alloc: Global, tokens: &mut Tokens) -> Result<Option<u64>, ReadE
     }
 }
 
-fn loaded<'a>(reg: Reg, address: Operand<'a>, align: Option<u64>) -> Instr<'a>
-    ensures { result ≡ instrs.Load reg address.entry align }
-{
-    Instr::Load {
-        reg,
-        address,
-        align,
-    }
-}
-
 /// Reads the alignment of a `load`.
-fn loaded_at<'a>(
+fn loaded_into<'a>(
     alloc: Global,
     reg: Reg,
     address: Operand<'a>,
+    list: &mut Listing<'a>,
     tokens: &mut Tokens<'_, 'a>,
-) -> Result<Instr<'a>, ReadError>
-    ensures { Gives (λ x. (x, tokens.new)) result (loaded_at reg address.entry tokens.old) }
+) -> Result<(), ReadError>
+    ensures { Gives (λ _. (list.new.lines.items, tokens.new)) result (put_at list.old (loaded_at reg address.entry) tokens.old) }
 {
-    done(loaded(reg, address, align_at(alloc, tokens)?))
+    let align = align_at(alloc, tokens)?;
+    list.put(Instr::Load {
+        reg,
+        address,
+        align,
+    })
 }
 
 /// Reads what follows `load`.
 #[tactic(auto, unfolding(crate::specs::InstructionsAt::loading_at))]
-pub fn loading_at<'a>(alloc: Global, tokens: &mut Tokens<'_, 'a>) -> Result<Instr<'a>, ReadError>
-    ensures { Gives (λ x. (x, tokens.new)) result (loading_at tokens.old) }
+pub fn loading_into<'a>(
+    alloc: Global,
+    list: &mut Listing<'a>,
+    tokens: &mut Tokens<'_, 'a>,
+) -> Result<(), ReadError>
+    ensures { Gives (λ _. (list.new.lines.items, tokens.new)) result (put_at list.old loading_at tokens.old) }
 {
     let reg = scalar_at(tokens)?;
     expect(Head::Comma, tokens)?;
     pointer_at(tokens)?;
-    loaded_at(alloc, reg, operand_at(alloc, Reg::Ptr, tokens)?, tokens)
-}
-
-fn stored<'a>(reg: Reg, value: Operand<'a>, address: Operand<'a>, align: Option<u64>) -> Instr<'a>
-    ensures { result ≡ instrs.Store reg value.entry address.entry align }
-{
-    Instr::Store {
-        reg,
-        value,
-        address,
-        align,
-    }
+    let address = operand_at(alloc, Reg::Ptr, tokens)?;
+    loaded_into(alloc, reg, address, list, tokens)
 }
 
 /// Reads the alignment of a `store`.
-fn stored_at<'a>(
+fn stored_into<'a>(
     alloc: Global,
     reg: Reg,
     value: Operand<'a>,
     address: Operand<'a>,
+    list: &mut Listing<'a>,
     tokens: &mut Tokens<'_, 'a>,
-) -> Result<Instr<'a>, ReadError>
-    ensures { Gives (λ x. (x, tokens.new)) result (stored_at reg value.entry address.entry tokens.old) }
+) -> Result<(), ReadError>
+    ensures { Gives (λ _. (list.new.lines.items, tokens.new)) result (put_at list.old (stored_at reg value.entry address.entry) tokens.old) }
 {
-    done(stored(reg, value, address, align_at(alloc, tokens)?))
+    let align = align_at(alloc, tokens)?;
+    list.put(Instr::Store {
+        reg,
+        value,
+        address,
+        align,
+    })
 }
 
 /// Reads what follows the value of a `store`.
-fn storing_to_at<'a>(
+fn storing_to_into<'a>(
     alloc: Global,
     reg: Reg,
     value: Operand<'a>,
+    list: &mut Listing<'a>,
     tokens: &mut Tokens<'_, 'a>,
-) -> Result<Instr<'a>, ReadError>
-    ensures { Gives (λ x. (x, tokens.new)) result (storing_to_at reg value.entry tokens.old) }
+) -> Result<(), ReadError>
+    ensures { Gives (λ _. (list.new.lines.items, tokens.new)) result (put_at list.old (storing_to_at reg value.entry) tokens.old) }
 {
     expect(Head::Comma, tokens)?;
     pointer_at(tokens)?;
     let address = operand_at(alloc, Reg::Ptr, tokens)?;
-    stored_at(alloc, reg, value, address, tokens)
+    stored_into(alloc, reg, value, address, list, tokens)
 }
 
 /// Reads what follows `store`.
 #[tactic(auto, unfolding(crate::specs::InstructionsAt::storing_at))]
-pub fn storing_at<'a>(alloc: Global, tokens: &mut Tokens<'_, 'a>) -> Result<Instr<'a>, ReadError>
-    ensures { Gives (λ x. (x, tokens.new)) result (storing_at tokens.old) }
+pub fn storing_into<'a>(
+    alloc: Global,
+    list: &mut Listing<'a>,
+    tokens: &mut Tokens<'_, 'a>,
+) -> Result<(), ReadError>
+    ensures { Gives (λ _. (list.new.lines.items, tokens.new)) result (put_at list.old storing_at tokens.old) }
 {
     let reg = scalar_at(tokens)?;
     let value = operand_at(alloc, reg, tokens)?;
-    storing_to_at(alloc, reg, value, tokens)
+    storing_to_into(alloc, reg, value, list, tokens)
 }

@@ -8,18 +8,21 @@
 mod addressing;
 mod extents;
 mod instructions;
+mod listing;
 mod phis;
 mod shapes;
 mod terminators;
 mod values;
 
-pub use addressing::{addressing_at, reserving_at};
+pub use addressing::{addressing_into, reserving_into};
 pub use extents::{Align, Extent, Room};
 pub use instructions::{
-    align_at, aligned_at, casting_at, comparing_at, dividing_at, extending_at, freezing_at,
-    joining_at, loading_at, narrowing_at, on_two_at, selecting_at, storing_at, wrapping_at,
+    align_at, aligned_at, casting_into, comparing_into, dividing_into, extending_into,
+    freezing_into, joining_into, loading_into, narrowing_into, on_two_into, selecting_into,
+    storing_into, wrapping_into,
 };
-pub use phis::phi_at;
+pub use listing::Listing;
+pub use phis::phi_into;
 pub use shapes::{
     Measured, angle_refusal, brace_behind_angle_at, count_at, counted, leaf_at, line_at,
     memory_shape_at,

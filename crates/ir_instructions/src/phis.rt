@@ -2,14 +2,15 @@
 
 ghost use Rattle.std.specs.Prelude.{◌≡◌, OnOk};
 ghost use Rattle.lto_forms.specs.Readers.{Gives};
-ghost use Rattle.ir_read.specs.declared.raw.Instr.TheVariants as instrs;
 ghost use Rattle.ir_read.specs.Operands.{IsReg};
+ghost use Rattle.ir_instructions.specs.Listing.{put_at};
 ghost use Rattle.ir_instructions.specs.Phis.{keep};
 ghost use Rattle.ir_instructions.specs.PhisAt.{incoming_at, behind_comma_at, further_at, entries_at, phi_at, phi_of_at};
 
+use crate::listing::Listing;
 use crate::values::operand_at;
 use ir_lex::Head;
-use ir_read::{Incoming, Instr, Tokens, attached_at, done, expect, local_at, reg_at};
+use ir_read::{Incoming, Instr, Tokens, attached_at, expect, local_at, reg_at};
 use ir_tree::{Reg, Rows};
 use lto_forms::ReadError;
 use std::alloc::{AllocFailed, Global};
@@ -121,35 +122,31 @@ fn entries_at<'a>(
     Ok(entries)
 }
 
-fn joined<'a>(reg: Reg, entries: Vec<Incoming<'a>>) -> Instr<'a>
-    ensures { result ≡ instrs.Phi reg entries.entry.items }
-{
-    Instr::Phi {
-        reg,
-        incoming: Rows::of(entries),
-    }
-}
-
 /// Reads the entries of a phi of this type.
 #[tactic(auto, unfolding(crate::specs::PhisAt::phi_of_at))]
-fn phi_of_at<'a>(
+fn phi_of_into<'a>(
     alloc: Global,
     reg: Reg,
+    list: &mut Listing<'a>,
     tokens: &mut Tokens<'_, 'a>,
-) -> Result<Instr<'a>, ReadError>
+) -> Result<(), ReadError>
     requires { IsReg reg }
-    ensures { Gives (λ x. (x, tokens.new)) result (phi_of_at reg tokens.old) }
+    ensures { Gives (λ _. (list.new.lines.items, tokens.new)) result (put_at list.old (phi_of_at reg) tokens.old) }
 {
     let first = incoming_at(alloc, reg, tokens)?;
-    let entries = entries_at(alloc, reg, first, tokens)?;
-    done(joined(reg, entries))
+    let incoming = Rows::of(entries_at(alloc, reg, first, tokens)?);
+    list.put(Instr::Phi { reg, incoming })
 }
 
 /// Reads what follows `phi`.
 #[tactic(auto, unfolding(crate::specs::PhisAt::phi_at))]
-pub fn phi_at<'a>(alloc: Global, tokens: &mut Tokens<'_, 'a>) -> Result<Instr<'a>, ReadError>
-    ensures { Gives (λ x. (x, tokens.new)) result (phi_at tokens.old) }
+pub fn phi_into<'a>(
+    alloc: Global,
+    list: &mut Listing<'a>,
+    tokens: &mut Tokens<'_, 'a>,
+) -> Result<(), ReadError>
+    ensures { Gives (λ _. (list.new.lines.items, tokens.new)) result (put_at list.old phi_at tokens.old) }
 {
     let reg = reg_at(tokens)?;
-    phi_of_at(alloc, reg, tokens)
+    phi_of_into(alloc, reg, list, tokens)
 }

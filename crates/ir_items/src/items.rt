@@ -111,6 +111,7 @@ fn variable_into<'a>(
 }
 
 /// Reads the definition of a function, and adds it.
+#[tactic(auto, unfolding(crate::specs::Putting::behind_at, crate::specs::ItemsAt::kept_at))]
 fn definition_into<'a>(
     alloc: Global,
     room: usize,
@@ -119,7 +120,9 @@ fn definition_into<'a>(
 ) -> Result<Before, ReadError>
     ensures { Gives (λ b. ((items.new.items, b), tokens.new)) result (behind_at items.old.items (kept_at (definition_at room)) tokens.old) }
 {
-    put(items, definition_at(alloc, room, tokens))
+    let defined = definition_at(alloc, room, tokens)?;
+    push(items, Item::Definition(defined.head, defined.blocks))?;
+    Ok(Before::Item)
 }
 
 /// Reads an item that defines and declares no global name, and is no metadata; it is added, where it

@@ -13,18 +13,18 @@ use Rattle.ir_bodies.proofs.blocks.lines_at.Goals as goal
 
 pub each-preserved : goal.each-preserved
 each-preserved c =
-    let k = kept_read c.each.lines.items _ _ (line_at c.each.tokens) c.in_ok-line_into.ensures in
+    let k = kept_read c.each.list.lines.items _ _ (line_at c.each.tokens) c.in_ok-line_into.ensures in
     ap (λ (x : List Line). counted keep x (c.each.left - 1) (all_lines_at (c.each.left - 1) c.line_into.new.tokens)) k.2
-    ∙ counts_on (among tokens LINE) line_at keep c.each.lines.items c.each.left _ _ _ _ (omega arith) c.each-test.ensures k.1 c.each.invariant
+    ∙ counts_on (among tokens LINE) line_at keep c.each.list.lines.items c.each.left _ _ _ _ (omega arith) c.each-test.ensures k.1 c.each.invariant
 
 pub returns : goal.returns
 unfolding lines_at
-returns c = sym (counted_is keep [] c.args.room _) ∙ counts_none (among tokens LINE) line_at keep c.each.lines.items c.each.left _ _ c.each-test.ensures c.each.invariant
+returns c = sym (counted_is keep [] c.args.room _) ∙ counts_none (among tokens LINE) line_at keep c.each.list.lines.items c.each.left _ _ c.each-test.ensures c.each.invariant
 
 pub returns-in_err-line_into : goal.returns-in_err-line_into
 unfolding lines_at
 returns-in_err-line_into c =
-    let k = kept_fails c.each.lines.items c.in_err-line_into.field-0.0 (line_at c.each.tokens) c.in_err-line_into.ensures in
+    let k = kept_fails c.each.list.lines.items c.in_err-line_into.field-0.0 (line_at c.each.tokens) c.in_err-line_into.ensures in
     let f : Fails c.in_err-line_into.field-0.0 (follow (all_lines_at c.args.room c.args.tokens.now) (λ ls. done (fold keep [] ls, c.args.room - length ls))) =
-    counts_fail (among tokens LINE) line_at keep c.in_err-line_into.field-0.0 c.each.lines.items c.each.left c.each.tokens _ (omega arith) c.each-test.ensures k (c.each.invariant ∙ counted_is keep [] c.args.room (all_lines_at c.args.room c.args.tokens.now)) in
+    counts_fail (among tokens LINE) line_at keep c.in_err-line_into.field-0.0 c.each.list.lines.items c.each.left c.each.tokens _ (omega arith) c.each-test.ensures k (c.each.invariant ∙ counted_is keep [] c.args.room (all_lines_at c.args.room c.args.tokens.now)) in
     grind (arith, f)

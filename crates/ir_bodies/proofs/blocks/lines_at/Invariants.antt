@@ -5,7 +5,7 @@ use Rattle.ir_bodies.proofs.Loops.{counted}
 use Rattle.ir_bodies.proofs.blocks.lines_at.Given as goal
 
 abbrev pub invariant-each : goal.invariant-each
-invariant-each l = counted keep l.lines.items l.left (all_lines_at l.left l.tokens) ≡ counted keep [] l.fn.room (all_lines_at l.fn.room l.fn.tokens)
+invariant-each l = counted keep l.list.lines.items l.left (all_lines_at l.left l.tokens) ≡ counted keep [] l.fn.room (all_lines_at l.fn.room l.fn.tokens)
 
 abbrev pub decreases-each : goal.decreases-each
 decreases-each l = l.left
