@@ -51,11 +51,15 @@ AreCompiled limit all symbols suffixes imports k _ _ = ⊥
 abbrev pub joined : List (List GlobalValue) → List GlobalValue
 joined = flat_map (λ gs. gs)
 
--- each module's part, under final names, is compiled by itself; of what is made those values are kept that are reached from the
--- exported names
+-- each module's part, under final names, is compiled by itself
+abbrev pub AreUnits : ℕ → List (List ℕ) → List Module → List Symbol → List Bool → List (List ℕ) → List (List GlobalValue) → Type 0
+AreUnits limit suffixes ms symbols live imports units =
+    AreCompiled limit (joined (parts ms symbols live suffixes)) symbols suffixes imports 0 (parts ms symbols live suffixes) units
+
+-- of what is made those values are kept that are reached from the exported names
 pub record AreLinkedGlobals (exports : List (List ℕ)) (limit : ℕ) (suffixes : List (List ℕ)) (ms : List Module) (symbols : List Symbol) (live : List Bool) (imports : List (List ℕ)) (globals : List GlobalValue) : Type 0 where
   pub units : List (List GlobalValue)
-  pub compiled : AreCompiled limit (joined (parts ms symbols live suffixes)) symbols suffixes imports 0 (parts ms symbols live suffixes) units
+  pub compiled : AreUnits limit suffixes ms symbols live imports units
   pub emitted : IsEmission exports (joined units) globals
 
 -- by the index alone it is decided what is live, what it will be called, and what each module imports

@@ -5,7 +5,7 @@ ghost use Rattle.import_plan.specs.Views.{rows};
 ghost use Rattle.promote_rename.specs.Finals.{NoneTaken, final_names};
 ghost use Rattle.symbol_resolve.specs.Resolved.{symbols};
 ghost use Rattle.thin_link.specs.Linking.{IsThinLink};
-ghost use Rattle.link_one.specs.Linked.{AreLinkedGlobals, IsLinked};
+ghost use Rattle.link_one.specs.Linked.{AreLinkedGlobals, AreUnits, IsLinked};
 
 use crate::target::given_text;
 use crate::unit::units;
@@ -26,6 +26,36 @@ fn all_verified(modules: &[Verified])
     }
 }
 
+/// The modules' units: the part of each, compiled by itself. The parts are given up once that is done.
+fn compiled<R: Threads + Sync>(
+    rt: &R,
+    alloc: Global,
+    jobs: u32,
+    modules: &[Verified],
+    decided: &ThinLink<'_>,
+    suffixes: &[Text],
+    limit: u32,
+) -> Result<Vec<Rows<GlobalValue>>, AllocError>
+    requires resolved { decided.now.resolution ≡ symbols modules.now }
+    requires marks { length decided.now.live ≡ length decided.now.index.symbols }
+    ensures { IfOk result (λ units. AreUnits limit suffixes.now modules.now decided.now.index.symbols decided.now.live (rows decided.now.imports.items) units.items) }
+{
+    live_by_module();
+    all_verified(modules);
+    let live = LiveSymbols::of(alloc, decided.index.symbols(), &decided.live)?;
+    let parts = parts(alloc, modules, &decided.resolution, &live, suffixes)?;
+    units(
+        rt,
+        alloc,
+        jobs,
+        &parts,
+        decided.index.symbols(),
+        suffixes,
+        &decided.imports,
+        limit,
+    )
+}
+
 /// The global values of the linked module.
 fn linked_globals<R: Threads + Sync>(
     rt: &R,
@@ -41,20 +71,7 @@ fn linked_globals<R: Threads + Sync>(
     requires marks { length decided.now.live ≡ length decided.now.index.symbols }
     ensures { IfOk result (λ globals. AreLinkedGlobals exports.now limit suffixes.now modules.now decided.now.index.symbols decided.now.live (rows decided.now.imports.items) globals) }
 {
-    live_by_module();
-    all_verified(modules);
-    let live = LiveSymbols::of(alloc, decided.index.symbols(), &decided.live)?;
-    let parts = parts(alloc, modules, &decided.resolution, &live, suffixes)?;
-    let units = units(
-        rt,
-        alloc,
-        jobs,
-        &parts,
-        decided.index.symbols(),
-        suffixes,
-        &decided.imports,
-        limit,
-    )?;
+    let units = compiled(rt, alloc, jobs, modules, decided, suffixes, limit)?;
     emit(alloc, &units, exports)
 }
 

@@ -1,40 +1,16 @@
-use Rattle.std.proofs.Common.{◌≡◌, ◌∙◌, ℕ, Bool, List, All, subst, sym, ap}
+use Rattle.std.proofs.Common.{◌≡◌, ℕ, List, subst}
 use Rattle.std.proofs.lemmas.Result.{IfOk-weaker}
-use Rattle.ir_tree.specs.Wholes.{GlobalSound}
 use Rattle.ir_tree.specs.declared.module.GlobalValue.{GlobalValue}
-use Rattle.ir_tree.specs.declared.operand.Symbol.{Symbol}
-use Rattle.ir_tree.specs.declared.module.Module.{Module}
-use Rattle.import_plan.specs.Views.{rows}
-use Rattle.merge_meaning.specs.Lives.{is_live, parts}
 use Rattle.emit.specs.Emissions.{IsEmission}
-use Rattle.link_one.specs.Linked.{AreCompiled, joined}
-use Rattle.link_one.proofs.Linkable.{parts_sound_in}
+use Rattle.link_one.specs.Linked.{joined}
 use Rattle.link_one.proofs.linked.linked_globals.Goals as goal
-
-pub units-requires-after_bounds : goal.units-requires-after_bounds
-units-requires-after_bounds g c κs within =
-    let of_modules : c.in_ok-parts.parts.items ≡ parts c.args.modules.now c.symbols.result.now c.args.decided.now.live c.args.suffixes.now =
-    c.in_ok-parts.ensures c.symbols.result.now c.args.decided.now.live c.in_ok-live.ensures in
-    subst (λ (ps : List (List GlobalValue)). All GlobalSound (joined ps)) (sym (c.deref.ensures.value ∙ of_modules))
-    (parts_sound_in c.live_by_module.ensures.sound c.args.modules.now c.symbols.result.now c.args.decided.now.live c.args.suffixes.now c.all_verified.ensures)
 
 pub returns : goal.returns
 returns g c =
-    let ms : List Module = c.args.modules.now in
-    let live : List Bool = c.args.decided.now.live in
-    let suffixes : List (List ℕ) = c.args.suffixes.now in
-    let symbols : List Symbol = c.args.decided.now.index.symbols in
-    let imports : List (List ℕ) = rows c.args.decided.now.imports.items in
-    let made : List (List GlobalValue) = c.in_ok-units.units.items in
-    let of_modules : c.deref.result.now ≡ parts ms symbols live suffixes =
-    c.deref.ensures.value ∙ c.in_ok-parts.ensures symbols live (λ s. c.in_ok-live.ensures s ∙ ap (λ (ss : List Symbol). is_live ss live s) c.symbols.ensures.symbols) in
     IfOk-weaker c.emit.result _ _
     (λ gs emitted. record {
-      units = made;
-      compiled = subst (λ (ps : List (List GlobalValue)). AreCompiled c.args.limit (joined ps) symbols suffixes imports 0 ps made) of_modules
-          (subst (λ (ss : List Symbol). AreCompiled c.args.limit (joined c.deref.result.now) ss suffixes imports 0 c.deref.result.now made) c.symbols-2.ensures.symbols
-          (subst (λ (is : List (List ℕ)). AreCompiled c.args.limit (joined c.deref.result.now) c.symbols-2.result.now suffixes is 0 c.deref.result.now made) (ap rows c.deref-2.ensures.value)
-          c.in_ok-units.ensures));
-      emitted = subst (λ (us : List (List GlobalValue)). IsEmission c.args.exports.now (joined us) gs) c.deref-3.ensures.value emitted;
+      units = c.in_ok-units.units.items;
+      compiled = c.in_ok-units.ensures;
+      emitted = subst (λ (us : List (List GlobalValue)). IsEmission c.args.exports.now (joined us) gs) c.deref.ensures.value emitted;
     })
     c.emit.ensures
