@@ -4,7 +4,7 @@ use Rattle.ir_lex.specs.Tok.{Tok}
 use Rattle.lto_forms.specs.declared.fault.Fault.{Fault}
 use Rattle.lto_forms.specs.declared.fault.ReadError.{ReadError}
 use Rattle.lto_forms.specs.declared.fault.ReadError.TheVariants as errors
-use Rattle.lto_forms.specs.Readers.{Reader, Fails, Gives, done, follow, ◌>>=◌, optional_at, pick}
+use Rattle.lto_forms.specs.Readers.{Reader, Fails, done, follow, ◌>>=◌, optional_at, pick}
 use Rattle.lto_forms.proofs.Composed.{reads_is}
 use Rattle.lto_forms.proofs.Loops.{with_front}
 use Rattle.ir_bodies.specs.Blocks.{keep}

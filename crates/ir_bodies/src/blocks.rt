@@ -1,6 +1,6 @@
 //! Reads basic blocks (LangRef, "Functions").
 
-ghost use Rattle.std.specs.Prelude.{◌≡◌};
+ghost use Rattle.std.specs.Prelude.{◌≡◌, []};
 ghost use Rattle.ir_lex.specs.Heads.{number};
 ghost use Rattle.ir_lex.specs.Tok.{tok};
 ghost use Rattle.lto_forms.specs.Alphabet.{among, contains};
@@ -29,6 +29,34 @@ use std::alloc::Global;
 #[derive(Drop)]
 pub struct Blocks<'a> {
     pub list: Vec<Block<'a>>,
+}
+
+impl<'a> Blocks<'a> {
+    fn new(alloc: Global) -> Blocks<'a>
+        ensures { result.list.items ≡ [] }
+    {
+        Blocks {
+            list: Vec::new(alloc),
+        }
+    }
+
+    /// All of them.
+    pub fn rows(self) -> Rows<Block<'a>>
+        ensures { result ≡ self.entry.list.items }
+    {
+        Rows::of(self.list)
+    }
+}
+
+/// No lines, before an instruction that has no name.
+fn no_lines<'a>(alloc: Global) -> Listing<'a>
+    ensures { result.lines.items ≡ [] }
+{
+    Listing {
+        lines: Vec::new(alloc),
+        name: None,
+        line: 0,
+    }
 }
 
 /// The lines of a block, and how many instructions the function may still have.
@@ -151,11 +179,7 @@ fn lines_at<'a>(
 ) -> Result<Lines<'a>, ReadError>
     ensures { Gives (λ x. ((x.lines.items, x.left), tokens.new)) result (lines_at room tokens.old) }
 {
-    let mut list = Listing {
-        lines: Vec::new(alloc),
-        name: None,
-        line: 0,
-    };
+    let mut list = no_lines(alloc);
     let mut left = room;
     'each: while comes_line(tokens) {
         if left == 0 {
@@ -274,8 +298,7 @@ pub fn blocks_at<'a>(
 ) -> Result<Blocks<'a>, ReadError>
     ensures { Gives (λ x. (x.list.items, tokens.new)) result (blocks_at further instructions tokens.old) }
 {
-    let list = Vec::new(alloc);
-    let mut blocks = Blocks { list };
+    let mut blocks = Blocks::new(alloc);
     let left = block_into(alloc, instructions, &mut blocks.list, tokens)?;
     further_blocks_into(alloc, further, left, &mut blocks.list, tokens)?;
     Ok(blocks)

@@ -89,6 +89,6 @@ pub fn definition_at<'a>(
     let blocks = braced_at(alloc, tokens)?;
     Ok(Defined {
         head,
-        blocks: Rows::of(blocks.list),
+        blocks: blocks.rows(),
     })
 }

@@ -23,4 +23,4 @@ returns-in_err-blocks c =
 pub returns : goal.returns
 returns c =
     definition_is c.args.room c.args.tokens.now ∙ ap (λ r. follow r defined_by) c.in_ok-head.ensures ∙ ap (λ r. follow r (λ bs. done (Definition c.in_ok-head.head bs))) c.in_ok-blocks.ensures
-    ∙ ap (λ (bs : List Block). Ok (Definition c.in_ok-head.head bs, c.braced_at.new.tokens)) (sym c.of.ensures)
+    ∙ ap (λ (bs : List Block). Ok (Definition c.in_ok-head.head bs, c.braced_at.new.tokens)) (sym c.rows.ensures)
