@@ -1,11 +1,12 @@
 //! Reads the items of a module one behind another (LangRef, "Module Structure").
 
-ghost use Rattle.std.specs.Prelude.{◌≡◌, OnOk, IfErr, None};
+ghost use Rattle.std.specs.Prelude.{◌≡◌, ◌∷◌, ◌++◌, [], OnOk, IfErr, None};
 ghost use Rattle.ir_lex.specs.Heads.{number};
 ghost use Rattle.lto_forms.specs.Alphabet.{contains, among};
 ghost use Rattle.lto_forms.specs.declared.fault.ReadError.TheVariants.{NoMemory};
 ghost use Rattle.lto_forms.specs.Readers.{Gives, next_is};
 ghost use Rattle.ir_read.specs.AttributesAt.{HEAD, attribute_group_at};
+ghost use Rattle.ir_read.specs.declared.raw.Item.TheVariants.{Definition};
 ghost use Rattle.ir_read.specs.TargetsAt.{layout_line_at, target_line_at, triple_line_at};
 ghost use Rattle.ir_read.specs.Classes.{tokens};
 ghost use Rattle.ir_bodies.specs.BlocksAt.{definition_at};
@@ -16,7 +17,7 @@ ghost use Rattle.ir_items.specs.Items.{declared, keep};
 ghost use Rattle.ir_items.specs.ItemsAt.{ITEM, NAMING, beginnings, kept_at, unnamed_at, attribute_behind_at, metadata_there_at, plainly_at, beside_at, attached_before_at, declaration_at, naming_at, named_within_at, there_at, items_at};
 ghost use Rattle.ir_items.specs.Putting.{behind_at, Puts};
 
-use ir_bodies::{definition_at, push};
+use ir_bodies::{Defined, definition_at, push};
 use ir_globals::{type_line_at, variable_line_at};
 use ir_lex::Head;
 use ir_read::{
@@ -37,6 +38,7 @@ fn put<T: Drop>(list: &mut Vec<T>, read: Result<T, ReadError>) -> Result<Before,
 }
 
 /// Reads the layout of the target, and adds it.
+#[tactic(auto, unfolding(crate::specs::Putting::behind_at, crate::specs::ItemsAt::kept_at))]
 fn layout_into<'a>(
     alloc: Global,
     items: &mut Vec<Item<'a>>,
@@ -50,6 +52,7 @@ fn layout_into<'a>(
 }
 
 /// Reads the triple of the target, and adds it.
+#[tactic(auto, unfolding(crate::specs::Putting::behind_at, crate::specs::ItemsAt::kept_at))]
 fn triple_into<'a>(
     items: &mut Vec<Item<'a>>,
     tokens: &mut Tokens<'_, 'a>,
@@ -62,6 +65,7 @@ fn triple_into<'a>(
 }
 
 /// Reads a line on the target, and adds it: `target triple = "x86_64-pc-linux-gnu"`.
+#[tactic(auto, unfolding(crate::specs::Putting::behind_at, crate::specs::ItemsAt::kept_at, ir_read::specs::TargetsAt::target_line_at))]
 fn target_into<'a>(
     alloc: Global,
     items: &mut Vec<Item<'a>>,
@@ -110,6 +114,14 @@ fn variable_into<'a>(
     put(items, variable_line_at(alloc, tokens))
 }
 
+/// Adds the definition of a function.
+fn push_definition<'a>(items: &mut Vec<Item<'a>>, defined: Defined<'a>) -> Result<(), ReadError>
+    ensures pushed { OnOk result (items.new.items ≡ items.old.items ++ Definition defined.entry.head defined.entry.blocks ∷ []) }
+    ensures memory { IfErr result (λ e. e ≡ NoMemory) }
+{
+    push(items, Item::Definition(defined.head, defined.blocks))
+}
+
 /// Reads the definition of a function, and adds it.
 #[tactic(auto, unfolding(crate::specs::Putting::behind_at, crate::specs::ItemsAt::kept_at))]
 fn definition_into<'a>(
@@ -121,7 +133,7 @@ fn definition_into<'a>(
     ensures { Gives (λ b. ((items.new.items, b), tokens.new)) result (behind_at items.old.items (kept_at (definition_at room)) tokens.old) }
 {
     let defined = definition_at(alloc, room, tokens)?;
-    push(items, Item::Definition(defined.head, defined.blocks))?;
+    push_definition(items, defined)?;
     Ok(Before::Item)
 }
 
