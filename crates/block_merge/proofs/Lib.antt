@@ -6,6 +6,7 @@ mod JoinedSound
 mod Left
 mod Loops
 mod Moved
+mod NoneTakes
 mod One
 mod Start
 mod Stepping

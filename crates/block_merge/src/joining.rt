@@ -1,14 +1,14 @@
 //! Blocks while they are joined.
 ghost use Rattle.std.specs.Prelude.{◌≡◌, ◌≢◌, ℕ, nat_eq, map, length, IfOk, OnOk, None, Some};
 ghost use Rattle.std.specs.HashMap.{get};
+ghost use Rattle.std.specs.HashSet.{contains};
 ghost use Rattle.ir_tree.specs.Formed.{Distinct, numbers};
 ghost use Rattle.ir_tree.specs.declared.block.Block.{Block};
 ghost use Rattle.ir_tree.specs.declared.function.Function.{Function};
-ghost use Rattle.block_merge.specs.Merged.{IsOneOf};
-ghost use Rattle.block_merge.specs.Working.{HasContents, IsContentOf, IsJoined, IsTurnOf, Joined, blocks_taken, can_go, left, naming, next};
+ghost use Rattle.block_merge.specs.Merged.{IsOneOf, behind_entry};
+ghost use Rattle.block_merge.specs.Working.{HasContents, IsContentOf, IsJoined, IsTurnOf, Joined, blocks_taken, can_go, has_one_edge, left, may_go, naming, next};
 ghost use Rattle.block_merge.specs.declared.joining.Content.{Content};
 
-use crate::candidates::candidates;
 use crate::names::Names;
 use ir_tree::{Block, Duplicate, Line, Rows, Terminator};
 use std::alloc::{AllocError, Global};
@@ -71,11 +71,15 @@ fn rows_of(alloc: Global, mut lines: LinkedList<Line>) -> Result<Rows<Line>, All
 }
 
 impl Joining {
-    /// These blocks, of which none has been joined.
-    pub(crate) fn of(alloc: Global, blocks: &[Block]) -> Result<Self, AllocError>
+    /// These blocks, of which none has been joined, and those that can go.
+    pub(crate) fn of(
+        alloc: Global,
+        blocks: &[Block],
+        candidates: HashSet<u32>,
+    ) -> Result<Self, AllocError>
+        requires { (n : ℕ) → contains nat_eq candidates n ≡ may_go (has_one_edge blocks.now) (behind_entry blocks.now) n }
         ensures { IfOk result (λ j. (f : Function) → f.blocks ≡ blocks.now → Distinct (numbers f) → Joined f j) }
     {
-        let candidates = candidates(alloc, blocks)?;
         let contents = contents(alloc, blocks)?;
         let joins = Vec::new(alloc);
         Ok(Joining {

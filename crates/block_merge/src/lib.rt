@@ -17,6 +17,7 @@ mod joining;
 mod laws;
 mod merging;
 mod names;
+mod staying;
 
 pub use laws::{merge_is_better, merge_is_one, merge_is_sound};
-pub use merging::merge;
+pub use merging::{into_merged, merge};

@@ -1,3 +1,4 @@
+mod AllReached
 mod Members
 mod Standing
 mod TrimBetter

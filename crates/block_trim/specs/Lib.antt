@@ -1,3 +1,4 @@
 pub mod Laws
 pub mod Places
+pub mod Staying
 pub mod Trimmed

@@ -11,7 +11,8 @@
 
 mod laws;
 mod reached;
+mod staying;
 mod trimming;
 
 pub use laws::{trim_is_better, trim_is_one, trim_is_sound};
-pub use trimming::trim;
+pub use trimming::{into_trimmed, trim};

@@ -8,6 +8,7 @@ ghost use Rattle.ir_better.specs.Formed.{IsFormed};
 ghost use Rattle.block_trim.specs.Trimmed.{IsTrimOf, block_in, blocks_in, entries_in, phi_in, trimmed};
 
 use crate::reached::reached_numbers;
+use crate::staying::blocks_stay;
 use ir_tree::{Block, Duplicate, Function, Incoming, Phi, Rows};
 use std::alloc::{AllocError, Global};
 use std::collections::HashSet;
@@ -107,5 +108,21 @@ pub fn trim(alloc: Global, f: &Function) -> Result<Function, AllocError>
 {
     let reached = reached_numbers(alloc, f)?;
     let g = trimmed(alloc, &reached, f)?;
+    Ok(g)
+}
+
+/// The trim of a function that is given up: the function itself where all its blocks are reached.
+///
+/// Refused as [`trim`] is.
+pub fn into_trimmed(alloc: Global, f: Function) -> Result<Function, AllocError>
+    ensures trimmed { IfOk result (λ g. IsTrimOf f g) }
+    ensures sound { IfOk result (λ g. Sound f → Sound g) }
+{
+    let reached = reached_numbers(alloc, &f)?;
+    let all = blocks_stay(&reached, f.blocks.as_slice());
+    if all {
+        return Ok(f);
+    }
+    let g = trimmed(alloc, &reached, &f)?;
     Ok(g)
 }

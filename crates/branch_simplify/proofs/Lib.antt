@@ -3,4 +3,5 @@ mod Counting
 mod Kept
 mod Left
 mod Loops
+mod NoneDecided
 mod SimplifiedSound

@@ -18,6 +18,7 @@ mod entries;
 mod laws;
 mod lost;
 mod simplify;
+mod staying;
 
 pub use laws::{simplified_is_better, simplified_is_sound};
-pub use simplify::branches;
+pub use simplify::{branches, into_simplified};

@@ -12,6 +12,7 @@ use crate::counts::Counts;
 use crate::decide::straight;
 use crate::entries::phis_left;
 use crate::lost::LostEdges;
+use crate::staying::ends_stay;
 use ir_tree::{Block, Duplicate, Function, Phi, Rows};
 use std::alloc::{AllocError, Global};
 
@@ -83,5 +84,18 @@ pub fn branches(alloc: Global, f: &Function) -> Result<Function, AllocError>
     ensures sound { IfOk result (λ g. Sound f.now → Sound g) }
 {
     let g = simplified(alloc, f)?;
+    Ok(g)
+}
+
+/// What [`branches`] makes of a function that is given up: the function itself where no terminator is decided.
+pub fn into_simplified(alloc: Global, f: Function) -> Result<Function, AllocError>
+    ensures simplified { IfOk result (λ g. g ≡ simplified f) }
+    ensures sound { IfOk result (λ g. Sound f → Sound g) }
+{
+    let stays = ends_stay(f.blocks.as_slice());
+    if stays {
+        return Ok(f);
+    }
+    let g = simplified(alloc, &f)?;
     Ok(g)
 }

@@ -1,3 +1,4 @@
+mod AllNeeded
 mod Better
 mod Kept
 mod KeptPaths

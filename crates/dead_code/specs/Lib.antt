@@ -2,4 +2,5 @@ pub mod Closure
 pub mod Laws
 pub mod Least
 pub mod Readers
+pub mod Staying
 pub mod Uses

@@ -13,11 +13,12 @@
 mod elimination;
 mod laws;
 mod readers;
+mod staying;
 mod sweep;
 mod uses;
 mod worklist;
 
-pub use elimination::needed;
+pub use elimination::{into_needed, needed};
 pub use laws::{
     needed_is_better, needed_is_one, needed_is_sound, shifted_is_better, text_order_is_better,
 };

@@ -8,7 +8,7 @@ use ir_tree::{Block, Duplicate, Function, Line, Phi, Rows};
 use std::alloc::{AllocError, Global};
 use std::collections::HashSet;
 
-fn is_needed(kept: &HashSet<u32>, line: &Line) -> bool
+pub(crate) fn is_needed(kept: &HashSet<u32>, line: &Line) -> bool
     ensures { result ≡ is_needed (contains nat_eq kept.now) line.now }
 {
     if is_effect(&line.instr) {

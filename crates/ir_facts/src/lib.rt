@@ -45,4 +45,4 @@ pub use laws::{
 };
 pub use point_edit::Fact;
 pub use points::facts;
-pub use rounds::apply;
+pub use rounds::{apply, into_applied};

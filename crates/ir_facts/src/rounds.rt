@@ -231,3 +231,22 @@ pub fn apply(alloc: Global, f: &Function) -> Result<Function, AllocError>
     let g = rounds_apart(alloc, f, &outside)?;
     Ok(g)
 }
+
+/// What [`apply`] makes of a function that is given up: the function itself where no round changes anything.
+///
+/// Refused as [`apply`] is.
+pub fn into_applied(alloc: Global, f: Function) -> Result<Function, AllocError>
+    requires sound { Sound f }
+    ensures made { IfOk result (λ g. IsApplied f g) }
+    ensures sound { IfOk result (λ g. Sound g) }
+{
+    let outside = apart(alloc, &f)?;
+    let none = outside.is_empty();
+    if none {
+        let blocks = copied(alloc, f.blocks.as_slice())?;
+        let g = rounds_in_place(alloc, &f, blocks, &outside, ROUNDS)?;
+        return Ok(g);
+    }
+    let g = rounds(alloc, f, &outside, ROUNDS)?;
+    Ok(g)
+}

@@ -5,6 +5,7 @@ pub mod Edges
 pub mod Facts
 pub mod Lines
 pub mod Loops
+mod NoSlots
 pub mod Once
 pub mod Paths
 pub mod Planned

@@ -24,4 +24,4 @@ mod uses;
 mod values;
 
 pub use laws::{promoted_is_better, promoted_is_sound};
-pub use promotion::promote;
+pub use promotion::{into_promoted, promote};

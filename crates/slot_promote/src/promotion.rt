@@ -8,8 +8,9 @@ ghost use Rattle.ir_meaning.specs.Program.{Program};
 ghost use Rattle.ir_better.specs.Formed.{IsFormed};
 ghost use Rattle.slot_promote.specs.Laws.{longest};
 ghost use Rattle.slot_promote.specs.Promoted.{block_with, blocks_with, end_with, ends_with, first_phi, promoted_function};
+ghost use Rattle.slot_promote.specs.Slots.{promoted_slots};
 ghost use Rattle.slot_promote.specs.Tables.{end_view, ends_in, first_in, place_in};
-ghost use Rattle.slot_promote.specs.Values.{at_start, without_slots as lines_without};
+ghost use Rattle.slot_promote.specs.Values.{at_start, placed, without_slots as lines_without};
 
 use crate::numbers::{first_phis, next_number};
 use crate::phis::{BlockEnd, new_phis};
@@ -178,14 +179,15 @@ fn all_blocks(
     Ok(rows)
 }
 
-/// The blocks of the function with its slots as values.
-fn promoted_blocks(alloc: Global, f: &Function) -> Result<Rows<Block>, AllocError>
+/// The blocks of the function with these, which are its slots, as values.
+fn promoted_blocks(alloc: Global, slots: &Slots, f: &Function) -> Result<Rows<Block>, AllocError>
+    requires list { slots.now.list.items ≡ promoted_slots f.now }
+    requires places { (x : ℕ) → place_in slots.now x ≡ placed 0 (promoted_slots f.now) x }
     ensures { IfOk result (λ blocks. blocks ≡ (promoted_function f.now).blocks) }
 {
-    let slots = Slots::of(alloc, f)?;
     let edges = preds(alloc, f)?;
     let next = next_number(f);
-    let blocks = all_blocks(alloc, &slots, &edges, next, f.blocks.as_slice())?;
+    let blocks = all_blocks(alloc, slots, &edges, next, f.blocks.as_slice())?;
     Ok(blocks)
 }
 
@@ -206,10 +208,13 @@ fn with_blocks(alloc: Global, f: &Function, blocks: Rows<Block>) -> Result<Funct
     })
 }
 
-fn promoted(alloc: Global, f: &Function) -> Result<Function, AllocError>
+/// The function with these, which are its slots, as values.
+fn promoted(alloc: Global, slots: &Slots, f: &Function) -> Result<Function, AllocError>
+    requires list { slots.now.list.items ≡ promoted_slots f.now }
+    requires places { (x : ℕ) → place_in slots.now x ≡ placed 0 (promoted_slots f.now) x }
     ensures { IfOk result (λ g. g ≡ promoted_function f.now) }
 {
-    let blocks = promoted_blocks(alloc, f)?;
+    let blocks = promoted_blocks(alloc, slots, f)?;
     let g = with_blocks(alloc, f, blocks)?;
     Ok(g)
 }
@@ -224,6 +229,23 @@ pub fn promote(alloc: Global, f: &Function) -> Result<Function, AllocError>
     ensures better { IfOk result (λ g. Sound f.now → (p : Program) → IsFormed p → BetterThan p (longest f.now.blocks + 1) g f.now) }
     ensures sound { IfOk result (λ g. Sound f.now → Sound g) }
 {
-    let g = promoted(alloc, f)?;
+    let slots = Slots::of(alloc, f)?;
+    let g = promoted(alloc, &slots, f)?;
+    Ok(g)
+}
+
+/// What [`promote`] makes of a function that is given up: the function itself where it has no slot to promote.
+///
+/// Refused as [`promote`] is.
+pub fn into_promoted(alloc: Global, f: Function) -> Result<Function, AllocError>
+    ensures promoted { IfOk result (λ g. g ≡ promoted_function f) }
+    ensures sound { IfOk result (λ g. Sound f → Sound g) }
+{
+    let slots = Slots::of(alloc, &f)?;
+    let count = slots.list.len();
+    if count == 0 {
+        return Ok(f);
+    }
+    let g = promoted(alloc, &slots, &f)?;
     Ok(g)
 }

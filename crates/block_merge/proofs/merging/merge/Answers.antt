@@ -1,40 +1,11 @@
-use Rattle.std.proofs.Common.{◌∙◌, List, sym, ap, subst}
-use Rattle.ir_tree.specs.Formed.{Distinct, numbers}
-use Rattle.ir_tree.specs.declared.block.Block.{Block}
 use Rattle.ir_better.proofs.Entries.{apart}
-use Rattle.block_merge.specs.Merged.{IsMergeOf, IsOneOf}
-use Rattle.block_merge.specs.Working.{blocks_taken, left, naming}
 use Rattle.block_merge.proofs.Better.{is_better}
 use Rattle.block_merge.proofs.JoinedSound.{is_sound}
-use Rattle.block_merge.proofs.Loops.{is_merge}
 use Rattle.block_merge.proofs.merging.merge.Goals as goal
 
 pub returns : goal.returns
 returns c = record {
-  merged = merged;
-  better = λ sound p formed. is_better c.args.f.now _ sound (merged (apart c.args.f.now sound.formed)) p formed;
-  sound = λ sound. is_sound c.args.f.now _ sound (merged (apart c.args.f.now sound.formed));
+  merged = c.in_ok-g.ensures;
+  better = λ sound p formed. is_better c.args.f.now _ sound (c.in_ok-g.ensures (apart c.args.f.now sound.formed)) p formed;
+  sound = λ sound. is_sound c.args.f.now _ sound (c.in_ok-g.ensures (apart c.args.f.now sound.formed));
 }
-  where
-    merged : Distinct (numbers c.args.f.now) → IsMergeOf c.args.f.now (record {
-      symbol = c.in_ok-symbol.symbol;
-      linkage = c.args.f.now.linkage;
-      result = c.args.f.now.result;
-      params = c.in_ok-params.params;
-      noinline = c.args.f.now.noinline;
-      optnone = c.args.f.now.optnone;
-      blocks = c.in_ok-blocks.blocks;
-    })
-    merged once =
-        is_merge c.args.f.now c.grow_all.new.self _ once
-        (c.in_ok-grow_all.ensures.joined c.args.f.now (sym c.as_slice-old.ensures) once (c.in_ok-joining.ensures c.args.f.now (sym c.as_slice-old.ensures) once))
-        (λ b at. c.in_ok-grow_all.ensures.done b (subst (λ (bs : List Block). IsOneOf bs b) (sym c.as_slice-old.ensures) at))
-        (λ i. record {
-          symbol = c.in_ok-symbol.ensures i;
-          linkage = c.args.f.now.linkage;
-          result = c.args.f.now.result;
-          params = c.in_ok-params.ensures i;
-          noinline = c.args.f.now.noinline;
-          optnone = c.args.f.now.optnone;
-          blocks = (c.in_ok-blocks.ensures ∙ ap (blocks_taken (naming c.grow_all.new.self.joins.items) (left c.grow_all.new.self)) c.as_slice-old.ensures) i;
-        })

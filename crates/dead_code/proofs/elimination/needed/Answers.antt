@@ -1,19 +1,12 @@
-use Rattle.std.proofs.Common.{◌∙◌, nat_eq}
+use Rattle.std.proofs.Common.{nat_eq}
 use Rattle.std.specs.HashSet.{contains}
-use Rattle.dead_code.specs.Readers.{read_for}
 use Rattle.dead_code.specs.Least.{IsNeededOf}
 use Rattle.dead_code.proofs.Better.{is_better}
 use Rattle.dead_code.proofs.KeptSound.{is_sound}
-use Rattle.dead_code.proofs.Reading.{least_closed}
 use Rattle.dead_code.proofs.elimination.needed.Goals as goal
 
 pub returns : goal.returns
 returns c = record { needed = made; better = λ p formed. is_better c.args.f.now c.in_ok-g.g made p formed; sound = λ h. is_sound c.args.f.now c.in_ok-g.g made h }
   where
     made : IsNeededOf c.args.f.now c.in_ok-g.g
-    made = (
-      contains nat_eq c.in_ok-kept.kept,
-      least_closed (contains nat_eq c.in_ok-kept.kept) c.args.f.now c.deref.result.now c.in_ok-readers.readers.by_effects.items (read_for c.in_ok-readers.readers)
-          (c.deref.ensures.value ∙ c.in_ok-uses.ensures) c.in_ok-readers.ensures.effects c.in_ok-readers.ensures.definitions c.in_ok-kept.ensures,
-      c.in_ok-g.ensures,
-    )
+    made = (contains nat_eq c.in_ok-kept.kept, c.in_ok-kept.ensures, c.in_ok-g.ensures)

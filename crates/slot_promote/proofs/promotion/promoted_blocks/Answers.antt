@@ -13,5 +13,5 @@ all_blocks-requires c = record {
 pub returns : goal.returns
 returns c =
     c.in_ok-blocks.ensures
-    ∙ whole_function c.args.f.now (place_in c.in_ok-slots.slots) c.in_ok-slots.slots.list.items c.in_ok-edges.edges c.next_number-next.result c.as_slice.result.now
-    c.in_ok-slots.ensures.places c.in_ok-slots.ensures.list c.in_ok-edges.ensures c.next_number-next.ensures c.as_slice.ensures
+    ∙ whole_function c.args.f.now (place_in c.args.slots.now) c.args.slots.now.list.items c.in_ok-edges.edges c.next_number-next.result c.as_slice.result.now
+    c.requires.places c.requires.list c.in_ok-edges.ensures c.next_number-next.ensures c.as_slice.ensures

@@ -6,4 +6,4 @@ use Rattle.block_merge.proofs.joining.Joining.of.Goals as goal
 
 pub returns : goal.returns
 returns c = λ f is once.
-    start f _ c.args.blocks.now is (search rules) (c.in_ok-contents.ensures (subst (λ (bs : List Block). Distinct (map (λ b. b.number) bs)) is once)) c.in_ok-candidates.ensures
+    start f _ c.args.blocks.now is (search rules) (c.in_ok-contents.ensures (subst (λ (bs : List Block). Distinct (map (λ b. b.number) bs)) is once)) c.requires
