@@ -5,6 +5,7 @@ mod GoingOn
 pub mod Interface
 mod Keeping
 mod Naming
+mod NoneTaken
 pub mod Offered
 pub mod Once
 mod Ruling

@@ -1,5 +1,5 @@
 -- The walk as the code has it: the table of bodies, and a function while it is walked over.
-use Rattle.std.specs.Prelude.{◌≡◌, ℕ, ◌+◌, List, ◌∷◌, Option, option_map}
+use Rattle.std.specs.Prelude.{◌≡◌, ℕ, ◌+◌, All, List, ◌∷◌, Option, option_map}
 use Rattle.std.specs.Borrow.{Bor}
 use Rattle.std.specs.HashMap.{HashMap, get_by}
 use Rattle.std.specs.Str.{bytes_eq}
@@ -34,6 +34,13 @@ pub record TakesNow (bodies : List ℕ → Option Function) (symbol : Symbol) (m
 
 abbrev pub TakesNone : (List ℕ → Option Function) → Symbol → ℕ → Instr → Type 0
 TakesNone bodies symbol many instr = (c : Function) → TakesNow bodies symbol many instr c → ⊥
+
+abbrev pub LineTakesNone : (List ℕ → Option Function) → Symbol → ℕ → Line → Type 0
+LineTakesNone bodies symbol many line = TakesNone bodies symbol many line.instr
+
+-- no instruction of the block takes a body
+abbrev pub LinesTakeNone : (List ℕ → Option Function) → Symbol → ℕ → Block → Type 0
+LinesTakeNone bodies symbol many b = All (LineTakesNone bodies symbol many) b.lines
 
 -- ---- the function
 

@@ -20,6 +20,7 @@
 #![tactic(auto)]
 
 mod bodies;
+mod calls;
 mod inlinable;
 mod laws;
 mod passes;

@@ -16,102 +16,104 @@ ghost use Rattle.back_end.specs.Walking.{bodies_in};
 
 use crate::bodies::Bodies;
 use crate::laws::{made_is_better, turn_is_better};
-use crate::walker::walk;
-use block_merge::merge;
-use block_trim::trim;
-use branch_simplify::branches;
-use dead_code::needed;
+use crate::walker::into_walked;
+use block_merge::into_merged;
+use block_trim::into_trimmed;
+use branch_simplify::into_simplified;
+use dead_code::into_needed;
 use ir_edit::renumber;
-use ir_facts::apply;
+use ir_facts::into_applied;
 use ir_tree::{Duplicate, Function};
-use slot_promote::promote;
+use slot_promote::into_promoted;
 use std::alloc::{AllocError, Global};
 
+// Each pass takes the function that the one before gave, and gives it on where it has nothing to do in it.
+
 /// The end of a turn: blocks joined, and then what nobody needs gone.
-fn turn_from_merge(alloc: Global, f: &Function) -> Result<Function, AllocError>
-    requires sound { Sound f.now }
-    ensures { IfOk result (λ g. (merged : Function) × IsMergeOf f.now merged × IsNeededOf merged g) }
+fn turn_from_merge(alloc: Global, f: Function) -> Result<Function, AllocError>
+    requires sound { Sound f }
+    ensures { IfOk result (λ g. (merged : Function) × IsMergeOf f merged × IsNeededOf merged g) }
 {
-    let merged = merge(alloc, f)?;
-    let g = needed(alloc, &merged)?;
+    let merged = into_merged(alloc, f)?;
+    let g = into_needed(alloc, merged)?;
     Ok(g)
 }
 
 /// A turn from where blocks that aren't reached go.
-fn turn_from_trim(alloc: Global, f: &Function) -> Result<Function, AllocError>
-    requires sound { Sound f.now }
-    ensures { IfOk result (λ g. (trimmed merged : Function) × IsTrimOf f.now trimmed × IsMergeOf trimmed merged × IsNeededOf merged g) }
+fn turn_from_trim(alloc: Global, f: Function) -> Result<Function, AllocError>
+    requires sound { Sound f }
+    ensures { IfOk result (λ g. (trimmed merged : Function) × IsTrimOf f trimmed × IsMergeOf trimmed merged × IsNeededOf merged g) }
 {
-    let trimmed = trim(alloc, f)?;
-    turn_from_merge(alloc, &trimmed)
+    let trimmed = into_trimmed(alloc, f)?;
+    turn_from_merge(alloc, trimmed)
 }
 
 /// A turn from where decided branches become jumps.
-fn turn_from_branches(alloc: Global, f: &Function) -> Result<Function, AllocError>
-    requires sound { Sound f.now }
-    ensures { IfOk result (λ g. (trimmed merged : Function) × IsTrimOf (simplified f.now) trimmed × IsMergeOf trimmed merged × IsNeededOf merged g) }
+fn turn_from_branches(alloc: Global, f: Function) -> Result<Function, AllocError>
+    requires sound { Sound f }
+    ensures { IfOk result (λ g. (trimmed merged : Function) × IsTrimOf (simplified f) trimmed × IsMergeOf trimmed merged × IsNeededOf merged g) }
 {
-    let simplified = branches(alloc, f)?;
-    turn_from_trim(alloc, &simplified)
+    let simplified = into_simplified(alloc, f)?;
+    turn_from_trim(alloc, simplified)
 }
 
 /// Copies and constants propagated, decided branches as jumps, what isn't reached gone, blocks joined, and then what
 /// nobody needs gone.
-fn turn(alloc: Global, f: &Function) -> Result<Function, AllocError>
-    requires sound { Sound f.now }
-    ensures made { IfOk result (λ g. IsTurn f.now g) }
+fn turn(alloc: Global, f: Function) -> Result<Function, AllocError>
+    requires sound { Sound f }
+    ensures made { IfOk result (λ g. IsTurn f g) }
     ensures sound { IfOk result (λ g. Sound g) }
 {
     turn_is_better();
-    let propagated = apply(alloc, f)?;
-    turn_from_branches(alloc, &propagated)
+    let propagated = into_applied(alloc, f)?;
+    turn_from_branches(alloc, propagated)
 }
 
 /// Two turns.
-fn two_turns(alloc: Global, f: &Function) -> Result<Function, AllocError>
-    requires sound { Sound f.now }
-    ensures { IfOk result (λ g. AreTurns 2 f.now g) }
+fn two_turns(alloc: Global, f: Function) -> Result<Function, AllocError>
+    requires sound { Sound f }
+    ensures { IfOk result (λ g. AreTurns 2 f g) }
 {
     let once = turn(alloc, f)?;
-    let g = turn(alloc, &once)?;
+    let g = turn(alloc, once)?;
     Ok(g)
 }
 
 /// Three turns.
-fn turns(alloc: Global, f: &Function) -> Result<Function, AllocError>
-    requires sound { Sound f.now }
-    ensures { IfOk result (λ g. AreTurns 3 f.now g) }
+fn turns(alloc: Global, f: Function) -> Result<Function, AllocError>
+    requires sound { Sound f }
+    ensures { IfOk result (λ g. AreTurns 3 f g) }
 {
     let once = turn(alloc, f)?;
-    two_turns(alloc, &once)
+    two_turns(alloc, once)
 }
 
 /// Two walks.
-fn two_walks(alloc: Global, bodies: &Bodies<'_>, f: &Function) -> Result<Function, AllocError>
-    requires sound { Sound f.now }
+fn two_walks(alloc: Global, bodies: &Bodies<'_>, f: Function) -> Result<Function, AllocError>
+    requires sound { Sound f }
     requires bodies { AreSound (bodies_in bodies.now) }
-    ensures walks { IfOk result (λ g. AreWalks 2 (bodies_in bodies.now) f.now g) }
+    ensures walks { IfOk result (λ g. AreWalks 2 (bodies_in bodies.now) f g) }
     ensures sound { IfOk result (λ g. Sound g) }
 {
-    let once = walk(alloc, bodies, f)?;
-    walk(alloc, bodies, &once)
+    let once = into_walked(alloc, bodies, f)?;
+    into_walked(alloc, bodies, once)
 }
 
 /// Three walks.
-fn walks(alloc: Global, bodies: &Bodies<'_>, f: &Function) -> Result<Function, AllocError>
-    requires sound { Sound f.now }
+fn walks(alloc: Global, bodies: &Bodies<'_>, f: Function) -> Result<Function, AllocError>
+    requires sound { Sound f }
     requires bodies { AreSound (bodies_in bodies.now) }
-    ensures walks { IfOk result (λ g. AreWalks 3 (bodies_in bodies.now) f.now g) }
+    ensures walks { IfOk result (λ g. AreWalks 3 (bodies_in bodies.now) f g) }
     ensures sound { IfOk result (λ g. Sound g) }
 {
-    let once = walk(alloc, bodies, f)?;
-    two_walks(alloc, bodies, &once)
+    let once = into_walked(alloc, bodies, f)?;
+    two_walks(alloc, bodies, once)
 }
 
 /// Three turns, and then numbers in the order of the text.
-fn turned(alloc: Global, f: &Function) -> Result<Function, AllocError>
-    requires sound { Sound f.now }
-    ensures { IfOk result (λ g. (turned : Function) × AreTurns 3 f.now turned × (g ≡ in_text_order turned)) }
+fn turned(alloc: Global, f: Function) -> Result<Function, AllocError>
+    requires sound { Sound f }
+    ensures { IfOk result (λ g. (turned : Function) × AreTurns 3 f turned × (g ≡ in_text_order turned)) }
 {
     let turned = turns(alloc, f)?;
     let g = renumber(alloc, &turned)?;
@@ -119,22 +121,22 @@ fn turned(alloc: Global, f: &Function) -> Result<Function, AllocError>
 }
 
 /// Stack slots as values, three turns, and then numbers in the order of the text.
-fn promoted(alloc: Global, f: &Function) -> Result<Function, AllocError>
-    requires sound { Sound f.now }
-    ensures { IfOk result (λ g. (turned : Function) × AreTurns 3 (promoted_function f.now) turned × (g ≡ in_text_order turned)) }
+fn promoted(alloc: Global, f: Function) -> Result<Function, AllocError>
+    requires sound { Sound f }
+    ensures { IfOk result (λ g. (turned : Function) × AreTurns 3 (promoted_function f) turned × (g ≡ in_text_order turned)) }
 {
-    let promoted = promote(alloc, f)?;
-    turned(alloc, &promoted)
+    let promoted = into_promoted(alloc, f)?;
+    turned(alloc, promoted)
 }
 
 /// Bodies inlined, stack slots as values, three turns, and then numbers in the order of the text.
-fn optimised(alloc: Global, bodies: &Bodies<'_>, f: &Function) -> Result<Function, AllocError>
-    requires sound { Sound f.now }
+fn optimised(alloc: Global, bodies: &Bodies<'_>, f: Function) -> Result<Function, AllocError>
+    requires sound { Sound f }
     requires bodies { AreSound (bodies_in bodies.now) }
-    ensures { IfOk result (λ g. IsOptimised (bodies_in bodies.now) f.now g) }
+    ensures { IfOk result (λ g. IsOptimised (bodies_in bodies.now) f g) }
 {
     let walked = walks(alloc, bodies, f)?;
-    promoted(alloc, &walked)
+    promoted(alloc, walked)
 }
 
 fn made(alloc: Global, bodies: &Bodies<'_>, f: &Function) -> Result<Function, AllocError>
@@ -142,10 +144,11 @@ fn made(alloc: Global, bodies: &Bodies<'_>, f: &Function) -> Result<Function, Al
     requires bodies { AreSound (bodies_in bodies.now) }
     ensures { IfOk result (λ g. IsMade (bodies_in bodies.now) f.now g) }
 {
-    if f.optnone {
-        f.duplicate(alloc)
+    let copy = f.duplicate(alloc)?;
+    if copy.optnone {
+        Ok(copy)
     } else {
-        optimised(alloc, bodies, f)
+        optimised(alloc, bodies, copy)
     }
 }
 

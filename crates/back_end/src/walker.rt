@@ -1,5 +1,5 @@
 //! The inline walk.
-ghost use Rattle.std.specs.Prelude.{◌≡◌, ◌≢◌, ◌↔◌, ◌≤◌, ◌+◌, [], ◌∷◌, List, IfOk, IfSome, IsTrue, MatchOption, OnOk, Option, length, ℕ};
+ghost use Rattle.std.specs.Prelude.{◌≡◌, ◌≢◌, ◌+◌, [], ◌∷◌, List, IfOk, IfSome, OnOk, Option, length, ℕ};
 ghost use Rattle.ir_tree.specs.Rules.{Sound};
 ghost use Rattle.ir_tree.specs.declared.block.Block.{Block};
 ghost use Rattle.ir_tree.specs.declared.block.Terminator.{Terminator};
@@ -9,59 +9,15 @@ ghost use Rattle.inline_site.specs.Callers.{Inlines, counted_done};
 ghost use Rattle.inline_site.specs.Sites.{IsCallOf, counted_in};
 ghost use Rattle.ir_meaning.specs.Program.{counted};
 ghost use Rattle.back_end.specs.Inlinable.{AreSound, count};
-ghost use Rattle.back_end.specs.Walk.{IsWalk, Takes};
-ghost use Rattle.back_end.specs.Walking.{IsAhead, IsBegun, TakesNone, TakesNow, bodies_in};
+ghost use Rattle.back_end.specs.Walk.{IsWalk};
+ghost use Rattle.back_end.specs.Walking.{IsAhead, IsBegun, bodies_in};
 
 use crate::bodies::Bodies;
-use crate::inlinable::{callee_of, is_within};
+use crate::calls::{Call, any_taken, call_now};
 use crate::laws::walk_is_better;
-use inline_site::{Caller, Open, arguments_of};
-use ir_tree::{Argument, Block, Function, Instr, Line, Symbol};
+use inline_site::{Caller, Open};
+use ir_tree::{Block, Function, Line, Symbol};
 use std::alloc::{AllocError, Global};
-
-/// How many phis, instructions and terminators a function may have with the body that it takes.
-const ROOM: usize = 20_000;
-
-/// A call that takes a body: the callee, and the arguments.
-#[derive(Clone, Copy)]
-struct Call<'a, 'b> {
-    callee: &'a Function,
-    arguments: &'b [Argument],
-}
-
-/// Whether a function is another one than that of this symbol.
-fn is_other(callee: &Function, symbol: &Symbol) -> bool
-    ensures { IsTrue result ↔ (callee.now.symbol ≢ symbol.now) }
-{
-    callee.symbol != *symbol
-}
-
-/// Whether a function has a body, and there is room for it.
-fn has_room(callee: &Function, room: usize) -> bool
-    ensures { IsTrue result ↔ (callee.now.blocks ≢ []) × (count callee.now ≤ room) }
-{
-    let blocks = callee.blocks.as_slice();
-    blocks.len() != 0 && is_within(blocks, room)
-}
-
-/// The call whose body the instruction takes, in a function of this symbol with so much room.
-fn taken<'a, 'b>(
-    bodies: &Bodies<'a>,
-    symbol: &Symbol,
-    room: usize,
-    instr: &'b Instr,
-) -> Option<Call<'a, 'b>>
-    ensures takes { MatchOption result ((c : Function) → Takes (bodies_in bodies.now) symbol.now room instr.entry.now c → ⊥) (λ c. Takes (bodies_in bodies.now) symbol.now room instr.entry.now c.callee.now) }
-    ensures call { IfSome result (λ c. IsCallOf c.callee.now instr.entry.now c.arguments.now) }
-{
-    let named = callee_of(instr)?;
-    let callee = bodies.named(named.name.as_slice())?;
-    if !is_other(callee, symbol) || !has_room(callee, room) {
-        return None;
-    }
-    let arguments = arguments_of(callee, instr)?;
-    Some(Call { callee, arguments })
-}
 
 /// This number, and how many phis, instructions and terminators the block has.
 fn count_behind(block: &Block, count: usize) -> Option<usize>
@@ -115,20 +71,6 @@ impl Walker {
         Ok(Walker { caller, count })
     }
 
-    /// The call whose body the instruction takes now.
-    fn call<'a, 'b>(
-        &self,
-        bodies: &Bodies<'a>,
-        symbol: &Symbol,
-        instr: &'b Instr,
-    ) -> Option<Call<'a, 'b>>
-        ensures takes { MatchOption result (TakesNone (bodies_in bodies.now) symbol.now self.now.count instr.entry.now) (λ c. TakesNow (bodies_in bodies.now) symbol.now self.now.count instr.entry.now c.callee.now) }
-        ensures call { IfSome result (λ c. IsCallOf c.callee.now instr.entry.now c.arguments.now) }
-    {
-        let room = ROOM.checked_sub(self.count)?;
-        taken(bodies, symbol, room, instr)
-    }
-
     /// Inlines the callee at a call that stands next.
     fn inline(
         &mut self,
@@ -165,7 +107,7 @@ impl Walker {
         requires { AreSound (bodies_in bodies.now) }
         ensures { OnOk result ((f : Function) (lines : List Line) (end : Terminator) (ahead : List Block) → f.symbol ≡ symbol.now → IsBegun (bodies_in bodies.now) f self.old block.old (line.now ∷ lines) end ahead → IsBegun (bodies_in bodies.now) f self.new block.new lines end ahead) }
     {
-        match self.call(bodies, symbol, &line.instr) {
+        match call_now(bodies, symbol, self.count, &line.instr) {
             Some(call) => self.inline(alloc, block, line, call)?,
             None => block.push(alloc, line)?,
         }
@@ -224,5 +166,25 @@ pub fn walk(alloc: Global, bodies: &Bodies<'_>, f: &Function) -> Result<Function
         walker.pass(alloc, bodies, &f.symbol, block)?;
     }
     let g = walker.caller.finish(alloc, f)?;
+    Ok(g)
+}
+
+/// The walk over a sound function that is given up: the function itself where no call takes a body.
+pub(crate) fn into_walked(
+    alloc: Global,
+    bodies: &Bodies<'_>,
+    f: Function,
+) -> Result<Function, AllocError>
+    requires sound { Sound f }
+    requires bodies { AreSound (bodies_in bodies.now) }
+    ensures walk { IfOk result (λ g. IsWalk (bodies_in bodies.now) f g) }
+    ensures sound { IfOk result (λ g. Sound g) }
+{
+    let count = count_of(f.blocks.as_slice())?;
+    let taken = any_taken(bodies, &f.symbol, count, f.blocks.as_slice());
+    if !taken {
+        return Ok(f);
+    }
+    let g = walk(alloc, bodies, &f)?;
     Ok(g)
 }

@@ -3,4 +3,4 @@ use Rattle.back_end.proofs.Turning.{three}
 use Rattle.back_end.proofs.passes.turns.Goals as goal
 
 pub returns : goal.returns
-returns c = IfOk-weaker c.two_turns.result _ _ (λ g rest. three c.args.f.now c.in_ok-once.once g c.in_ok-once.ensures.made rest) c.two_turns.ensures
+returns c = IfOk-weaker c.two_turns.result _ _ (λ g rest. three c.args.f c.in_ok-once.once g c.in_ok-once.ensures.made rest) c.two_turns.ensures
