@@ -2,3 +2,4 @@ pub mod Apart
 pub mod Membership
 pub mod Naming
 pub mod Substitutions
+pub mod Tables

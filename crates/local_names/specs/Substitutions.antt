@@ -1,12 +1,12 @@
 -- What a substitution has for a local.
-use Rattle.std.specs.Prelude.{◌≡◌, ℕ, List, Option, nat_eq, option_map}
-use Rattle.std.specs.HashMap as hash
+use Rattle.std.specs.Prelude.{◌≡◌, ℕ, List, Option}
 use Rattle.ir_tree.specs.declared.operand.Operand.{Operand}
 use Rattle.ir_edit.specs.Substituted.{replacement}
+use Rattle.local_names.specs.Tables.{row_in}
 use Rattle.local_names.specs.declared.substitution.Substitution.{Substitution}
 
 abbrev pub value_in : Substitution → ℕ → Option Operand
-value_in s x = option_map (λ o. o.now) (hash.get nat_eq s.values x)
+value_in s x = row_in s.table x
 
 -- it has what these pairs have, of a local that stands twice the later operand
 abbrev pub IsOf : List (ℕ × Operand) → Substitution → Type 0

@@ -9,8 +9,9 @@
 
 mod naming;
 mod substitution;
+mod table;
 mod unreached;
 
-pub use naming::{Beside, Locals, block_names, end_names, instr_names, is_among};
+pub use naming::{Beside, Locals, block_names, end_names, instr_names, is_among, phis_name};
 pub use substitution::Substitution;
 pub use unreached::{apart, defined, firm, resting, set_of};

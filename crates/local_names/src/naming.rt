@@ -116,7 +116,8 @@ fn lines_name<L: Locals>(among: &L, lines: &[Line]) -> bool
     false
 }
 
-fn phis_name<L: Locals>(among: &L, phis: &[Phi]) -> bool
+/// Whether an operand of these phis is a local of the set.
+pub fn phis_name<L: Locals>(among: &L, phis: &[Phi]) -> bool
     ensures { result ≡ phis_name (L.members among.now) phis.now }
 {
     for phi in phis {
@@ -127,6 +128,7 @@ fn phis_name<L: Locals>(among: &L, phis: &[Phi]) -> bool
     false
 }
 
+/// Whether an operand of the terminator is a local of the set.
 pub fn end_names<L: Locals>(among: &L, end: &Terminator) -> bool
     ensures { result ≡ end_names (L.members among.now) end.now }
 {

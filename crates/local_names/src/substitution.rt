@@ -6,15 +6,15 @@ ghost use Rattle.local_names.specs.Naming.{blocks_name};
 ghost use Rattle.local_names.specs.Substitutions.{IsOf, value_in};
 
 use crate::naming::{Locals, blocks_name};
+use crate::table::Table;
 use ir_edit::{Edit, edited};
 use ir_tree::{Block, Duplicate, Function, Operand};
 use std::alloc::{AllocError, Global};
-use std::collections::HashMap;
 
 /// What stands for locals. The locals are those that have something.
 #[derive(Drop)]
 pub struct Substitution<'a> {
-    values: HashMap<u32, &'a Operand>,
+    table: Table<'a>,
 }
 
 impl<'a> Substitution<'a> {
@@ -22,11 +22,11 @@ impl<'a> Substitution<'a> {
     pub fn of(alloc: Global, pairs: &'a [(u32, Operand)]) -> Result<Self, AllocError>
         ensures { IfOk result (IsOf pairs.now) }
     {
-        let mut values = HashMap::with_capacity(alloc, pairs.len())?;
+        let mut table = Table::new(alloc);
         for pair in pairs {
-            values.insert(pair.0, &pair.1)?;
+            table.put(pair.0, &pair.1)?;
         }
-        Ok(Substitution { values })
+        Ok(Substitution { table })
     }
 
     /// Whether blocks use a local that is replaced. The first such use ends it, and where none is replaced, none is
@@ -34,7 +34,7 @@ impl<'a> Substitution<'a> {
     pub fn is_used(&self, blocks: &[Block]) -> bool
         ensures { result ≡ blocks_name (λ x. is_some (value_in self.now x)) blocks.now }
     {
-        let none = self.values.is_empty();
+        let none = self.table.is_empty();
         if none {
             return false;
         }
@@ -56,7 +56,7 @@ impl<'a> Locals for Substitution<'a> {
     ghost members = { λ s x. is_some (value_in s x) };
 
     fn has(&self, local: u32) -> bool {
-        self.values.contains_key(&local)
+        self.table.get(local).is_some()
     }
 }
 
@@ -74,7 +74,7 @@ impl<'a> Edit for Substitution<'a> {
 
     fn operand(&self, alloc: Global, old: &Operand) -> Result<Operand, AllocError> {
         match old {
-            Operand::Local(x) => match self.values.get(x) {
+            Operand::Local(x) => match self.table.get(*x) {
                 Some(value) => value.duplicate(alloc),
                 None => Ok(Operand::Local(*x)),
             },

@@ -5,6 +5,6 @@ use Rattle.local_names.proofs.substitution.Substitution.of.Goals as goal
 
 pub loop-pair-preserved : goal.loop-pair-preserved
 loop-pair-preserved c = λ x.
-    one_put (λ o. o.now) c.args.pairs.now c.loop-pair.pair-index c.pair-item.result x c.pair-item.result.0 _ _ _ c.loop-pair-test.true
-    (ap (λ (p : ℕ × Operand). p.0) c.pair-item.is) (ap (λ (p : ℕ × Operand). p.1) c.pair-item.is) (c.in_ok-insert.ensures.updates.0 x)
+    one_put c.args.pairs.now c.loop-pair.pair-index c.pair-item.result x c.pair-item.result.0 c.pair-item.result.1 _ _ c.loop-pair-test.true
+    (ap (λ (p : ℕ × Operand). p.0) c.pair-item.is) (ap (λ (p : ℕ × Operand). p.1) c.pair-item.is) (c.in_ok-put.ensures x)
     ∙ c.loop-pair.invariant x
