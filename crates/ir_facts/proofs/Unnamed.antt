@@ -68,7 +68,7 @@ module _ (among : ℕ → Bool) (g : Operand → Operand) (operand_stays : (o : 
   instr_same (Call result o args) h = let two = neither (is_member among o) (arguments_name among args) h in λ i. Call result (operand_stays o two.0 i) (arguments_same args two.1 i)
   instr_same (StrayPhi reg es) h = ap (λ (l : List Incoming). StrayPhi reg l) (entries_same es h)
 
-  own : (o : Option ℕ) → option_map (λ x. x) o ≡ o
+  pub own : (o : Option ℕ) → option_map (λ x. x) o ≡ o
   own None = refl
   own (Some x) = refl
 
@@ -78,7 +78,7 @@ module _ (among : ℕ → Bool) (g : Operand → Operand) (operand_stays : (o : 
       let two = neither (instr_names among l.instr) (lines_name among ls) h in
       λ i. record { local = own l.local i; instr = instr_same l.instr two.0 i } ∷ lines_same ls two.1 i
 
-  phis_same : (ps : List Phi) → phis_name among ps ≡ false → map (phi_edited (λ x. x) g) ps ≡ ps
+  pub phis_same : (ps : List Phi) → phis_name among ps ≡ false → map (phi_edited (λ x. x) g) ps ≡ ps
   phis_same [] h = refl
   phis_same (p ∷ ps) h =
       let two = neither (entries_name among p.incoming) (phis_name among ps) h in

@@ -1,6 +1,6 @@
-//! Uses replaced in blocks that are held one by one: a block none of whose uses is replaced stays as it is.
+//! Uses replaced in their places: lines, phis and terminators none of whose uses is replaced stay as they are.
 ghost use Rattle.std.specs.Prelude.{◌≡◌, false, map, IfOk, OnOk};
-ghost use Rattle.ir_tree.specs.Edited.{block_edited};
+ghost use Rattle.ir_tree.specs.Edited.{block_edited, end_edited, line_edited, phi_edited};
 ghost use Rattle.ir_edit.specs.Substituted.{operand_replaced, replacement};
 ghost use Rattle.local_names.specs.Substitutions.{value_in};
 ghost use Rattle.fact_sources.specs.Askable.{BlocksHaveWidths};
@@ -8,21 +8,11 @@ ghost use Rattle.fact_sources.specs.Candidates.{blocks_candidates};
 ghost use Rattle.ir_facts.specs.Blocks.{with_blocks};
 
 use fact_sources::push_blocks;
-use ir_tree::{Block, Duplicate, Function, Rows};
-use local_names::{Substitution, block_names};
-use point_edit::block_edited;
+use ir_tree::{Block, Duplicate, Function, Line, Phi, Rows, Terminator};
+use local_names::{Substitution, end_names, instr_names, phis_name};
+use point_edit::{end_edited, instr_edited, phis_edited};
 use std::alloc::{AllocError, Global};
-
-/// The blocks, each copied.
-pub(crate) fn copied(alloc: Global, blocks: &[Block]) -> Result<Vec<Block>, AllocError>
-    ensures { IfOk result (λ made. made.items ≡ blocks.now) }
-{
-    let mut made = Vec::with_capacity(alloc, blocks.len())?;
-    for block in blocks {
-        made.push(block.duplicate(alloc)?)?;
-    }
-    Ok(made)
-}
+use std::mem::replace;
 
 /// The function with these blocks, which are moved in.
 pub(crate) fn with_blocks(
@@ -45,7 +35,88 @@ pub(crate) fn with_blocks(
     })
 }
 
-/// Each use in a block replaced. Without one the block stays as it is.
+// A part of a block without such a use stays as it is.
+
+/// Each use in these phis replaced.
+fn replace_in_phis(
+    alloc: Global,
+    phis: &mut Rows<Phi>,
+    substitution: &Substitution<'_>,
+) -> Result<(), AllocError>
+    ensures { OnOk result (phis.new ≡ map (phi_edited (λ x. x) (operand_replaced (value_in substitution.now))) phis.old) }
+{
+    let named = phis_name(substitution, phis.as_slice());
+    if !named {
+        return Ok(());
+    }
+    let made = phis_edited(alloc, substitution, phis.as_slice())?;
+    *phis = made;
+    Ok(())
+}
+
+/// Each use in a line replaced.
+fn replace_in_line(
+    alloc: Global,
+    line: &mut Line,
+    substitution: &Substitution<'_>,
+) -> Result<(), AllocError>
+    ensures { OnOk result (line.new ≡ line_edited (λ x. x) (operand_replaced (value_in substitution.now)) line.old) }
+{
+    let named = instr_names(substitution, &line.instr);
+    if !named {
+        return Ok(());
+    }
+    let made = instr_edited(alloc, substitution, &line.instr)?;
+    line.instr = made;
+    Ok(())
+}
+
+/// Each use in these lines replaced.
+fn replace_in_each(
+    alloc: Global,
+    lines: &mut [Line],
+    substitution: &Substitution<'_>,
+) -> Result<(), AllocError>
+    ensures { OnOk result (lines.new ≡ map (line_edited (λ x. x) (operand_replaced (value_in substitution.now))) lines.old) }
+{
+    for line in lines.iter_mut() {
+        replace_in_line(alloc, line, substitution)?;
+    }
+    Ok(())
+}
+
+/// Each use in the lines of a block replaced, in their place.
+fn replace_in_lines(
+    alloc: Global,
+    lines: &mut Rows<Line>,
+    substitution: &Substitution<'_>,
+) -> Result<(), AllocError>
+    ensures { OnOk result (lines.new ≡ map (line_edited (λ x. x) (operand_replaced (value_in substitution.now))) lines.old) }
+{
+    let mut items = replace(lines, Rows::new(alloc)).into_vec();
+    replace_in_each(alloc, items.as_mut_slice(), substitution)?;
+    *lines = Rows::of(items);
+    Ok(())
+}
+
+/// Each use in a terminator replaced.
+fn replace_in_end(
+    alloc: Global,
+    end: &mut Terminator,
+    substitution: &Substitution<'_>,
+) -> Result<(), AllocError>
+    ensures { OnOk result (end.new ≡ end_edited (λ x. x) (operand_replaced (value_in substitution.now)) end.old) }
+{
+    let named = end_names(substitution, end);
+    if !named {
+        return Ok(());
+    }
+    let made = end_edited(alloc, substitution, end)?;
+    *end = made;
+    Ok(())
+}
+
+/// Each use in a block replaced.
 fn replace_in(
     alloc: Global,
     block: &mut Block,
@@ -53,12 +124,9 @@ fn replace_in(
 ) -> Result<(), AllocError>
     ensures { OnOk result (block.new ≡ block_edited (λ x. x) (operand_replaced (value_in substitution.now)) block.old) }
 {
-    let named = block_names(substitution, block);
-    if !named {
-        return Ok(());
-    }
-    let made = block_edited(alloc, substitution, block)?;
-    *block = made;
+    replace_in_phis(alloc, &mut block.phis, substitution)?;
+    replace_in_lines(alloc, &mut block.lines, substitution)?;
+    replace_in_end(alloc, &mut block.end, substitution)?;
     Ok(())
 }
 

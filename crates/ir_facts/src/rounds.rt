@@ -13,15 +13,16 @@ ghost use Rattle.ir_facts.specs.Blocks.{with_blocks};
 ghost use Rattle.ir_facts.specs.Steps.{AreRounds, IsApplied, IsRound, IsStep, candidate_of};
 
 use crate::clear::is_clear;
-use crate::in_place::{copied, forward, with_blocks};
+use crate::in_place::{forward, with_blocks};
 use crate::points::facts_of;
 use fact_sources::{any_choice_in, candidates, settled};
 use ir_edit::substitute;
-use ir_tree::{Block, Duplicate, Function, Operand};
+use ir_tree::{Block, Duplicate, Function, Operand, Rows};
 use local_names::{Substitution, apart, firm, resting};
 use point_edit::function_at;
 use std::alloc::{AllocError, Global};
 use std::collections::HashSet;
+use std::mem::replace;
 
 /// At most so many rounds are made.
 const ROUNDS: u32 = 16;
@@ -185,23 +186,23 @@ fn rounds_in_place(
     Ok(g)
 }
 
-/// A function after all rounds, where unreached blocks may give locals values.
-fn rounds_apart(alloc: Global, f: &Function, outside: &HashSet<u32>) -> Result<Function, AllocError>
-    requires sound { Sound f.now }
-    requires apart { IsApart f.now (contains nat_eq outside.now) }
-    ensures { IfOk result (λ g. IsApplied f.now g) }
+/// What [`apply`] makes of a function that is given up: the function itself where no round changes anything.
+///
+/// Refused as [`apply`] is.
+pub fn into_applied(alloc: Global, mut f: Function) -> Result<Function, AllocError>
+    requires sound { Sound f }
+    ensures made { IfOk result (λ g. IsApplied f g) }
+    ensures sound { IfOk result (λ g. Sound g) }
 {
-    let first = round(alloc, f, outside)?;
-    match first {
-        Some(g) => {
-            let h = rounds(alloc, g, outside, ROUNDS - 1)?;
-            Ok(h)
-        }
-        None => {
-            let copy = f.duplicate(alloc)?;
-            Ok(copy)
-        }
+    let outside = apart(alloc, &f)?;
+    let none = outside.is_empty();
+    if none {
+        let blocks = replace(&mut f.blocks, Rows::new(alloc)).into_vec();
+        let g = rounds_in_place(alloc, &f, blocks, &outside, ROUNDS)?;
+        return Ok(g);
     }
+    let g = rounds(alloc, f, &outside, ROUNDS)?;
+    Ok(g)
 }
 
 /// A sound function with uses of locals replaced by what has their value: the one operand that a phi takes, and
@@ -221,32 +222,7 @@ pub fn apply(alloc: Global, f: &Function) -> Result<Function, AllocError>
     ensures better { IfOk result (λ g. (p : Program) → IsFormed p → BetterThan p 1 g f.now) }
     ensures sound { IfOk result (λ g. Sound g) }
 {
-    let outside = apart(alloc, f)?;
-    let none = outside.is_empty();
-    if none {
-        let blocks = copied(alloc, f.blocks.as_slice())?;
-        let g = rounds_in_place(alloc, f, blocks, &outside, ROUNDS)?;
-        return Ok(g);
-    }
-    let g = rounds_apart(alloc, f, &outside)?;
-    Ok(g)
-}
-
-/// What [`apply`] makes of a function that is given up: the function itself where no round changes anything.
-///
-/// Refused as [`apply`] is.
-pub fn into_applied(alloc: Global, f: Function) -> Result<Function, AllocError>
-    requires sound { Sound f }
-    ensures made { IfOk result (λ g. IsApplied f g) }
-    ensures sound { IfOk result (λ g. Sound g) }
-{
-    let outside = apart(alloc, &f)?;
-    let none = outside.is_empty();
-    if none {
-        let blocks = copied(alloc, f.blocks.as_slice())?;
-        let g = rounds_in_place(alloc, &f, blocks, &outside, ROUNDS)?;
-        return Ok(g);
-    }
-    let g = rounds(alloc, f, &outside, ROUNDS)?;
+    let copy = f.duplicate(alloc)?;
+    let g = into_applied(alloc, copy)?;
     Ok(g)
 }

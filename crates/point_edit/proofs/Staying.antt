@@ -3,9 +3,6 @@ use Rattle.std.proofs.Common.{◌≡◌, ℕ, List, [], ◌∷◌, Option, Some,
 use Rattle.ir_tree.specs.declared.block.Case.{Case}
 use Rattle.ir_tree.specs.Edited.{case_edited}
 
-pub local_stays : (o : Option ℕ) → option_map (λ x. x) o ≡ o
-local_stays None = refl
-local_stays (Some x) = refl
 
 pub cases_stay : (cs : List Case) → map (case_edited (λ x. x)) cs ≡ cs
 cases_stay [] = refl

@@ -2,7 +2,8 @@
 //!
 //! A [`Fact`] says at which points of a function an operand may stand for a local. [`function_at`] puts it there, in one
 //! walk: the definition is `specs/AtPoints.antt`, and the contract is equality with it. Whether the facts hold is not
-//! asked here: `ir_facts` finds them. It is one walk for any change of operands, and [`block_edited`] is that of one block.
+//! asked here: `ir_facts` finds them. The parts of a block are edited by calls for any
+//! change of operands, as [`instr_edited`].
 //!
 //! Below this crate stand `ir_tree`, `lto_sets` and `ir_edit`, and `ir_better` for words of the definitions. A use is looked
 //! up in each fact.
@@ -14,4 +15,4 @@ mod walk;
 
 pub use at_points::function_at;
 pub use fact::Fact;
-pub use walk::block_edited;
+pub use walk::{end_edited, instr_edited, phis_edited};

@@ -1,11 +1,11 @@
 //! One walk over the parts of a block that changes each operand.
 ghost use Rattle.std.specs.Prelude.{◌≡◌, IfOk, map};
-ghost use Rattle.ir_tree.specs.Edited.{argument_edited, block_edited, end_edited, incoming_edited, instr_edited, line_edited, phi_edited};
+ghost use Rattle.ir_tree.specs.Edited.{argument_edited, end_edited, incoming_edited, instr_edited, phi_edited};
 
 use ir_edit::Edit;
 use ir_tree::{
-    Argument, BinaryOp, Block, CastOp, Duplicate, Flags, Incoming, Instr, Line, Operand, Phi,
-    Predicate, Reg, Rows, Shape, Terminator,
+    Argument, BinaryOp, CastOp, Duplicate, Flags, Incoming, Instr, Operand, Phi, Predicate, Reg,
+    Rows, Shape, Terminator,
 };
 use std::alloc::{AllocError, Global};
 
@@ -248,11 +248,8 @@ fn phi_edited<E: Edit>(
     Ok(Instr::Phi { reg, incoming })
 }
 
-pub(crate) fn instr_edited<E: Edit>(
-    alloc: Global,
-    edit: &E,
-    instr: &Instr,
-) -> Result<Instr, AllocError>
+/// The instruction with each operand changed as the edit says. Numbers stay.
+pub fn instr_edited<E: Edit>(alloc: Global, edit: &E, instr: &Instr) -> Result<Instr, AllocError>
     ensures { IfOk result (λ i. i ≡ instr_edited (λ x. x) (E.operand_of edit.now) instr.now) }
 {
     match instr {
@@ -310,27 +307,8 @@ pub(crate) fn instr_edited<E: Edit>(
 
 // ---- blocks
 
-fn line_edited<E: Edit>(alloc: Global, edit: &E, line: &Line) -> Result<Line, AllocError>
-    ensures { IfOk result (λ l. l ≡ line_edited (λ x. x) (E.operand_of edit.now) line.now) }
-{
-    let instr = instr_edited(alloc, edit, &line.instr)?;
-    Ok(Line {
-        local: line.local,
-        instr,
-    })
-}
-
-fn lines_edited<E: Edit>(alloc: Global, edit: &E, lines: &[Line]) -> Result<Rows<Line>, AllocError>
-    ensures { IfOk result (λ rows. rows ≡ map (line_edited (λ x. x) (E.operand_of edit.now)) lines.now) }
-{
-    let mut rows = Rows::new(alloc);
-    for line in lines {
-        rows.push(line_edited(alloc, edit, line)?)?;
-    }
-    Ok(rows)
-}
-
-fn phis_edited<E: Edit>(alloc: Global, edit: &E, phis: &[Phi]) -> Result<Rows<Phi>, AllocError>
+/// The phis with each operand changed as the edit says. Numbers stay.
+pub fn phis_edited<E: Edit>(alloc: Global, edit: &E, phis: &[Phi]) -> Result<Rows<Phi>, AllocError>
     ensures { IfOk result (λ rows. rows ≡ map (phi_edited (λ x. x) (E.operand_of edit.now)) phis.now) }
 {
     let mut rows = Rows::new(alloc);
@@ -345,7 +323,12 @@ fn phis_edited<E: Edit>(alloc: Global, edit: &E, phis: &[Phi]) -> Result<Rows<Ph
     Ok(rows)
 }
 
-fn end_edited<E: Edit>(alloc: Global, edit: &E, end: &Terminator) -> Result<Terminator, AllocError>
+/// The terminator with each operand changed as the edit says. Numbers stay.
+pub fn end_edited<E: Edit>(
+    alloc: Global,
+    edit: &E,
+    end: &Terminator,
+) -> Result<Terminator, AllocError>
     ensures { IfOk result (λ e. e ≡ end_edited (λ x. x) (E.operand_of edit.now) end.now) }
 {
     match end {
@@ -382,19 +365,4 @@ fn end_edited<E: Edit>(alloc: Global, edit: &E, end: &Terminator) -> Result<Term
         }
         _ => end.duplicate(alloc),
     }
-}
-
-/// The block with each operand changed as the edit says. Numbers stay.
-pub fn block_edited<E: Edit>(alloc: Global, edit: &E, block: &Block) -> Result<Block, AllocError>
-    ensures { IfOk result (λ b. b ≡ block_edited (λ x. x) (E.operand_of edit.now) block.now) }
-{
-    let phis = phis_edited(alloc, edit, block.phis.as_slice())?;
-    let lines = lines_edited(alloc, edit, block.lines.as_slice())?;
-    let end = end_edited(alloc, edit, &block.end)?;
-    Ok(Block {
-        number: block.number,
-        phis,
-        lines,
-        end,
-    })
 }

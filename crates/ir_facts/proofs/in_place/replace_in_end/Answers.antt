@@ -2,12 +2,12 @@ use Rattle.std.proofs.Common.{ℕ, sym, ◌∙◌}
 use Rattle.std.specs.Prelude.{is_some}
 use Rattle.ir_edit.specs.Substituted.{operand_replaced}
 use Rattle.local_names.specs.Substitutions.{value_in}
-use Rattle.ir_facts.proofs.Unnamed.{block_same, operand_same}
+use Rattle.ir_facts.proofs.Unnamed.{end_same, operand_same}
 use Rattle.ir_facts.proofs.Unused.{nothing}
-use Rattle.ir_facts.proofs.in_place.replace_in.Goals as goal
+use Rattle.ir_facts.proofs.in_place.replace_in_end.Goals as goal
 
 pub returns-then-not-named : goal.returns-then-not-named
 returns-then-not-named c =
     let value = value_in c.args.substitution.now in
     let among = λ (x : ℕ). is_some (value x) in
-    sym (block_same among (operand_replaced value) (operand_same among value (λ x out. nothing (value x) out)) c.args.block.now (sym c.block_names-named.ensures ∙ c.if-not-named.true))
+    sym (end_same among (operand_replaced value) (operand_same among value (λ x out. nothing (value x) out)) c.args.end.now (sym c.end_names-named.ensures ∙ c.if-not-named.true))
