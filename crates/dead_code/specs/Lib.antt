@@ -1,6 +1,7 @@
 pub mod Closure
 pub mod Laws
 pub mod Least
+pub mod Lists
 pub mod Readers
 pub mod Staying
 pub mod Uses

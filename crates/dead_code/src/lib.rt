@@ -6,12 +6,13 @@
 //! functions under other numbers, as `ir_edit` makes them, are better too.
 //!
 //! Below this crate stand `ir_tree`, `ir_edit`, and `ir_meaning` and `ir_better` for what is proved. A use is
-//! looked at once, as its reader is taken from the work list, in a table by readers; so time and memory are
-//! linear in the function.
+//! looked at once, as its reader is taken from the work list, in lists by the numbers of readers; so time and memory are
+//! linear in the function and the greatest number of a local.
 #![tactic(auto)]
 
 mod elimination;
 mod laws;
+mod lists;
 mod readers;
 mod staying;
 mod sweep;

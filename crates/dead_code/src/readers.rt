@@ -3,15 +3,15 @@ ghost use Rattle.std.specs.Prelude.{◌≡◌, ◌++◌, ◌∷◌, [], ℕ, nat
 ghost use Rattle.dead_code.specs.Uses.{read_by};
 ghost use Rattle.dead_code.specs.Readers.{read_for};
 
+use crate::lists::Lists;
 use crate::uses::Use;
 use std::alloc::{AllocError, Global};
-use std::collections::HashMap;
 
 /// What effects read, and what the definitions of each local read.
 #[derive(Drop)]
 pub(crate) struct Readers {
     pub by_effects: Vec<u32>,
-    pub by_definition: HashMap<u32, Vec<u32>>,
+    pub by_definition: Lists,
 }
 
 impl Readers {
@@ -22,14 +22,7 @@ impl Readers {
     {
         match one.reader {
             None => self.by_effects.push(one.read)?,
-            Some(local) => {
-                let mut read = match self.by_definition.remove(&local) {
-                    Some(read) => read,
-                    None => Vec::new(alloc),
-                };
-                read.push(one.read)?;
-                self.by_definition.insert(local, read)?;
-            }
+            Some(local) => self.by_definition.push(alloc, local, one.read)?,
         }
         Ok(())
     }
@@ -41,7 +34,7 @@ impl Readers {
     {
         let mut readers = Readers {
             by_effects: Vec::new(alloc),
-            by_definition: HashMap::new(alloc),
+            by_definition: Lists::new(alloc),
         };
         for one in uses {
             readers.add(alloc, *one)?;

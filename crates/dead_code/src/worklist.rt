@@ -20,9 +20,8 @@ pub(crate) fn kept(alloc: Global, readers: Readers) -> Result<HashSet<u32>, Allo
     let mut kept = HashSet::new(alloc);
     while let Some(local) = work.pop() {
         kept.insert(local)?;
-        if let Some(mut read) = by_definition.remove(&local) {
-            work.append(&mut read)?;
-        }
+        let mut read = by_definition.take(alloc, local);
+        work.append(&mut read)?;
     }
     Ok(kept)
 }
