@@ -1,5 +1,5 @@
 -- The readers of calls tell a token that is left out in some places where one that it stands for goes on.
-use Rattle.std.proofs.Common.{◌≡◌, ℕ, nat_eq, Bool, true, false, cond, ◌||◌, Option, Some, None, List, [], ◌∷◌, ◌++◌, length, Result, Ok, Err, refl, sym, ap, subst, ◌∙◌, ◌⊎◌, inl, inr, arith, append_assoc}
+use Rattle.std.proofs.Common.{◌≡◌, ℕ, nat_eq, Bool, true, false, cond, Option, Some, None, List, [], ◌∷◌, Err, refl, ap, inl, arith}
 use Rattle.std.specs.Prelude.{codes}
 use Rattle.ir_lex.specs.Heads.{number}
 use Rattle.ir_lex.specs.Tok.{Tok}
@@ -7,46 +7,39 @@ use Rattle.ir_lex.specs.declared.head.Head.TheVariants as heads
 use Rattle.ir_lex.specs.declared.head.Head.{Head}
 use Rattle.ir_tree.specs.declared.operand.Reg.TheVariants.{Ptr, Int}
 use Rattle.ir_tree.specs.declared.operand.Reg.{Reg}
-use Rattle.lto_forms.proofs.Composed.{cons_is, cut_is, reads, wrong, wrong_is}
 use Rattle.lto_forms.proofs.Rules as rules
-use Rattle.lto_forms.proofs.Rules.{apart_from}
 use Rattle.lto_forms.specs.Alphabet.{among, contains}
 use Rattle.lto_forms.specs.Forms as form
-use Rattle.lto_forms.specs.Forms.{Form}
-use Rattle.lto_forms.specs.Lawful.{IsBound, ends}
-use Rattle.lto_forms.specs.Readers.{Reader, done, fault_at, follow, ◌>>=◌, token_means}
-use Rattle.lto_forms.specs.Rules.{is_class, is_valued, Rule}
-use Rattle.lto_forms.specs.declared.fault.Fault.{Fault}
-use Rattle.lto_forms.specs.declared.fault.FaultKind.TheVariants.{Syntax, Profile, Number, Limit}
+use Rattle.lto_forms.specs.Lawful.{IsBound}
+use Rattle.lto_forms.specs.Readers.{done, follow, ◌>>=◌}
+use Rattle.lto_forms.specs.Rules.{is_valued, Rule}
+use Rattle.lto_forms.specs.declared.fault.FaultKind.TheVariants.{Syntax, Number, Limit}
 use Rattle.lto_forms.specs.declared.fault.FaultKind.{FaultKind}
 use Rattle.ir_read.specs.Attributes.{call_attributes}
 use Rattle.ir_read.specs.AttributesAt.{call_attributes_at}
-use Rattle.ir_read.specs.Classes.{tokens, IsReal, refusal, the, the_at, itself, REFUSED}
-use Rattle.ir_read.specs.FunctionHeads.{end_of_none}
-use Rattle.ir_read.specs.FunctionHeadsAt.{end_of_none_at}
+use Rattle.ir_read.specs.Classes.{tokens, IsReal, refusal, the, the_at, itself}
 use Rattle.ir_read.specs.Metadata.{attachments}
 use Rattle.ir_read.specs.MetadataAt.{COMMA, PAREN, attachments_at}
-use Rattle.ir_read.specs.Operands.{REG, POINTER_OPERAND, type_refusal, reg_of, operand_of, REFUSED_TYPES}
+use Rattle.ir_read.specs.Operands.{REG, POINTER_OPERAND, type_refusal, reg_of, operand_of}
 use Rattle.ir_read.specs.OperandsAt.{reg_at}
 use Rattle.ir_instructions.specs.ShapeForms.{any_shape}
 use Rattle.ir_instructions.specs.ValuesAt.{ADDRESS}
-use Rattle.ir_read.specs.declared.raw.Argument.{Argument}
 use Rattle.ir_read.specs.declared.raw.Operand.TheVariants as operands
 use Rattle.ir_read.proofs.OperandRules.{type_not_number, type_not_limit, operand_within}
-use Rattle.ir_read.proofs.Singles.{mark, word, close_paren_real, not_number, not_limit, open_paren_rule}
+use Rattle.ir_read.proofs.Singles.{word, not_number, not_limit}
 use Rattle.ir_read.proofs.Words.{int_32_real, null_real}
 use Rattle.ir_bodies.specs.Calls.{convention, conventions, written_type, further_type, some_types, listed_types, types, argument_behind, argument, further_argument, some_arguments, any_arguments, is_type, type_again, argument_of, further_of, each_further, some_of, arguments_of, arguments, called_value, marker, marker_refusal, unmarked, unmarked_value, callee, called, calling, tail_calling, same_reg}
 use Rattle.ir_bodies.specs.CallsAt.{CONVENTION, CONVENTIONS, MARKER, convention_at, conventions_at, written_type_at, further_type_at, types_behind_at, some_types_at, listed_types_at, types_at, argument_behind_at, argument_at, further_argument_at, arguments_behind_at, some_arguments_at, any_arguments_at, type_again_at, argument_of_at, further_of_at, each_further_at, each_behind_at, some_of_at, arguments_of_at, arguments_at, called_value_at, marker_at, unmarked_at, unmarked_value_at, callee_at, calling_at, tail_calling_at}
 use Rattle.ir_bodies.proofs.CallRules.{convention_rule, further_argument_rule, further_type_rule}
 use Rattle.ir_bodies.proofs.Samples.{convention_word_rule, marker_name_rule, call_word_rule}
 use Rattle.ir_bodies.proofs.WrittenTypes.{writes}
-use Rattle.read_again.specs.Refusals.{MEMORY, WORD}
-use Rattle.read_again.proofs.Exchanged.{Exchanges, Goes, Says, alt, maybe, nothing, of_rule, recast, same_reader, seq, star, taken, IsTold, Open, Outcome, Stays, Stuck, err_too, ok_too, stands_for, Exchanging, a_type, seq_into, seq_passing}
+use Rattle.read_again.specs.Refusals.{MEMORY}
+use Rattle.read_again.proofs.Exchanged.{Exchanges, Says, alt, maybe, nothing, seq, star, taken, stands_for, Exchanging, a_type, seq_into, seq_passing}
 use Rattle.read_again.proofs.ExchangedAttributes.{call_attributes_exchanged, parameter_attribute_exchanged, parameter_attributes_exchanged}
 use Rattle.read_again.proofs.ExchangedNodes.{attachments_exchanged, no_attachments}
 use Rattle.read_again.proofs.ExchangedOperands.{reg_exchanged, result_exchanged}
 use Rattle.read_again.proofs.ExchangedTokens.{elsewhere, exact_type, i16_real, i8_real, of_token, plain_class, type_one, none_taken, not_bound, plain_at, says_by, valued_inside, valued_outside}
-use Rattle.read_again.proofs.ExchangedTypes.{Types, listed_exchanged as typed_list, type_told, types_first, end_form}
+use Rattle.read_again.proofs.ExchangedTypes.{listed_exchanged as typed_list, Types, type_told, types_first}
 use Rattle.read_again.proofs.ExchangedValues.{address_exchanged, operand_exchanged}
 use Rattle.read_again.proofs.ExchangedWords.{close_paren_exchanged, comma_exchanged, open_paren_exchanged}
 
@@ -224,177 +217,16 @@ callee_exchanged named (Some r) = called_value_exchanged
 callee_exchanged true None = unmarked_value_exchanged
 callee_exchanged false None = alt MARKER refl marker_exchanged called_value_exchanged
 
--- ---- no arguments, where no types are written
-
-abbrev fine : Unit {0} → Result (Unit {0}) FaultKind
-fine u = Ok u
-
-abbrev failed : FaultKind → Result (Unit {0}) FaultKind
-failed k = Err k
-
-abbrev opens : Tok → Result (Unit {0}) FaultKind
-opens = is_class tokens refusal (number heads.OpenParen)
-
-abbrev none_behind : Reader Tok (List Argument)
-none_behind = end_of_none_at >>= λ _. done []
-
-abbrev none_plainly : Reader Tok (List Argument)
-none_plainly = the_at heads.CloseParen >>= λ _. done []
-
-abbrev opened_none : Reader Tok (List Argument)
-opened_none = the_at heads.OpenParen >>= λ _. none_behind
-
-abbrev opened_plainly : Reader Tok (List Argument)
-opened_plainly = the_at heads.OpenParen >>= λ _. none_plainly
-
-abbrev of_none : Form Tok (List Argument)
-of_none = form.◌>>=◌ (the heads.OpenParen) (λ _. form.◌>>=◌ end_of_none (λ _. form.gives []))
-
--- they differ where a type that is left out stands directly behind `(`
-abbrev Differs : List Tok → Type 0
-Differs ts = (v : Tok) × (t : Tok) × (rest : List Tok) × (ts ≡ v ∷ t ∷ rest) × (among tokens PAREN v ≡ true) × (contains REFUSED_TYPES (number t.head) ≡ true) × (opened_none ts ≡ fault_at Profile (t ∷ rest)) × (opened_plainly ts ≡ fault_at Syntax (t ∷ rest))
-
-closer_apart : (n : ℕ) → contains REFUSED_TYPES n ≡ true → nat_eq n (number heads.CloseParen) ≡ false
-closer_apart n e = by_test (nat_eq n (number heads.CloseParen)) refl
-  where
-    differ : true ≡ false → ⊥
-    differ e = cc
-
-    by_test : (b : Bool) → nat_eq n (number heads.CloseParen) ≡ b → b ≡ false
-    by_test true p = absurd (differ (sym e ∙ ap (contains REFUSED_TYPES) (same n (number heads.CloseParen) p)))
-    by_test false p = refl
-
-not_refused : (n : ℕ) → contains REFUSED_TYPES n ≡ true → refusal n ≡ Syntax
-not_refused n e = by_test (contains REFUSED n) refl
-  where
-    by_test : (b : Bool) → contains REFUSED n ≡ b → cond b Profile Syntax ≡ Syntax
-    by_test true p = absurd (apart_from REFUSED REFUSED_TYPES refl n p e)
-    by_test false p = refl
-
-behind_paren : (t : Tok) (rest : List Tok) → (none_behind (t ∷ rest) ≡ none_plainly (t ∷ rest)) ⊎ ((contains REFUSED_TYPES (number t.head) ≡ true) × (none_behind (t ∷ rest) ≡ fault_at Profile (t ∷ rest)) × (none_plainly (t ∷ rest) ≡ fault_at Syntax (t ∷ rest)))
-unfolding is_class
-behind_paren t rest = by_test (contains REFUSED_TYPES (number t.head)) refl
-  where
-    by_test : (b : Bool) → contains REFUSED_TYPES (number t.head) ≡ b → (none_behind (t ∷ rest) ≡ none_plainly (t ∷ rest)) ⊎ ((contains REFUSED_TYPES (number t.head) ≡ true) × (none_behind (t ∷ rest) ≡ fault_at Profile (t ∷ rest)) × (none_plainly (t ∷ rest) ≡ fault_at Syntax (t ∷ rest)))
-    by_test true e = inr (e, rw (closer_apart (number t.head) e, e) refl, rw (closer_apart (number t.head) e, not_refused (number t.head) e) refl)
-    by_test false e = inl (rw e refl)
-
-is_paren : (v : Tok) (u : Unit {0}) → opens v ≡ fine u → among tokens PAREN v ≡ true
-unfolding is_class
-is_paren v u e = by_class (nat_eq (number v.head) (number heads.OpenParen)) e
-  where
-    by_class : (b : Bool) → cond b (fine tt) (failed (refusal (number v.head))) ≡ fine u → b || false ≡ true
-    by_class true e = refl
-    by_class false e = absurd cc
-
-same_or_differs : (ts : List Tok) → (opened_none ts ≡ opened_plainly ts) ⊎ Differs ts
-same_or_differs [] = inl refl
-same_or_differs (v ∷ ts) = by_first (opens v) refl ts
-  where
-    by_first : (m : Result (Unit {0}) FaultKind) → opens v ≡ m → (ts : List Tok) → (opened_none (v ∷ ts) ≡ opened_plainly (v ∷ ts)) ⊎ Differs (v ∷ ts)
-    by_first (Err k) e ts = inl (rw e refl)
-    by_first (Ok u) e [] = inl (rw e refl)
-    by_first (Ok u) e (t ∷ rest) = elim (behind_paren t rest) [
-      | inl s ↦ inl (ap (λ (m : Result (Unit {0}) FaultKind). follow (token_means v (t ∷ rest) m) (λ _. none_behind)) e ∙ s ∙ sym (ap (λ (m : Result (Unit {0}) FaultKind). follow (token_means v (t ∷ rest) m) (λ _. none_plainly)) e))
-      | inr d ↦ inr (v, t, rest, refl, is_paren v u e, d.0, ap (λ (m : Result (Unit {0}) FaultKind). follow (token_means v (t ∷ rest) m) (λ _. none_behind)) e ∙ d.1, ap (λ (m : Result (Unit {0}) FaultKind). follow (token_means v (t ∷ rest) m) (λ _. none_plainly)) e ∙ d.2)
-    ]
-
-fault_is : {A : Type 0} (k l : FaultKind) (us vs : List Tok) → fault_at {A = A} k us ≡ fault_at l vs → (k ≡ l) × (length us ≡ length vs)
-fault_is {A} k l us vs e = let d = wrong_is {X = A × List Tok} (record { left = length us; kind = k }) (record { left = length vs; kind = l }) e in (ap (λ (x : Fault). x.kind) d, ap (λ (x : Fault). x.left) d)
-
-word_is : (n : ℕ) → contains WORD n ≡ true → n ≡ number heads.Word
-word_is n e = by_test (nat_eq n (number heads.Word)) refl e
-  where
-    by_test : (b : Bool) → nat_eq n (number heads.Word) ≡ b → b || false ≡ true → n ≡ number heads.Word
-    by_test true p e = same n (number heads.Word) p
-    by_test false p e = absurd cc
-
-word_refused : (w : Tok) (rest : List Tok) → among tokens WORD w ≡ true → none_behind (w ∷ rest) ≡ fault_at Syntax (w ∷ rest)
-unfolding is_class
-word_refused w rest i = ap (λ (n : ℕ). follow (token_means w rest (cond (nat_eq n (number heads.CloseParen)) (fine tt) (failed (type_refusal n)))) (λ _. done [])) (word_is (number w.head) i)
-
-paren_opens : (v : Tok) → among tokens PAREN v ≡ true → opens v ≡ fine tt
-unfolding is_class
-paren_opens v p = by_test (nat_eq (number v.head) (number heads.OpenParen)) p
-  where
-    by_test : (b : Bool) → b || false ≡ true → cond b (fine tt) (failed (refusal (number v.head))) ≡ fine tt
-    by_test true p = refl
-    by_test false p = absurd cc
-
--- no plain word stands directly behind it
-no_word_behind : (v w : Tok) → among tokens PAREN v ≡ true → among tokens WORD w ≡ true → Stuck opened_none (v ∷ []) w
-no_word_behind v w p i rest = (Syntax, λ b. b, ap (λ (m : Result (Unit {0}) FaultKind). follow (token_means v (w ∷ rest) m) (λ _. none_behind)) (paren_opens v p) ∙ word_refused w rest i)
-
-told_open : (h : Head) (S G : Tok → Type 0) (P : Type 0) → contains REFUSED_TYPES (number h) ≡ true → P → ((w : Tok) → among tokens WORD w ≡ true → S w) → IsTold h S G P
-told_open heads.RefusedType S G P e p n = inr p
-told_open heads.Target S G P e p n = (inr p, n)
-told_open h S G P e p n = absurd cc
-
-none_over : (ts : List Tok) (as' : List Argument) → form.◌>>=◌ (the heads.OpenParen) (λ _. form.◌>>=◌ (the heads.CloseParen) (λ _. form.gives [])) ts as' → of_none ts as'
-unfolding form.◌>>=◌
-none_over ts as' (front, back, u, e, s, (front', back', u', e', s', r)) = (front, back, u, e, s, (front', back', u', e', end_form heads.CloseParen refl close_paren_exchanged front' u' s', r))
-
-plainly_exchanged : Exchanges of_none opened_plainly
-plainly_exchanged = recast none_over (seq open_paren_exchanged (λ _. seq close_paren_exchanged (λ _. nothing [])))
-
-none_stuck : (front : List Tok) (u : Tok) → Stuck opened_plainly front u → Stuck opened_none front u
-none_stuck front u s rest = elim (same_or_differs (front ++ u ∷ rest)) [ inl e ↦ (let r = s rest in (r.0, r.1, e ∙ r.2)) | inr d ↦ moved d.1 d.2 d.6 d.7 (s rest) ]
-  where
-    moved : (t : Tok) (more : List Tok) → opened_none (front ++ u ∷ rest) ≡ fault_at Profile (t ∷ more) → opened_plainly (front ++ u ∷ rest) ≡ fault_at Syntax (t ∷ more) → (k : FaultKind) × (IsBound k → ⊥) × (opened_plainly (front ++ u ∷ rest) ≡ fault_at k (u ∷ rest)) → (k : FaultKind) × (IsBound k → ⊥) × (opened_none (front ++ u ∷ rest) ≡ fault_at k (u ∷ rest))
-    moved t more p q (k, n, r) = (Profile, λ b. b, p ∙ ap (λ (m : ℕ). wrong (record { left = m; kind = Profile })) (fault_is Syntax k (t ∷ more) (u ∷ rest) (sym q ∙ r)).1)
-
-none_stays : (front : List Tok) (as' : List Argument) (u : Tok) → Stays opened_plainly front as' u → Stays opened_none front as' u
-none_stays front as' u s rest = elim (same_or_differs (front ++ u ∷ rest)) [ inl e ↦ e ∙ s rest | inr d ↦ absurd (never d.1 d.2 (sym d.7 ∙ s rest)) ]
-  where
-    never : (t : Tok) (more : List Tok) → fault_at Syntax (t ∷ more) ≡ reads as' (u ∷ rest) → ⊥
-    never t more e = cc
-
-none_plain : (front : List Tok) (h : Head) (o : Result (List Argument) FaultKind) → Outcome false of_none opened_plainly front h o → Outcome false of_none opened_none front h o
-none_plain front h (Ok as') n = ok_too false false of_none of_none opened_plainly opened_none front front h (λ e. e) as' as' (λ u i s. none_stays front as' u s) (λ u g. g) n
-none_plain front h (Err k) n = err_too false false of_none of_none opened_plainly opened_none front front h k (λ p. p) (λ u i s. none_stuck front u s) (λ u g. g) n
-
-none_swap : (front : List Tok) (t : Tok) (rest : List Tok) (o : Result (List Argument) FaultKind) → opened_none (front ++ t ∷ rest) ≡ ends o (t ∷ rest) → Outcome false of_none opened_none front t.head o
-none_swap front t rest o d = elim (same_or_differs (front ++ t ∷ rest)) [ inl e ↦ none_plain front t.head o (plainly_exchanged.swap front t rest o (sym e ∙ d)) | inr x ↦ differing x.0 x.1 x.2 x.3 x.4 x.5 (sym x.6 ∙ d) ]
-  where
-    by_end : (v t' : Tok) (more : List Tok) → front ++ t ∷ rest ≡ v ∷ t' ∷ more → among tokens PAREN v ≡ true → contains REFUSED_TYPES (number t'.head) ≡ true → (o : Result (List Argument) FaultKind) → fault_at Profile (t' ∷ more) ≡ ends o (t ∷ rest) → Outcome false of_none opened_none front t.head o
-    by_end v t' more e p c (Ok as') q = absurd cc
-    by_end v t' more e p c (Err k) q =
-        let f = fault_is {A = List Argument} Profile k (t' ∷ more) (t ∷ rest) q in
-        let s = cut_is front (t ∷ rest) (v ∷ []) (t' ∷ more) e (sym f.1) in
-        let same_token : t ≡ t' = (cons_is t t' rest more s.1).0 in
-        subst (λ (x : FaultKind). Outcome false of_none opened_none front t.head (Err x)) f.0 (subst (λ (y : List Tok). IsTold t.head (Stuck opened_none y) (Goes of_none y) (Open y)) (sym s.0) (told_open t.head (Stuck opened_none (v ∷ [])) (Goes of_none (v ∷ [])) (Open (v ∷ [])) (ap (λ (x : Tok). contains REFUSED_TYPES (number x.head)) same_token ∙ c) p (λ w i. no_word_behind v w p i)))
-
-    differing : (v t' : Tok) (more : List Tok) → front ++ t ∷ rest ≡ v ∷ t' ∷ more → among tokens PAREN v ≡ true → contains REFUSED_TYPES (number t'.head) ≡ true → fault_at Profile (t' ∷ more) ≡ ends o (t ∷ rest) → Outcome false of_none opened_none front t.head o
-    differing v t' more e p c q = by_end v t' more e p c o q
-
-end_of_none_rule : Rule tokens end_of_none end_of_none end_of_none_at (number heads.CloseParen ∷ []) [] false
-unfolding is_class
-end_of_none_rule = rules.class_rule tokens type_refusal type_not_number type_not_limit (number heads.CloseParen) (mark heads.CloseParen (codes ")")) refl close_paren_real
-
-opened_none_exchanged : Exchanges of_none opened_none
-opened_none_exchanged = of_rule (rules.seq tokens open_paren_rule (λ _. rules.seq tokens end_of_none_rule (λ _. rules.nothing tokens []) refl) refl) none_swap
-
 -- ---- arguments, behind what opens them
 
-regrouped : {A B : Type 0} (f : Reader Tok (Unit {0})) (g : Reader Tok A) (k : A → Reader Tok B) (ts : List Tok) → ((f >>= λ _. g) >>= k) ts ≡ (f >>= λ _. g >>= k) ts
-regrouped {A} {B} f g k ts = by_result (f ts)
-  where
-    by_result : (r : Result (Unit {0} × List Tok) Fault) → follow (follow r (λ _. g)) k ≡ follow r (λ _. g >>= k)
-    by_result (Ok x) = refl
-    by_result (Err e) = refl
+-- arguments of the types that are written, and the bracket behind them
+arguments_of_exchanged : (ws : List Tok) → Exchanges (arguments_of any_shape ws) (arguments_of_at ws)
+arguments_of_exchanged [] = seq close_paren_exchanged (λ _. nothing [])
+arguments_of_exchanged (w ∷ ws) = seq (some_of_exchanged w ws) (λ as'. seq close_paren_exchanged (λ _. nothing as'))
 
-regrouped_form : {A B : Type 0} (f : Form Tok (Unit {0})) (g : Form Tok A) (k : A → Form Tok B) (ts : List Tok) (b : B) → form.◌>>=◌ (form.◌>>=◌ f (λ _. g)) k ts b → form.◌>>=◌ f (λ _. form.◌>>=◌ g k) ts b
-unfolding form.◌>>=◌
-regrouped_form f g k ts b (front, back, a, e, (front', back', u, e', s, s'), r) = (front', back' ++ back, u, e ∙ ap (λ (y : List Tok). y ++ back) e' ∙ append_assoc front' back' back, s, (back', back, a, refl, s', r))
-
--- arguments of the types that are written, and what stands behind them
-opened_of_exchanged : {B : Type 0} (ws : List Tok) (k : List Argument → Form Tok B) (h : List Argument → Reader Tok B) → ((as' : List Argument) → Exchanging true (k as') (h as')) → Exchanging true (form.◌>>=◌ (the heads.OpenParen) (λ _. form.◌>>=◌ (arguments_of any_shape ws) k)) (the_at heads.OpenParen >>= λ _. arguments_of_at ws >>= h)
-opened_of_exchanged [] k h each = recast (regrouped_form (the heads.OpenParen) (form.◌>>=◌ end_of_none (λ _. form.gives [])) k) (same_reader (regrouped (the_at heads.OpenParen) none_behind h) (seq_into opened_none_exchanged each))
-opened_of_exchanged (w ∷ ws) k h each = seq_into open_paren_exchanged (λ _. seq_into (seq (some_of_exchanged w ws) (λ as'. seq close_paren_exchanged (λ _. nothing as'))) each)
-
-opened_exchanged : {B : Type 0} (ws : Option (List Tok)) (k : List Argument → Form Tok B) (h : List Argument → Reader Tok B) → ((as' : List Argument) → Exchanging true (k as') (h as')) → Exchanging true (form.◌>>=◌ (the heads.OpenParen) (λ _. form.◌>>=◌ (arguments any_shape ws) k)) (the_at heads.OpenParen >>= λ _. arguments_at ws >>= h)
-opened_exchanged None k h each = seq_into open_paren_exchanged (λ _. seq_into any_arguments_exchanged each)
-opened_exchanged (Some ws) k h each = opened_of_exchanged ws k h each
+arguments_exchanged : (ws : Option (List Tok)) → Exchanges (arguments any_shape ws) (arguments_at ws)
+arguments_exchanged None = any_arguments_exchanged
+arguments_exchanged (Some ws) = arguments_of_exchanged ws
 
 -- ---- calls
 
@@ -405,7 +237,7 @@ behind_arguments b = seq_passing call_attributes_exchanged (λ _. seq attachment
 pub calling_exchanged : (named : Bool) → Exchanging true (calling any_shape named) (calling_at named)
 unfolding calling calling_at
 calling_exchanged named =
-    seq_into conventions_exchanged (λ _. seq_into result_exchanged (λ r. seq_into (maybe PAREN refl types_exchanged) (λ ws. seq_into (callee_exchanged named r) (λ f. opened_exchanged ws _ _ (λ as'. behind_arguments (called r f as'))))))
+    seq_into conventions_exchanged (λ _. seq_into result_exchanged (λ r. seq_into (maybe PAREN refl types_exchanged) (λ ws. seq_into (callee_exchanged named r) (λ f. seq_into open_paren_exchanged (λ _. seq_into (arguments_exchanged ws) (λ as'. behind_arguments (called r f as')))))))
 
 pub tail_calling_exchanged : (named : Bool) → Exchanging true (tail_calling any_shape named) (tail_calling_at named)
 unfolding tail_calling tail_calling_at

@@ -10,7 +10,7 @@ use Rattle.ir_instructions.specs.ShapeForms.{any_shape}
 use Rattle.ir_read.proofs.Singles.{word}
 use Rattle.ir_bodies.specs.Blocks.{any_local}
 use Rattle.ir_bodies.specs.Lines.{GIVING, OPCODES, opcode_of, begun_of, operation, attended, kept, behind, lined, line_behind, named_line, plain_line, line}
-use Rattle.ir_bodies.specs.LinesAt.{operation_at, attended_at, kept_at, behind_at, line_behind_at, named_line_at, plain_line_at, line_at}
+use Rattle.ir_bodies.specs.LinesAt.{operation_at, attended_at, some_at, behind_at, line_behind_at, named_line_at, plain_line_at, line_at}
 use Rattle.ir_bodies.specs.declared.opcodes.Opcode.TheVariants as opcodes
 use Rattle.ir_bodies.specs.declared.opcodes.Opcode.{Opcode}
 use Rattle.ir_bodies.specs.declared.opcodes.Operation.TheVariants as operations
@@ -44,7 +44,7 @@ operation_exchanged operations.Select = selecting_exchanged
 operation_exchanged operations.Freeze = freezing_exchanged
 
 pub behind_exchanged : (named : Bool) (o : Opcode) → Exchanging true (behind any_slots any_shape named o) (behind_at named o)
-unfolding attended attended_at kept kept_at
+unfolding attended attended_at kept some_at
 behind_exchanged named (opcodes.Value o) = loosened (seq (operation_exchanged o) (λ i. seq attachments_exchanged (λ _. nothing (Some i))))
 behind_exchanged named opcodes.Phi = loosened (seq phi_exchanged (λ i. nothing (Some i)))
 behind_exchanged named opcodes.Alloca = loosened (seq reserving_exchanged (λ i. nothing (Some i)))
