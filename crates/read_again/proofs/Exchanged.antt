@@ -37,14 +37,16 @@ abbrev pub WordGoes : Head → (Tok → Type 0) → Type 0
 WordGoes heads.Target Goes = (w : Tok) × (among tokens WORD w ≡ true) × Goes w
 WordGoes h Goes = ⊥
 
--- why one of this class isn't told to be left out: no token that it stands for goes on, or not each
-abbrev pub NotTold : Head → (Tok → Type 0) → (Tok → Type 0) → Type 0
-NotTold heads.RefusedType Stuck Goes = (u : Tok) → among tokens REG u ≡ true → Stuck u
-NotTold heads.Target Stuck Goes = ((u : Tok) → among tokens REG u ≡ true → Stuck u) ⊎ ((w : Tok) × (among tokens WORD w ≡ true) × Goes w)
-NotTold heads.RegisterInteger Stuck Goes = (u : Tok) × (among tokens MEMORY u ≡ true) × IsReal u × Stuck u
-NotTold heads.NumberedGlobal Stuck Goes = (u : Tok) → among tokens GLOBAL u ≡ true → Stuck u
-NotTold heads.NumberedDefinition Stuck Goes = (u : Tok) → among tokens GLOBAL u ≡ true → Stuck u
-NotTold h Stuck Goes = Unit {0}
+-- why one of this class isn't told to be left out: no token that it stands for goes on, or not each; a lifetime marker isn't in some
+-- places only
+abbrev pub NotTold : Head → (Tok → Type 0) → (Tok → Type 0) → Type 0 → Type 0
+NotTold heads.RefusedType Stuck Goes Named = (u : Tok) → among tokens REG u ≡ true → Stuck u
+NotTold heads.Target Stuck Goes Named = ((u : Tok) → among tokens REG u ≡ true → Stuck u) ⊎ ((w : Tok) × (among tokens WORD w ≡ true) × Goes w)
+NotTold heads.RegisterInteger Stuck Goes Named = (u : Tok) × (among tokens MEMORY u ≡ true) × IsReal u × Stuck u
+NotTold heads.NumberedGlobal Stuck Goes Named = (u : Tok) → among tokens GLOBAL u ≡ true → Stuck u
+NotTold heads.NumberedDefinition Stuck Goes Named = (u : Tok) → among tokens GLOBAL u ≡ true → Stuck u
+NotTold heads.LifetimeMarker Stuck Goes Named = Named
+NotTold h Stuck Goes Named = Unit {0}
 
 -- why it is: one that it stands for goes on, or each; a type is told behind `(` as well, where arguments may stand; and where `target`
 -- is told no plain word goes on
@@ -78,21 +80,32 @@ Goes {A} wide front u = (more : List Tok) × (a : A) × wide (front ++ u ∷ mor
 abbrev pub Stays : {A : Type 0} → Reader Tok A → List Tok → A → Tok → Type 0
 Stays f front a u = (rest : List Tok) → f (front ++ u ∷ rest) ≡ reads a (u ∷ rest)
 
+-- what stands before a lifetime marker that is told against the syntax
+abbrev pub Place : Type 1
+Place = Form Tok (Unit {0})
+
+abbrev pub nowhere : Place
+nowhere ts u = ⊥
+
 -- what a reading says at a token of this class of those that it stands for; only some readings end where a plain word goes on and
 -- `target` doesn't
-abbrev pub Outcome : {A : Type 0} → Bool → Form Tok A → Reader Tok A → List Tok → Head → Result A FaultKind → Type 0
-Outcome words wide f front h (Ok a) = ((u : Tok) → among tokens (stands_for h) u ≡ true → Stays f front a u) ⊎ ((words ≡ true) × WordGoes h (Goes wide front))
-Outcome words wide f front h (Err Syntax) = NotTold h (Stuck f front) (Goes wide front)
-Outcome words wide f front h (Err Profile) = IsTold h (Stuck f front) (Goes wide front) (Open front)
-Outcome words wide f front h (Err Number) = Unit {0}
-Outcome words wide f front h (Err Limit) = Unit {0}
+abbrev pub Outcome : {A : Type 0} → Bool → Place → Form Tok A → Reader Tok A → List Tok → Head → Result A FaultKind → Type 0
+Outcome words place wide f front h (Ok a) = ((u : Tok) → among tokens (stands_for h) u ≡ true → Stays f front a u) ⊎ ((words ≡ true) × WordGoes h (Goes wide front))
+Outcome words place wide f front h (Err Syntax) = NotTold h (Stuck f front) (Goes wide front) (place front tt)
+Outcome words place wide f front h (Err Profile) = IsTold h (Stuck f front) (Goes wide front) (Open front)
+Outcome words place wide f front h (Err Number) = Unit {0}
+Outcome words place wide f front h (Err Limit) = Unit {0}
 
-pub record Exchanging {A : Type 0} (words : Bool) (wide : Form Tok A) (f : Reader Tok A) : Type 0 where
+pub record Swapping {A : Type 0} (words : Bool) (place : Place) (wide : Form Tok A) (f : Reader Tok A) : Type 0 where
   pub sound : (ts rest : List Tok) (a : A) → f ts ≡ reads a rest → (front : List Tok) × (ts ≡ front ++ rest) × wide front a
   pub placed : (ts : List Tok) (e : Fault) → f ts ≡ wrong e → (front : List Tok) × (rest : List Tok) × (ts ≡ front ++ rest) × (length rest ≡ e.left)
   pub local : (front : List Tok) (t : Tok) (rest rest' : List Tok) (o : Result A FaultKind) → f (front ++ t ∷ rest) ≡ ends o (t ∷ rest) → f (front ++ t ∷ rest') ≡ ends o (t ∷ rest')
   pub some : (ts : List Tok) × (a : A) × wide ts a × AllReal tokens ts
-  pub swap : (front : List Tok) (t : Tok) (rest : List Tok) (o : Result A FaultKind) → f (front ++ t ∷ rest) ≡ ends o (t ∷ rest) → Outcome words wide f front t.head o
+  pub swap : (front : List Tok) (t : Tok) (rest : List Tok) (o : Result A FaultKind) → f (front ++ t ∷ rest) ≡ ends o (t ∷ rest) → Outcome words place wide f front t.head o
+
+-- of a reader that never tells a lifetime marker against the syntax
+abbrev pub Exchanging : {A : Type 0} → Bool → Form Tok A → Reader Tok A → Type 0
+Exchanging words wide f = Swapping words nowhere wide f
 
 abbrev pub Exchanges : {A : Type 0} → Form Tok A → Reader Tok A → Type 0
 Exchanges wide f = Exchanging false wide f
@@ -105,14 +118,15 @@ a_type u i = within_of REG (REG ++ WORD) refl (number u.head) i
 pub a_plain_word : (w : Tok) → among tokens WORD w ≡ true → among tokens (REG ++ WORD) w ≡ true
 a_plain_word w i = within_of WORD (REG ++ WORD) refl (number w.head) i
 
-pub not_told_too : (h : Head) (S S' G G' : Tok → Type 0) → ((u : Tok) → among tokens (stands_for h) u ≡ true → S u → S' u) → ((u : Tok) → G u → G' u) → NotTold h S G → NotTold h S' G'
-not_told_too heads.RefusedType S S' G G' s g n = λ u i. s u i (n u i)
-not_told_too heads.Target S S' G G' s g (inl n) = inl (λ u i. s u (a_type u i) (n u i))
-not_told_too heads.Target S S' G G' s g (inr (w, i, n)) = inr (w, i, g w n)
-not_told_too heads.RegisterInteger S S' G G' s g (u, i, r, n) = (u, i, r, s u i n)
-not_told_too heads.NumberedGlobal S S' G G' s g n = λ u i. s u i (n u i)
-not_told_too heads.NumberedDefinition S S' G G' s g n = λ u i. s u i (n u i)
-not_told_too h S S' G G' s g n = tt
+pub not_told_too : (h : Head) (S S' G G' : Tok → Type 0) (P P' : Type 0) → ((u : Tok) → among tokens (stands_for h) u ≡ true → S u → S' u) → ((u : Tok) → G u → G' u) → (P → P') → NotTold h S G P → NotTold h S' G' P'
+not_told_too heads.RefusedType S S' G G' P P' s g p n = λ u i. s u i (n u i)
+not_told_too heads.Target S S' G G' P P' s g p (inl n) = inl (λ u i. s u (a_type u i) (n u i))
+not_told_too heads.Target S S' G G' P P' s g p (inr (w, i, n)) = inr (w, i, g w n)
+not_told_too heads.RegisterInteger S S' G G' P P' s g p (u, i, r, n) = (u, i, r, s u i n)
+not_told_too heads.NumberedGlobal S S' G G' P P' s g p n = λ u i. s u i (n u i)
+not_told_too heads.NumberedDefinition S S' G G' P P' s g p n = λ u i. s u i (n u i)
+not_told_too heads.LifetimeMarker S S' G G' P P' s g p n = p n
+not_told_too h S S' G G' P P' s g p n = tt
 
 pub told_too : (h : Head) (S S' G G' : Tok → Type 0) (P P' : Type 0) → ((u : Tok) → among tokens (stands_for h) u ≡ true → S u → S' u) → ((u : Tok) → G u → G' u) → (P → P') → IsTold h S G P → IsTold h S' G' P'
 told_too heads.RefusedType S S' G G' P P' s g p (inl (u, i, n)) = inl (u, i, g u n)
@@ -129,26 +143,26 @@ word_too heads.Target G G' g (w, i, n) = (w, i, g w n)
 word_too h G G' g n = absurd n
 
 -- where a word goes on, `target` isn't told to be left out
-pub word_not_told : (h : Head) (S G : Tok → Type 0) → WordGoes h G → NotTold h S G
-word_not_told heads.Target S G n = inr n
-word_not_told h S G n = absurd n
+pub word_not_told : (h : Head) (S G : Tok → Type 0) (P : Type 0) → WordGoes h G → NotTold h S G P
+word_not_told heads.Target S G P n = inr n
+word_not_told h S G P n = absurd n
 
-module _ {A B : Type 0} (words words' : Bool) (wide : Form Tok A) (wide' : Form Tok B) (f : Reader Tok A) (f' : Reader Tok B) (front front' : List Tok) (h : Head) where
+module _ {A B : Type 0} (words words' : Bool) (place place' : Place) (wide : Form Tok A) (wide' : Form Tok B) (f : Reader Tok A) (f' : Reader Tok B) (front front' : List Tok) (h : Head) where
   -- what is said of one reading is said of another
-  pub err_too : (k : FaultKind) → (Open front → Open front') → ((u : Tok) → among tokens (stands_for h) u ≡ true → Stuck f front u → Stuck f' front' u) → ((u : Tok) → Goes wide front u → Goes wide' front' u) → Outcome words wide f front h (Err k) → Outcome words' wide' f' front' h (Err k)
-  err_too Syntax p s g n = not_told_too h (Stuck f front) (Stuck f' front') (Goes wide front) (Goes wide' front') s g n
-  err_too Profile p s g n = told_too h (Stuck f front) (Stuck f' front') (Goes wide front) (Goes wide' front') (Open front) (Open front') s g p n
-  err_too Number p s g n = tt
-  err_too Limit p s g n = tt
+  pub err_too : (k : FaultKind) → (Open front → Open front') → (place front tt → place' front' tt) → ((u : Tok) → among tokens (stands_for h) u ≡ true → Stuck f front u → Stuck f' front' u) → ((u : Tok) → Goes wide front u → Goes wide' front' u) → Outcome words place wide f front h (Err k) → Outcome words' place' wide' f' front' h (Err k)
+  err_too Syntax p v s g n = not_told_too h (Stuck f front) (Stuck f' front') (Goes wide front) (Goes wide' front') (place front tt) (place' front' tt) s g v n
+  err_too Profile p v s g n = told_too h (Stuck f front) (Stuck f' front') (Goes wide front) (Goes wide' front') (Open front) (Open front') s g p n
+  err_too Number p v s g n = tt
+  err_too Limit p v s g n = tt
 
-  pub ok_too : (words ≡ true → words' ≡ true) → (a : A) (b : B) → ((u : Tok) → among tokens (stands_for h) u ≡ true → Stays f front a u → Stays f' front' b u) → ((u : Tok) → Goes wide front u → Goes wide' front' u) → Outcome words wide f front h (Ok a) → Outcome words' wide' f' front' h (Ok b)
+  pub ok_too : (words ≡ true → words' ≡ true) → (a : A) (b : B) → ((u : Tok) → among tokens (stands_for h) u ≡ true → Stays f front a u → Stays f' front' b u) → ((u : Tok) → Goes wide front u → Goes wide' front' u) → Outcome words place wide f front h (Ok a) → Outcome words' place' wide' f' front' h (Ok b)
   ok_too q a b s g (inl n) = inl (λ u i. s u i (n u i))
   ok_too q a b s g (inr (e, w)) = inr (q e, word_too h (Goes wide front) (Goes wide' front') g w)
 
-pub outcome_too : {A : Type 0} (words words' : Bool) (wide wide' : Form Tok A) (f f' : Reader Tok A) (front front' : List Tok) (h : Head) (o : Result A FaultKind) → (words ≡ true → words' ≡ true) → (Open front → Open front') → ((u : Tok) → among tokens (stands_for h) u ≡ true → (rest : List Tok) → f (front ++ u ∷ rest) ≡ f' (front' ++ u ∷ rest)) → ((u : Tok) → Goes wide front u → Goes wide' front' u)
-    → Outcome words wide f front h o → Outcome words' wide' f' front' h o
-outcome_too words words' wide wide' f f' front front' h (Ok a) q p same g n = ok_too words words' wide wide' f f' front front' h q a a (λ u i s rest. sym (same u i rest) ∙ s rest) g n
-outcome_too words words' wide wide' f f' front front' h (Err k) q p same g n = err_too words words' wide wide' f f' front front' h k p (λ u i s rest. let r = s rest in (r.0, r.1, sym (same u i rest) ∙ r.2)) g n
+pub outcome_too : {A : Type 0} (words words' : Bool) (place place' : Place) (wide wide' : Form Tok A) (f f' : Reader Tok A) (front front' : List Tok) (h : Head) (o : Result A FaultKind) → (words ≡ true → words' ≡ true) → (Open front → Open front') → (place front tt → place' front' tt) → ((u : Tok) → among tokens (stands_for h) u ≡ true → (rest : List Tok) → f (front ++ u ∷ rest) ≡ f' (front' ++ u ∷ rest)) → ((u : Tok) → Goes wide front u → Goes wide' front' u)
+    → Outcome words place wide f front h o → Outcome words' place' wide' f' front' h o
+outcome_too words words' place place' wide wide' f f' front front' h (Ok a) q p v same g n = ok_too words words' place place' wide wide' f f' front front' h q a a (λ u i s rest. sym (same u i rest) ∙ s rest) g n
+outcome_too words words' place place' wide wide' f f' front front' h (Err k) q p v same g n = err_too words words' place place' wide wide' f f' front front' h k p v (λ u i s rest. let r = s rest in (r.0, r.1, sym (same u i rest) ∙ r.2)) g n
 
 -- ---- no token
 
@@ -165,12 +179,12 @@ module _ {A : Type 0} (a : A) where
     placed = λ ts e d. absurd cc;
     local = λ front t rest rest' o d. let h = ends_here front t rest o d in rw (h.0, h.1) refl;
     some = ([], a, (refl, refl), tt);
-    swap = λ front t rest o d. let h = ends_here front t rest o d in subst (λ (y : Result A FaultKind). Outcome false (form.gives a) (done a) front t.head y) (sym h.1) (subst (λ (y : List Tok). Outcome false (form.gives a) (done a) y t.head (Ok a)) (sym h.0) (inl (λ u i rest'. refl)));
+    swap = λ front t rest o d. let h = ends_here front t rest o d in subst (λ (y : Result A FaultKind). Outcome false nowhere (form.gives a) (done a) front t.head y) (sym h.1) (subst (λ (y : List Tok). Outcome false nowhere (form.gives a) (done a) y t.head (Ok a)) (sym h.0) (inl (λ u i rest'. refl)));
   }
 
 -- ---- one behind another
 
-pub placed_of : {A : Type 0} {words : Bool} {wide : Form Tok A} {f : Reader Tok A} → Exchanging words wide f → (ts us : List Tok) (o : Result A FaultKind) → f ts ≡ ends o us → (front : List Tok) × (rest : List Tok) × (ts ≡ front ++ rest) × (length rest ≡ length us)
+pub placed_of : {A : Type 0} {words : Bool} {place : Place} {wide : Form Tok A} {f : Reader Tok A} → Swapping words place wide f → (ts us : List Tok) (o : Result A FaultKind) → f ts ≡ ends o us → (front : List Tok) × (rest : List Tok) × (ts ≡ front ++ rest) × (length rest ≡ length us)
 placed_of law ts us (Ok a) h = let s = law.sound ts us a h in (s.0, us, s.1, refl)
 placed_of law ts us (Err k) h = law.placed ts (record { left = length us; kind = k }) h
 
@@ -190,7 +204,8 @@ pub is_target : Head → Bool
 is_target heads.Target = true
 is_target h = false
 
-module _ {A B : Type 0} {words words' : Bool} (result : Bool) {wide : Form Tok A} {f : Reader Tok A} {wide' : A → Form Tok B} {h : A → Reader Tok B} (law : Exchanging words wide f) (laws : (a : A) → Exchanging words' (wide' a) (h a)) (into : words' ≡ true → result ≡ true)
+module _ {A B : Type 0} {words words' : Bool} (result : Bool) {one_place : Place} {other_place : A → Place} (place : Place) {wide : Form Tok A} {f : Reader Tok A} {wide' : A → Form Tok B} {h : A → Reader Tok B} (law : Swapping words one_place wide f) (laws : (a : A) → Swapping words' (other_place a) (wide' a) (h a)) (into : words' ≡ true → result ≡ true)
+    (within_first : (front : List Tok) → one_place front tt → place front tt) (within_second : (one two : List Tok) (a : A) → wide one a → other_place a two tt → place (one ++ two) tt)
     (follows : words ≡ true → (a : A) (t : Tok) (rest : List Tok) (o : Result B FaultKind) → is_target t.head ≡ true → h a (t ∷ rest) ≡ ends o (t ∷ rest) → MayFollow result o) where
   abbrev both : Form Tok B
   both = form.◌>>=◌ wide wide'
@@ -263,8 +278,8 @@ module _ {A B : Type 0} {words words' : Bool} (result : Bool) {wide : Form Tok A
       ap (λ (y : List Tok). (f >>= h) (y ++ t ∷ rest')) c.front_is ∙ whole c.one c.two x.0 t rest' (local_first c.one c.two t rest rest' x.0 c.first) ∙ two
 
   -- the second reading, behind a first one that stays
-  behind : (one two : List Tok) (a : A) → wide one a → (k : Head) (o : Result B FaultKind) → ((u : Tok) → among tokens (stands_for k) u ≡ true → (rest : List Tok) → f (one ++ (two ++ u ∷ rest)) ≡ reads a (two ++ u ∷ rest)) → Outcome words' (wide' a) (h a) two k o → Outcome result both (f >>= h) (one ++ two) k o
-  behind one two a s k o stays n = outcome_too words' result (wide' a) both (h a) (f >>= h) two (one ++ two) k o into (open_behind one two) (λ u i rest. sym (whole one two a u rest (stays u i rest))) (λ u g. goes_second one two a s u g) n
+  behind : (one two : List Tok) (a : A) → wide one a → (k : Head) (o : Result B FaultKind) → ((u : Tok) → among tokens (stands_for k) u ≡ true → (rest : List Tok) → f (one ++ (two ++ u ∷ rest)) ≡ reads a (two ++ u ∷ rest)) → Outcome words' (other_place a) (wide' a) (h a) two k o → Outcome result place both (f >>= h) (one ++ two) k o
+  behind one two a s k o stays n = outcome_too words' result (other_place a) place (wide' a) both (h a) (f >>= h) two (one ++ two) k o into (open_behind one two) (within_second one two a s) (λ u i rest. sym (whole one two a u rest (stays u i rest))) (λ u g. goes_second one two a s u g) n
 
   word_is : (k : Head) (G : Tok → Type 0) → WordGoes k G → is_target k ≡ true
   unfolding is_target
@@ -272,29 +287,29 @@ module _ {A B : Type 0} {words words' : Bool} (result : Bool) {wide : Form Tok A
   word_is k G w = absurd w
 
   -- or behind one where a word goes on
-  behind_word : (one : List Tok) (k : Head) (o : Result B FaultKind) → WordGoes k (Goes wide one) → MayFollow result o → Outcome result both (f >>= h) (one ++ []) k o
+  behind_word : (one : List Tok) (k : Head) (o : Result B FaultKind) → WordGoes k (Goes wide one) → MayFollow result o → Outcome result place both (f >>= h) (one ++ []) k o
   behind_word one k (Ok b) w n = inr (n, word_too k (Goes wide one) (Goes both (one ++ [])) (λ u g. goes_first (one ++ []) u (subst (λ (y : List Tok). Goes wide y u) (sym (append-nil one)) g)) w)
-  behind_word one k (Err Syntax) w n = word_not_told k (Stuck (f >>= h) (one ++ [])) (Goes both (one ++ [])) (word_too k (Goes wide one) (Goes both (one ++ [])) (λ u g. goes_first (one ++ []) u (subst (λ (y : List Tok). Goes wide y u) (sym (append-nil one)) g)) w)
+  behind_word one k (Err Syntax) w n = word_not_told k (Stuck (f >>= h) (one ++ [])) (Goes both (one ++ [])) (place (one ++ []) tt) (word_too k (Goes wide one) (Goes both (one ++ [])) (λ u g. goes_first (one ++ []) u (subst (λ (y : List Tok). Goes wide y u) (sym (append-nil one)) g)) w)
   behind_word one k (Err Profile) w n = absurd n
   behind_word one k (Err Number) w n = tt
   behind_word one k (Err Limit) w n = tt
 
-  swap_second : (one two : List Tok) (t : Tok) (rest : List Tok) (o : Result B FaultKind) (a : A) → wide one a → f (one ++ (two ++ t ∷ rest)) ≡ reads a (two ++ t ∷ rest) → h a (two ++ t ∷ rest) ≡ ends o (t ∷ rest) → Outcome result both (f >>= h) (one ++ two) t.head o
+  swap_second : (one two : List Tok) (t : Tok) (rest : List Tok) (o : Result B FaultKind) (a : A) → wide one a → f (one ++ (two ++ t ∷ rest)) ≡ reads a (two ++ t ∷ rest) → h a (two ++ t ∷ rest) ≡ ends o (t ∷ rest) → Outcome result place both (f >>= h) (one ++ two) t.head o
   swap_second one (v ∷ mid) t rest o a s e d = behind one (v ∷ mid) a s t.head o (λ u i rest'. law.local one v (mid ++ t ∷ rest) (mid ++ u ∷ rest') (Ok a) e) ((laws a).swap (v ∷ mid) t rest o d)
   swap_second one [] t rest o a s e d = elim (law.swap one t rest (Ok a) e) [
     | inl stays ↦ behind one [] a s t.head o (λ u i rest'. stays u i rest') ((laws a).swap [] t rest o d)
     | inr w ↦ behind_word one t.head o w.1 (follows w.0 a t rest o (word_is t.head (Goes wide one) w.1) d)
   ]
 
-  swap_seq : (front : List Tok) (t : Tok) (rest : List Tok) (o : Result B FaultKind) (r : Result (A × List Tok) Fault) → f (front ++ t ∷ rest) ≡ r → follow r h ≡ ends o (t ∷ rest) → Outcome result both (f >>= h) front t.head o
+  swap_seq : (front : List Tok) (t : Tok) (rest : List Tok) (o : Result B FaultKind) (r : Result (A × List Tok) Fault) → f (front ++ t ∷ rest) ≡ r → follow r h ≡ ends o (t ∷ rest) → Outcome result place both (f >>= h) front t.head o
   swap_seq front t rest o (Err e) i d =
       let w = err_ends e o (t ∷ rest) d in
-      subst (λ (x : Result B FaultKind). Outcome result both (f >>= h) front t.head x) (sym w.1) (err_too words result wide both f (f >>= h) front front t.head w.0 (λ p. p) (λ u _ s. stuck_first front u s) (λ u g. goes_first front u g) (law.swap front t rest (Err w.0) (i ∙ ap wrong w.2)))
+      subst (λ (x : Result B FaultKind). Outcome result place both (f >>= h) front t.head x) (sym w.1) (err_too words result one_place place wide both f (f >>= h) front front t.head w.0 (λ p. p) (within_first front) (λ u _ s. stuck_first front u s) (λ u g. goes_first front u g) (law.swap front t rest (Err w.0) (i ∙ ap wrong w.2)))
   swap_seq front t rest o (Ok x) i d =
       let c = cut front t rest o x.0 x.1 i d in
-      subst (λ (y : List Tok). Outcome result both (f >>= h) y t.head o) (sym c.front_is) (swap_second c.one c.two t rest o x.0 c.spelled c.first (ap (h x.0) (sym c.left_is) ∙ d))
+      subst (λ (y : List Tok). Outcome result place both (f >>= h) y t.head o) (sym c.front_is) (swap_second c.one c.two t rest o x.0 c.spelled c.first (ap (h x.0) (sym c.left_is) ∙ d))
 
-  pub seq_by : Exchanging result (form.◌>>=◌ wide wide') (f >>= h)
+  pub seq_by : Swapping result place (form.◌>>=◌ wide wide') (f >>= h)
   unfolding form.◌>>=◌
   seq_by = record {
     sound = λ ts rest b e. sound_seq ts rest b (f ts) refl e;
@@ -312,15 +327,28 @@ valued_end b us (Ok c) d = refl
 valued_end b us (Err k) d = absurd cc
 
 pub seq : {A B : Type 0} {wide : Form Tok A} {f : Reader Tok A} {wide' : A → Form Tok B} {h : A → Reader Tok B} → Exchanges wide f → ((a : A) → Exchanges (wide' a) (h a)) → Exchanges (form.◌>>=◌ wide wide') (f >>= h)
-seq law laws = seq_by false law laws (λ e. e) (λ e. absurd (differ e))
+seq law laws = seq_by false nowhere law laws (λ e. e) (λ front v. v) (λ one two a s v. v) (λ e. absurd (differ e))
 
 -- of which the second may end where a plain word goes on
 pub seq_into : {A B : Type 0} {wide : Form Tok A} {f : Reader Tok A} {wide' : A → Form Tok B} {h : A → Reader Tok B} → Exchanges wide f → ((a : A) → Exchanging true (wide' a) (h a)) → Exchanging true (form.◌>>=◌ wide wide') (f >>= h)
-seq_into law laws = seq_by true law laws (λ e. e) (λ e. absurd (differ e))
+seq_into law laws = seq_by true nowhere law laws (λ e. e) (λ front v. v) (λ one two a s v. v) (λ e. absurd (differ e))
+
+-- what stands before the second, behind the first
+pub place_behind : {A : Type 0} (wide : Form Tok A) (place : A → Place) (one two : List Tok) (a : A) → wide one a → place a two tt → form.◌>>=◌ wide place (one ++ two) tt
+unfolding form.◌>>=◌
+place_behind wide place one two a s v = (one, two, a, refl, s, v)
+
+-- of which the second tells a lifetime marker against the syntax in some places
+pub seq_to : {A B : Type 0} {words : Bool} {place : A → Place} {wide : Form Tok A} {f : Reader Tok A} {wide' : A → Form Tok B} {h : A → Reader Tok B} → Exchanges wide f → ((a : A) → Swapping words (place a) (wide' a) (h a)) → Swapping words (form.◌>>=◌ wide place) (form.◌>>=◌ wide wide') (f >>= h)
+seq_to {words = words} {place = place} {wide = wide} law laws = seq_by words (form.◌>>=◌ wide place) law laws (λ e. e) (λ front v. absurd v) (λ one two a s v. place_behind wide place one two a s v) (λ e. absurd (differ e))
+
+-- of which the first does
+pub seq_from : {A B : Type 0} {words : Bool} {place : Place} {wide : Form Tok A} {f : Reader Tok A} {wide' : A → Form Tok B} {h : A → Reader Tok B} → Swapping false place wide f → ((a : A) → Exchanging words (wide' a) (h a)) → Swapping words place (form.◌>>=◌ wide wide') (f >>= h)
+seq_from {words = words} {place = place} law laws = seq_by words place law laws (λ e. e) (λ front v. v) (λ one two a s v. absurd v) (λ e. absurd (differ e))
 
 -- of which the first may, and the second reads nothing
-pub with_value : {A B : Type 0} {wide : Form Tok A} {f : Reader Tok A} (value : A → B) → Exchanging true wide f → Exchanging true (form.◌>>=◌ wide (λ a. form.gives (value a))) (f >>= λ a. done (value a))
-with_value value law = seq_by true law (λ a. nothing (value a)) (λ e. refl) (λ e a t rest o i d. valued_end (value a) (t ∷ rest) o d)
+pub with_value : {A B : Type 0} {place : Place} {wide : Form Tok A} {f : Reader Tok A} (value : A → B) → Swapping true place wide f → Swapping true place (form.◌>>=◌ wide (λ a. form.gives (value a))) (f >>= λ a. done (value a))
+with_value {place = place} value law = seq_by true place law (λ a. nothing (value a)) (λ e. refl) (λ front v. v) (λ one two a s v. absurd v) (λ e a t rest o i d. valued_end (value a) (t ∷ rest) o d)
 
 -- ---- behind what may end where a plain word goes on
 
@@ -329,12 +357,17 @@ syntax_follows (Ok b) us d = absurd cc
 syntax_follows {B} (Err k) us d = subst (λ (x : FaultKind). MayFollow {B = B} false (Err x)) (ap (λ (x : Fault). x.kind) (wrong_is {X = B × List Tok} (record { left = length us; kind = Syntax }) (record { left = length us; kind = k }) d)) tt
 
 -- the second refuses `target`
-pub seq_closing : {A B : Type 0} {wide : Form Tok A} {f : Reader Tok A} {wide' : A → Form Tok B} {h : A → Reader Tok B} → Exchanging true wide f → ((a : A) → Exchanges (wide' a) (h a)) → ((a : A) (t : Tok) (rest : List Tok) → is_target t.head ≡ true → h a (t ∷ rest) ≡ fault_at Syntax (t ∷ rest)) → Exchanges (form.◌>>=◌ wide wide') (f >>= h)
-seq_closing law laws closes = seq_by false law laws (λ e. e) (λ v a t rest o q d. syntax_follows o (t ∷ rest) (sym (closes a t rest q) ∙ d))
+pub seq_closing : {A B : Type 0} {place : Place} {wide : Form Tok A} {f : Reader Tok A} {wide' : A → Form Tok B} {h : A → Reader Tok B} → Swapping true place wide f → ((a : A) → Exchanges (wide' a) (h a)) → ((a : A) (t : Tok) (rest : List Tok) → is_target t.head ≡ true → h a (t ∷ rest) ≡ fault_at Syntax (t ∷ rest)) → Swapping false place (form.◌>>=◌ wide wide') (f >>= h)
+seq_closing {place = place} law laws closes = seq_by false place law laws (λ e. e) (λ front v. v) (λ one two a s v. absurd v) (λ v a t rest o q d. syntax_follows o (t ∷ rest) (sym (closes a t rest q) ∙ d))
+
+-- and tells a lifetime marker against the syntax in some places
+pub seq_closing_to : {A B : Type 0} {place : A → Place} {wide : Form Tok A} {f : Reader Tok A} {wide' : A → Form Tok B} {h : A → Reader Tok B} → Exchanging true wide f → ((a : A) → Swapping false (place a) (wide' a) (h a)) → ((a : A) (t : Tok) (rest : List Tok) → is_target t.head ≡ true → h a (t ∷ rest) ≡ fault_at Syntax (t ∷ rest))
+    → Swapping false (form.◌>>=◌ wide place) (form.◌>>=◌ wide wide') (f >>= h)
+seq_closing_to {place = place} {wide = wide} law laws closes = seq_by false (form.◌>>=◌ wide place) law laws (λ e. e) (λ front v. absurd v) (λ one two a s v. place_behind wide place one two a s v) (λ v a t rest o q d. syntax_follows o (t ∷ rest) (sym (closes a t rest q) ∙ d))
 
 -- the second may read nothing before it
 pub seq_passing : {A B : Type 0} {wide : Form Tok A} {f : Reader Tok A} {wide' : A → Form Tok B} {h : A → Reader Tok B} → Exchanging true wide f → ((a : A) → Exchanges (wide' a) (h a)) → ((a : A) (t : Tok) (rest : List Tok) → is_target t.head ≡ true → (b : B) × (h a (t ∷ rest) ≡ reads b (t ∷ rest))) → Exchanging true (form.◌>>=◌ wide wide') (f >>= h)
-seq_passing law laws passes = seq_by true law laws (λ e. absurd (differ e)) (λ v a t rest o q d. let p = passes a t rest q in valued_end p.0 (t ∷ rest) o (sym p.1 ∙ d))
+seq_passing law laws passes = seq_by true nowhere law laws (λ e. absurd (differ e)) (λ front v. v) (λ one two a s v. v) (λ v a t rest o q d. let p = passes a t rest q in valued_end p.0 (t ∷ rest) o (sym p.1 ∙ d))
 
 pub target_is : (h : Head) → is_target h ≡ true → number h ≡ number heads.Target
 unfolding is_target
@@ -343,7 +376,7 @@ target_is h e = absurd cc
 
 -- ---- of a reader that is tied to its form
 
-pub of_rule : {A : Type 0} {g wide : Form Tok A} {f : Reader Tok A} {xs ms : List ℕ} {e : Bool} → Rule tokens g wide f xs ms e → ((front : List Tok) (t : Tok) (rest : List Tok) (o : Result A FaultKind) → f (front ++ t ∷ rest) ≡ ends o (t ∷ rest) → Outcome false wide f front t.head o) → Exchanges wide f
+pub of_rule : {A : Type 0} {g wide : Form Tok A} {f : Reader Tok A} {xs ms : List ℕ} {e : Bool} → Rule tokens g wide f xs ms e → ((front : List Tok) (t : Tok) (rest : List Tok) (o : Result A FaultKind) → f (front ++ t ∷ rest) ≡ ends o (t ∷ rest) → Outcome false nowhere wide f front t.head o) → Exchanges wide f
 of_rule rule swap = record {
   sound = λ ts rest a e. let s = rule.law.sound ts rest a e in (s.0, s.1, rule.law.contains s.0 a s.2);
   placed = λ ts e d. let v = rule.law.viable ts e d in (v.front, v.rest, v.whole, v.here);
@@ -360,14 +393,27 @@ taken rule a s = never (rule.law.broad.nothing a s)
     never e = cc
 
 -- the same reader of a form that has more
-pub recast : {A : Type 0} {words : Bool} {wide wide' : Form Tok A} {f : Reader Tok A} → ((ts : List Tok) (a : A) → wide ts a → wide' ts a) → Exchanging words wide f → Exchanging words wide' f
-recast {words = words} {wide = wide} {wide' = wide'} {f = f} over law = record {
+pub recast : {A : Type 0} {words : Bool} {place : Place} {wide wide' : Form Tok A} {f : Reader Tok A} → ((ts : List Tok) (a : A) → wide ts a → wide' ts a) → Swapping words place wide f → Swapping words place wide' f
+recast {words = words} {place = place} {wide = wide} {wide' = wide'} {f = f} over law = record {
   sound = λ ts rest a e. let s = law.sound ts rest a e in (s.0, s.1, over s.0 a s.2);
   placed = law.placed;
   local = law.local;
   some = let z = law.some in (z.0, z.1, over z.0 z.1 z.2, z.3);
-  swap = λ front t rest o d. outcome_too words words wide wide' f f front front t.head o (λ e. e) (λ p. p) (λ u i rest'. refl) (λ u g. (g.0, g.1, over (front ++ u ∷ g.0) g.1 g.2, g.3)) (law.swap front t rest o d);
+  swap = λ front t rest o d. outcome_too words words place place wide wide' f f front front t.head o (λ e. e) (λ p. p) (λ v. v) (λ u i rest'. refl) (λ u g. (g.0, g.1, over (front ++ u ∷ g.0) g.1 g.2, g.3)) (law.swap front t rest o d);
 }
+
+-- the same reader, with more places before a lifetime marker
+pub placed_too : {A : Type 0} {words : Bool} {place : Place} (place' : Place) {wide : Form Tok A} {f : Reader Tok A} → ((front : List Tok) → place front tt → place' front tt) → Swapping words place wide f → Swapping words place' wide f
+placed_too {words = words} {place = place} place' {wide = wide} {f = f} too law = record {
+  sound = law.sound;
+  placed = law.placed;
+  local = law.local;
+  some = law.some;
+  swap = λ front t rest o d. outcome_too words words place place' wide wide f f front front t.head o (λ e. e) (λ p. p) (too front) (λ u i rest'. refl) (λ u g. g) (law.swap front t rest o d);
+}
+
+pub placed_none : {A : Type 0} {words : Bool} {place : Place} {wide : Form Tok A} {f : Reader Tok A} → Exchanging words wide f → Swapping words place wide f
+placed_none {place = place} law = placed_too place (λ front v. absurd v) law
 
 -- what never ends so may as well
 pub loosened : {A : Type 0} {wide : Form Tok A} {f : Reader Tok A} → Exchanges wide f → Exchanging true wide f
@@ -376,7 +422,7 @@ loosened {wide = wide} {f = f} law = record {
   placed = law.placed;
   local = law.local;
   some = law.some;
-  swap = λ front t rest o d. outcome_too false true wide wide f f front front t.head o (λ e. absurd (differ e)) (λ p. p) (λ u i rest'. refl) (λ u g. g) (law.swap front t rest o d);
+  swap = λ front t rest o d. outcome_too false true nowhere nowhere wide wide f f front front t.head o (λ e. absurd (differ e)) (λ p. p) (λ v. v) (λ u i rest'. refl) (λ u g. g) (law.swap front t rest o d);
 }
 
 pub tight : {A : Type 0} {words : Bool} {wide : Form Tok A} {f : Reader Tok A} → Exchanges wide f → Exchanging words wide f
@@ -471,7 +517,8 @@ taken_first bs f g t ts e = rw e refl
 pub passed : {A : Type 0} (bs : List ℕ) (f g : Reader Tok A) (t : Tok) (ts : List Tok) → among tokens bs t ≡ false → pick (among tokens bs) f g (t ∷ ts) ≡ g (t ∷ ts)
 passed bs f g t ts e = rw e refl
 
-module _ {A : Type 0} {wide wide' : Form Tok A} {f f' : Reader Tok A} {words : Bool} (bs : List ℕ) (turns : Turns words bs wide f') (law : Exchanging words wide f) (law' : Exchanging words wide' f') where
+module _ {A : Type 0} {wide wide' : Form Tok A} {f f' : Reader Tok A} {words : Bool} {one_place other_place : Place} (place : Place) (bs : List ℕ) (turns : Turns words bs wide f') (law : Swapping words one_place wide f) (law' : Swapping words other_place wide' f')
+    (within_one : (front : List Tok) → one_place front tt → place front tt) (within_other : (front : List Tok) → other_place front tt → place front tt) where
   abbrev one_of_two : Reader Tok A
   one_of_two = pick (among tokens bs) f f'
 
@@ -516,17 +563,17 @@ module _ {A : Type 0} {wide wide' : Form Tok A} {f f' : Reader Tok A} {words : B
       by_test false d = law'.local (u ∷ front) t rest rest' o d
 
   -- the first token chooses, and it is the same for all that it stands for
-  swap_fair : (t : Tok) (rest : List Tok) (o : Result A FaultKind) → fair_at bs t.head ≡ true → one_of_two (t ∷ rest) ≡ ends o (t ∷ rest) → Outcome words of_two one_of_two [] t.head o
+  swap_fair : (t : Tok) (rest : List Tok) (o : Result A FaultKind) → fair_at bs t.head ≡ true → one_of_two (t ∷ rest) ≡ ends o (t ∷ rest) → Outcome words place of_two one_of_two [] t.head o
   swap_fair t rest o e d = by_test (among tokens bs t) refl d
     where
-      by_test : (b : Bool) → among tokens bs t ≡ b → cond b (f (t ∷ rest)) (f' (t ∷ rest)) ≡ ends o (t ∷ rest) → Outcome words of_two one_of_two [] t.head o
-      by_test true q d = outcome_too words words wide of_two f one_of_two [] [] t.head o (λ e. e) (λ p. p) (λ u i rest'. sym (taken_first bs f f' u rest' (alike bs t.head e u i ∙ q))) (λ u g. goes_one [] u g) (law.swap [] t rest o d)
-      by_test false q d = outcome_too words words wide' of_two f' one_of_two [] [] t.head o (λ e. e) (λ p. p) (λ u i rest'. sym (passed bs f f' u rest' (alike bs t.head e u i ∙ q))) (λ u g. goes_other [] u g) (law'.swap [] t rest o d)
+      by_test : (b : Bool) → among tokens bs t ≡ b → cond b (f (t ∷ rest)) (f' (t ∷ rest)) ≡ ends o (t ∷ rest) → Outcome words place of_two one_of_two [] t.head o
+      by_test true q d = outcome_too words words one_place place wide of_two f one_of_two [] [] t.head o (λ e. e) (λ p. p) (within_one []) (λ u i rest'. sym (taken_first bs f f' u rest' (alike bs t.head e u i ∙ q))) (λ u g. goes_one [] u g) (law.swap [] t rest o d)
+      by_test false q d = outcome_too words words other_place place wide' of_two f' one_of_two [] [] t.head o (λ e. e) (λ p. p) (within_other []) (λ u i rest'. sym (passed bs f f' u rest' (alike bs t.head e u i ∙ q))) (λ u g. goes_other [] u g) (law'.swap [] t rest o d)
 
   -- at `target`, where a word goes on
-  swap_word : words ≡ true → (h : Head) (o : Result A FaultKind) → WordGoes h (Goes of_two []) → (o ≡ Err Profile → ⊥) → Outcome words of_two one_of_two [] h o
+  swap_word : words ≡ true → (h : Head) (o : Result A FaultKind) → WordGoes h (Goes of_two []) → (o ≡ Err Profile → ⊥) → Outcome words place of_two one_of_two [] h o
   swap_word e h (Ok a) w n = inr (e, w)
-  swap_word e h (Err Syntax) w n = word_not_told h (Stuck one_of_two []) (Goes of_two []) w
+  swap_word e h (Err Syntax) w n = word_not_told h (Stuck one_of_two []) (Goes of_two []) (place [] tt) w
   swap_word e h (Err Profile) w n = absurd (n refl)
   swap_word e h (Err Number) w n = tt
   swap_word e h (Err Limit) w n = tt
@@ -534,27 +581,27 @@ module _ {A : Type 0} {wide wide' : Form Tok A} {f f' : Reader Tok A} {words : B
   is_other : (t : Tok) (rest : List Tok) → contains bs (number heads.Target) ≡ false → is_target t.head ≡ true → one_of_two (t ∷ rest) ≡ f' (t ∷ rest)
   is_other t rest n q = passed bs f f' t rest (target_apart bs t.head n q)
 
-  swap_here : Turns words bs wide f' → (t : Tok) (rest : List Tok) (o : Result A FaultKind) → one_of_two (t ∷ rest) ≡ ends o (t ∷ rest) → Outcome words of_two one_of_two [] t.head o
+  swap_here : Turns words bs wide f' → (t : Tok) (rest : List Tok) (o : Result A FaultKind) → one_of_two (t ∷ rest) ≡ ends o (t ∷ rest) → Outcome words place of_two one_of_two [] t.head o
   swap_here (inl e) t rest o d = swap_fair t rest o (fair_of bs e t.head) d
   swap_here (inr (e, n, turn)) t rest o d = by_test (is_target t.head) refl
     where
-      by_turn : is_target t.head ≡ true → ((words ≡ true) × (w : Tok) × (among tokens WORD w ≡ true) × Goes wide [] w × ((t : Tok) (rest : List Tok) → is_target t.head ≡ true → f' (t ∷ rest) ≡ fault_at Profile (t ∷ rest) → ⊥)) ⊎ ((t : Tok) (rest : List Tok) (o : Result A FaultKind) → is_target t.head ≡ true → f' (t ∷ rest) ≡ ends o (t ∷ rest) → ⊥) → Outcome words of_two one_of_two [] t.head o
+      by_turn : is_target t.head ≡ true → ((words ≡ true) × (w : Tok) × (among tokens WORD w ≡ true) × Goes wide [] w × ((t : Tok) (rest : List Tok) → is_target t.head ≡ true → f' (t ∷ rest) ≡ fault_at Profile (t ∷ rest) → ⊥)) ⊎ ((t : Tok) (rest : List Tok) (o : Result A FaultKind) → is_target t.head ≡ true → f' (t ∷ rest) ≡ ends o (t ∷ rest) → ⊥) → Outcome words place of_two one_of_two [] t.head o
       by_turn q (inl (v, w, i, g, quiet)) = swap_word v t.head o (word_at (Goes of_two []) t.head q w i (goes_one [] w g)) (λ p. quiet t rest q (sym (is_other t rest n q) ∙ d ∙ ap (λ (x : Result A FaultKind). ends x (t ∷ rest)) p))
       by_turn q (inr never) = absurd (never t rest o q (sym (is_other t rest n q) ∙ d))
 
-      by_test : (b : Bool) → is_target t.head ≡ b → Outcome words of_two one_of_two [] t.head o
+      by_test : (b : Bool) → is_target t.head ≡ b → Outcome words place of_two one_of_two [] t.head o
       by_test true q = by_turn q turn
       by_test false q = swap_fair t rest o (fair_but bs e t.head q) d
 
-  swap_alt : (front : List Tok) (t : Tok) (rest : List Tok) (o : Result A FaultKind) → one_of_two (front ++ t ∷ rest) ≡ ends o (t ∷ rest) → Outcome words of_two one_of_two front t.head o
+  swap_alt : (front : List Tok) (t : Tok) (rest : List Tok) (o : Result A FaultKind) → one_of_two (front ++ t ∷ rest) ≡ ends o (t ∷ rest) → Outcome words place of_two one_of_two front t.head o
   swap_alt [] t rest o d = swap_here turns t rest o d
   swap_alt (v ∷ front) t rest o d = by_test (among tokens bs v) refl d
     where
-      by_test : (b : Bool) → among tokens bs v ≡ b → cond b (f (v ∷ (front ++ t ∷ rest))) (f' (v ∷ (front ++ t ∷ rest))) ≡ ends o (t ∷ rest) → Outcome words of_two one_of_two (v ∷ front) t.head o
-      by_test true q d = outcome_too words words wide of_two f one_of_two (v ∷ front) (v ∷ front) t.head o (λ e. e) (λ p. p) (λ u i rest'. sym (taken_first bs f f' v (front ++ u ∷ rest') q)) (λ u g. goes_one (v ∷ front) u g) (law.swap (v ∷ front) t rest o d)
-      by_test false q d = outcome_too words words wide' of_two f' one_of_two (v ∷ front) (v ∷ front) t.head o (λ e. e) (λ p. p) (λ u i rest'. sym (passed bs f f' v (front ++ u ∷ rest') q)) (λ u g. goes_other (v ∷ front) u g) (law'.swap (v ∷ front) t rest o d)
+      by_test : (b : Bool) → among tokens bs v ≡ b → cond b (f (v ∷ (front ++ t ∷ rest))) (f' (v ∷ (front ++ t ∷ rest))) ≡ ends o (t ∷ rest) → Outcome words place of_two one_of_two (v ∷ front) t.head o
+      by_test true q d = outcome_too words words one_place place wide of_two f one_of_two (v ∷ front) (v ∷ front) t.head o (λ e. e) (λ p. p) (within_one (v ∷ front)) (λ u i rest'. sym (taken_first bs f f' v (front ++ u ∷ rest') q)) (λ u g. goes_one (v ∷ front) u g) (law.swap (v ∷ front) t rest o d)
+      by_test false q d = outcome_too words words other_place place wide' of_two f' one_of_two (v ∷ front) (v ∷ front) t.head o (λ e. e) (λ p. p) (within_other (v ∷ front)) (λ u i rest'. sym (passed bs f f' v (front ++ u ∷ rest') q)) (λ u g. goes_other (v ∷ front) u g) (law'.swap (v ∷ front) t rest o d)
 
-  pub alt_by : Exchanging words of_two one_of_two
+  pub alt_by : Swapping words place of_two one_of_two
   unfolding form.either
   alt_by = record {
     sound = sound_alt;
@@ -565,7 +612,7 @@ module _ {A : Type 0} {wide wide' : Form Tok A} {f f' : Reader Tok A} {words : B
   }
 
 pub alt : {A : Type 0} {words : Bool} {wide wide' : Form Tok A} {f f' : Reader Tok A} (bs : List ℕ) → fair bs ≡ true → Exchanging words wide f → Exchanging words wide' f' → Exchanging words (form.either wide wide') (pick (among tokens bs) f f')
-alt bs e law law' = alt_by bs (inl e) law law'
+alt bs e law law' = alt_by nowhere bs (inl e) law law' (λ front v. v) (λ front v. v)
 
 pub maybe : {A : Type 0} {wide : Form Tok A} {f : Reader Tok A} (bs : List ℕ) → fair bs ≡ true → Exchanges wide f → Exchanges (form.optional wide) (optional_at (among tokens bs) f)
 maybe bs e law = alt bs e (seq law (λ a. nothing (Some a))) (nothing None)
@@ -577,13 +624,13 @@ limit_ends front t rest (Ok a) d = absurd cc
 limit_ends [] t rest (Err k) d = (refl, sym (ap (λ (x : Fault). Err x.kind) (wrong_is (record { left = length (t ∷ rest); kind = Limit }) (record { left = length (t ∷ rest); kind = k }) d)))
 limit_ends (u ∷ us) t rest (Err k) d = absurd (omega (arith, ap (λ (x : Fault). x.left) (wrong_is (record { left = length (u ∷ (us ++ t ∷ rest)); kind = Limit }) (record { left = length (t ∷ rest); kind = k }) d), length-append us (t ∷ rest)))
 
-limited : {A : Type 0} {words : Bool} (wide : Form Tok A) → (ts : List Tok) × (a : A) × wide ts a × AllReal tokens ts → Exchanging words wide (fault_at Limit)
-limited {A} {words} wide some = record {
+limited : {A : Type 0} {words : Bool} {place : Place} (wide : Form Tok A) → (ts : List Tok) × (a : A) × wide ts a × AllReal tokens ts → Swapping words place wide (fault_at Limit)
+limited {A} {words} {place} wide some = record {
   sound = λ ts rest a e. absurd cc;
   placed = λ ts e d. ([], ts, refl, ap (λ (x : Fault). x.left) (wrong_is (record { left = length ts; kind = Limit }) e d));
   local = λ front t rest rest' o d. let h = limit_ends front t rest o d in rw (h.0, h.1) refl;
   some = some;
-  swap = λ front t rest o d. subst (λ (x : Result A FaultKind). Outcome words wide (fault_at Limit) front t.head x) (sym (limit_ends front t rest o d).1) tt;
+  swap = λ front t rest o d. subst (λ (x : Result A FaultKind). Outcome words place wide (fault_at Limit) front t.head x) (sym (limit_ends front t rest o d).1) tt;
 }
 
 either_same : {A : Type 0} (wide : Form Tok A) (ts : List Tok) (a : A) → form.either wide wide ts a → wide ts a
@@ -628,7 +675,8 @@ fewer front us (v ∷ p) q r n e l =
 abbrev pub Begins : {A : Type 0} → Bool → List ℕ → Form Tok A → Type 0
 Begins words bs wide = (fair bs ≡ true) ⊎ ((nearly_fair bs ≡ true) × (words ≡ true) × (w : Tok) × (among tokens WORD w ≡ true) × Goes wide [] w)
 
-module _ {A : Type 0} {words : Bool} (wide : Form Tok A) (f : Reader Tok A) (bs : List ℕ) (begins : Begins words bs wide) (outside : words ≡ true → contains bs (number heads.Target) ≡ false) (law : Exchanging words wide f) where
+module _ {A : Type 0} {words : Bool} (wide : Form Tok A) (f : Reader Tok A) (bs : List ℕ) {one_place : Place} (place : Place) (within_first : (front : List Tok) → one_place front tt → place front tt) (within_further : (one two : List Tok) (a : A) → wide one a → place two tt → place (one ++ two) tt)
+    (begins : Begins words bs wide) (outside : words ≡ true → contains bs (number heads.Target) ≡ false) (law : Swapping words one_place wide f) where
   abbrev one_more : Form Tok (List A)
   one_more = form.◌>>=◌ wide (λ a. form.◌>>=◌ (Star wide) (λ more. form.gives (a ∷ more)))
 
@@ -667,12 +715,15 @@ module _ {A : Type 0} {words : Bool} (wide : Form Tok A) (f : Reader Tok A) (bs 
   follows_all : words ≡ true → (more : List A) (a : A) (t : Tok) (rest : List Tok) (o : Result (List A) FaultKind) → reads (a ∷ more) (t ∷ rest) ≡ ends o (t ∷ rest) → MayFollow words o
   follows_all v more a t rest o d = subst (λ (b : Bool). MayFollow b o) (sym v) (valued_end (a ∷ more) (t ∷ rest) o d)
 
-  pub many : (room : ℕ) → Exchanging words (Star wide) (many_at (among tokens bs) f room)
-  many zero = recast (either_same (Star wide)) (alt_by bs (star_turns begins) (limited (Star wide) ([], [], refl, tt)) (recast none_is (tight (nothing []))))
+  at_none : (front : List Tok) → nowhere front tt → place front tt
+  at_none front v = absurd v
+
+  pub many : (room : ℕ) → Swapping words place (Star wide) (many_at (among tokens bs) f room)
+  many zero = recast (either_same (Star wide)) (alt_by place bs (star_turns begins) (limited {place = place} (Star wide) ([], [], refl, tt)) (recast none_is (tight (nothing []))) (λ front v. v) at_none)
   many (suc room) =
-      recast over (alt_by bs (more_turns begins)
-      (seq_by words law (λ a. seq_by words (many room) (λ more. tight (nothing (a ∷ more))) (λ e. e) (λ v more t rest o q d. follows_all v more a t rest o d)) (λ e. e) (λ v a t rest o q d. follows_one room v a t rest o q d))
-      (tight (nothing [])))
+      recast over (alt_by place bs (more_turns begins)
+      (seq_by words place law (λ a. seq_by words place (many room) (λ more. tight (nothing (a ∷ more))) (λ e. e) (λ front v. v) (λ one two a s v. absurd v) (λ v more t rest o q d. follows_all v more a t rest o d)) (λ e. e) within_first within_further (λ v a t rest o q d. follows_one room v a t rest o q d))
+      (tight (nothing [])) (λ front v. v) at_none)
 
   module _ (some : (a : A) → wide [] a → ⊥) where
     abbrev at_most : ℕ → Reader Tok (List A)
@@ -717,11 +768,11 @@ module _ {A : Type 0} {words : Bool} (wide : Form Tok A) (f : Reader Tok A) (bs 
     all_is : (front : List Tok) (u : Tok) (rest : List Tok) (o : Result (List A) FaultKind) → all_at (front ++ u ∷ rest) ≡ ends o (u ∷ rest) → at_most (suc (length front)) (front ++ u ∷ rest) ≡ ends o (u ∷ rest)
     all_is front u rest o d = enough (length (front ++ u ∷ rest)) (suc (length front)) (front ++ u ∷ rest) front (u ∷ rest) o refl (omega (arith, length-append front (u ∷ rest))) (omega arith) d
 
-    swap_all : (front : List Tok) (h : Head) (o : Result (List A) FaultKind) → Outcome words (Star wide) (at_most (suc (length front))) front h o → Outcome words (Star wide) all_at front h o
-    swap_all front h (Ok as') n = ok_too words words (Star wide) (Star wide) (at_most (suc (length front))) all_at front front h (λ e. e) as' as' (λ u i s rest. enough_for front (suc (length front)) (omega arith) u rest (Ok as') (s rest)) (λ u g. g) n
-    swap_all front h (Err k) n = err_too words words (Star wide) (Star wide) (at_most (suc (length front))) all_at front front h k (λ p. p) (λ u i s rest. let r = s rest in (r.0, r.1, enough_for front (suc (length front)) (omega arith) u rest (Err r.0) r.2)) (λ u g. g) n
+    swap_all : (front : List Tok) (h : Head) (o : Result (List A) FaultKind) → Outcome words place (Star wide) (at_most (suc (length front))) front h o → Outcome words place (Star wide) all_at front h o
+    swap_all front h (Ok as') n = ok_too words words place place (Star wide) (Star wide) (at_most (suc (length front))) all_at front front h (λ e. e) as' as' (λ u i s rest. enough_for front (suc (length front)) (omega arith) u rest (Ok as') (s rest)) (λ u g. g) n
+    swap_all front h (Err k) n = err_too words words place place (Star wide) (Star wide) (at_most (suc (length front))) all_at front front h k (λ p. p) (λ v. v) (λ u i s rest. let r = s rest in (r.0, r.1, enough_for front (suc (length front)) (omega arith) u rest (Err r.0) r.2)) (λ u g. g) n
 
-    pub all : Exchanging words (Star wide) all_at
+    pub all : Swapping words place (Star wide) all_at
     all = record {
       sound = λ ts rest as' e. (many (length ts)).sound ts rest as' e;
       placed = λ ts e d. (many (length ts)).placed ts e d;
@@ -732,18 +783,21 @@ module _ {A : Type 0} {words : Bool} (wide : Form Tok A) (f : Reader Tok A) (bs 
 
 -- as many as there are of what isn't empty
 pub star : {A : Type 0} {wide : Form Tok A} {f : Reader Tok A} (bs : List ℕ) → fair bs ≡ true → Exchanges wide f → ((a : A) → wide [] a → ⊥) → Exchanges (Star wide) (star_at (among tokens bs) f)
-star {wide = wide} {f = f} bs e law some = all wide f bs (inl e) (λ v. absurd (differ v)) law some
+star {wide = wide} {f = f} bs e law some = all wide f bs nowhere (λ front v. v) (λ one two a s v. v) (inl e) (λ v. absurd (differ v)) law some
 
 -- ---- single tokens
 
 -- what a meaning says at a token of this class
-abbrev pub Says : {A : Type 0} → Form Tok A → (Tok → Result A FaultKind) → Head → FaultKind → Type 0
-Says wide meaning h Syntax = NotTold h (λ u. (k : FaultKind) × (IsBound k → ⊥) × (meaning u ≡ Err k)) (Goes wide [])
-Says wide meaning h Profile = IsTold h (λ u. (k : FaultKind) × (IsBound k → ⊥) × (meaning u ≡ Err k)) (Goes wide []) (Open [])
-Says wide meaning h Number = Unit {0}
-Says wide meaning h Limit = Unit {0}
+abbrev pub SaysAt : {A : Type 0} → Place → Form Tok A → (Tok → Result A FaultKind) → Head → FaultKind → Type 0
+SaysAt place wide meaning h Syntax = NotTold h (λ u. (k : FaultKind) × (IsBound k → ⊥) × (meaning u ≡ Err k)) (Goes wide []) (place [] tt)
+SaysAt place wide meaning h Profile = IsTold h (λ u. (k : FaultKind) × (IsBound k → ⊥) × (meaning u ≡ Err k)) (Goes wide []) (Open [])
+SaysAt place wide meaning h Number = Unit {0}
+SaysAt place wide meaning h Limit = Unit {0}
 
-module _ {A : Type 0} (wide : Form Tok A) (meaning : Tok → Result A FaultKind) (right : (t : Tok) (a : A) → meaning t ≡ Ok a → wide (t ∷ []) a) (some : (ts : List Tok) × (a : A) × wide ts a × AllReal tokens ts) (says : (t : Tok) (k : FaultKind) → meaning t ≡ Err k → Says wide meaning t.head k) where
+abbrev pub Says : {A : Type 0} → Form Tok A → (Tok → Result A FaultKind) → Head → FaultKind → Type 0
+Says wide meaning h k = SaysAt nowhere wide meaning h k
+
+module _ {A : Type 0} (place : Place) (wide : Form Tok A) (meaning : Tok → Result A FaultKind) (right : (t : Tok) (a : A) → meaning t ≡ Ok a → wide (t ∷ []) a) (some : (ts : List Tok) × (a : A) × wide ts a × AllReal tokens ts) (says : (t : Tok) (k : FaultKind) → meaning t ≡ Err k → SaysAt place wide meaning t.head k) where
   sound_means : (t : Tok) (ts rest : List Tok) (a : A) (m : Result A FaultKind) → meaning t ≡ m → token_means t ts m ≡ reads a rest → (front : List Tok) × (t ∷ ts ≡ front ++ rest) × wide front a
   sound_means t ts rest a (Ok b) d e = let h = reads_is b a ts rest e in (t ∷ [], ap (λ (x : List Tok). t ∷ x) h.1, right t a (d ∙ ap (λ (x : A). Ok x) h.0))
   sound_means t ts rest a (Err k) d e = absurd cc
@@ -782,30 +836,37 @@ module _ {A : Type 0} (wide : Form Tok A) (meaning : Tok → Result A FaultKind)
       let h = read_before v t front rest o (meaning v) d in
       ap (token_means v (front ++ t ∷ rest')) h.3 ∙ ap (λ (x : List Tok). reads h.1 (x ++ t ∷ rest')) h.0 ∙ ap (λ (x : Result A FaultKind). ends x (t ∷ rest')) (sym h.2)
 
-  by_kind : (h : Head) (k : FaultKind) → Says wide meaning h k → Outcome false wide (token_at meaning) [] h (Err k)
-  by_kind h Syntax s = not_told_too h (λ u. (k : FaultKind) × (IsBound k → ⊥) × (meaning u ≡ Err k)) (Stuck (token_at meaning) []) (Goes wide []) (Goes wide []) (λ u i r rest. (r.0, r.1, ap (token_means u rest) r.2)) (λ u g. g) s
+  by_kind : (h : Head) (k : FaultKind) → SaysAt place wide meaning h k → Outcome false place wide (token_at meaning) [] h (Err k)
+  by_kind h Syntax s = not_told_too h (λ u. (k : FaultKind) × (IsBound k → ⊥) × (meaning u ≡ Err k)) (Stuck (token_at meaning) []) (Goes wide []) (Goes wide []) (place [] tt) (place [] tt) (λ u i r rest. (r.0, r.1, ap (token_means u rest) r.2)) (λ u g. g) (λ v. v) s
   by_kind h Profile s = told_too h (λ u. (k : FaultKind) × (IsBound k → ⊥) × (meaning u ≡ Err k)) (Stuck (token_at meaning) []) (Goes wide []) (Goes wide []) (Open []) (Open []) (λ u i r rest. (r.0, r.1, ap (token_means u rest) r.2)) (λ u g. g) (λ p. p) s
   by_kind h Number s = tt
   by_kind h Limit s = tt
 
-  swap_token : (front : List Tok) (t : Tok) (rest : List Tok) (o : Result A FaultKind) → token_at meaning (front ++ t ∷ rest) ≡ ends o (t ∷ rest) → Outcome false wide (token_at meaning) front t.head o
+  swap_token : (front : List Tok) (t : Tok) (rest : List Tok) (o : Result A FaultKind) → token_at meaning (front ++ t ∷ rest) ≡ ends o (t ∷ rest) → Outcome false place wide (token_at meaning) front t.head o
   swap_token [] t rest o d =
       let h = fault_here t rest o (meaning t) d in
-      subst (λ (x : Result A FaultKind). Outcome false wide (token_at meaning) [] t.head x) (sym h.1) (by_kind t.head h.0 (says t h.0 h.2))
+      subst (λ (x : Result A FaultKind). Outcome false place wide (token_at meaning) [] t.head x) (sym h.1) (by_kind t.head h.0 (says t h.0 h.2))
   swap_token (v ∷ front) t rest o d =
       let h = read_before v t front rest o (meaning v) d in
-      subst (λ (x : Result A FaultKind). Outcome false wide (token_at meaning) (v ∷ front) t.head x) (sym h.2) (inl (λ u i rest'. ap (token_means v (front ++ u ∷ rest')) h.3 ∙ ap (λ (x : List Tok). reads h.1 (x ++ u ∷ rest')) h.0))
+      subst (λ (x : Result A FaultKind). Outcome false place wide (token_at meaning) (v ∷ front) t.head x) (sym h.2) (inl (λ u i rest'. ap (token_means v (front ++ u ∷ rest')) h.3 ∙ ap (λ (x : List Tok). reads h.1 (x ++ u ∷ rest')) h.0))
 
-  pub single : Exchanges wide (token_at meaning)
-  single = record { sound = sound_token; placed = placed_token; local = local_token; some = some; swap = swap_token }
+  pub single_at : Swapping false place wide (token_at meaning)
+  single_at = record { sound = sound_token; placed = placed_token; local = local_token; some = some; swap = swap_token }
+
+pub single : {A : Type 0} (wide : Form Tok A) (meaning : Tok → Result A FaultKind) → ((t : Tok) (a : A) → meaning t ≡ Ok a → wide (t ∷ []) a) → (ts : List Tok) × (a : A) × wide ts a × AllReal tokens ts → ((t : Tok) (k : FaultKind) → meaning t ≡ Err k → Says wide meaning t.head k) → Exchanges wide (token_at meaning)
+single wide meaning right some says = single_at nowhere wide meaning right some says
 
 -- ---- what may end anywhere, but at none that is left out only in some places
 
+-- those that stand for others
+abbrev pub STAND_INS : List ℕ
+STAND_INS = number heads.RefusedType ∷ number heads.Target ∷ number heads.RegisterInteger ∷ number heads.NumberedGlobal ∷ number heads.NumberedDefinition ∷ []
+
 abbrev pub SOMEWHERE : List ℕ
-SOMEWHERE = number heads.RefusedType ∷ number heads.Target ∷ number heads.RegisterInteger ∷ number heads.NumberedGlobal ∷ number heads.NumberedDefinition ∷ []
+SOMEWHERE = number heads.LifetimeMarker ∷ STAND_INS
 
 module _ {A : Type 0} {g wide : Form Tok A} {f : Reader Tok A} {xs : List ℕ} {e : Bool} (rule : Rule tokens g wide f xs [] e) (never : (front : List Tok) (t : Tok) (rest : List Tok) (k : FaultKind) → f (front ++ t ∷ rest) ≡ fault_at k (t ∷ rest) → contains SOMEWHERE (number t.head) ≡ true → ⊥) where
-  stuck_nowhere : (h : Head) (k : FaultKind) (front : List Tok) → (contains SOMEWHERE (number h) ≡ true → ⊥) → Outcome false wide f front h (Err k)
+  stuck_nowhere : (h : Head) (k : FaultKind) (front : List Tok) → (contains SOMEWHERE (number h) ≡ true → ⊥) → Outcome false nowhere wide f front h (Err k)
   stuck_nowhere h Number front n = tt
   stuck_nowhere h Limit front n = tt
   stuck_nowhere heads.RefusedType k front n = absurd (n refl)
@@ -813,10 +874,11 @@ module _ {A : Type 0} {g wide : Form Tok A} {f : Reader Tok A} {xs : List ℕ} {
   stuck_nowhere heads.RegisterInteger k front n = absurd (n refl)
   stuck_nowhere heads.NumberedGlobal k front n = absurd (n refl)
   stuck_nowhere heads.NumberedDefinition k front n = absurd (n refl)
+  stuck_nowhere heads.LifetimeMarker k front n = absurd (n refl)
   stuck_nowhere h Syntax front n = tt
   stuck_nowhere h Profile front n = tt
 
-  ends_anywhere : (front : List Tok) (t : Tok) (rest : List Tok) (o : Result A FaultKind) → f (front ++ t ∷ rest) ≡ ends o (t ∷ rest) → Outcome false wide f front t.head o
+  ends_anywhere : (front : List Tok) (t : Tok) (rest : List Tok) (o : Result A FaultKind) → f (front ++ t ∷ rest) ≡ ends o (t ∷ rest) → Outcome false nowhere wide f front t.head o
   ends_anywhere front t rest (Ok a) d =
       let s = rule.law.sound (front ++ t ∷ rest) (t ∷ rest) a d in
       let same = cut_is front (t ∷ rest) s.0 (t ∷ rest) s.1 refl in
@@ -828,20 +890,21 @@ module _ {A : Type 0} {g wide : Form Tok A} {f : Reader Tok A} {xs : List ℕ} {
 
 -- at most so many
 pub up_to : {A : Type 0} {wide : Form Tok A} {f : Reader Tok A} (bs : List ℕ) → fair bs ≡ true → Exchanges wide f → (room : ℕ) → Exchanges (Star wide) (many_at (among tokens bs) f room)
-up_to {wide = wide} {f = f} bs e law room = many wide f bs (inl e) (λ v. absurd (differ v)) law room
+up_to {wide = wide} {f = f} bs e law room = many wide f bs nowhere (λ front v. v) (λ one two a s v. v) (inl e) (λ v. absurd (differ v)) law room
 
 -- of what may end where a plain word goes on
-pub up_to_words : {A : Type 0} {wide : Form Tok A} {f : Reader Tok A} (bs : List ℕ) → fair bs ≡ true → contains bs (number heads.Target) ≡ false → Exchanging true wide f → (room : ℕ) → Exchanging true (Star wide) (many_at (among tokens bs) f room)
-up_to_words {wide = wide} {f = f} bs e n law room = many wide f bs (inl e) (λ _. n) law room
+pub up_to_words : {A : Type 0} {one_place : Place} (place : Place) {wide : Form Tok A} {f : Reader Tok A} (bs : List ℕ) → fair bs ≡ true → contains bs (number heads.Target) ≡ false → ((front : List Tok) → one_place front tt → place front tt) → ((one two : List Tok) (a : A) → wide one a → place two tt → place (one ++ two) tt) → Swapping true one_place wide f → (room : ℕ)
+    → Swapping true place (Star wide) (many_at (among tokens bs) f room)
+up_to_words place {wide = wide} {f = f} bs e n first further law room = many wide f bs place first further (inl e) (λ _. n) law room
 
 -- a reader that gives the same
-pub same_reader : {A : Type 0} {words : Bool} {wide : Form Tok A} {f f' : Reader Tok A} → ((ts : List Tok) → f ts ≡ f' ts) → Exchanging words wide f → Exchanging words wide f'
-same_reader {words = words} {wide = wide} {f = f} {f' = f'} same law = record {
+pub same_reader : {A : Type 0} {words : Bool} {place : Place} {wide : Form Tok A} {f f' : Reader Tok A} → ((ts : List Tok) → f ts ≡ f' ts) → Swapping words place wide f → Swapping words place wide f'
+same_reader {words = words} {place = place} {wide = wide} {f = f} {f' = f'} same law = record {
   sound = λ ts rest a e. law.sound ts rest a (same ts ∙ e);
   placed = λ ts e d. law.placed ts e (same ts ∙ d);
   local = λ front t rest rest' o d. sym (same (front ++ t ∷ rest')) ∙ law.local front t rest rest' o (same (front ++ t ∷ rest) ∙ d);
   some = law.some;
-  swap = λ front t rest o d. outcome_too words words wide wide f f' front front t.head o (λ e. e) (λ p. p) (λ u i rest'. same (front ++ u ∷ rest')) (λ u g. g) (law.swap front t rest o (same (front ++ t ∷ rest) ∙ d));
+  swap = λ front t rest o d. outcome_too words words place place wide wide f f' front front t.head o (λ e. e) (λ p. p) (λ v. v) (λ u i rest'. same (front ++ u ∷ rest')) (λ u g. g) (law.swap front t rest o (same (front ++ t ∷ rest) ∙ d));
 }
 
 -- what begins with a token isn't empty
@@ -851,7 +914,7 @@ token_begins meaning k b ([], back, a, e, s, r) = s
 token_begins meaning k b (t ∷ front, back, a, e, s, r) = absurd cc
 
 -- a limit, or else it, by a test
-pub tested : {A : Type 0} {wide : Form Tok A} {f : Reader Tok A} (b : Bool) → Exchanges wide f → Exchanges wide (cond b (fault_at Limit) f)
+pub tested : {A : Type 0} {place : Place} {wide : Form Tok A} {f : Reader Tok A} (b : Bool) → Swapping false place wide f → Swapping false place wide (cond b (fault_at Limit) f)
 tested true law = limited _ law.some
 tested false law = law
 
@@ -861,4 +924,4 @@ goes_alone {wide = wide} law w r a e = let s = law.sound (w ∷ []) [] a e in ([
 
 -- as many as there are, of which a plain word begins one
 pub star_words : {A : Type 0} {wide : Form Tok A} {f : Reader Tok A} (bs : List ℕ) → nearly_fair bs ≡ true → (w : Tok) → among tokens WORD w ≡ true → Goes wide [] w → contains bs (number heads.Target) ≡ false → Exchanges wide f → ((a : A) → wide [] a → ⊥) → Exchanging true (Star wide) (star_at (among tokens bs) f)
-star_words {wide = wide} {f = f} bs e w i g n law some = all wide f bs (inr (e, refl, w, i, g)) (λ _. n) (loosened law) some
+star_words {wide = wide} {f = f} bs e w i g n law some = all wide f bs nowhere (λ front v. v) (λ one two a s v. v) (inr (e, refl, w, i, g)) (λ _. n) (loosened law) some

@@ -1,5 +1,5 @@
 -- The readers of calls tell a token that is left out in some places where one that it stands for goes on.
-use Rattle.std.proofs.Common.{◌≡◌, ℕ, nat_eq, Bool, true, false, cond, Option, Some, None, List, [], ◌∷◌, Err, refl, ap, inl, arith}
+use Rattle.std.proofs.Common.{◌≡◌, ℕ, nat_eq, Bool, true, false, cond, Option, Some, None, List, [], ◌∷◌, Result, Ok, Err, refl, ap, inl, arith}
 use Rattle.std.specs.Prelude.{codes}
 use Rattle.ir_lex.specs.Heads.{number}
 use Rattle.ir_lex.specs.Tok.{Tok}
@@ -12,33 +12,35 @@ use Rattle.lto_forms.specs.Alphabet.{among, contains}
 use Rattle.lto_forms.specs.Forms as form
 use Rattle.lto_forms.specs.Lawful.{IsBound}
 use Rattle.lto_forms.specs.Readers.{done, follow, ◌>>=◌}
-use Rattle.lto_forms.specs.Rules.{is_valued, Rule}
-use Rattle.lto_forms.specs.declared.fault.FaultKind.TheVariants.{Syntax, Number, Limit}
+use Rattle.lto_forms.specs.Rules.{is_among, is_class, is_valued}
+use Rattle.lto_forms.specs.declared.fault.FaultKind.TheVariants.{Syntax}
 use Rattle.lto_forms.specs.declared.fault.FaultKind.{FaultKind}
 use Rattle.ir_read.specs.Attributes.{call_attributes}
 use Rattle.ir_read.specs.AttributesAt.{call_attributes_at}
 use Rattle.ir_read.specs.Classes.{tokens, IsReal, refusal, the, the_at, itself}
 use Rattle.ir_read.specs.Metadata.{attachments}
 use Rattle.ir_read.specs.MetadataAt.{COMMA, PAREN, attachments_at}
-use Rattle.ir_read.specs.Operands.{REG, POINTER_OPERAND, type_refusal, reg_of, operand_of}
+use Rattle.ir_read.specs.Operands.{REG, RESULT, POINTER_OPERAND, result, type_refusal, reg_of, operand_of}
 use Rattle.ir_read.specs.OperandsAt.{reg_at}
 use Rattle.ir_instructions.specs.ShapeForms.{any_shape}
 use Rattle.ir_instructions.specs.ValuesAt.{ADDRESS}
+use Rattle.ir_read.specs.declared.raw.Operand.{Operand}
 use Rattle.ir_read.specs.declared.raw.Operand.TheVariants as operands
-use Rattle.ir_read.proofs.OperandRules.{type_not_number, type_not_limit, operand_within}
-use Rattle.ir_read.proofs.Singles.{word, not_number, not_limit}
+use Rattle.ir_read.proofs.OperandRules.{type_not_number, type_not_limit}
+use Rattle.ir_read.proofs.Singles.{word}
 use Rattle.ir_read.proofs.Words.{int_32_real, null_real}
-use Rattle.ir_bodies.specs.Calls.{convention, conventions, written_type, further_type, some_types, listed_types, types, argument_behind, argument, further_argument, some_arguments, any_arguments, is_type, type_again, argument_of, further_of, each_further, some_of, arguments_of, arguments, called_value, marker, marker_refusal, unmarked, unmarked_value, callee, called, calling, tail_calling, same_reg}
-use Rattle.ir_bodies.specs.CallsAt.{CONVENTION, CONVENTIONS, MARKER, convention_at, conventions_at, written_type_at, further_type_at, types_behind_at, some_types_at, listed_types_at, types_at, argument_behind_at, argument_at, further_argument_at, arguments_behind_at, some_arguments_at, any_arguments_at, type_again_at, argument_of_at, further_of_at, each_further_at, each_behind_at, some_of_at, arguments_of_at, arguments_at, called_value_at, marker_at, unmarked_at, unmarked_value_at, callee_at, calling_at, tail_calling_at}
+use Rattle.ir_bodies.specs.Calls.{convention, conventions, written_type, further_type, some_types, listed_types, types, argument_behind, argument, further_argument, some_arguments, any_arguments, is_type, type_again, argument_of, further_of, each_further, some_of, arguments_of, arguments, called_value, marker, marker_refusal, unmarked, unmarked_value, callee, called, calling, same_reg}
+use Rattle.ir_bodies.specs.CallsAt.{CONVENTION, CONVENTIONS, MARKER, convention_at, conventions_at, written_type_at, further_type_at, types_behind_at, some_types_at, listed_types_at, types_at, argument_behind_at, argument_at, further_argument_at, arguments_behind_at, some_arguments_at, any_arguments_at, type_again_at, argument_of_at, further_of_at, each_further_at, each_behind_at, some_of_at, arguments_of_at, arguments_at, called_value_at, marker_at, unmarked_at, unmarked_value_at, callee_at, calling_at}
 use Rattle.ir_bodies.proofs.CallRules.{convention_rule, further_argument_rule, further_type_rule}
 use Rattle.ir_bodies.proofs.Samples.{convention_word_rule, marker_name_rule, call_word_rule}
 use Rattle.ir_bodies.proofs.WrittenTypes.{writes}
+use Rattle.read_again.specs.NamedCalls.{before_callee}
 use Rattle.read_again.specs.Refusals.{MEMORY}
-use Rattle.read_again.proofs.Exchanged.{Exchanges, Says, alt, maybe, nothing, seq, star, taken, stands_for, Exchanging, a_type, seq_into, seq_passing}
+use Rattle.read_again.proofs.Exchanged.{Exchanges, Place, SaysAt, Swapping, alt, alt_by, maybe, nothing, nowhere, placed_too, seq, seq_from, seq_to, single_at, star, taken, stands_for, Exchanging, a_type, seq_into, seq_passing}
 use Rattle.read_again.proofs.ExchangedAttributes.{call_attributes_exchanged, parameter_attribute_exchanged, parameter_attributes_exchanged}
 use Rattle.read_again.proofs.ExchangedNodes.{attachments_exchanged, no_attachments}
 use Rattle.read_again.proofs.ExchangedOperands.{reg_exchanged, result_exchanged}
-use Rattle.read_again.proofs.ExchangedTokens.{elsewhere, exact_type, i16_real, i8_real, of_token, plain_class, type_one, none_taken, not_bound, plain_at, says_by, valued_inside, valued_outside}
+use Rattle.read_again.proofs.ExchangedTokens.{elsewhere_at, exact_type, i16_real, i8_real, plain_class, type_one, none_taken, not_bound, plain_at, says_at, valued_inside, valued_outside}
 use Rattle.read_again.proofs.ExchangedTypes.{listed_exchanged as typed_list, Types, type_told, types_first}
 use Rattle.read_again.proofs.ExchangedValues.{address_exchanged, operand_exchanged}
 use Rattle.read_again.proofs.ExchangedWords.{close_paren_exchanged, comma_exchanged, open_paren_exchanged}
@@ -49,7 +51,7 @@ convention_word_exchanged = plain_class heads.CallingConvention convention_word_
 marker_name_exchanged : Exchanges (the heads.LifetimeMarker) (the_at heads.LifetimeMarker)
 marker_name_exchanged = plain_class heads.LifetimeMarker marker_name_rule refl
 
-call_word_exchanged : Exchanges (the heads.Call) (the_at heads.Call)
+pub call_word_exchanged : Exchanges (the heads.Call) (the_at heads.Call)
 call_word_exchanged = plain_class heads.Call call_word_rule refl
 
 pub convention_exchanged : Exchanges convention convention_at
@@ -170,35 +172,29 @@ marker_not_bound n b = by_test (nat_eq n (number heads.LifetimeMarker)) b
 abbrev unmarked_none : (h : Head) → plain_at POINTER_OPERAND h ≡ true → contains POINTER_OPERAND (number h) ≡ false → (u : Tok) → among tokens (stands_for h) u ≡ true → (k : FaultKind) × (IsBound k → ⊥) × (is_valued tokens marker_refusal POINTER_OPERAND (operand_of Ptr) u ≡ Err k)
 unmarked_none = none_taken unmarked (is_valued tokens marker_refusal POINTER_OPERAND (operand_of Ptr)) POINTER_OPERAND marker_refusal marker_not_bound (valued_outside marker_refusal POINTER_OPERAND (operand_of Ptr)) (valued_inside marker_refusal POINTER_OPERAND (operand_of Ptr))
 
-by_marker : Bool → FaultKind → FaultKind
-by_marker b k = cond b Syntax k
+null_means : is_valued tokens marker_refusal POINTER_OPERAND (operand_of Ptr) (word heads.Null (codes "null")) ≡ Ok operands.Null
+unfolding is_valued
+null_means = refl
 
-neither : (b : Bool) (k l : FaultKind) → (Syntax ≡ l → ⊥) → (k ≡ l → ⊥) → by_marker b k ≡ l → ⊥
-unfolding by_marker
-neither true k l p q e = p e
-neither false k l p q e = q e
+-- what stands before the callee
+abbrev here : Place
+here = form.gives tt
 
-marker_not_number : (n : ℕ) → marker_refusal n ≡ Number → ⊥
-unfolding by_marker
-marker_not_number n e = neither (nat_eq n (number heads.LifetimeMarker)) (refusal n) Number (λ x. cc) (not_number n) e
+abbrev unmarked_means : Tok → Result Operand FaultKind
+unmarked_means = is_valued tokens marker_refusal POINTER_OPERAND (operand_of Ptr)
 
-marker_not_limit : (n : ℕ) → marker_refusal n ≡ Limit → ⊥
-unfolding by_marker
-marker_not_limit n e = neither (nat_eq n (number heads.LifetimeMarker)) (refusal n) Limit (λ x. cc) (not_limit n) e
-
-unmarked_rule : Rule tokens unmarked unmarked unmarked_at POINTER_OPERAND [] false
-unmarked_rule = rules.valued_rule tokens marker_refusal marker_not_number marker_not_limit POINTER_OPERAND (operand_of Ptr) (λ t p q. operand_within Ptr t.head t refl p q) (word heads.Null (codes "null")) operands.Null refl refl null_real
-
-unmarked_class : (h : Head) → contains POINTER_OPERAND (number h) ≡ false → Says unmarked (is_valued tokens marker_refusal POINTER_OPERAND (operand_of Ptr)) h (marker_refusal (number h))
+unmarked_class : (h : Head) → contains POINTER_OPERAND (number h) ≡ false → SaysAt here unmarked unmarked_means h (marker_refusal (number h))
 unmarked_class heads.RefusedType n = unmarked_none heads.RefusedType refl n
 unmarked_class heads.Target n = inl (λ u i. unmarked_none heads.Target refl n u (a_type u i))
 unmarked_class heads.RegisterInteger n = (i8, refl, i8_real, unmarked_none heads.RegisterInteger refl n i8 refl)
 unmarked_class heads.NumberedGlobal n = absurd cc
 unmarked_class heads.NumberedDefinition n = absurd cc
-unmarked_class h n = elsewhere unmarked (is_valued tokens marker_refusal POINTER_OPERAND (operand_of Ptr)) h (marker_refusal (number h)) (λ q. cc)
+unmarked_class heads.LifetimeMarker n = (refl, refl)
+unmarked_class h n = elsewhere_at here unmarked unmarked_means h (marker_refusal (number h)) (λ q. cc)
 
-pub unmarked_exchanged : Exchanges unmarked unmarked_at
-unmarked_exchanged = of_token (is_valued tokens marker_refusal POINTER_OPERAND (operand_of Ptr)) unmarked_rule (says_by unmarked (is_valued tokens marker_refusal POINTER_OPERAND (operand_of Ptr)) POINTER_OPERAND marker_refusal marker_not_bound (valued_outside marker_refusal POINTER_OPERAND (operand_of Ptr)) (valued_inside marker_refusal POINTER_OPERAND (operand_of Ptr)) unmarked_class)
+pub unmarked_exchanged : Swapping false here unmarked unmarked_at
+unmarked_exchanged = single_at here unmarked unmarked_means (λ t a e. e) (word heads.Null (codes "null") ∷ [], operands.Null, null_means, (null_real, tt))
+    (says_at here unmarked unmarked_means POINTER_OPERAND marker_refusal marker_not_bound (valued_outside marker_refusal POINTER_OPERAND (operand_of Ptr)) (valued_inside marker_refusal POINTER_OPERAND (operand_of Ptr)) unmarked_class)
 
 pub called_value_exchanged : Exchanges (called_value any_shape) called_value_at
 unfolding called_value called_value_at
@@ -208,11 +204,16 @@ pub marker_exchanged : Exchanges marker marker_at
 unfolding marker marker_at
 marker_exchanged = seq marker_name_exchanged (λ _. nothing None)
 
-pub unmarked_value_exchanged : Exchanges (unmarked_value any_shape) unmarked_value_at
+pub unmarked_value_exchanged : Swapping false here (unmarked_value any_shape) unmarked_value_at
 unfolding unmarked_value unmarked_value_at
-unmarked_value_exchanged = seq (alt ADDRESS refl address_exchanged unmarked_exchanged) (λ _. nothing _)
+unmarked_value_exchanged = seq_from (alt_by here ADDRESS (inl refl) address_exchanged unmarked_exchanged (λ front v. absurd v) (λ front v. v)) (λ _. nothing _)
 
-pub callee_exchanged : (named : Bool) (r : Option Reg) → Exchanges (callee any_shape named r) (callee_at named r)
+abbrev callee_place : Bool → Option Reg → Place
+callee_place named (Some r) = nowhere
+callee_place true None = here
+callee_place false None = nowhere
+
+pub callee_exchanged : (named : Bool) (r : Option Reg) → Swapping false (callee_place named r) (callee any_shape named r) (callee_at named r)
 callee_exchanged named (Some r) = called_value_exchanged
 callee_exchanged true None = unmarked_value_exchanged
 callee_exchanged false None = alt MARKER refl marker_exchanged called_value_exchanged
@@ -234,11 +235,51 @@ arguments_exchanged (Some ws) = arguments_of_exchanged ws
 behind_arguments : {B : Type 0} (b : B) → Exchanging true (form.◌>>=◌ call_attributes (λ _. form.◌>>=◌ attachments (λ _. form.gives b))) (call_attributes_at >>= λ _. attachments_at >>= λ _. done b)
 behind_arguments b = seq_passing call_attributes_exchanged (λ _. seq attachments_exchanged (λ _. nothing b)) (λ _ t rest q. (b, ap (λ r. follow r (λ _. done b)) (no_attachments t rest q)))
 
-pub calling_exchanged : (named : Bool) → Exchanging true (calling any_shape named) (calling_at named)
+abbrev behind_result : Bool → Option Reg → Place
+behind_result named r = form.◌>>=◌ (form.optional types) (λ _. callee_place named r)
+
+abbrev calling_place : Bool → Place
+calling_place named = form.◌>>=◌ conventions (λ _. form.◌>>=◌ result (λ r. behind_result named r))
+
+calling_exchanged : (named : Bool) → Swapping true (calling_place named) (calling any_shape named) (calling_at named)
 unfolding calling calling_at
 calling_exchanged named =
-    seq_into conventions_exchanged (λ _. seq_into result_exchanged (λ r. seq_into (maybe PAREN refl types_exchanged) (λ ws. seq_into (callee_exchanged named r) (λ f. seq_into open_paren_exchanged (λ _. seq_into (arguments_exchanged ws) (λ as'. behind_arguments (called r f as')))))))
+    seq_to conventions_exchanged (λ _. seq_to result_exchanged (λ r. seq_to (maybe PAREN refl types_exchanged) (λ ws. seq_from (callee_exchanged named r) (λ f. seq_into open_paren_exchanged (λ _. seq_into (arguments_exchanged ws) (λ as'. behind_arguments (called r f as')))))))
 
-pub tail_calling_exchanged : (named : Bool) → Exchanging true (tail_calling any_shape named) (tail_calling_at named)
-unfolding tail_calling tail_calling_at
-tail_calling_exchanged named = seq_into call_word_exchanged (λ _. calling_exchanged named)
+abbrev fine : Unit {0} → Result (Unit {0}) FaultKind
+fine u = Ok u
+
+abbrev failed : FaultKind → Result (Unit {0}) FaultKind
+failed k = Err k
+
+abbrev no_result : Result (Option Reg) FaultKind
+no_result = Ok None
+
+-- ---- a lifetime marker against the syntax: as the callee of a void call that has a name
+
+void_is : (ts : List Tok) → result ts None → the heads.Void ts tt
+unfolding is_among is_class
+void_is [] s = absurd s
+void_is (t ∷ []) s = by_tests (among tokens RESULT t) (nat_eq (number t.head) (number heads.Void)) s
+  where
+    by_tests : (b c : Bool) → cond b (Ok (cond c None (Some (reg_of t)))) (Err (type_refusal (number t.head))) ≡ no_result → cond c (fine tt) (failed (refusal (number t.head))) ≡ fine tt
+    by_tests b true s = refl
+    by_tests true false s = absurd cc
+    by_tests false false s = absurd cc
+void_is (t ∷ u ∷ ts) s = absurd s
+
+never_unnamed : (front : List Tok) → calling_place false front tt → ⊥
+unfolding form.◌>>=◌
+never_unnamed front (one, two, u, e, s, (one', two', None, e', s', (one'', two'', ws, e'', s'', v))) = v
+never_unnamed front (one, two, u, e, s, (one', two', Some r, e', s', (one'', two'', ws, e'', s'', v))) = v
+
+pub named_place : (front : List Tok) → calling_place true front tt → before_callee front tt
+unfolding before_callee form.◌>>=◌
+named_place front (one, two, u, e, s, (one', two', None, e', s', v)) = (one, two, u, e, s, (one', two', tt, e', void_is one' s', v))
+named_place front (one, two, u, e, s, (one', two', Some r, e', s', (one'', two'', ws, e'', s'', v))) = absurd v
+
+pub unnamed_calling_exchanged : Exchanging true (calling any_shape false) (calling_at false)
+unnamed_calling_exchanged = placed_too nowhere never_unnamed (calling_exchanged false)
+
+pub named_calling_exchanged : Swapping true before_callee (calling any_shape true) (calling_at true)
+named_calling_exchanged = placed_too before_callee named_place (calling_exchanged true)

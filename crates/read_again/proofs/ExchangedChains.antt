@@ -14,7 +14,7 @@ use Rattle.lto_forms.specs.declared.fault.Fault.{Fault}
 use Rattle.lto_forms.specs.declared.fault.FaultKind.TheVariants.{Syntax}
 use Rattle.lto_forms.specs.declared.fault.FaultKind.{FaultKind}
 use Rattle.ir_read.specs.Classes.{tokens}
-use Rattle.read_again.proofs.Exchanged.{Exchanges, Goes, Outcome, Stuck, fair, alike, ends_in_front, err_ends, err_too, fair_at, fair_of, fewer, in_front, joined, ok_too, open_behind, stands_for, without}
+use Rattle.read_again.proofs.Exchanged.{Exchanges, Place, Swapping, nowhere, Goes, Outcome, Stuck, fair, alike, ends_in_front, err_ends, err_too, fair_at, fair_of, fewer, in_front, joined, ok_too, open_behind, stands_for, without}
 
 and_parts : (a b : Bool) → a && b ≡ true → (a ≡ true) × (b ≡ true)
 and_parts true b h = (refl, h)
@@ -23,7 +23,7 @@ and_parts false b h = absurd cc
 differ : false ≡ true → ⊥
 differ e = cc
 
-module _ {S A : Type 0} (final : S → Bool) (bs : S → List ℕ) (wide : S → Form Tok (A × S)) (f : S → Reader Tok (A × S)) (laws : (s : S) → Exchanges (wide s) (f s)) (some : (s : S) (x : A × S) → wide s [] x → ⊥)
+module _ {S A : Type 0} (final : S → Bool) (bs : S → List ℕ) (wide : S → Form Tok (A × S)) (f : S → Reader Tok (A × S)) {one_place : Place} (place : S → Place) (within_first : (s : S) (front : List Tok) → one_place front tt → place s front tt) (within_further : (s : S) (one two : List Tok) (x : A × S) → wide s one x → place x.1 two tt → place s (one ++ two) tt) (laws : (s : S) → Swapping false one_place (wide s) (f s)) (some : (s : S) (x : A × S) → wide s [] x → ⊥)
     (finish : (s : S) → (ts : List Tok) × (as' : List A) × Chain final wide s ts as' × AllReal tokens ts) (fairly : (s : S) → final s ≡ true → fair (bs s) ≡ true) where
   abbrev begins : S → Tok → Bool
   begins s = among tokens (bs s)
@@ -256,49 +256,49 @@ module _ {S A : Type 0} (final : S → Bool) (bs : S → List ℕ) (wide : S →
     -- behind a first piece that stays before it
     joined_too : (one two : List Tok) (x : A × S) → wide s one x → (h : Head) (o : Result (List A) FaultKind)
         → ((u : Tok) → among tokens (stands_for h) u ≡ true → (rest : List Tok) → here_at ((one ++ two) ++ u ∷ rest) ≡ in_front x.0 (at_most n x.1 (two ++ u ∷ rest)))
-        → Outcome false (of_all x.1) (at_most n x.1) two h o → Outcome false (of_all s) here_at (one ++ two) h (joined x.0 o)
-    joined_too one two x q h (Ok m) whole p = ok_too false false (of_all x.1) (of_all s) (at_most n x.1) here_at two (one ++ two) h (λ e. e) m (x.0 ∷ m) (λ u i st rest. whole u i rest ∙ ap (in_front x.0) (st rest)) (λ u g. goes_second s one two x q u g) p
-    joined_too one two x q h (Err k) whole p = err_too false false (of_all x.1) (of_all s) (at_most n x.1) here_at two (one ++ two) h k (open_behind one two) (λ u i st rest. let r = st rest in (r.0, r.1, whole u i rest ∙ ap (in_front x.0) r.2)) (λ u g. goes_second s one two x q u g) p
+        → Outcome false (place x.1) (of_all x.1) (at_most n x.1) two h o → Outcome false (place s) (of_all s) here_at (one ++ two) h (joined x.0 o)
+    joined_too one two x q h (Ok m) whole p = ok_too false false (place x.1) (place s) (of_all x.1) (of_all s) (at_most n x.1) here_at two (one ++ two) h (λ e. e) m (x.0 ∷ m) (λ u i st rest. whole u i rest ∙ ap (in_front x.0) (st rest)) (λ u g. goes_second s one two x q u g) p
+    joined_too one two x q h (Err k) whole p = err_too false false (place x.1) (place s) (of_all x.1) (of_all s) (at_most n x.1) here_at two (one ++ two) h k (open_behind one two) (within_further s one two x q) (λ u i st rest. let r = st rest in (r.0, r.1, whole u i rest ∙ ap (in_front x.0) r.2)) (λ u g. goes_second s one two x q u g) p
 
     module _ (front : List Tok) (t : Tok) (rest : List Tok) (here : stop s (front ++ t ∷ rest) ≡ false) where
       stuck_too : Keeps s front t rest → (u : Tok) → among tokens (stands_for t.head) u ≡ true → Stuck (f s) front u → Stuck here_at front u
       stuck_too keeps u i st rest' = let r = st rest' in (r.0, r.1, stop_not n s (front ++ u ∷ rest') (keeps u i rest' ∙ here) ∙ ap (λ (y : Result ((A × S) × List Tok) Fault). follow y (further n)) r.2)
 
-      piece_err : Keeps s front t rest → (k : FaultKind) → f s (front ++ t ∷ rest) ≡ fault_at k (t ∷ rest) → Outcome false (of_all s) here_at front t.head (Err k)
-      piece_err keeps k e = err_too false false (wide s) (of_all s) (f s) here_at front front t.head k (λ p. p) (λ u i st. stuck_too keeps u i st) (λ u g. goes_first s front u g) ((laws s).swap front t rest (Err k) e)
+      piece_err : Keeps s front t rest → (k : FaultKind) → f s (front ++ t ∷ rest) ≡ fault_at k (t ∷ rest) → Outcome false (place s) (of_all s) here_at front t.head (Err k)
+      piece_err keeps k e = err_too false false one_place (place s) (wide s) (of_all s) (f s) here_at front front t.head k (λ p. p) (within_first s front) (λ u i st. stuck_too keeps u i st) (λ u g. goes_first s front u g) ((laws s).swap front t rest (Err k) e)
 
-      piece_ok : Keeps s front t rest → (x : A × S) (mid : List Tok) (o : Result (List A) FaultKind) (c : Cut s front (t ∷ rest) x mid) → Outcome false (of_all x.1) (at_most n x.1) c.two t.head o → Outcome false (of_all s) here_at front t.head (joined x.0 o)
-      piece_ok keeps x mid o c p = subst (λ (y : List Tok). Outcome false (of_all s) here_at y t.head (joined x.0 o)) (sym c.front_is) (by_two c.two (λ u i rest'. ap (λ (y : List Tok). stop s (y ++ u ∷ rest')) (sym c.front_is) ∙ keeps u i rest' ∙ here) c.piece p)
+      piece_ok : Keeps s front t rest → (x : A × S) (mid : List Tok) (o : Result (List A) FaultKind) (c : Cut s front (t ∷ rest) x mid) → Outcome false (place x.1) (of_all x.1) (at_most n x.1) c.two t.head o → Outcome false (place s) (of_all s) here_at front t.head (joined x.0 o)
+      piece_ok keeps x mid o c p = subst (λ (y : List Tok). Outcome false (place s) (of_all s) here_at y t.head (joined x.0 o)) (sym c.front_is) (by_two c.two (λ u i rest'. ap (λ (y : List Tok). stop s (y ++ u ∷ rest')) (sym c.front_is) ∙ keeps u i rest' ∙ here) c.piece p)
         where
-          by_two : (two : List Tok) → ((u : Tok) → among tokens (stands_for t.head) u ≡ true → (rest' : List Tok) → stop s ((c.one ++ two) ++ u ∷ rest') ≡ false) → f s (c.one ++ (two ++ t ∷ rest)) ≡ reads x (two ++ t ∷ rest) → Outcome false (of_all x.1) (at_most n x.1) two t.head o → Outcome false (of_all s) here_at (c.one ++ two) t.head (joined x.0 o)
+          by_two : (two : List Tok) → ((u : Tok) → among tokens (stands_for t.head) u ≡ true → (rest' : List Tok) → stop s ((c.one ++ two) ++ u ∷ rest') ≡ false) → f s (c.one ++ (two ++ t ∷ rest)) ≡ reads x (two ++ t ∷ rest) → Outcome false (place x.1) (of_all x.1) (at_most n x.1) two t.head o → Outcome false (place s) (of_all s) here_at (c.one ++ two) t.head (joined x.0 o)
           by_two (v ∷ mid') on e p = joined_too c.one (v ∷ mid') x c.spelled t.head o (λ u i rest'. goes_whole n s c.one (v ∷ mid') u rest' x (on u i rest') ((laws s).local c.one v (mid' ++ t ∷ rest) (mid' ++ u ∷ rest') (Ok x) e)) p
           by_two [] on e p = elim ((laws s).swap c.one t rest (Ok x) e) [ inl stays ↦ joined_too c.one [] x c.spelled t.head o (λ u i rest'. goes_whole n s c.one [] u rest' x (on u i rest') (stays u i rest')) p | inr w ↦ absurd (differ w.0) ]
 
-  by_keeps : (n : ℕ) (s : S) (front : List Tok) (t : Tok) (rest : List Tok) (o : Result (List A) FaultKind) → ((next : S) (two : List Tok) (o' : Result (List A) FaultKind) → length two < length front → at_most n next (two ++ t ∷ rest) ≡ ends o' (t ∷ rest) → Outcome false (of_all next) (at_most n next) two t.head o')
-      → Keeps s front t rest → at_most (suc n) s (front ++ t ∷ rest) ≡ ends o (t ∷ rest) → Outcome false (of_all s) (at_most (suc n) s) front t.head o
-  by_keeps n s front t rest o again keeps d = either_way (Outcome false (of_all s) (at_most (suc n) s) front t.head o) n s (front ++ t ∷ rest) (ends o (t ∷ rest)) d (λ e h. stopped e h) (λ e h. by_piece e (f s (front ++ t ∷ rest)) refl h)
+  by_keeps : (n : ℕ) (s : S) (front : List Tok) (t : Tok) (rest : List Tok) (o : Result (List A) FaultKind) → ((next : S) (two : List Tok) (o' : Result (List A) FaultKind) → length two < length front → at_most n next (two ++ t ∷ rest) ≡ ends o' (t ∷ rest) → Outcome false (place next) (of_all next) (at_most n next) two t.head o')
+      → Keeps s front t rest → at_most (suc n) s (front ++ t ∷ rest) ≡ ends o (t ∷ rest) → Outcome false (place s) (of_all s) (at_most (suc n) s) front t.head o
+  by_keeps n s front t rest o again keeps d = either_way (Outcome false (place s) (of_all s) (at_most (suc n) s) front t.head o) n s (front ++ t ∷ rest) (ends o (t ∷ rest)) d (λ e h. stopped e h) (λ e h. by_piece e (f s (front ++ t ∷ rest)) refl h)
     where
-      stopped : stop s (front ++ t ∷ rest) ≡ true → reads [] (front ++ t ∷ rest) ≡ ends o (t ∷ rest) → Outcome false (of_all s) (at_most (suc n) s) front t.head o
+      stopped : stop s (front ++ t ∷ rest) ≡ true → reads [] (front ++ t ∷ rest) ≡ ends o (t ∷ rest) → Outcome false (place s) (of_all s) (at_most (suc n) s) front t.head o
       stopped e h =
           let z = nothing_read front t rest o h in
-          subst (λ (y : Result (List A) FaultKind). Outcome false (of_all s) (at_most (suc n) s) front t.head y) (sym z.1) (inl (λ u i rest'. stop_gives (suc n) s (front ++ u ∷ rest') (keeps u i rest' ∙ e) ∙ ap (λ (y : List Tok). reads [] (y ++ u ∷ rest')) z.0))
+          subst (λ (y : Result (List A) FaultKind). Outcome false (place s) (of_all s) (at_most (suc n) s) front t.head y) (sym z.1) (inl (λ u i rest'. stop_gives (suc n) s (front ++ u ∷ rest') (keeps u i rest' ∙ e) ∙ ap (λ (y : List Tok). reads [] (y ++ u ∷ rest')) z.0))
 
-      by_piece : stop s (front ++ t ∷ rest) ≡ false → (r : Result ((A × S) × List Tok) Fault) → f s (front ++ t ∷ rest) ≡ r → follow r (further n) ≡ ends o (t ∷ rest) → Outcome false (of_all s) (at_most (suc n) s) front t.head o
+      by_piece : stop s (front ++ t ∷ rest) ≡ false → (r : Result ((A × S) × List Tok) Fault) → f s (front ++ t ∷ rest) ≡ r → follow r (further n) ≡ ends o (t ∷ rest) → Outcome false (place s) (of_all s) (at_most (suc n) s) front t.head o
       by_piece e (Err k) i h =
           let w = err_ends k o (t ∷ rest) h in
-          subst (λ (y : Result (List A) FaultKind). Outcome false (of_all s) (at_most (suc n) s) front t.head y) (sym w.1) (piece_err n s front t rest e keeps w.0 (i ∙ ap wrong w.2))
+          subst (λ (y : Result (List A) FaultKind). Outcome false (place s) (of_all s) (at_most (suc n) s) front t.head y) (sym w.1) (piece_err n s front t rest e keeps w.0 (i ∙ ap wrong w.2))
       by_piece e (Ok x) i h =
           let w = without x.0.0 (at_most n x.0.1 x.1) o (t ∷ rest) h in
           let c = cut_at n s front (t ∷ rest) x.0 x.1 w.0 i w.1 in
-          subst (λ (y : Result (List A) FaultKind). Outcome false (of_all s) (at_most (suc n) s) front t.head y) (sym w.2) (piece_ok n s front t rest e keeps x.0 x.1 w.0 c (again x.0.1 c.two w.0 c.less (ap (at_most n x.0.1) (sym c.mid_is) ∙ w.1)))
+          subst (λ (y : Result (List A) FaultKind). Outcome false (place s) (of_all s) (at_most (suc n) s) front t.head y) (sym w.2) (piece_ok n s front t rest e keeps x.0 x.1 w.0 c (again x.0.1 c.two w.0 c.less (ap (at_most n x.0.1) (sym c.mid_is) ∙ w.1)))
 
-  swap_chain : (n : ℕ) (s : S) (front : List Tok) (t : Tok) (rest : List Tok) (o : Result (List A) FaultKind) → length front < n → at_most n s (front ++ t ∷ rest) ≡ ends o (t ∷ rest) → Outcome false (of_all s) (at_most n s) front t.head o
+  swap_chain : (n : ℕ) (s : S) (front : List Tok) (t : Tok) (rest : List Tok) (o : Result (List A) FaultKind) → length front < n → at_most n s (front ++ t ∷ rest) ≡ ends o (t ∷ rest) → Outcome false (place s) (of_all s) (at_most n s) front t.head o
   swap_chain zero s front t rest o lt d = absurd (omega (arith, lt))
   swap_chain (suc n) s [] t rest o lt d = by_keeps n s [] t rest o (λ next two o' l i. absurd (omega (arith, l))) (kept s t rest) d
   swap_chain (suc n) s (v ∷ front) t rest o lt d = by_keeps n s (v ∷ front) t rest o (λ next two o' l i. swap_chain n next two t rest o' (omega (arith, lt, l)) i) (λ u i rest'. refl) d
 
-  pub chain : (s : S) → Exchanges (of_all s) (chain_at final begins f s)
-  chain s = record {
+  pub chain_behind : (s : S) → Swapping false (place s) (of_all s) (chain_at final begins f s)
+  chain_behind s = record {
     sound = λ ts rest as' h. sound_chain (suc (length ts)) s ts rest as' h;
     placed = λ ts e h. placed_chain (suc (length ts)) s ts e h;
     local = λ front t rest rest' o d. enough_for front t rest' o (local_chain (suc (length front)) s front t rest rest' o (omega arith) (all_is front t rest o d));
@@ -312,6 +312,10 @@ module _ {S A : Type 0} (final : S → Bool) (bs : S → List ℕ) (wide : S →
       all_is : (front : List Tok) (u : Tok) (rest : List Tok) (o : Result (List A) FaultKind) → chain_at final begins f s (front ++ u ∷ rest) ≡ ends o (u ∷ rest) → at_most (suc (length front)) s (front ++ u ∷ rest) ≡ ends o (u ∷ rest)
       all_is front u rest o d = enough (suc (length (front ++ u ∷ rest))) (suc (length front)) s front (u ∷ rest) o (omega (arith, length-append front (u ∷ rest))) (omega arith) d
 
-      swap_all : (front : List Tok) (h : Head) (o : Result (List A) FaultKind) → Outcome false (of_all s) (at_most (suc (length front)) s) front h o → Outcome false (of_all s) (chain_at final begins f s) front h o
-      swap_all front h (Ok m) p = ok_too false false (of_all s) (of_all s) (at_most (suc (length front)) s) (chain_at final begins f s) front front h (λ e. e) m m (λ u i st rest. enough_for front u rest (Ok m) (st rest)) (λ u g. g) p
-      swap_all front h (Err k) p = err_too false false (of_all s) (of_all s) (at_most (suc (length front)) s) (chain_at final begins f s) front front h k (λ p. p) (λ u i st rest. let r = st rest in (r.0, r.1, enough_for front u rest (Err r.0) r.2)) (λ u g. g) p
+      swap_all : (front : List Tok) (h : Head) (o : Result (List A) FaultKind) → Outcome false (place s) (of_all s) (at_most (suc (length front)) s) front h o → Outcome false (place s) (of_all s) (chain_at final begins f s) front h o
+      swap_all front h (Ok m) p = ok_too false false (place s) (place s) (of_all s) (of_all s) (at_most (suc (length front)) s) (chain_at final begins f s) front front h (λ e. e) m m (λ u i st rest. enough_for front u rest (Ok m) (st rest)) (λ u g. g) p
+      swap_all front h (Err k) p = err_too false false (place s) (place s) (of_all s) (of_all s) (at_most (suc (length front)) s) (chain_at final begins f s) front front h k (λ p. p) (λ v. v) (λ u i st rest. let r = st rest in (r.0, r.1, enough_for front u rest (Err r.0) r.2)) (λ u g. g) p
+
+pub chain : {S A : Type 0} (final : S → Bool) (bs : S → List ℕ) (wide : S → Form Tok (A × S)) (f : S → Reader Tok (A × S)) → ((s : S) → Exchanges (wide s) (f s)) → ((s : S) (x : A × S) → wide s [] x → ⊥) → ((s : S) → (ts : List Tok) × (as' : List A) × Chain final wide s ts as' × AllReal tokens ts) → ((s : S) → final s ≡ true → fair (bs s) ≡ true)
+    → (s : S) → Exchanges (Chain final wide s) (chain_at final (λ s. among tokens (bs s)) f s)
+chain final bs wide f laws some finish fairly s = chain_behind final bs wide f (λ _. nowhere) (λ s front v. v) (λ s one two x q v. v) laws some finish fairly s

@@ -1,6 +1,6 @@
 -- The readers of items tell a token that is left out in some places where one that it stands for goes on.
 use Rattle.std.proofs.Common.{◌≡◌, ℕ, ◌-◌, nat_eq, Bool, true, false, cond, ◌||◌, Option, List, [], ◌∷◌, ◌++◌, length, Result, Ok, Err, refl, sym, ap, subst, ◌∙◌, inl, inr, arith, Some}
-use Rattle.std.proofs.lemmas.List.{length-append}
+use Rattle.std.proofs.lemmas.List.{length-append, append_assoc}
 use Rattle.std.specs.Prelude.{codes}
 use Rattle.ir_lex.specs.Bytes.{has}
 use Rattle.ir_lex.specs.Heads.{number, head_of, word_head, listed_head, words_7}
@@ -41,14 +41,16 @@ use Rattle.ir_bodies.specs.BlocksAt.{definition_at}
 use Rattle.ir_globals.specs.TypeDefinitionsAt.{type_line_at}
 use Rattle.ir_globals.specs.Variables.{NAMES}
 use Rattle.ir_globals.specs.VariablesAt.{variable_line_at, variable_name_at}
+use Rattle.ir_bodies.specs.Blocks.{any_definition}
 use Rattle.ir_items.specs.Items.{left_out, kept, unnamed, attribute_behind, placed, metadata_there, plainly, beside, attached_before, declaration, any_declaration, any_naming, other, any_named, any_piece, anywhere, at_place, Found}
 use Rattle.ir_items.specs.ItemsAt.{SOURCE, TARGET, COMDAT, DECLARE, NAMING, left_out_at, kept_at, unnamed_at, attribute_behind_at, placed_at, metadata_there_at, plainly_at, beside_at, attached_before_at, declaration_at, other_at, ITEM}
 use Rattle.ir_items.proofs.ItemRules.{there_rule}
 use Rattle.read_again.specs.Refusals.{MEMORY, WORD}
-use Rattle.read_again.proofs.Exchanged.{Exchanges, Goes, alt, alt_by, fair, nothing, same_reader, seq, star, taken, tested, Open, Outcome, outcome_too, stands_for, apart, passed, taken_first, IsTold, Stuck, is_target, target_is, placed_of}
+use Rattle.read_again.specs.NamedCalls.{in_definition}
+use Rattle.read_again.proofs.Exchanged.{Exchanges, Goes, Place, Swapping, nowhere, alt, alt_by, seq_from, fair, nothing, same_reader, seq, star, taken, tested, Open, Outcome, outcome_too, stands_for, apart, passed, taken_first, IsTold, Stuck, is_target, target_is, placed_of}
 use Rattle.read_again.proofs.ExchangedAttributes.{attribute_group_exchanged, head_attribute_exchanged}
 use Rattle.read_again.proofs.ExchangedBlocks.{definition_exchanged}
-use Rattle.read_again.proofs.ExchangedChains.{chain}
+use Rattle.read_again.proofs.ExchangedChains.{chain_behind}
 use Rattle.read_again.proofs.ExchangedFunctionHeads.{head_exchanged}
 use Rattle.read_again.proofs.ExchangedMetadataBehind.{metadata_behind_exchanged, node_yet_exchanged}
 use Rattle.read_again.proofs.ExchangedNodes.{attached_exchanged, metadata_line_exchanged}
@@ -169,7 +171,7 @@ unnamed_goes_on t rest o q d =
 
 pub plainly_exchanged : (before : Before) → Exchanges (plainly any_shape before) (plainly_at before)
 plainly_exchanged befores.Item = unnamed_exchanged
-plainly_exchanged befores.Declaration = alt_by HEAD (inr (refl, refl, inr unnamed_goes_on)) attribute_behind_exchanged unnamed_exchanged
+plainly_exchanged befores.Declaration = alt_by nowhere HEAD (inr (refl, refl, inr unnamed_goes_on)) attribute_behind_exchanged unnamed_exchanged (λ front v. v) (λ front v. v)
 plainly_exchanged befores.Name = unnamed_exchanged
 
 pub beside_exchanged : (before : Before) → Exchanges (beside any_shape before) (beside_at before)
@@ -219,17 +221,21 @@ within_at room before names = pick (among tokens ALL_NAMING) (cond (nat_eq names
 abbrev pub piece_with : ℕ → Before → ℕ → Reader Tok (Option Item × Position)
 piece_with room before names = pick (among tokens NUMBERED_NAME) (named_with room names) (within_at room before names)
 
-naming_exchanged : (room : ℕ) → Exchanges any_naming (naming_with room)
+definitions_exchanged : (room : ℕ) → Swapping false in_definition (form.either any_declaration (kept any_definition)) (pick (among tokens DECLARE) (declaration_at room) (kept_at (definition_at room)))
 unfolding kept kept_at
-naming_exchanged room = alt ALL_NAMES refl (seq variable_line_exchanged (λ _. nothing _)) (alt DECLARE refl (declaration_exchanged room) (seq (definition_exchanged room) (λ _. nothing _)))
+definitions_exchanged room = alt_by in_definition DECLARE (inl refl) (declaration_exchanged room) (seq_from (definition_exchanged room) (λ _. nothing _)) (λ front v. absurd v) (λ front v. v)
 
-named_exchanged : (room names : ℕ) → Exchanges (any_named names) (named_with room names)
+naming_exchanged : (room : ℕ) → Swapping false in_definition any_naming (naming_with room)
+unfolding kept kept_at
+naming_exchanged room = alt_by in_definition ALL_NAMES (inl refl) (seq variable_line_exchanged (λ _. nothing _)) (definitions_exchanged room) (λ front v. absurd v) (λ front v. v)
+
+named_exchanged : (room names : ℕ) → Swapping false in_definition (any_named names) (named_with room names)
 unfolding any_named
-named_exchanged room names = seq (naming_exchanged room) (λ x. nothing (at_place (names - 1) x))
+named_exchanged room names = seq_from (naming_exchanged room) (λ x. nothing (at_place (names - 1) x))
 
-within_exchanged : (room : ℕ) (before : Before) (names : ℕ) → Exchanges (any_piece before names) (within_at room before names)
+within_exchanged : (room : ℕ) (before : Before) (names : ℕ) → Swapping false in_definition (any_piece before names) (within_at room before names)
 unfolding any_piece
-within_exchanged room before names = alt ALL_NAMING refl (tested (nat_eq names 0) (named_exchanged room names)) (other_exchanged before names)
+within_exchanged room before names = alt_by in_definition ALL_NAMING (inl refl) (tested (nat_eq names 0) (named_exchanged room names)) (other_exchanged before names) (λ front v. v) (λ front v. absurd v)
 
 -- a number can't name a variable that isn't local
 pub numbered_is : (n : ℕ) → contains NUMBERED_NAME n ≡ true → name_refusal n ≡ Profile
@@ -289,22 +295,22 @@ module _ (room : ℕ) (before : Before) (names : ℕ) where
       by_head heads.NumberedGlobal e (u, i, g) = (u, i, named_is_piece before names [] u g)
       by_head h e n = absurd cc
 
-  swap_numbered : (t : Tok) (rest : List Tok) (o : Result (Option Item × Position) FaultKind) → among tokens NUMBERED_NAME t ≡ true → named_with room names (t ∷ rest) ≡ ends o (t ∷ rest) → Outcome false whole_piece (piece_with room before names) [] t.head o
+  swap_numbered : (t : Tok) (rest : List Tok) (o : Result (Option Item × Position) FaultKind) → among tokens NUMBERED_NAME t ≡ true → named_with room names (t ∷ rest) ≡ ends o (t ∷ rest) → Outcome false in_definition whole_piece (piece_with room before names) [] t.head o
   swap_numbered t rest o e d =
-      subst (λ (x : Result (Option Item × Position) FaultKind). Outcome false whole_piece (piece_with room before names) [] t.head x) (sym (end_is Profile o (t ∷ rest) (sym (numbered_told room names t rest e) ∙ d)))
+      subst (λ (x : Result (Option Item × Position) FaultKind). Outcome false in_definition whole_piece (piece_with room before names) [] t.head x) (sym (end_is Profile o (t ∷ rest) (sym (numbered_told room names t rest e) ∙ d)))
       (numbered_too t e ((named_exchanged room names).swap [] t rest (Err Profile) (numbered_told room names t rest e)))
 
-  swap_piece : (front : List Tok) (t : Tok) (rest : List Tok) (o : Result (Option Item × Position) FaultKind) → piece_with room before names (front ++ t ∷ rest) ≡ ends o (t ∷ rest) → Outcome false whole_piece (piece_with room before names) front t.head o
+  swap_piece : (front : List Tok) (t : Tok) (rest : List Tok) (o : Result (Option Item × Position) FaultKind) → piece_with room before names (front ++ t ∷ rest) ≡ ends o (t ∷ rest) → Outcome false in_definition whole_piece (piece_with room before names) front t.head o
   swap_piece [] t rest o d = by_test (among tokens NUMBERED_NAME t) refl d
     where
-      by_test : (b : Bool) → among tokens NUMBERED_NAME t ≡ b → cond b (named_with room names (t ∷ rest)) (within_at room before names (t ∷ rest)) ≡ ends o (t ∷ rest) → Outcome false whole_piece (piece_with room before names) [] t.head o
+      by_test : (b : Bool) → among tokens NUMBERED_NAME t ≡ b → cond b (named_with room names (t ∷ rest)) (within_at room before names (t ∷ rest)) ≡ ends o (t ∷ rest) → Outcome false in_definition whole_piece (piece_with room before names) [] t.head o
       by_test true e d = swap_numbered t rest o e d
-      by_test false e d = outcome_too false false whole_piece whole_piece (within_at room before names) (piece_with room before names) [] [] t.head o (λ e. e) (λ p. p) (λ u i rest'. sym (passed NUMBERED_NAME (named_with room names) (within_at room before names) u rest' (unnumbered t.head u i))) (λ u g. g) ((within_exchanged room before names).swap [] t rest o d)
+      by_test false e d = outcome_too false false in_definition in_definition whole_piece whole_piece (within_at room before names) (piece_with room before names) [] [] t.head o (λ e. e) (λ p. p) (λ v. v) (λ u i rest'. sym (passed NUMBERED_NAME (named_with room names) (within_at room before names) u rest' (unnumbered t.head u i))) (λ u g. g) ((within_exchanged room before names).swap [] t rest o d)
   swap_piece (v ∷ front) t rest o d = by_test (among tokens NUMBERED_NAME v) refl d
     where
-      by_test : (b : Bool) → among tokens NUMBERED_NAME v ≡ b → cond b (named_with room names (v ∷ (front ++ t ∷ rest))) (within_at room before names (v ∷ (front ++ t ∷ rest))) ≡ ends o (t ∷ rest) → Outcome false whole_piece (piece_with room before names) (v ∷ front) t.head o
-      by_test true e d = outcome_too false false (any_named names) whole_piece (named_with room names) (piece_with room before names) (v ∷ front) (v ∷ front) t.head o (λ e. e) (λ p. p) (λ u i rest'. sym (taken_first NUMBERED_NAME (named_with room names) (within_at room before names) v (front ++ u ∷ rest') e)) (λ u g. named_is_piece before names (v ∷ front) u g) ((named_exchanged room names).swap (v ∷ front) t rest o d)
-      by_test false e d = outcome_too false false whole_piece whole_piece (within_at room before names) (piece_with room before names) (v ∷ front) (v ∷ front) t.head o (λ e. e) (λ p. p) (λ u i rest'. sym (passed NUMBERED_NAME (named_with room names) (within_at room before names) v (front ++ u ∷ rest') e)) (λ u g. g) ((within_exchanged room before names).swap (v ∷ front) t rest o d)
+      by_test : (b : Bool) → among tokens NUMBERED_NAME v ≡ b → cond b (named_with room names (v ∷ (front ++ t ∷ rest))) (within_at room before names (v ∷ (front ++ t ∷ rest))) ≡ ends o (t ∷ rest) → Outcome false in_definition whole_piece (piece_with room before names) (v ∷ front) t.head o
+      by_test true e d = outcome_too false false in_definition in_definition (any_named names) whole_piece (named_with room names) (piece_with room before names) (v ∷ front) (v ∷ front) t.head o (λ e. e) (λ p. p) (λ v. v) (λ u i rest'. sym (taken_first NUMBERED_NAME (named_with room names) (within_at room before names) v (front ++ u ∷ rest') e)) (λ u g. named_is_piece before names (v ∷ front) u g) ((named_exchanged room names).swap (v ∷ front) t rest o d)
+      by_test false e d = outcome_too false false in_definition in_definition whole_piece whole_piece (within_at room before names) (piece_with room before names) (v ∷ front) (v ∷ front) t.head o (λ e. e) (λ p. p) (λ v. v) (λ u i rest'. sym (passed NUMBERED_NAME (named_with room names) (within_at room before names) v (front ++ u ∷ rest') e)) (λ u g. g) ((within_exchanged room before names).swap (v ∷ front) t rest o d)
 
   sound_piece : (ts rest : List Tok) (x : Option Item × Position) → piece_with room before names ts ≡ Ok (x, rest) → (front : List Tok) × (ts ≡ front ++ rest) × whole_piece front x
   sound_piece [] rest x d = (within_exchanged room before names).sound [] rest x d
@@ -334,7 +340,7 @@ module _ (room : ℕ) (before : Before) (names : ℕ) where
       by_test true d = (named_exchanged room names).local (v ∷ front) t rest rest' o d
       by_test false d = (within_exchanged room before names).local (v ∷ front) t rest rest' o d
 
-  pub piece_exchanged : Exchanges whole_piece (piece_with room before names)
+  pub piece_exchanged : Swapping false in_definition whole_piece (piece_with room before names)
   piece_exchanged = record { sound = sound_piece; placed = placed_piece; local = local_piece; some = (within_exchanged room before names).some; swap = swap_piece }
 
 -- ---- items one behind another
@@ -359,5 +365,17 @@ starts_fair befores.Name = refl
 abbrev pub all_items_at : ℕ → Position → Reader Tok (List (Option Item))
 all_items_at room = chain_at anywhere starts_there (piece_there room)
 
-pub all_items_exchanged : (room : ℕ) (at : Position) → Exchanges (Chain anywhere (λ at. any_piece at.before at.names) at) (all_items_at room at)
-all_items_exchanged room at = chain anywhere (λ at. STARTS at.before) (λ at. any_piece at.before at.names) (piece_there room) (λ at. piece_exchanged room at.before at.names) (λ at x q. taken (there_rule room at) x q) (λ _. ([], [], (refl, refl), tt)) (λ at e. starts_fair at.before) at
+-- items, and a definition as far as it goes
+abbrev pub in_items : Position → Place
+in_items at = form.◌>>=◌ (Chain anywhere (λ at. any_piece at.before at.names) at) (λ _. in_definition)
+
+first_item : (at : Position) (front : List Tok) → in_definition front tt → in_items at front tt
+unfolding form.◌>>=◌
+first_item at front v = ([], front, [], refl, (refl, refl), v)
+
+behind_item : (at : Position) (one two : List Tok) (x : Option Item × Position) → any_piece at.before at.names one x → in_items x.1 two tt → in_items at (one ++ two) tt
+unfolding form.◌>>=◌
+behind_item at one two x s (p, q, is, e, r, v) = (one ++ p, q, x.0 ∷ is, ap (λ (ts : List Tok). one ++ ts) e ∙ sym (append_assoc one p q), (one, p, x.1, refl, s, r), v)
+
+pub all_items_exchanged : (room : ℕ) (at : Position) → Swapping false (in_items at) (Chain anywhere (λ at. any_piece at.before at.names) at) (all_items_at room at)
+all_items_exchanged room at = chain_behind anywhere (λ at. STARTS at.before) (λ at. any_piece at.before at.names) (piece_there room) in_items first_item behind_item (λ at. piece_exchanged room at.before at.names) (λ at x q. taken (there_rule room at) x q) (λ _. ([], [], (refl, refl), tt)) (λ at e. starts_fair at.before) at

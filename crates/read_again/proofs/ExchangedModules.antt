@@ -5,11 +5,13 @@ use Rattle.std.specs.List.{fold}
 use Rattle.ir_lex.specs.Heads.{number}
 use Rattle.ir_lex.specs.Tok.{Tok}
 use Rattle.ir_lex.specs.declared.head.Head.TheVariants as heads
-use Rattle.lto_forms.proofs.Composed.{cut_is, reads, reads_is, wrong, wrong_is}
+use Rattle.ir_lex.specs.declared.head.Head.{Head}
+use Rattle.lto_forms.proofs.Composed.{cons_is, cut_is, reads, reads_is, wrong, wrong_is}
 use Rattle.lto_forms.proofs.Rules.{within_of}
 use Rattle.lto_forms.specs.Alphabet.{among, contains}
 use Rattle.lto_forms.specs.Chained.{chain_within, stops_here}
 use Rattle.lto_forms.specs.Faults.{Extends}
+use Rattle.lto_forms.specs.Forms as form
 use Rattle.lto_forms.specs.Lawful.{Broad, IsBound, UpTo}
 use Rattle.lto_forms.specs.Readers.{Reader, done, ended, fault_at, follow, ◌>>=◌, pick, whole_of}
 use Rattle.lto_forms.specs.declared.fault.Fault.{Fault}
@@ -30,8 +32,9 @@ use Rattle.ir_items.specs.Items.{any_items, any_piece, anywhere, at_place, keep}
 use Rattle.ir_items.specs.ItemsAt.{DECLARE, ITEM, NAMING, beginnings, begins_there, beside_at, declaration_at, first_place, items_at, kept_at, metadata_there_at, named_at, naming_at, other_at, piece_at, plainly_at, there_at}
 use Rattle.ir_items.specs.Modules.{FURTHER_PARAMETERS, GLOBAL_NAMES, any_module, item_refusal, module_of}
 use Rattle.ir_items.proofs.ItemRules.{ANY, items_rule, there_rule}
-use Rattle.read_again.proofs.Exchanged.{Exchanges, Outcome, SOMEWHERE, Stuck, nothing, seq, taken, apart, passed, taken_first}
-use Rattle.read_again.proofs.ExchangedItems.{NUMBERED_NAME, STARTS, TYPES, all_items_at, all_items_exchanged, named_with, naming_with, numbered_is, numbered_told, piece_exchanged, piece_there, piece_with, starts_there, unnamed_refuses, within_at}
+use Rattle.read_again.specs.NamedCalls.{in_module}
+use Rattle.read_again.proofs.Exchanged.{Outcome, SOMEWHERE, STAND_INS, Stuck, Swapping, nothing, placed_too, seq_from, taken, apart, passed, taken_first}
+use Rattle.read_again.proofs.ExchangedItems.{NUMBERED_NAME, STARTS, TYPES, all_items_at, all_items_exchanged, in_items, named_with, naming_with, numbered_is, numbered_told, piece_exchanged, piece_there, piece_with, starts_there, unnamed_refuses, within_at}
 
 -- ---- at each token that begins an item the two are the same
 
@@ -42,6 +45,9 @@ split (x ∷ xs) ys n h = by_test (nat_eq n x) (λ d. split xs ys n d) h
     by_test : (b : Bool) → (contains (xs ++ ys) n ≡ true → (contains xs n ≡ true) ⊎ (contains ys n ≡ true)) → b || contains (xs ++ ys) n ≡ true → (b || contains xs n ≡ true) ⊎ (contains ys n ≡ true)
     by_test true again h = inl refl
     by_test false again h = again h
+
+same : (n m : ℕ) → nat_eq n m ≡ true → n ≡ m
+same n m h = grind arith
 
 both : true ≡ false → ⊥
 both e = cc
@@ -168,12 +174,12 @@ module _ (room : ℕ) where
           by_start (contains (STARTS at.before) (number t.head)) refl e
           ∙ sym (ap (λ (b : Bool). finished k (cond (not b) (reads [] (t ∷ ts)) (follow (there_at room at (t ∷ ts)) (λ x. items_within n x.1 >>= λ more. done (x.0 ∷ more))))) e)
 
-  somewhere_starts : (before : Before) (n : ℕ) → contains SOMEWHERE n ≡ true → contains (STARTS before) n ≡ true
-  somewhere_starts befores.Item n e = within_of SOMEWHERE (STARTS befores.Item) refl n e
-  somewhere_starts befores.Declaration n e = within_of SOMEWHERE (STARTS befores.Declaration) refl n e
-  somewhere_starts befores.Name n e = within_of SOMEWHERE (STARTS befores.Name) refl n e
+  somewhere_starts : (before : Before) (n : ℕ) → contains STAND_INS n ≡ true → contains (STARTS before) n ≡ true
+  somewhere_starts befores.Item n e = within_of STAND_INS (STARTS befores.Item) refl n e
+  somewhere_starts befores.Declaration n e = within_of STAND_INS (STARTS befores.Declaration) refl n e
+  somewhere_starts befores.Name n e = within_of STAND_INS (STARTS befores.Name) refl n e
 
-  never_stops : (at : Position) (t : Tok) (rest : List Tok) → stops_here anywhere starts_there at (t ∷ rest) ≡ true → contains SOMEWHERE (number t.head) ≡ true → ⊥
+  never_stops : (at : Position) (t : Tok) (rest : List Tok) → stops_here anywhere starts_there at (t ∷ rest) ≡ true → contains STAND_INS (number t.head) ≡ true → ⊥
   never_stops at t rest q e = stopped (contains (STARTS at.before) (number t.head)) (somewhere_starts at.before (number t.head) e) q
     where
       stopped : (b : Bool) → b ≡ true → not b ≡ true → ⊥
@@ -181,7 +187,7 @@ module _ (room : ℕ) where
       stopped false p q = cc
 
   -- they end before none that is left out in some places
-  never_before : (n : ℕ) (at : Position) (ts : List Tok) (m : List (Option Item)) (t : Tok) (rest : List Tok) → all_within n at ts ≡ reads m (t ∷ rest) → contains SOMEWHERE (number t.head) ≡ true → ⊥
+  never_before : (n : ℕ) (at : Position) (ts : List Tok) (m : List (Option Item)) (t : Tok) (rest : List Tok) → all_within n at ts ≡ reads m (t ∷ rest) → contains STAND_INS (number t.head) ≡ true → ⊥
   never_before zero at ts m t rest d e = by_stop (stops_here anywhere starts_there at ts) refl d
     where
       by_stop : (b : Bool) → stops_here anywhere starts_there at ts ≡ b → cond b (reads [] ts) (fault_at Syntax ts) ≡ reads m (t ∷ rest) → ⊥
@@ -213,30 +219,46 @@ module_is : (ts : List Tok) → whole_of item_refusal (all_at ts) ≡ module_of 
 unfolding module_of items_at
 module_is ts = items_same FURTHER_PARAMETERS (suc (length ts)) (first_place GLOBAL_NAMES) ts (λ all. fold keep [] all) (omega arith)
 
-all_exchanged : Exchanges any_module all_at
+behind_items : (front : List Tok) → in_items (first_place GLOBAL_NAMES) front tt → in_module front tt
+unfolding in_module any_items form.◌>>=◌
+behind_items front (p, q, all, e, s, v) = (p, q, fold keep [] all, e, (p, [], all, sym (append-nil p), s, (refl, refl)), v)
+
+all_exchanged : Swapping false in_module any_module all_at
 unfolding any_module any_items
-all_exchanged = seq (all_items_exchanged FURTHER_PARAMETERS (first_place GLOBAL_NAMES)) (λ all. nothing (fold keep [] all))
+all_exchanged = placed_too in_module behind_items (seq_from (all_items_exchanged FURTHER_PARAMETERS (first_place GLOBAL_NAMES)) (λ all. nothing (fold keep [] all)))
 
 -- a module doesn't end before one that is left out in some places
-all_never : (front : List Tok) (t : Tok) (rest : List Tok) (is : List Item) → all_at (front ++ t ∷ rest) ≡ reads is (t ∷ rest) → contains SOMEWHERE (number t.head) ≡ true → ⊥
+all_never : (front : List Tok) (t : Tok) (rest : List Tok) (is : List Item) → all_at (front ++ t ∷ rest) ≡ reads is (t ∷ rest) → contains STAND_INS (number t.head) ≡ true → ⊥
 all_never front t rest is d e = by_result (all_items_at FURTHER_PARAMETERS (first_place GLOBAL_NAMES) (front ++ t ∷ rest)) refl d
   where
     by_result : (r : Result (List (Option Item) × List Tok) Fault) → all_items_at FURTHER_PARAMETERS (first_place GLOBAL_NAMES) (front ++ t ∷ rest) ≡ r → follow r (λ all. done (fold keep [] all)) ≡ reads is (t ∷ rest) → ⊥
     by_result (Ok y) q d = never_before FURTHER_PARAMETERS (suc (length (front ++ t ∷ rest))) (first_place GLOBAL_NAMES) (front ++ t ∷ rest) y.0 t rest (q ∙ ap (λ (z : List Tok). reads y.0 z) (reads_is (fold keep [] y.0) is y.1 (t ∷ rest) d).1) e
     by_result (Err f) q d = cc
 
-pub module_exchanged : (front : List Tok) (t : Tok) (rest : List Tok) (k : FaultKind) → module_of (front ++ t ∷ rest) ≡ wrong (record { left = length (t ∷ rest); kind = k }) → contains SOMEWHERE (number t.head) ≡ true → Outcome false any_module all_at front t.head (Err k)
+-- at an item's place a lifetime marker is told to be left out
+marker_told : (front : List Tok) (t : Tok) → nat_eq (number t.head) (number heads.LifetimeMarker) ≡ true → Outcome false in_module any_module all_at front t.head (Err (item_refusal t))
+marker_told front t e = subst (λ (k : FaultKind). Outcome false in_module any_module all_at front t.head (Err k)) (sym (ap name_refusal (same (number t.head) (number heads.LifetimeMarker) e))) (by_head t.head e)
+  where
+    by_head : (h : Head) → nat_eq (number h) (number heads.LifetimeMarker) ≡ true → Outcome false in_module any_module all_at front h (Err Profile)
+    by_head heads.LifetimeMarker e = tt
+    by_head h e = absurd cc
+
+pub module_exchanged : (front : List Tok) (t : Tok) (rest : List Tok) (k : FaultKind) → module_of (front ++ t ∷ rest) ≡ wrong (record { left = length (t ∷ rest); kind = k }) → contains SOMEWHERE (number t.head) ≡ true → Outcome false in_module any_module all_at front t.head (Err k)
 module_exchanged front t rest k d e = by_result (all_at (front ++ t ∷ rest)) refl (module_is (front ++ t ∷ rest) ∙ d)
   where
-    by_end : (is : List Item) (left : List Tok) → all_at (front ++ t ∷ rest) ≡ reads is left → ended item_refusal is left ≡ wrong (record { left = length (t ∷ rest); kind = k }) → Outcome false any_module all_at front t.head (Err k)
+    by_end : (is : List Item) (left : List Tok) → all_at (front ++ t ∷ rest) ≡ reads is left → ended item_refusal is left ≡ wrong (record { left = length (t ∷ rest); kind = k }) → Outcome false in_module any_module all_at front t.head (Err k)
     by_end is [] q h = absurd cc
     by_end is (u ∷ us) q h =
         let l : length (u ∷ us) ≡ length (t ∷ rest) = ap (λ (x : Fault). x.left) (wrong_is {X = List Item} (record { left = length (u ∷ us); kind = item_refusal u }) (record { left = length (t ∷ rest); kind = k }) h) in
         let s = all_exchanged.sound (front ++ t ∷ rest) (u ∷ us) is q in
         let c = cut_is front (t ∷ rest) s.0 (u ∷ us) s.1 (sym l) in
-        absurd (all_never front t rest is (q ∙ ap (λ (y : List Tok). reads is y) (sym c.1)) e)
+        by_class (nat_eq (number t.head) (number heads.LifetimeMarker)) refl (q ∙ ap (λ (y : List Tok). reads is y) (sym c.1)) (ap (λ (x : Fault). x.kind) (wrong_is {X = List Item} (record { left = length (u ∷ us); kind = item_refusal u }) (record { left = length (t ∷ rest); kind = k }) h)) (cons_is t u rest us c.1).0 e
+      where
+        by_class : (b : Bool) → nat_eq (number t.head) (number heads.LifetimeMarker) ≡ b → all_at (front ++ t ∷ rest) ≡ reads is (t ∷ rest) → item_refusal u ≡ k → t ≡ u → b || contains STAND_INS (number t.head) ≡ true → Outcome false in_module any_module all_at front t.head (Err k)
+        by_class true p q' i j e' = subst (λ (x : FaultKind). Outcome false in_module any_module all_at front t.head (Err x)) (ap item_refusal j ∙ i) (marker_told front t p)
+        by_class false p q' i j e' = absurd (all_never front t rest is q' e')
 
-    by_result : (r : Result (List Item × List Tok) Fault) → all_at (front ++ t ∷ rest) ≡ r → whole_of item_refusal r ≡ wrong (record { left = length (t ∷ rest); kind = k }) → Outcome false any_module all_at front t.head (Err k)
+    by_result : (r : Result (List Item × List Tok) Fault) → all_at (front ++ t ∷ rest) ≡ r → whole_of item_refusal r ≡ wrong (record { left = length (t ∷ rest); kind = k }) → Outcome false in_module any_module all_at front t.head (Err k)
     by_result (Ok x) q h = by_end x.0 x.1 q h
     by_result (Err f) q h = all_exchanged.swap front t rest (Err k) (q ∙ ap wrong (wrong_is {X = List Item} f (record { left = length (t ∷ rest); kind = k }) h))
 

@@ -13,10 +13,12 @@ use Rattle.ir_read.specs.Classes.{IsReal, tokens}
 use Rattle.ir_read.specs.FunctionHeads.{GLOBAL, NUMBERED}
 use Rattle.ir_read.specs.Operands.{REG}
 use Rattle.ir_read.specs.Targets.{STRING}
+use Rattle.ir_bodies.specs.CallsAt.{MARKER}
 use Rattle.ir_items.specs.Modules.{any_module, module_of}
 use Rattle.ir_parse.specs.Kinds.{grammar_fault}
 use Rattle.ir_parse.specs.declared.fault.FaultKind as told_kind
 use Rattle.ir_parse.specs.declared.fault.FaultKind.TheVariants as kinds
+use Rattle.read_again.specs.NamedCalls.{in_module}
 use Rattle.read_again.specs.Refusals.{FitsPlace, GoesOn, INTEGER, MEMORY, NoneOfThem, NotEach, SomeGoesOn, TARGET, TYPE, WORD}
 use Rattle.read_again.proofs.Exchanged.{Goes, IsTold, NotTold, Open, Outcome, SOMEWHERE, Stuck}
 use Rattle.read_again.proofs.ExchangedModules.{all_at, module_exchanged, none_goes_on}
@@ -40,22 +42,26 @@ name_told heads.NumberedGlobal S G P e n = n
 name_told heads.NumberedDefinition S G P e n = n
 name_told h S G P e n = absurd cc
 
-type_not : (h : Head) (S G : Tok → Type 0) → contains TYPE (number h) ≡ true → NotTold h S G → (u : Tok) → among tokens REG u ≡ true → S u
-type_not heads.RefusedType S G e n = n
-type_not h S G e n = absurd cc
+type_not : (h : Head) (S G : Tok → Type 0) (P : Type 0) → contains TYPE (number h) ≡ true → NotTold h S G P → (u : Tok) → among tokens REG u ≡ true → S u
+type_not heads.RefusedType S G P e n = n
+type_not h S G P e n = absurd cc
 
-target_not : (h : Head) (S G : Tok → Type 0) → contains TARGET (number h) ≡ true → NotTold h S G → ((u : Tok) → among tokens REG u ≡ true → S u) ⊎ ((w : Tok) × (among tokens WORD w ≡ true) × G w)
-target_not heads.Target S G e n = n
-target_not h S G e n = absurd cc
+target_not : (h : Head) (S G : Tok → Type 0) (P : Type 0) → contains TARGET (number h) ≡ true → NotTold h S G P → ((u : Tok) → among tokens REG u ≡ true → S u) ⊎ ((w : Tok) × (among tokens WORD w ≡ true) × G w)
+target_not heads.Target S G P e n = n
+target_not h S G P e n = absurd cc
 
-integer_not : (h : Head) (S G : Tok → Type 0) → contains INTEGER (number h) ≡ true → NotTold h S G → (u : Tok) × (among tokens MEMORY u ≡ true) × IsReal u × S u
-integer_not heads.RegisterInteger S G e n = n
-integer_not h S G e n = absurd cc
+integer_not : (h : Head) (S G : Tok → Type 0) (P : Type 0) → contains INTEGER (number h) ≡ true → NotTold h S G P → (u : Tok) × (among tokens MEMORY u ≡ true) × IsReal u × S u
+integer_not heads.RegisterInteger S G P e n = n
+integer_not h S G P e n = absurd cc
 
-name_not : (h : Head) (S G : Tok → Type 0) → contains NUMBERED (number h) ≡ true → NotTold h S G → (u : Tok) → among tokens GLOBAL u ≡ true → S u
-name_not heads.NumberedGlobal S G e n = n
-name_not heads.NumberedDefinition S G e n = n
-name_not h S G e n = absurd cc
+name_not : (h : Head) (S G : Tok → Type 0) (P : Type 0) → contains NUMBERED (number h) ≡ true → NotTold h S G P → (u : Tok) → among tokens GLOBAL u ≡ true → S u
+name_not heads.NumberedGlobal S G P e n = n
+name_not heads.NumberedDefinition S G P e n = n
+name_not h S G P e n = absurd cc
+
+marker_not : (h : Head) (S G : Tok → Type 0) (P : Type 0) → contains MARKER (number h) ≡ true → NotTold h S G P → P
+marker_not heads.LifetimeMarker S G P e n = n
+marker_not h S G P e n = absurd cc
 
 -- ---- in terms of the grammar
 
@@ -84,9 +90,9 @@ module _ (front : List Tok) (t : Tok) where
   not_each (u, i, r, s) = (u, i, r, none_goes_on front u s)
 
   abbrev Placed : FaultKind → Type 0
-  Placed k = contains SOMEWHERE (number t.head) ≡ true → Outcome false any_module all_at front t.head (Err k)
+  Placed k = contains SOMEWHERE (number t.head) ≡ true → Outcome false in_module any_module all_at front t.head (Err k)
 
-  here : (classes : List ℕ) (k : FaultKind) → (contains classes (number t.head) ≡ true → contains SOMEWHERE (number t.head) ≡ true) → Placed k → contains classes (number t.head) ≡ true → Outcome false any_module all_at front t.head (Err k)
+  here : (classes : List ℕ) (k : FaultKind) → (contains classes (number t.head) ≡ true → contains SOMEWHERE (number t.head) ≡ true) → Placed k → contains classes (number t.head) ≡ true → Outcome false in_module any_module all_at front t.head (Err k)
   here classes k within p e = p (within e)
 
   in_types : contains TYPE (number t.head) ≡ true → contains SOMEWHERE (number t.head) ≡ true
@@ -101,6 +107,9 @@ module _ (front : List Tok) (t : Tok) where
   in_names : contains NUMBERED (number t.head) ≡ true → contains SOMEWHERE (number t.head) ≡ true
   in_names e = within_of NUMBERED SOMEWHERE refl (number t.head) e
 
+  in_markers : contains MARKER (number t.head) ≡ true → contains SOMEWHERE (number t.head) ≡ true
+  in_markers e = within_of MARKER SOMEWHERE refl (number t.head) e
+
   left_out : (kind : told_kind.FaultKind) → (kind ≡ kinds.Syntax → ⊥) → Placed Profile → FitsPlace front t kind
   left_out kind never p = record {
     type_left_out = λ e word h. some_or_open (Open front) (type_told t.head (Stuck all_at front) (Goes any_module front) (Open front) e (p (in_types e)));
@@ -111,18 +120,20 @@ module _ (front : List Tok) (t : Tok) where
     integer_misplaced = λ e h. absurd (never h);
     name_left_out = λ e word h. some_goes_on GLOBAL (name_told t.head (Stuck all_at front) (Goes any_module front) (Open front) e (p (in_names e)));
     name_misplaced = λ e h. absurd (never h);
+    marker_misplaced = λ e h. absurd (never h);
   }
 
   misplaced : (kind : told_kind.FaultKind) → ((word : List ℕ) → kind ≡ kinds.Profile word → ⊥) → Placed Syntax → FitsPlace front t kind
   misplaced kind never p = record {
     type_left_out = λ e word h. absurd (never word h);
-    type_misplaced = λ e h u i. none_goes_on front u (type_not t.head (Stuck all_at front) (Goes any_module front) e (p (in_types e)) u i);
+    type_misplaced = λ e h u i. none_goes_on front u (type_not t.head (Stuck all_at front) (Goes any_module front) (in_module front tt) e (p (in_types e)) u i);
     target_left_out = λ e word h. absurd (never word h);
-    target_misplaced = λ e h. none_or_word (target_not t.head (Stuck all_at front) (Goes any_module front) e (p (in_target e)));
+    target_misplaced = λ e h. none_or_word (target_not t.head (Stuck all_at front) (Goes any_module front) (in_module front tt) e (p (in_target e)));
     integer_left_out = λ e word h. absurd (never word h);
-    integer_misplaced = λ e h. not_each (integer_not t.head (Stuck all_at front) (Goes any_module front) e (p (in_integers e)));
+    integer_misplaced = λ e h. not_each (integer_not t.head (Stuck all_at front) (Goes any_module front) (in_module front tt) e (p (in_integers e)));
     name_left_out = λ e word h. absurd (never word h);
-    name_misplaced = λ e h u i. none_goes_on front u (name_not t.head (Stuck all_at front) (Goes any_module front) e (p (in_names e)) u i);
+    name_misplaced = λ e h u i. none_goes_on front u (name_not t.head (Stuck all_at front) (Goes any_module front) (in_module front tt) e (p (in_names e)) u i);
+    marker_misplaced = λ e h. marker_not t.head (Stuck all_at front) (Goes any_module front) (in_module front tt) e (p (in_markers e));
   }
 
   neither : (kind : told_kind.FaultKind) → ((word : List ℕ) → kind ≡ kinds.Profile word → ⊥) → (kind ≡ kinds.Syntax → ⊥) → FitsPlace front t kind
@@ -135,6 +146,7 @@ module _ (front : List Tok) (t : Tok) where
     integer_misplaced = λ e h. absurd (no_syntax h);
     name_left_out = λ e word h. absurd (no_profile word h);
     name_misplaced = λ e h. absurd (no_syntax h);
+    marker_misplaced = λ e h. absurd (no_syntax h);
   }
 
   by_string : (b : Bool) → Placed Profile → FitsPlace front t (cond b kinds.Layout (kinds.Profile t.text))

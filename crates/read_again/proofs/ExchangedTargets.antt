@@ -115,6 +115,7 @@ layout_class heads.Target = inl (no_string REG refl)
 layout_class heads.RegisterInteger = (word heads.MemoryInteger (codes "i8"), refl, i8_real, no_string MEMORY refl (word heads.MemoryInteger (codes "i8")) refl)
 layout_class heads.NumberedGlobal = no_string (number heads.Global ∷ []) refl
 layout_class heads.NumberedDefinition = no_string (number heads.Global ∷ []) refl
+layout_class heads.LifetimeMarker = tt
 layout_class h = elsewhere (form.token is_layout) is_layout h (refusal (number h)) (λ q. cc)
 
 same : (n m : ℕ) → nat_eq n m ≡ true → n ≡ m

@@ -26,7 +26,7 @@ use Rattle.ir_read.proofs.FunctionHeadRules.{name_not_number, name_not_limit}
 use Rattle.ir_read.proofs.OperandRules.{type_not_number, type_not_limit, memory_not_number, memory_not_limit}
 use Rattle.ir_read.proofs.Singles.{word, not_number, not_limit}
 use Rattle.read_again.specs.Refusals.{MEMORY, WORD}
-use Rattle.read_again.proofs.Exchanged.{Exchanges, Goes, SOMEWHERE, Says, single, stands_for, apart, a_type, is_target, target_is}
+use Rattle.read_again.proofs.Exchanged.{Exchanges, Goes, Place, SOMEWHERE, Says, SaysAt, nowhere, single, stands_for, apart, a_type, is_target, target_is}
 
 pub i8_real : IsReal (word heads.MemoryInteger (codes "i8"))
 unfolding best_fit rest_fit label_len number_len word_len name_len meta_len dots_len other_len string_len has is_bad is_zero_name head_of word_head listed_head words_2
@@ -70,26 +70,42 @@ plain_globals wanted = plain_at wanted heads.NumberedGlobal && plain_at wanted h
 abbrev pub plain : List ℕ → Bool
 plain wanted = plain_names wanted && plain_globals wanted
 
-module _ {A : Type 0} (wide : Form Tok A) (meaning : Tok → Result A FaultKind) where
-  bound_says : (h : Head) (k : FaultKind) → IsBound k → Says wide meaning h k
+module _ {A : Type 0} (place : Place) (wide : Form Tok A) (meaning : Tok → Result A FaultKind) where
+  bound_says : (h : Head) (k : FaultKind) → IsBound k → SaysAt place wide meaning h k
   bound_says h Number b = tt
   bound_says h Limit b = tt
   bound_says h Syntax b = absurd b
   bound_says h Profile b = absurd b
 
   -- of no other class anything is said
-  pub elsewhere : (h : Head) (k : FaultKind) → (contains SOMEWHERE (number h) ≡ true → ⊥) → Says wide meaning h k
-  elsewhere h Number n = tt
-  elsewhere h Limit n = tt
-  elsewhere heads.RefusedType k n = absurd (n refl)
-  elsewhere heads.Target k n = absurd (n refl)
-  elsewhere heads.RegisterInteger k n = absurd (n refl)
-  elsewhere heads.NumberedGlobal k n = absurd (n refl)
-  elsewhere heads.NumberedDefinition k n = absurd (n refl)
-  elsewhere h Syntax n = tt
-  elsewhere h Profile n = tt
+  pub elsewhere_at : (h : Head) (k : FaultKind) → (contains SOMEWHERE (number h) ≡ true → ⊥) → SaysAt place wide meaning h k
+  elsewhere_at h Number n = tt
+  elsewhere_at h Limit n = tt
+  elsewhere_at heads.RefusedType k n = absurd (n refl)
+  elsewhere_at heads.Target k n = absurd (n refl)
+  elsewhere_at heads.RegisterInteger k n = absurd (n refl)
+  elsewhere_at heads.NumberedGlobal k n = absurd (n refl)
+  elsewhere_at heads.NumberedDefinition k n = absurd (n refl)
+  elsewhere_at heads.LifetimeMarker k n = absurd (n refl)
+  elsewhere_at h Syntax n = tt
+  elsewhere_at h Profile n = tt
 
   -- a meaning that refuses what isn't of these classes by its class, and what is for its range alone
+  module _ (wanted : List ℕ) (refuse : ℕ → FaultKind) (unbound : (n : ℕ) → IsBound (refuse n) → ⊥) (outside : (t : Tok) → among tokens wanted t ≡ false → meaning t ≡ Err (refuse (number t.head))) (inside : (t : Tok) → among tokens wanted t ≡ true → (k : FaultKind) → meaning t ≡ Err k → IsBound k) where
+    same_kind : (k l : FaultKind) → (m : Result A FaultKind) → m ≡ Err k → m ≡ Err l → k ≡ l
+    same_kind k l m d e = cc
+
+    pub says_at : ((h : Head) → contains wanted (number h) ≡ false → SaysAt place wide meaning h (refuse (number h))) → (t : Tok) (k : FaultKind) → meaning t ≡ Err k → SaysAt place wide meaning t.head k
+    says_at each t k d = by_test (among tokens wanted t) refl
+      where
+        by_test : (b : Bool) → among tokens wanted t ≡ b → SaysAt place wide meaning t.head k
+        by_test true p = bound_says t.head k (inside t p k d)
+        by_test false p = subst (λ (x : FaultKind). SaysAt place wide meaning t.head x) (same_kind (refuse (number t.head)) k (meaning t) (outside t p) d) (each t.head p)
+
+module _ {A : Type 0} (wide : Form Tok A) (meaning : Tok → Result A FaultKind) where
+  pub elsewhere : (h : Head) (k : FaultKind) → (contains SOMEWHERE (number h) ≡ true → ⊥) → Says wide meaning h k
+  elsewhere = elsewhere_at nowhere wide meaning
+
   module _ (wanted : List ℕ) (refuse : ℕ → FaultKind) (unbound : (n : ℕ) → IsBound (refuse n) → ⊥) (outside : (t : Tok) → among tokens wanted t ≡ false → meaning t ≡ Err (refuse (number t.head))) (inside : (t : Tok) → among tokens wanted t ≡ true → (k : FaultKind) → meaning t ≡ Err k → IsBound k) where
     stuck_outside : (u : Tok) → among tokens wanted u ≡ false → (k : FaultKind) × (IsBound k → ⊥) × (meaning u ≡ Err k)
     stuck_outside u e = (refuse (number u.head), unbound (number u.head), outside u e)
@@ -100,15 +116,8 @@ module _ {A : Type 0} (wide : Form Tok A) (meaning : Tok → Result A FaultKind)
     pub none_taken : (h : Head) → plain_at wanted h ≡ true → contains wanted (number h) ≡ false → (u : Tok) → among tokens (stands_for h) u ≡ true → (k : FaultKind) × (IsBound k → ⊥) × (meaning u ≡ Err k)
     none_taken h p n u i = stuck_outside u (apart (stands_for h) wanted (left_false (contains wanted (number h)) (disjoint (stands_for h) wanted) p n) (number u.head) i)
 
-    same_kind : (k l : FaultKind) → (m : Result A FaultKind) → m ≡ Err k → m ≡ Err l → k ≡ l
-    same_kind k l m d e = cc
-
     pub says_by : ((h : Head) → contains wanted (number h) ≡ false → Says wide meaning h (refuse (number h))) → (t : Tok) (k : FaultKind) → meaning t ≡ Err k → Says wide meaning t.head k
-    says_by each t k d = by_test (among tokens wanted t) refl
-      where
-        by_test : (b : Bool) → among tokens wanted t ≡ b → Says wide meaning t.head k
-        by_test true p = bound_says t.head k (inside t p k d)
-        by_test false p = subst (λ (x : FaultKind). Says wide meaning t.head x) (same_kind (refuse (number t.head)) k (meaning t) (outside t p) d) (each t.head p)
+    says_by = says_at nowhere wide meaning wanted refuse unbound outside inside
 
 -- ---- where nothing of that may stand
 
@@ -144,6 +153,7 @@ module _ {A : Type 0} (wide : Form Tok A) (meaning : Tok → Result A FaultKind)
     plainly heads.RegisterInteger n = (i8, refl, i8_real, none_taken wide meaning wanted refusal not_bound outside inside heads.RegisterInteger (and_parts (plain_at wanted heads.Target) (plain_at wanted heads.RegisterInteger) two).1 n i8 refl)
     plainly heads.NumberedGlobal n = none_taken wide meaning wanted refusal not_bound outside inside heads.NumberedGlobal globals.0 n
     plainly heads.NumberedDefinition n = none_taken wide meaning wanted refusal not_bound outside inside heads.NumberedDefinition globals.1 n
+    plainly heads.LifetimeMarker n = tt
     plainly h n = elsewhere wide meaning h (refusal (number h)) (λ q. cc)
 
     pub says_plainly : (t : Tok) (k : FaultKind) → meaning t ≡ Err k → Says wide meaning t.head k
@@ -161,6 +171,7 @@ module _ {A : Type 0} (wide : Form Tok A) (meaning : Tok → Result A FaultKind)
     typed heads.RegisterInteger n = (i8, refl, i8_real, none_taken wide meaning wanted type_refusal type_not_bound outside inside heads.RegisterInteger (and_parts (plain_at wanted heads.RegisterInteger) (plain_at wanted heads.NumberedGlobal && plain_at wanted heads.NumberedDefinition) p).0 n i8 refl)
     typed heads.NumberedGlobal n = none_taken wide meaning wanted type_refusal type_not_bound outside inside heads.NumberedGlobal numbers.0 n
     typed heads.NumberedDefinition n = none_taken wide meaning wanted type_refusal type_not_bound outside inside heads.NumberedDefinition numbers.1 n
+    typed heads.LifetimeMarker n = tt
     typed h n = elsewhere wide meaning h (type_refusal (number h)) (λ q. cc)
 
     pub says_typed : (t : Tok) (k : FaultKind) → meaning t ≡ Err k → Says wide meaning t.head k
@@ -178,6 +189,7 @@ module _ {A : Type 0} (wide : Form Tok A) (meaning : Tok → Result A FaultKind)
     shaped heads.RegisterInteger n = each
     shaped heads.NumberedGlobal n = none_taken wide meaning wanted memory_refusal memory_not_bound outside inside heads.NumberedGlobal both.0 n
     shaped heads.NumberedDefinition n = none_taken wide meaning wanted memory_refusal memory_not_bound outside inside heads.NumberedDefinition both.1 n
+    shaped heads.LifetimeMarker n = tt
     shaped h n = elsewhere wide meaning h (memory_refusal (number h)) (λ q. cc)
 
     pub says_shaped : (t : Tok) (k : FaultKind) → meaning t ≡ Err k → Says wide meaning t.head k
@@ -195,6 +207,7 @@ module _ {A : Type 0} (wide : Form Tok A) (meaning : Tok → Result A FaultKind)
     named heads.RegisterInteger n = (i8, refl, i8_real, none_taken wide meaning wanted name_refusal name_not_bound outside inside heads.RegisterInteger (and_parts (plain_at wanted heads.Target) (plain_at wanted heads.RegisterInteger) later).1 n i8 refl)
     named heads.NumberedGlobal n = name
     named heads.NumberedDefinition n = name
+    named heads.LifetimeMarker n = tt
     named h n = elsewhere wide meaning h (name_refusal (number h)) (λ q. cc)
 
     pub says_named : (t : Tok) (k : FaultKind) → meaning t ≡ Err k → Says wide meaning t.head k
@@ -340,6 +353,7 @@ module _ {A : Type 0} (wanted : List ℕ) (passes : Tok → Bool) (value : Tok �
     exact_class heads.RegisterInteger = failing
     exact_class heads.NumberedGlobal = λ g p. stuck_global g p
     exact_class heads.NumberedDefinition = λ g p. stuck_global g p
+    exact_class heads.LifetimeMarker = tt
     exact_class h = elsewhere (form.token tested) tested h (type_refusal (number h)) (λ q. cc)
 
     exact_says : (t : Tok) (k : FaultKind) → tested t ≡ Err k → Says (form.token tested) tested t.head k
@@ -401,6 +415,7 @@ module _ {A : Type 0} (wanted : List ℕ) (value : Tok → A) (p : worded wanted
   word_class heads.RegisterInteger n = (word heads.MemoryInteger (codes "i8"), refl, i8_real, taken_none heads.RegisterInteger parts_of.2 n (word heads.MemoryInteger (codes "i8")) refl)
   word_class heads.NumberedGlobal n = taken_none heads.NumberedGlobal parts_of.3 n
   word_class heads.NumberedDefinition n = taken_none heads.NumberedDefinition parts_of.4 n
+  word_class heads.LifetimeMarker n = tt
   word_class h n = elsewhere (one_of wanted value) one_word h (refusal (number h)) (λ q. cc)
 
   pub word_one : Exchanges (one_of wanted value) (one_of_at wanted value)
@@ -437,6 +452,7 @@ module _ (wanted : ℕ) (p : plain (wanted ∷ []) ≡ true) where
   angle_class heads.RegisterInteger n = (word heads.MemoryInteger (codes "i8"), refl, i8_real, angle_taken heads.RegisterInteger angle_parts.2 n (word heads.MemoryInteger (codes "i8")) refl)
   angle_class heads.NumberedGlobal n = angle_taken heads.NumberedGlobal angle_parts.3 n
   angle_class heads.NumberedDefinition n = angle_taken heads.NumberedDefinition angle_parts.4 n
+  angle_class heads.LifetimeMarker n = tt
   angle_class h n = elsewhere (form.token behind_angle) behind_angle h (angle_refusal (number h)) (λ q. cc)
 
   pub angle_says : (t : Tok) (k : FaultKind) → behind_angle t ≡ Err k → Says (form.token behind_angle) behind_angle t.head k

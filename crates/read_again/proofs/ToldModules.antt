@@ -1,5 +1,5 @@
 -- The kind of a fault fits the token at which it stands, in a whole module.
-use Rattle.std.proofs.Common.{◌≡◌, ℕ, true, List, [], ◌∷◌, ◌++◌, length, Result, Ok, Err, refl, ap, subst, ◌∙◌, inl}
+use Rattle.std.proofs.Common.{◌≡◌, true, List, [], ◌∷◌, ◌++◌, length, Result, Ok, Err, refl, subst, inl}
 use Rattle.ir_lex.specs.Heads.{number}
 use Rattle.ir_lex.specs.Tok.{Tok}
 use Rattle.lto_forms.specs.Alphabet.{among}
@@ -7,8 +7,7 @@ use Rattle.lto_forms.specs.Faults.{FitsBound, FitsKind, StopsAt}
 use Rattle.lto_forms.specs.Lawful.{Lawful}
 use Rattle.lto_forms.specs.Readers.{Reader, ended, whole_of}
 use Rattle.lto_forms.specs.declared.fault.Fault.{Fault}
-use Rattle.lto_forms.specs.declared.fault.FaultKind.{FaultKind}
-use Rattle.lto_forms.specs.declared.fault.FaultKind.TheVariants.{Syntax, Profile, Number, Limit}
+use Rattle.lto_forms.specs.declared.fault.FaultKind.TheVariants.{Number, Limit}
 use Rattle.lto_forms.proofs.Composed.{wrong, wrong_is}
 use Rattle.lto_forms.proofs.Bounds.{whole_bound}
 use Rattle.lto_forms.proofs.Whole as whole

@@ -1,6 +1,7 @@
 pub mod Known
 pub mod Within
 pub mod Typed
+pub mod NamedCalls
 pub mod Refusals
 pub mod Numbered
 pub mod Anew

@@ -1,5 +1,6 @@
 -- What the kind of a fault of the grammar says of the token at which it stands (LangRef, "Identifiers", "Type System").
 use Rattle.std.specs.Prelude.{◌≡◌, ◌⊎◌, ℕ, nat_eq, Bool, true, false, List, [], ◌∷◌, ◌++◌, length}
+use Rattle.ir_bodies.specs.CallsAt.{MARKER}
 use Rattle.ir_items.specs.Modules.{any_module, whole_module}
 use Rattle.ir_lex.specs.declared.head.Head.TheVariants as heads
 use Rattle.ir_lex.specs.Heads.{number}
@@ -15,6 +16,7 @@ use Rattle.ir_instructions.specs.ShapeForms.{OPEN_ANGLE}
 use Rattle.ir_read.specs.Targets.{STRING}
 use Rattle.lto_forms.specs.Alphabet.{among}
 use Rattle.lto_forms.specs.Faults.{Extends, LimitGoesOn, NoNumberGoesOn, NoneGoesOn, NumberGoesOn, Viable}
+use Rattle.read_again.specs.NamedCalls.{in_module}
 
 -- refused wherever no reading goes on with them: words that are left out, integers of no bits or of more than 64, names that LLVM keeps
 -- for itself, `...`, `^` and a `#` before a word
@@ -97,6 +99,8 @@ pub record FitsPlace (front : List Tok) (t : Tok) (kind : FaultKind) : Type 0 wh
   -- a name that is a number, where the name of another global goes on
   pub name_left_out : among tokens NUMBERED t ≡ true → (word : List ℕ) → kind ≡ kinds.Profile word → SomeGoesOn GLOBAL front
   pub name_misplaced : among tokens NUMBERED t ≡ true → kind ≡ kinds.Syntax → NoneOfThem GLOBAL front
+  -- a lifetime marker, but as the callee of a void call that has a name: the call would be dropped, and with it the name
+  pub marker_misplaced : among tokens MARKER t ≡ true → kind ≡ kinds.Syntax → in_module front tt
 
 -- Of what is refused everywhere it is told that it is left out, and of nothing else but what is refused somewhere, in the places of it,
 -- and a number behind `<`. A layout that isn't supported is a string. A number is out of range only where another one goes on in its
