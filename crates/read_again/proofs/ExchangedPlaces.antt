@@ -1,5 +1,5 @@
 -- Where the grammar stops at a token that is left out in some places, it is told as such exactly where one that it stands for goes on.
-use Rattle.std.proofs.Common.{◌≡◌, ℕ, Bool, true, false, cond, ◌⊎◌, inl, inr, List, [], ◌∷◌, ◌++◌, length, Err, refl, sym, subst, append_assoc}
+use Rattle.std.proofs.Common.{◌≡◌, ℕ, Bool, true, false, cond, ◌⊎◌, inl, inr, List, [], ◌∷◌, ◌++◌, length, Err, refl, sym, ap, subst, ◌∙◌, append_assoc}
 use Rattle.ir_lex.specs.Heads.{number}
 use Rattle.ir_lex.specs.Tok.{Tok}
 use Rattle.ir_lex.specs.declared.head.Head.TheVariants as heads
@@ -21,6 +21,7 @@ use Rattle.ir_parse.specs.declared.fault.FaultKind.TheVariants as kinds
 use Rattle.read_again.specs.NamedCalls.{in_module}
 use Rattle.read_again.specs.Refusals.{FitsPlace, GoesOn, INTEGER, MEMORY, NoneOfThem, NotEach, SomeGoesOn, TARGET, TYPE, WORD}
 use Rattle.read_again.proofs.Exchanged.{Goes, IsTold, NotTold, Open, Outcome, SOMEWHERE, Stuck}
+use Rattle.read_again.proofs.NamedCallees.{never_left_out}
 use Rattle.read_again.proofs.ExchangedModules.{all_at, module_exchanged, none_goes_on}
 
 -- ---- what is said of each class
@@ -110,8 +111,12 @@ module _ (front : List Tok) (t : Tok) where
   in_markers : contains MARKER (number t.head) ≡ true → contains SOMEWHERE (number t.head) ≡ true
   in_markers e = within_of MARKER SOMEWHERE refl (number t.head) e
 
-  left_out : (kind : told_kind.FaultKind) → (kind ≡ kinds.Syntax → ⊥) → Placed Profile → FitsPlace front t kind
-  left_out kind never p = record {
+  -- no void call with a name stands before a lifetime marker
+  abbrev Unnamed : Type 0
+  Unnamed = contains MARKER (number t.head) ≡ true → in_module front tt → ⊥
+
+  left_out : (kind : told_kind.FaultKind) → (kind ≡ kinds.Syntax → ⊥) → Placed Profile → Unnamed → FitsPlace front t kind
+  left_out kind never p unnamed = record {
     type_left_out = λ e word h. some_or_open (Open front) (type_told t.head (Stuck all_at front) (Goes any_module front) (Open front) e (p (in_types e)));
     type_misplaced = λ e h. absurd (never h);
     target_left_out = λ e word h. told_target (target_told t.head (Stuck all_at front) (Goes any_module front) (Open front) e (p (in_target e)));
@@ -120,6 +125,7 @@ module _ (front : List Tok) (t : Tok) where
     integer_misplaced = λ e h. absurd (never h);
     name_left_out = λ e word h. some_goes_on GLOBAL (name_told t.head (Stuck all_at front) (Goes any_module front) (Open front) e (p (in_names e)));
     name_misplaced = λ e h. absurd (never h);
+    marker_left_out = λ e word h. unnamed e;
     marker_misplaced = λ e h. absurd (never h);
   }
 
@@ -133,6 +139,7 @@ module _ (front : List Tok) (t : Tok) where
     integer_misplaced = λ e h. not_each (integer_not t.head (Stuck all_at front) (Goes any_module front) (in_module front tt) e (p (in_integers e)));
     name_left_out = λ e word h. absurd (never word h);
     name_misplaced = λ e h u i. none_goes_on front u (name_not t.head (Stuck all_at front) (Goes any_module front) (in_module front tt) e (p (in_names e)) u i);
+    marker_left_out = λ e word h. absurd (never word h);
     marker_misplaced = λ e h. marker_not t.head (Stuck all_at front) (Goes any_module front) (in_module front tt) e (p (in_markers e));
   }
 
@@ -146,18 +153,19 @@ module _ (front : List Tok) (t : Tok) where
     integer_misplaced = λ e h. absurd (no_syntax h);
     name_left_out = λ e word h. absurd (no_profile word h);
     name_misplaced = λ e h. absurd (no_syntax h);
+    marker_left_out = λ e word h. absurd (no_profile word h);
     marker_misplaced = λ e h. absurd (no_syntax h);
   }
 
-  by_string : (b : Bool) → Placed Profile → FitsPlace front t (cond b kinds.Layout (kinds.Profile t.text))
-  by_string true p = left_out kinds.Layout (λ h. cc) p
-  by_string false p = left_out (kinds.Profile t.text) (λ h. cc) p
+  by_string : (b : Bool) → Placed Profile → Unnamed → FitsPlace front t (cond b kinds.Layout (kinds.Profile t.text))
+  by_string true p unnamed = left_out kinds.Layout (λ h. cc) p unnamed
+  by_string false p unnamed = left_out (kinds.Profile t.text) (λ h. cc) p unnamed
 
-  by_kind : (k : FaultKind) → Placed k → FitsPlace front t (grammar_fault t k)
-  by_kind Syntax p = misplaced kinds.Syntax (λ word h. cc) p
-  by_kind Profile p = by_string (among tokens STRING t) p
-  by_kind Number p = neither kinds.Number (λ word h. cc) (λ h. cc)
-  by_kind Limit p = neither kinds.Limit (λ word h. cc) (λ h. cc)
+  by_kind : (k : FaultKind) → Placed k → (k ≡ Profile → Unnamed) → FitsPlace front t (grammar_fault t k)
+  by_kind Syntax p unnamed = misplaced kinds.Syntax (λ word h. cc) p
+  by_kind Profile p unnamed = by_string (among tokens STRING t) p (unnamed refl)
+  by_kind Number p unnamed = neither kinds.Number (λ word h. cc) (λ h. cc)
+  by_kind Limit p unnamed = neither kinds.Limit (λ word h. cc) (λ h. cc)
 
   pub place_fits : (rest : List Tok) (k : FaultKind) → module_of (front ++ t ∷ rest) ≡ wrong (record { left = length (t ∷ rest); kind = k }) → FitsPlace front t (grammar_fault t k)
-  place_fits rest k e = by_kind k (λ i. module_exchanged front t rest k e i)
+  place_fits rest k e = by_kind k (λ i. module_exchanged front t rest k e i) (λ p m v. never_left_out front t rest v m (e ∙ ap (λ (x : FaultKind). wrong (record { left = length (t ∷ rest); kind = x })) p))

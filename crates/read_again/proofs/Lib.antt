@@ -75,6 +75,8 @@ pub mod ExchangedVariables
 pub mod ExchangedTypeDefinitions
 pub mod ExchangedItems
 pub mod ExchangedModules
+pub mod Leads
+pub mod NamedCallees
 pub mod ExchangedPlaces
 pub mod StuckTold
 pub mod Anew

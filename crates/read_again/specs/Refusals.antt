@@ -84,6 +84,10 @@ NoneOfThem classes front = (u : Tok) → among tokens classes u ≡ true → Nev
 abbrev pub NotEach : List ℕ → List Tok → Type 0
 NotEach classes front = (u : Tok) × (among tokens classes u ≡ true) × IsReal u × NeverGoesOn front u
 
+-- the callee of a void call that has a name stands next
+abbrev pub NamedVoidCall : List Tok → Type 0
+NamedVoidCall front = in_module front tt
+
 -- Where what is refused in some places is told to be left out, and where it is told to be against the syntax.
 pub record FitsPlace (front : List Tok) (t : Tok) (kind : FaultKind) : Type 0 where
   -- a type is told to be left out where some type of a register goes on, or directly behind `(`, where the arguments of a call of no
@@ -99,8 +103,9 @@ pub record FitsPlace (front : List Tok) (t : Tok) (kind : FaultKind) : Type 0 wh
   -- a name that is a number, where the name of another global goes on
   pub name_left_out : among tokens NUMBERED t ≡ true → (word : List ℕ) → kind ≡ kinds.Profile word → SomeGoesOn GLOBAL front
   pub name_misplaced : among tokens NUMBERED t ≡ true → kind ≡ kinds.Syntax → NoneOfThem GLOBAL front
-  -- a lifetime marker, but as the callee of a void call that has a name: the call would be dropped, and with it the name
-  pub marker_misplaced : among tokens MARKER t ≡ true → kind ≡ kinds.Syntax → in_module front tt
+  -- a lifetime marker, but as the callee of a void call that has a name: its call is dropped, and then nothing has the name
+  pub marker_left_out : among tokens MARKER t ≡ true → (word : List ℕ) → kind ≡ kinds.Profile word → NamedVoidCall front → ⊥
+  pub marker_misplaced : among tokens MARKER t ≡ true → kind ≡ kinds.Syntax → NamedVoidCall front
 
 -- Of what is refused everywhere it is told that it is left out, and of nothing else but what is refused somewhere, in the places of it,
 -- and a number behind `<`. A layout that isn't supported is a string. A number is out of range only where another one goes on in its
