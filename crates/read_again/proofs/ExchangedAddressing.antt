@@ -32,7 +32,7 @@ use Rattle.read_again.proofs.ExchangedMemory.{alignment_rest_exchanged}
 use Rattle.read_again.proofs.ExchangedNodes.{attached_exchanged}
 use Rattle.read_again.proofs.ExchangedOperands.{integer_exchanged}
 use Rattle.read_again.proofs.ExchangedShapes.{memory_shape_exchanged}
-use Rattle.read_again.proofs.ExchangedTokens.{says_plainly}
+use Rattle.read_again.proofs.ExchangedTokens.{refuses_angle, says_plainly}
 use Rattle.read_again.proofs.ExchangedValues.{argument_exchanged, operand_exchanged, pointer_exchanged, stepping_exchanged}
 use Rattle.read_again.proofs.ExchangedWords.{comma_exchanged}
 
@@ -89,7 +89,7 @@ module _ (fits : ℕ → Bool) (w : ℕ) where
       by_class false o p d = absurd cc
 
   count_exchanged : Exchanges (count_in (any_slots pointer) w) (count_in_at fits w)
-  count_exchanged = single (count_in (any_slots pointer) w) (count_means fits w) count_right (one ∷ [], 1, one_counts w, (number_real, tt)) (says_plainly (count_in (any_slots pointer) w) (count_means fits w) NUMBER count_inside count_outside refl)
+  count_exchanged = single (count_in (any_slots pointer) w) (count_means fits w) (refuses_angle (count_means fits w) NUMBER refusal count_outside refl) count_right (one ∷ [], 1, one_counts w, (number_real, tt)) (says_plainly (count_in (any_slots pointer) w) (count_means fits w) NUMBER count_inside count_outside refl)
 
 many_slots_exchanged : (fits : ℕ → Bool) → Exchanges (many_slots (any_slots pointer)) (many_slots_at fits)
 unfolding many_slots many_slots_at

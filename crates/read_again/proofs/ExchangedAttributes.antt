@@ -29,7 +29,7 @@ use Rattle.ir_read.proofs.Singles.{group_name_real, sample}
 use Rattle.read_again.proofs.Exchanged.{Exchanges, alt, goes_alone, maybe, nothing, seq, star, star_words, taken, Exchanging, seq_closing, with_value}
 use Rattle.read_again.proofs.ExchangedGroups.{group_exchanged}
 use Rattle.read_again.proofs.ExchangedNodes.{attached_exchanged}
-use Rattle.read_again.proofs.ExchangedTokens.{a_word, a_word_real, of_token, says_plainly, valued_sample, word_one, worded, refused_class}
+use Rattle.read_again.proofs.ExchangedTokens.{a_word, a_word_real, of_token, refuses_angle, says_plainly, valued_sample, word_one, worded, refused_class}
 use Rattle.read_again.proofs.ExchangedWords.{align_exchanged, attributes_exchanged, close_brace_exchanged, equals_exchanged, number_exchanged, open_brace_exchanged, parameter_group_exchanged, parameter_word_exchanged, string_exchanged}
 
 abbrev zero_group : Tok
@@ -62,7 +62,7 @@ alignment_inside t p k d = by_class (nat_eq (number t.head) (number heads.Number
     by_class false p d = absurd cc
 
 pub alignment_exchanged : Exchanges (form.token is_alignment) (token_at is_alignment)
-alignment_exchanged = of_token is_alignment alignment_rule (says_plainly (form.token is_alignment) is_alignment NUMBER alignment_inside alignment_outside refl)
+alignment_exchanged = of_token is_alignment alignment_rule (refuses_angle is_alignment NUMBER refusal alignment_outside refl) (says_plainly (form.token is_alignment) is_alignment NUMBER alignment_inside alignment_outside refl)
 
 pub aligned_exchanged : Exchanges aligned aligned_at
 unfolding aligned aligned_at

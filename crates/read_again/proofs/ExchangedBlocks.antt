@@ -104,7 +104,7 @@ behind_block room one two x s (p, q, bs, e, r, v) = (one ++ p, q, x.0 ∷ bs, ap
 
 -- a block, and more behind it
 block_and : {B : Type 0} (room : ℕ) {wide : Block × ℕ → Form Tok B} {h : Block × ℕ → Reader Tok B} → ((x : Block × ℕ) → Swapping false (in_blocks x.1) (wide x) (h x)) → Swapping false (in_blocks room) (form.◌>>=◌ (any_block room) wide) (block_at room >>= h)
-block_and room laws = seq_by false (in_blocks room) (block_exchanged room) laws (λ e. e) (first_block room) (behind_block room) (λ e. absurd cc)
+block_and room laws = seq_by false false (in_blocks room) (block_exchanged room) laws (λ e. e) (λ e a b w. e) (λ e. e) (λ e. absurd cc) (first_block room) (behind_block room) (λ e. absurd cc)
 
 further_blocks_exchanged : (further room : ℕ) → Swapping false (in_blocks room) (Chain at_will any_block room) (further_blocks_at further room)
 further_blocks_exchanged zero room = placed_none (recast (none_is room) (barred BLOCK refl (nothing [])))

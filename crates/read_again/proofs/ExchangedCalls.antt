@@ -40,7 +40,7 @@ use Rattle.read_again.proofs.Exchanged.{Exchanges, Place, SaysAt, Swapping, alt,
 use Rattle.read_again.proofs.ExchangedAttributes.{call_attributes_exchanged, parameter_attribute_exchanged, parameter_attributes_exchanged}
 use Rattle.read_again.proofs.ExchangedNodes.{attachments_exchanged, no_attachments}
 use Rattle.read_again.proofs.ExchangedOperands.{reg_exchanged, result_exchanged}
-use Rattle.read_again.proofs.ExchangedTokens.{elsewhere_at, exact_type, i16_real, i8_real, plain_class, type_one, none_taken, not_bound, plain_at, says_at, valued_inside, valued_outside}
+use Rattle.read_again.proofs.ExchangedTokens.{elsewhere_at, exact_type, i16_real, i8_real, plain_class, refuses_angle, type_one, none_taken, not_bound, plain_at, says_at, valued_inside, valued_outside}
 use Rattle.read_again.proofs.ExchangedTypes.{listed_exchanged as typed_list, Types, type_told, types_first}
 use Rattle.read_again.proofs.ExchangedValues.{address_exchanged, operand_exchanged}
 use Rattle.read_again.proofs.ExchangedWords.{close_paren_exchanged, comma_exchanged, open_paren_exchanged}
@@ -169,7 +169,7 @@ marker_not_bound n b = by_test (nat_eq n (number heads.LifetimeMarker)) b
     by_test true b = b
     by_test false b = not_bound n b
 
-abbrev unmarked_none : (h : Head) → plain_at POINTER_OPERAND h ≡ true → contains POINTER_OPERAND (number h) ≡ false → (u : Tok) → among tokens (stands_for h) u ≡ true → (k : FaultKind) × (IsBound k → ⊥) × (is_valued tokens marker_refusal POINTER_OPERAND (operand_of Ptr) u ≡ Err k)
+abbrev unmarked_none : (h : Head) → plain_at POINTER_OPERAND h ≡ true → contains POINTER_OPERAND (number h) ≡ false → (u : Tok) → among tokens (stands_for false h) u ≡ true → (k : FaultKind) × (IsBound k → ⊥) × (is_valued tokens marker_refusal POINTER_OPERAND (operand_of Ptr) u ≡ Err k)
 unmarked_none = none_taken unmarked (is_valued tokens marker_refusal POINTER_OPERAND (operand_of Ptr)) POINTER_OPERAND marker_refusal marker_not_bound (valued_outside marker_refusal POINTER_OPERAND (operand_of Ptr)) (valued_inside marker_refusal POINTER_OPERAND (operand_of Ptr))
 
 null_means : is_valued tokens marker_refusal POINTER_OPERAND (operand_of Ptr) (word heads.Null (codes "null")) ≡ Ok operands.Null
@@ -193,7 +193,7 @@ unmarked_class heads.LifetimeMarker n = (refl, refl)
 unmarked_class h n = elsewhere_at here unmarked unmarked_means h (marker_refusal (number h)) (λ q. cc)
 
 pub unmarked_exchanged : Swapping false here unmarked unmarked_at
-unmarked_exchanged = single_at here unmarked unmarked_means (λ t a e. e) (word heads.Null (codes "null") ∷ [], operands.Null, null_means, (null_real, tt))
+unmarked_exchanged = single_at false here unmarked unmarked_means (λ t a i e. absurd (refuses_angle unmarked_means POINTER_OPERAND marker_refusal (valued_outside marker_refusal POINTER_OPERAND (operand_of Ptr)) refl t a i e)) (λ t a e. e) (word heads.Null (codes "null") ∷ [], operands.Null, null_means, (null_real, tt))
     (says_at here unmarked unmarked_means POINTER_OPERAND marker_refusal marker_not_bound (valued_outside marker_refusal POINTER_OPERAND (operand_of Ptr)) (valued_inside marker_refusal POINTER_OPERAND (operand_of Ptr)) unmarked_class)
 
 pub called_value_exchanged : Exchanges (called_value any_shape) called_value_at

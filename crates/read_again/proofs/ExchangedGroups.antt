@@ -1,12 +1,13 @@
 -- Groups in brackets tell nothing of a token that is left out in some places: it may stand in them.
-use Rattle.std.proofs.Common.{◌≡◌, true, Option, Some, None, List, [], ◌∷◌, ◌++◌, length, Result, refl, sym, ap, ◌∙◌, arith}
+use Rattle.std.proofs.Common.{◌≡◌, true, subst, Option, Some, None, List, [], ◌∷◌, ◌++◌, length, Result, refl, sym, ap, ◌∙◌, arith}
 use Rattle.std.proofs.lemmas.List.{length-append}
 use Rattle.ir_lex.specs.Heads.{number}
 use Rattle.ir_lex.specs.Tok.{Tok}
 use Rattle.ir_lex.specs.declared.head.Head.TheVariants as heads
 use Rattle.ir_lex.specs.declared.head.Head.{Head}
 use Rattle.lto_forms.proofs.Closings.{closing_lawful}
-use Rattle.lto_forms.proofs.Composed.{widened, wrong_is}
+use Rattle.lto_forms.proofs.Composed.{cut_is, reads, reads_is, widened, wrong_is}
+use Rattle.lto_forms.proofs.Rules.{within_of}
 use Rattle.lto_forms.specs.Alphabet.{among, contains}
 use Rattle.lto_forms.specs.Balanced as balanced
 use Rattle.lto_forms.specs.Balanced.{Closing, closing_at, HaveClosers, moved}
@@ -20,7 +21,8 @@ use Rattle.ir_read.specs.Classes.{tokens, the, the_at}
 use Rattle.ir_read.specs.declared.brackets.Bracket.TheVariants.{Paren, Square, Curly}
 use Rattle.ir_read.specs.declared.brackets.Bracket.{Bracket}
 use Rattle.ir_read.proofs.Groups.{EVERY, closer, closer_real, every_class, number_stays}
-use Rattle.read_again.proofs.Exchanged.{Exchanges, SOMEWHERE, anywhere, seq}
+use Rattle.ir_instructions.specs.ShapeForms.{OPEN_ANGLE}
+use Rattle.read_again.proofs.Exchanged.{Exchanges, SOMEWHERE, STEADY, anywhere, differ, is_angled, seq}
 use Rattle.read_again.proofs.ExchangedWords.{open_brace_exchanged, open_bracket_exchanged, open_paren_exchanged}
 
 closes_it : (b : Bracket) (bs : List Bracket) → moved brackets (move_of (closer b).head) b bs ≡ Some bs
@@ -36,14 +38,17 @@ closing_rule [] = record { law = widened tokens (among tokens EVERY) (among toke
 closing_rule (b ∷ bs) = record { law = widened tokens (among tokens EVERY) (among tokens []) (closing_lawful tokens brackets have_closers (b ∷ bs)) (λ t e. every_class t.head) (λ t e. e) }
 
 -- no bracket is left out
+pub steady_stays : (h : Head) → contains STEADY (number h) ≡ true → move_of h ≡ balanced.stays
+steady_stays heads.OpenParen e = absurd cc
+steady_stays heads.OpenBracket e = absurd cc
+steady_stays heads.OpenBrace e = absurd cc
+steady_stays heads.CloseParen e = absurd cc
+steady_stays heads.CloseBracket e = absurd cc
+steady_stays heads.CloseBrace e = absurd cc
+steady_stays h e = refl
+
 pub somewhere_stays : (h : Head) → contains SOMEWHERE (number h) ≡ true → move_of h ≡ balanced.stays
-somewhere_stays heads.OpenParen e = absurd cc
-somewhere_stays heads.OpenBracket e = absurd cc
-somewhere_stays heads.OpenBrace e = absurd cc
-somewhere_stays heads.CloseParen e = absurd cc
-somewhere_stays heads.CloseBracket e = absurd cc
-somewhere_stays heads.CloseBrace e = absurd cc
-somewhere_stays h e = refl
+somewhere_stays h e = steady_stays h (within_of SOMEWHERE STEADY refl (number h) e)
 
 -- a fault at a token is none behind it
 not_behind : (bs : List Bracket) (t : Tok) (rest : List Tok) (k : FaultKind) → closing_at brackets bs rest ≡ fault_at k (t ∷ rest) → ⊥
@@ -69,8 +74,32 @@ never_closing (b ∷ bs) (v ∷ front) t rest k d e = by_moved (λ stack d'. nev
     by_moved again None d = omega (arith, ap (λ (x : Fault). x.left) (wrong_is (record { left = length (v ∷ (front ++ t ∷ rest)); kind = Syntax }) (record { left = length (t ∷ rest); kind = k }) d), length-append front (t ∷ rest))
     by_moved again (Some stack) d = again stack d
 
+-- `<` closes none
+angle_stays : (h : Head) → contains OPEN_ANGLE (number h) ≡ true → move_of h ≡ balanced.stays
+angle_stays heads.OpenAngle e = refl
+angle_stays h e = absurd cc
+
+-- what is open stays so where nothing is read
+still_open : (b : Bracket) (bs : List Bracket) (rest : List Tok) → closing_at brackets (b ∷ bs) rest ≡ reads tt rest → ⊥
+still_open b bs rest d =
+    let s = (closing_rule (b ∷ bs)).law.sound rest rest tt d in
+    differ ((closing_rule (b ∷ bs)).law.nothing tt (subst (λ (ts : List Tok). Closing brackets (b ∷ bs) ts tt) (cut_is s.0 rest [] rest (sym s.1) refl).0 s.2))
+
+closed_group : (b : Bracket) (bs : List Bracket) (front rest : List Tok) → closing_at brackets (b ∷ bs) (front ++ rest) ≡ reads tt rest → is_angled front ≡ true → ⊥
+closed_group b bs [] rest d q = differ q
+closed_group b bs (v ∷ []) rest d q = still_open b bs rest (ap (λ (o : Option (List Bracket)). read o v rest) (sym (stays_open v b bs (angle_stays v.head q))) ∙ d)
+closed_group b bs (v ∷ w ∷ front) rest d q = by_moved (λ c cs d'. closed_group c cs (w ∷ front) rest d' q) (moved brackets (move_of v.head) b bs) d
+  where
+    Again : Type 0
+    Again = (c : Bracket) (cs : List Bracket) → closing_at brackets (c ∷ cs) (w ∷ (front ++ rest)) ≡ reads tt rest → ⊥
+
+    by_moved : Again → (o : Option (List Bracket)) → read o v (w ∷ (front ++ rest)) ≡ reads tt rest → ⊥
+    by_moved again None d = cc
+    by_moved again (Some []) d = omega (arith, ap length (reads_is tt tt (w ∷ (front ++ rest)) rest d).1, length-append front rest)
+    by_moved again (Some (c ∷ cs)) d = again c cs d
+
 closing_exchanged : (b : Bracket) → Exchanges (Closing brackets (b ∷ [])) (closing_at brackets (b ∷ []))
-closing_exchanged b = anywhere (closing_rule (b ∷ [])) (λ front t rest k d i. never_closing (b ∷ []) front t rest k d (somewhere_stays t.head i))
+closing_exchanged b = anywhere (closing_rule (b ∷ [])) (λ front t rest k d i. never_closing (b ∷ []) front t rest k d (steady_stays t.head i)) (λ front rest a d q. absurd (closed_group b [] front rest d q))
 
 group_with : (b : Bracket) → Exchanges (the (opening b)) (the_at (opening b)) → Exchanges (group b) (group_at b)
 unfolding group group_at

@@ -43,7 +43,7 @@ use Rattle.ir_globals.proofs.InitialiserRules.{piece_rule}
 use Rattle.read_again.proofs.Exchanged.{Exchanges, alt, fair, nothing, recast, same_reader, seq, taken, apart, passed}
 use Rattle.read_again.proofs.ExchangedChains.{chain}
 use Rattle.read_again.proofs.ExchangedConstants.{constant_exchanged}
-use Rattle.read_again.proofs.ExchangedShapes.{memory_shape_exchanged, brace_behind_angle_exchanged, leaf_outside}
+use Rattle.read_again.proofs.ExchangedShapes.{memory_shape_exchanged, angle_and_brace, leaf_outside}
 use Rattle.read_again.proofs.ExchangedTokens.{one_sample, plain_class}
 use Rattle.read_again.proofs.ExchangedWords.{close_angle_exchanged, comma_exchanged, open_angle_exchanged, open_brace_exchanged, open_bracket_exchanged, close_brace_exchanged, close_bracket_exchanged}
 
@@ -69,7 +69,7 @@ bytes_exchanged = one_sample BYTES (λ t. inits.Bytes t) (sample kinds.CStr head
 
 pub aggregate_begin_exchanged : Exchanges aggregate_begin aggregate_begin_at
 unfolding aggregate_begin aggregate_begin_at array_begin array_begin_at structure_begin structure_begin_at packed_begin packed_begin_at
-aggregate_begin_exchanged = alt OPEN_BRACKET refl (seq open_bracket_exchanged (λ _. nothing inits.Array)) (alt OPEN_BRACE refl (seq open_brace_exchanged (λ _. nothing (inits.Struct false))) (seq open_angle_exchanged (λ _. seq brace_behind_angle_exchanged (λ _. nothing (inits.Struct true)))))
+aggregate_begin_exchanged = alt OPEN_BRACKET refl (seq open_bracket_exchanged (λ _. nothing inits.Array)) (alt OPEN_BRACE refl (seq open_brace_exchanged (λ _. nothing (inits.Struct false))) (angle_and_brace open_angle_exchanged (λ _ _. nothing (inits.Struct true))))
 
 pub beginning_exchanged : (scalar : Option Reg) → Exchanges (beginning any_shape scalar) (beginning_at scalar)
 unfolding beginning beginning_at

@@ -1,5 +1,5 @@
 -- The readers of items tell a token that is left out in some places where one that it stands for goes on.
-use Rattle.std.proofs.Common.{◌≡◌, ℕ, ◌-◌, nat_eq, Bool, true, false, cond, ◌||◌, Option, List, [], ◌∷◌, ◌++◌, length, Result, Ok, Err, refl, sym, ap, subst, ◌∙◌, inl, inr, arith, Some}
+use Rattle.std.proofs.Common.{None, ◌≡◌, ℕ, ◌-◌, nat_eq, Bool, true, false, cond, ◌||◌, Option, List, [], ◌∷◌, ◌++◌, length, Result, Ok, Err, refl, sym, ap, subst, ◌∙◌, inl, inr, arith, Some}
 use Rattle.std.proofs.lemmas.List.{length-append, append_assoc}
 use Rattle.std.specs.Prelude.{codes}
 use Rattle.ir_lex.specs.Bytes.{has}
@@ -18,7 +18,7 @@ use Rattle.lto_forms.specs.Forms as form
 use Rattle.lto_forms.specs.Forms.{Form}
 use Rattle.lto_forms.specs.Lawful.{ends}
 use Rattle.lto_forms.specs.Readers.{Reader, done, fault_at, follow, ◌>>=◌, token_means, pick}
-use Rattle.lto_forms.specs.Rules.{in_range, is_class, is_valued}
+use Rattle.lto_forms.specs.Rules.{disjoint, in_range, is_class, is_valued}
 use Rattle.lto_forms.specs.declared.fault.Fault.{Fault}
 use Rattle.lto_forms.specs.declared.fault.FaultKind.TheVariants.{Profile, Limit}
 use Rattle.lto_forms.specs.declared.fault.FaultKind.{FaultKind}
@@ -27,7 +27,7 @@ use Rattle.ir_read.specs.Classes.{tokens, IsReal, refusal, the, the_at}
 use Rattle.ir_read.specs.FunctionHeads.{name_refusal}
 use Rattle.ir_read.specs.Metadata.{META}
 use Rattle.ir_read.specs.Operands.{LOCAL, REG, global_named}
-use Rattle.ir_instructions.specs.ShapeForms.{any_shape}
+use Rattle.ir_instructions.specs.ShapeForms.{OPEN_BRACE, any_shape}
 use Rattle.ir_read.specs.Targets.{layout_line, triple_line}
 use Rattle.ir_read.specs.TargetsAt.{comdat_line_at, source_line_at, target_line_at, LAYOUT, layout_line_at, triple_line_at}
 use Rattle.ir_read.specs.declared.function_heads.Role.TheVariants as roles
@@ -47,7 +47,7 @@ use Rattle.ir_items.specs.ItemsAt.{SOURCE, TARGET, COMDAT, DECLARE, NAMING, left
 use Rattle.ir_items.proofs.ItemRules.{there_rule}
 use Rattle.read_again.specs.Refusals.{MEMORY, WORD}
 use Rattle.read_again.specs.NamedCalls.{in_definition}
-use Rattle.read_again.proofs.Exchanged.{Exchanges, Goes, Place, Swapping, nowhere, alt, alt_by, seq_from, fair, nothing, same_reader, seq, star, taken, tested, Open, Outcome, outcome_too, stands_for, apart, passed, taken_first, IsTold, Stuck, is_target, target_is, placed_of}
+use Rattle.read_again.proofs.Exchanged.{Exchanges, Goes, Place, Swapping, Swaps, alt_loosely, is_angled, loosely, value_loosely, nowhere, alt, alt_by, seq_from, fair, nothing, same_reader, seq, star, taken, tested, Open, Outcome, outcome_too, stands_for, apart, passed, taken_first, IsTold, Stuck, is_target, target_is, placed_of}
 use Rattle.read_again.proofs.ExchangedAttributes.{attribute_group_exchanged, head_attribute_exchanged}
 use Rattle.read_again.proofs.ExchangedBlocks.{definition_exchanged}
 use Rattle.read_again.proofs.ExchangedChains.{chain_behind}
@@ -141,11 +141,11 @@ pub attribute_behind_exchanged : Exchanges attribute_behind attribute_behind_at
 unfolding attribute_behind attribute_behind_at
 attribute_behind_exchanged = seq head_attribute_exchanged (λ _. nothing _)
 
-pub metadata_there_exchanged : (before : Before) → Exchanges (metadata_there before) (metadata_there_at before)
+pub metadata_there_exchanged : (before : Before) → Swaps false true nowhere (metadata_there before) (metadata_there_at before)
 unfolding left_out left_out_at placed placed_at
-metadata_there_exchanged befores.Item = seq metadata_line_exchanged (λ _. nothing _)
-metadata_there_exchanged befores.Declaration = seq metadata_behind_exchanged (λ _. nothing _)
-metadata_there_exchanged befores.Name = seq node_yet_exchanged (λ _. nothing _)
+metadata_there_exchanged befores.Item = value_loosely _ metadata_line_exchanged
+metadata_there_exchanged befores.Declaration = value_loosely (λ before. (None, before)) metadata_behind_exchanged
+metadata_there_exchanged befores.Name = value_loosely (λ before. (None, before)) node_yet_exchanged
 
 abbrev found : Item → Found
 found i = (Some i, befores.Item)
@@ -174,11 +174,11 @@ plainly_exchanged befores.Item = unnamed_exchanged
 plainly_exchanged befores.Declaration = alt_by nowhere HEAD (inr (refl, refl, inr unnamed_goes_on)) attribute_behind_exchanged unnamed_exchanged (λ front v. v) (λ front v. v)
 plainly_exchanged befores.Name = unnamed_exchanged
 
-pub beside_exchanged : (before : Before) → Exchanges (beside any_shape before) (beside_at before)
+pub beside_exchanged : (before : Before) → Swaps false true nowhere (beside any_shape before) (beside_at before)
 unfolding beside beside_at
-beside_exchanged befores.Item = alt META refl (metadata_there_exchanged befores.Item) (plainly_exchanged befores.Item)
-beside_exchanged befores.Declaration = alt META refl (metadata_there_exchanged befores.Declaration) (plainly_exchanged befores.Declaration)
-beside_exchanged befores.Name = alt META refl (metadata_there_exchanged befores.Name) (plainly_exchanged befores.Name)
+beside_exchanged befores.Item = alt_loosely META refl (metadata_there_exchanged befores.Item) (loosely (plainly_exchanged befores.Item))
+beside_exchanged befores.Declaration = alt_loosely META refl (metadata_there_exchanged befores.Declaration) (loosely (plainly_exchanged befores.Declaration))
+beside_exchanged befores.Name = alt_loosely META refl (metadata_there_exchanged befores.Name) (loosely (plainly_exchanged befores.Name))
 
 pub declare_exchanged : Exchanges (the heads.Declare) (the_at heads.Declare)
 unfolding is_class
@@ -192,11 +192,11 @@ pub declaration_exchanged : (room : ℕ) → Exchanges any_declaration (declarat
 unfolding declaration any_declaration declaration_at
 declaration_exchanged room = seq declare_exchanged (λ _. seq attached_before_exchanged (λ _. seq (head_exchanged roles.Declaration room) (λ h. nothing _)))
 
-pub other_exchanged : (before : Before) (names : ℕ) → Exchanges (other any_shape before names) (other_at before names)
+pub other_exchanged : (before : Before) (names : ℕ) → Swaps false true nowhere (other any_shape before names) (other_at before names)
 unfolding other other_at
-other_exchanged befores.Item names = seq (beside_exchanged befores.Item) (λ _. nothing _)
-other_exchanged befores.Declaration names = seq (beside_exchanged befores.Declaration) (λ _. nothing _)
-other_exchanged befores.Name names = seq (beside_exchanged befores.Name) (λ _. nothing _)
+other_exchanged befores.Item names = value_loosely (at_place names) (beside_exchanged befores.Item)
+other_exchanged befores.Declaration names = value_loosely (at_place names) (beside_exchanged befores.Declaration)
+other_exchanged befores.Name names = value_loosely (at_place names) (beside_exchanged befores.Name)
 
 -- ---- pieces, with a name that is a number as one that begins a variable
 
@@ -233,9 +233,9 @@ named_exchanged : (room names : ℕ) → Swapping false in_definition (any_named
 unfolding any_named
 named_exchanged room names = seq_from (naming_exchanged room) (λ x. nothing (at_place (names - 1) x))
 
-within_exchanged : (room : ℕ) (before : Before) (names : ℕ) → Swapping false in_definition (any_piece before names) (within_at room before names)
+within_exchanged : (room : ℕ) (before : Before) (names : ℕ) → Swaps false true in_definition (any_piece before names) (within_at room before names)
 unfolding any_piece
-within_exchanged room before names = alt_by in_definition ALL_NAMING (inl refl) (tested (nat_eq names 0) (named_exchanged room names)) (other_exchanged before names) (λ front v. v) (λ front v. absurd v)
+within_exchanged room before names = alt_by in_definition ALL_NAMING (inl refl) (loosely (tested (nat_eq names 0) (named_exchanged room names))) (other_exchanged before names) (λ front v. v) (λ front v. absurd v)
 
 -- a number can't name a variable that isn't local
 pub numbered_is : (n : ℕ) → contains NUMBERED_NAME n ≡ true → name_refusal n ≡ Profile
@@ -264,7 +264,7 @@ pub numbered_told : (room names : ℕ) (t : Tok) (ts : List Tok) → among token
 numbered_told room names t ts e = then_refused (naming_with room) (λ x. done (at_place (names - 1) x)) Profile t ts (naming_told room t ts e)
 
 -- none stands for another that is a number
-unnumbered : (h : Head) (u : Tok) → among tokens (stands_for h) u ≡ true → among tokens NUMBERED_NAME u ≡ false
+unnumbered : (h : Head) (u : Tok) → among tokens (stands_for false h) u ≡ true → among tokens NUMBERED_NAME u ≡ false
 unnumbered heads.RefusedType u i = apart REG NUMBERED_NAME refl (number u.head) i
 unnumbered heads.Target u i = apart (REG ++ WORD) NUMBERED_NAME refl (number u.head) i
 unnumbered heads.RegisterInteger u i = apart MEMORY NUMBERED_NAME refl (number u.head) i
@@ -288,10 +288,10 @@ module _ (room : ℕ) (before : Before) (names : ℕ) where
   abbrev whole_piece : Form Tok (Option Item × Position)
   whole_piece = any_piece before names
 
-  numbered_too : (t : Tok) → among tokens NUMBERED_NAME t ≡ true → IsTold t.head (Stuck (named_with room names) []) (Goes (any_named names) []) (Open []) → IsTold t.head (Stuck (piece_with room before names) []) (Goes whole_piece []) (Open [])
+  numbered_too : (t : Tok) → among tokens NUMBERED_NAME t ≡ true → IsTold false t.head (Stuck (named_with room names) []) (Goes (any_named names) []) (Open []) → IsTold false t.head (Stuck (piece_with room before names) []) (Goes whole_piece []) (Open [])
   numbered_too t e n = by_head t.head e n
     where
-      by_head : (h : Head) → contains NUMBERED_NAME (number h) ≡ true → IsTold h (Stuck (named_with room names) []) (Goes (any_named names) []) (Open []) → IsTold h (Stuck (piece_with room before names) []) (Goes whole_piece []) (Open [])
+      by_head : (h : Head) → contains NUMBERED_NAME (number h) ≡ true → IsTold false h (Stuck (named_with room names) []) (Goes (any_named names) []) (Open []) → IsTold false h (Stuck (piece_with room before names) []) (Goes whole_piece []) (Open [])
       by_head heads.NumberedGlobal e (u, i, g) = (u, i, named_is_piece before names [] u g)
       by_head h e n = absurd cc
 
@@ -305,12 +305,12 @@ module _ (room : ℕ) (before : Before) (names : ℕ) where
     where
       by_test : (b : Bool) → among tokens NUMBERED_NAME t ≡ b → cond b (named_with room names (t ∷ rest)) (within_at room before names (t ∷ rest)) ≡ ends o (t ∷ rest) → Outcome false in_definition whole_piece (piece_with room before names) [] t.head o
       by_test true e d = swap_numbered t rest o e d
-      by_test false e d = outcome_too false false in_definition in_definition whole_piece whole_piece (within_at room before names) (piece_with room before names) [] [] t.head o (λ e. e) (λ p. p) (λ v. v) (λ u i rest'. sym (passed NUMBERED_NAME (named_with room names) (within_at room before names) u rest' (unnumbered t.head u i))) (λ u g. g) ((within_exchanged room before names).swap [] t rest o d)
+      by_test false e d = outcome_too false false in_definition in_definition whole_piece whole_piece (within_at room before names) (piece_with room before names) false [] [] t.head o (λ e. e) (λ p. p) (λ v. v) (λ u i rest'. sym (passed NUMBERED_NAME (named_with room names) (within_at room before names) u rest' (unnumbered t.head u i))) (λ u g. g) ((within_exchanged room before names).swap [] t rest o d)
   swap_piece (v ∷ front) t rest o d = by_test (among tokens NUMBERED_NAME v) refl d
     where
       by_test : (b : Bool) → among tokens NUMBERED_NAME v ≡ b → cond b (named_with room names (v ∷ (front ++ t ∷ rest))) (within_at room before names (v ∷ (front ++ t ∷ rest))) ≡ ends o (t ∷ rest) → Outcome false in_definition whole_piece (piece_with room before names) (v ∷ front) t.head o
-      by_test true e d = outcome_too false false in_definition in_definition (any_named names) whole_piece (named_with room names) (piece_with room before names) (v ∷ front) (v ∷ front) t.head o (λ e. e) (λ p. p) (λ v. v) (λ u i rest'. sym (taken_first NUMBERED_NAME (named_with room names) (within_at room before names) v (front ++ u ∷ rest') e)) (λ u g. named_is_piece before names (v ∷ front) u g) ((named_exchanged room names).swap (v ∷ front) t rest o d)
-      by_test false e d = outcome_too false false in_definition in_definition whole_piece whole_piece (within_at room before names) (piece_with room before names) (v ∷ front) (v ∷ front) t.head o (λ e. e) (λ p. p) (λ v. v) (λ u i rest'. sym (passed NUMBERED_NAME (named_with room names) (within_at room before names) v (front ++ u ∷ rest') e)) (λ u g. g) ((within_exchanged room before names).swap (v ∷ front) t rest o d)
+      by_test true e d = outcome_too false false in_definition in_definition (any_named names) whole_piece (named_with room names) (piece_with room before names) (is_angled (v ∷ front)) (v ∷ front) (v ∷ front) t.head o (λ e. e) (λ p. p) (λ v. v) (λ u i rest'. sym (taken_first NUMBERED_NAME (named_with room names) (within_at room before names) v (front ++ u ∷ rest') e)) (λ u g. named_is_piece before names (v ∷ front) u g) ((named_exchanged room names).swap (v ∷ front) t rest o d)
+      by_test false e d = outcome_too false false in_definition in_definition whole_piece whole_piece (within_at room before names) (piece_with room before names) (is_angled (v ∷ front)) (v ∷ front) (v ∷ front) t.head o (λ e. e) (λ p. p) (λ v. v) (λ u i rest'. sym (passed NUMBERED_NAME (named_with room names) (within_at room before names) v (front ++ u ∷ rest') e)) (λ u g. g) ((within_exchanged room before names).swap (v ∷ front) t rest o d)
 
   sound_piece : (ts rest : List Tok) (x : Option Item × Position) → piece_with room before names ts ≡ Ok (x, rest) → (front : List Tok) × (ts ≡ front ++ rest) × whole_piece front x
   sound_piece [] rest x d = (within_exchanged room before names).sound [] rest x d
@@ -340,8 +340,8 @@ module _ (room : ℕ) (before : Before) (names : ℕ) where
       by_test true d = (named_exchanged room names).local (v ∷ front) t rest rest' o d
       by_test false d = (within_exchanged room before names).local (v ∷ front) t rest rest' o d
 
-  pub piece_exchanged : Swapping false in_definition whole_piece (piece_with room before names)
-  piece_exchanged = record { sound = sound_piece; placed = placed_piece; local = local_piece; some = (within_exchanged room before names).some; swap = swap_piece }
+  pub piece_exchanged : Swaps false true in_definition whole_piece (piece_with room before names)
+  piece_exchanged = record { sound = sound_piece; placed = placed_piece; local = local_piece; some = (within_exchanged room before names).some; closed = λ front rest a d q. refl; swap = swap_piece }
 
 -- ---- items one behind another
 
@@ -377,5 +377,11 @@ behind_item : (at : Position) (one two : List Tok) (x : Option Item × Position)
 unfolding form.◌>>=◌
 behind_item at one two x s (p, q, is, e, r, v) = (one ++ p, q, x.0 ∷ is, ap (λ (ts : List Tok). one ++ ts) e ∙ sym (append_assoc one p q), (one, p, x.1, refl, s, r), v)
 
-pub all_items_exchanged : (room : ℕ) (at : Position) → Swapping false (in_items at) (Chain anywhere (λ at. any_piece at.before at.names) at) (all_items_at room at)
-all_items_exchanged room at = chain_behind anywhere (λ at. STARTS at.before) (λ at. any_piece at.before at.names) (piece_there room) in_items first_item behind_item (λ at. piece_exchanged room at.before at.names) (λ at x q. taken (there_rule room at) x q) (λ _. ([], [], (refl, refl), tt)) (λ at e. starts_fair at.before) at
+-- a number and a brace begin none
+starts_steady : (before : Before) → disjoint (number heads.Number ∷ OPEN_BRACE) (STARTS before) ≡ true
+starts_steady befores.Item = refl
+starts_steady befores.Declaration = refl
+starts_steady befores.Name = refl
+
+pub all_items_exchanged : (room : ℕ) (at : Position) → Swaps false true (in_items at) (Chain anywhere (λ at. any_piece at.before at.names) at) (all_items_at room at)
+all_items_exchanged room at = chain_behind anywhere (λ at. STARTS at.before) (λ at. any_piece at.before at.names) (piece_there room) in_items first_item behind_item (λ at. piece_exchanged room at.before at.names) (λ at x q. taken (there_rule room at) x q) (λ _. ([], [], (refl, refl), tt)) (λ at e. starts_fair at.before) (λ e at. (refl, starts_steady at.before)) at

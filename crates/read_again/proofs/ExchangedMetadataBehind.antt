@@ -1,5 +1,5 @@
 -- The readers of metadata that may stand behind a declaration tell a token that is left out in some places against the syntax.
-use Rattle.std.proofs.Common.{◌≡◌, ℕ, Bool, true, false, cond, List, [], Ok, Err, refl}
+use Rattle.std.proofs.Common.{◌∷◌, Result, ◌≡◌, ℕ, Bool, true, false, cond, List, [], Ok, Err, refl}
 use Rattle.std.specs.Prelude.{codes}
 use Rattle.ir_lex.specs.Heads.{number}
 use Rattle.ir_lex.specs.Tok.{Tok}
@@ -8,7 +8,9 @@ use Rattle.ir_lex.specs.declared.token.Kind.TheVariants as kinds
 use Rattle.lto_forms.proofs.Rules.{apart_from}
 use Rattle.lto_forms.specs.Alphabet.{among, contains}
 use Rattle.lto_forms.specs.Forms as form
-use Rattle.lto_forms.specs.Readers.{token_at}
+use Rattle.lto_forms.specs.Forms.{Form}
+use Rattle.lto_forms.specs.Lawful.{ends}
+use Rattle.lto_forms.specs.Readers.{Reader, ◌>>=◌, token_at}
 use Rattle.lto_forms.specs.Rules.{disjoint}
 use Rattle.lto_forms.specs.Runs.{Step, bad, last, onward}
 use Rattle.lto_forms.specs.declared.fault.FaultKind.TheVariants.{Syntax}
@@ -21,9 +23,9 @@ use Rattle.ir_read.specs.MetadataBehindAt.{line_rest_at, goes_on_but_at, named_n
 use Rattle.ir_read.specs.declared.brackets.Bracket.TheVariants.{Paren, Curly}
 use Rattle.ir_read.specs.declared.brackets.Bracket.{Bracket}
 use Rattle.ir_read.proofs.Singles.{bang_real, meta_real, number_real, sample}
-use Rattle.read_again.proofs.Exchanged.{Exchanges, SOMEWHERE, alt, maybe, nothing, seq}
+use Rattle.read_again.proofs.Exchanged.{Exchanges, OutcomeAt, SOMEWHERE, Swaps, alt_loosely, differ, loosely, maybe, nothing, nothing_after, nowhere, seq, seq_by, seq_loosely, value_loosely}
 use Rattle.read_again.proofs.ExchangedGroups.{group_exchanged, somewhere_stays}
-use Rattle.read_again.proofs.ExchangedNodes.{line_exchanged, stays_in_line}
+use Rattle.read_again.proofs.ExchangedNodes.{line_after, line_exchanged, stays_in_line}
 use Rattle.read_again.proofs.ExchangedTokens.{elsewhere_sample, one_sample}
 use Rattle.read_again.proofs.ExchangedWords.{meta_exchanged}
 
@@ -52,53 +54,62 @@ one_goes_behind : line_goes_on BRACES one ≡ Ok (onward [])
 unfolding line_goes_on
 one_goes_behind = refl
 
-first_plainly : Exchanges (form.token (line_goes_on META)) (token_at (line_goes_on META))
+first_plainly : Swaps false true nowhere (form.token (line_goes_on META)) (token_at (line_goes_on META))
 first_plainly = elsewhere_sample (line_goes_on META) (goes_on_never META refl) one (onward []) one_goes_on number_real
 
-first_without : Exchanges (form.token (line_goes_on BRACES)) (token_at (line_goes_on BRACES))
+first_without : Swaps false true nowhere (form.token (line_goes_on BRACES)) (token_at (line_goes_on BRACES))
 first_without = elsewhere_sample (line_goes_on BRACES) (goes_on_never BRACES refl) one (onward []) one_goes_behind number_real
 
-pub line_rest_exchanged : (s : Step (List Bracket)) → Exchanges (line_rest s) (line_rest_at s)
-line_rest_exchanged bad = nothing tt
-line_rest_exchanged last = nothing tt
+pub line_rest_exchanged : (s : Step (List Bracket)) → Swaps false true nowhere (line_rest s) (line_rest_at s)
+line_rest_exchanged bad = loosely (nothing tt)
+line_rest_exchanged last = loosely (nothing tt)
 line_rest_exchanged (onward bs) = line_exchanged bs
 
-pub goes_on_plainly_exchanged : Exchanges (goes_on_but META) (goes_on_but_at META)
-unfolding goes_on_but goes_on_but_at
-goes_on_plainly_exchanged = seq first_plainly line_rest_exchanged
+line_rest_after : (s : Step (List Bracket)) (t : Tok) (rest : List Tok) (o : Result (Unit {0}) FaultKind) → line_rest_at s (t ∷ rest) ≡ ends o (t ∷ rest) → OutcomeAt false nowhere (line_rest s) (line_rest_at s) true [] t.head o
+line_rest_after bad t rest o d = nothing_after tt t rest o d
+line_rest_after last t rest o d = nothing_after tt t rest o d
+line_rest_after (onward bs) t rest o d = line_after bs t rest o d
 
-pub goes_on_without_group_exchanged : Exchanges (goes_on_but BRACES) (goes_on_but_at BRACES)
+-- a token, and the rest of its line
+with_rest : {wide : Form Tok (Step (List Bracket))} {f : Reader Tok (Step (List Bracket))} → Swaps false true nowhere wide f → Swaps false true nowhere (form.◌>>=◌ wide line_rest) (f >>= line_rest_at)
+with_rest law = seq_by false true nowhere law line_rest_exchanged (λ e. e) (λ e a b w. refl) (λ e. refl) (λ e s t rest o d. line_rest_after s t rest o d) (λ front v. v) (λ one two a s v. v) (λ e. absurd (differ e))
+
+pub goes_on_plainly_exchanged : Swaps false true nowhere (goes_on_but META) (goes_on_but_at META)
 unfolding goes_on_but goes_on_but_at
-goes_on_without_group_exchanged = seq first_without line_rest_exchanged
+goes_on_plainly_exchanged = with_rest first_plainly
+
+pub goes_on_without_group_exchanged : Swaps false true nowhere (goes_on_but BRACES) (goes_on_but_at BRACES)
+unfolding goes_on_but goes_on_but_at
+goes_on_without_group_exchanged = with_rest first_without
 
 pub named_node_exchanged : Exchanges named_node named_node_at
 unfolding named_node named_node_at
 named_node_exchanged = seq meta_exchanged (λ _. seq (maybe PAREN refl (group_exchanged Paren)) (λ _. nothing _))
 
-pub line_end_or_exchanged : (ends : Bool) → Exchanges (line_end_or BRACES ends) (line_end_or_at BRACES ends)
-line_end_or_exchanged true = nothing _
-line_end_or_exchanged false = seq goes_on_without_group_exchanged (λ _. nothing _)
+pub line_end_or_exchanged : (ends : Bool) → Swaps false true nowhere (line_end_or BRACES ends) (line_end_or_at BRACES ends)
+line_end_or_exchanged true = loosely (nothing _)
+line_end_or_exchanged false = value_loosely _ goes_on_without_group_exchanged
 
-pub behind_mark_exchanged : (ends : Bool) → Exchanges (behind_mark ends) (behind_mark_at ends)
+pub behind_mark_exchanged : (ends : Bool) → Swaps false true nowhere (behind_mark ends) (behind_mark_at ends)
 unfolding behind_mark behind_mark_at
-behind_mark_exchanged ends = alt CURLY refl (seq (group_exchanged Curly) (λ _. nothing _)) (alt PAREN refl (seq (group_exchanged Paren) (λ _. nothing _)) (line_end_or_exchanged ends))
+behind_mark_exchanged ends = alt_loosely CURLY refl (loosely (seq (group_exchanged Curly) (λ _. nothing _))) (alt_loosely PAREN refl (loosely (seq (group_exchanged Paren) (λ _. nothing _))) (line_end_or_exchanged ends))
 
-pub marked_exchanged : Exchanges marked marked_at
+pub marked_exchanged : Swaps false true nowhere marked marked_at
 unfolding marked marked_at
-marked_exchanged = seq (one_sample BANG ends_line (sample kinds.Meta heads.Bang (codes "!")) refl bang_real refl) behind_mark_exchanged
+marked_exchanged = seq_loosely (one_sample BANG ends_line (sample kinds.Meta heads.Bang (codes "!")) refl bang_real refl) behind_mark_exchanged
 
-pub node_yet_exchanged : Exchanges node_yet node_yet_at
+pub node_yet_exchanged : Swaps false true nowhere node_yet node_yet_at
 unfolding node_yet node_yet_at
-node_yet_exchanged = alt NAMED refl named_node_exchanged marked_exchanged
+node_yet_exchanged = alt_loosely NAMED refl (loosely named_node_exchanged) marked_exchanged
 
-pub node_or_line_exchanged : Exchanges node_or_line node_or_line_at
+pub node_or_line_exchanged : Swaps false true nowhere node_or_line node_or_line_at
 unfolding node_or_line node_or_line_at
-node_or_line_exchanged = alt NAMED refl named_node_exchanged (alt BANG refl marked_exchanged (seq goes_on_plainly_exchanged (λ _. nothing _)))
+node_or_line_exchanged = alt_loosely NAMED refl (loosely named_node_exchanged) (alt_loosely BANG refl marked_exchanged (value_loosely _ goes_on_plainly_exchanged))
 
-pub behind_name_exchanged : (ends : Bool) → Exchanges (behind_name ends) (behind_name_at ends)
-behind_name_exchanged true = nothing _
+pub behind_name_exchanged : (ends : Bool) → Swaps false true nowhere (behind_name ends) (behind_name_at ends)
+behind_name_exchanged true = loosely (nothing _)
 behind_name_exchanged false = node_or_line_exchanged
 
-pub metadata_behind_exchanged : Exchanges metadata_behind metadata_behind_at
+pub metadata_behind_exchanged : Swaps false true nowhere metadata_behind metadata_behind_at
 unfolding metadata_behind metadata_behind_at
-metadata_behind_exchanged = seq (one_sample META ends_line (sample kinds.Meta heads.Meta (codes "!a")) refl meta_real refl) behind_name_exchanged
+metadata_behind_exchanged = seq_loosely (one_sample META ends_line (sample kinds.Meta heads.Meta (codes "!a")) refl meta_real refl) behind_name_exchanged

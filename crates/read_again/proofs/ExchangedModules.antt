@@ -12,10 +12,10 @@ use Rattle.lto_forms.specs.Alphabet.{among, contains}
 use Rattle.lto_forms.specs.Chained.{chain_within, stops_here}
 use Rattle.lto_forms.specs.Faults.{Extends}
 use Rattle.lto_forms.specs.Forms as form
-use Rattle.lto_forms.specs.Lawful.{Broad, IsBound, UpTo}
+use Rattle.lto_forms.specs.Lawful.{Broad, IsBound, UpTo, ends}
 use Rattle.lto_forms.specs.Readers.{Reader, done, ended, fault_at, follow, ◌>>=◌, pick, whole_of}
 use Rattle.lto_forms.specs.declared.fault.Fault.{Fault}
-use Rattle.lto_forms.specs.declared.fault.FaultKind.TheVariants.{Syntax, Profile, Limit}
+use Rattle.lto_forms.specs.declared.fault.FaultKind.TheVariants.{Syntax, Profile, Number, Limit}
 use Rattle.lto_forms.specs.declared.fault.FaultKind.{FaultKind}
 use Rattle.ir_read.specs.AttributesAt.{HEAD}
 use Rattle.ir_read.specs.Classes.{tokens, refusal}
@@ -33,7 +33,8 @@ use Rattle.ir_items.specs.ItemsAt.{DECLARE, ITEM, NAMING, beginnings, begins_the
 use Rattle.ir_items.specs.Modules.{FURTHER_PARAMETERS, GLOBAL_NAMES, any_module, item_refusal, module_of}
 use Rattle.ir_items.proofs.ItemRules.{ANY, items_rule, there_rule}
 use Rattle.read_again.specs.NamedCalls.{in_module}
-use Rattle.read_again.proofs.Exchanged.{Outcome, SOMEWHERE, STAND_INS, Stuck, Swapping, nothing, placed_too, seq_from, taken, apart, passed, taken_first}
+use Rattle.ir_instructions.specs.ShapeForms.{OPEN_BRACE}
+use Rattle.read_again.proofs.Exchanged.{Goes, IsTold, NotTold, Open, Outcome, OutcomeAt, Stays, is_angled, SOMEWHERE, STAND_INS, Stuck, Swaps, placed_too, value_loosely, taken, apart, passed, taken_first}
 use Rattle.read_again.proofs.ExchangedItems.{NUMBERED_NAME, STARTS, TYPES, all_items_at, all_items_exchanged, in_items, named_with, naming_with, numbered_is, numbered_told, piece_exchanged, piece_there, piece_with, starts_there, unnamed_refuses, within_at}
 
 -- ---- at each token that begins an item the two are the same
@@ -223,9 +224,9 @@ behind_items : (front : List Tok) → in_items (first_place GLOBAL_NAMES) front 
 unfolding in_module any_items form.◌>>=◌
 behind_items front (p, q, all, e, s, v) = (p, q, fold keep [] all, e, (p, [], all, sym (append-nil p), s, (refl, refl)), v)
 
-all_exchanged : Swapping false in_module any_module all_at
+all_exchanged : Swaps false true in_module any_module all_at
 unfolding any_module any_items
-all_exchanged = placed_too in_module behind_items (seq_from (all_items_exchanged FURTHER_PARAMETERS (first_place GLOBAL_NAMES)) (λ all. nothing (fold keep [] all)))
+all_exchanged = placed_too in_module behind_items (value_loosely (fold keep []) (all_items_exchanged FURTHER_PARAMETERS (first_place GLOBAL_NAMES)))
 
 -- a module doesn't end before one that is left out in some places
 all_never : (front : List Tok) (t : Tok) (rest : List Tok) (is : List Item) → all_at (front ++ t ∷ rest) ≡ reads is (t ∷ rest) → contains STAND_INS (number t.head) ≡ true → ⊥
@@ -276,12 +277,15 @@ module_read ts is s = by_up (subst (λ (us : List Tok). UpTo (items_at FURTHER_P
     by_up (inl e) = inl (ap (whole_of item_refusal) e)
     by_up (inr (left, k, b, e)) = inr (left, k, b, ap (whole_of item_refusal) e)
 
-pub none_goes_on : (front : List Tok) (u : Tok) → Stuck all_at front u → Extends any_module (front ++ u ∷ []) → ⊥
-none_goes_on front u stuck v =
+-- behind these tokens a module is refused at this one
+abbrev Refused : List Tok → Tok → Type 0
+Refused front u = (rest : List Tok) → (k : FaultKind) × (IsBound k → ⊥) × (module_of (front ++ u ∷ rest) ≡ wrong (record { left = length (u ∷ rest); kind = k }))
+
+none_at : (front : List Tok) (u : Tok) → Refused front u → Extends any_module (front ++ u ∷ []) → ⊥
+none_at front u refused v =
     let s : any_module (front ++ u ∷ v.0) v.1 = subst (λ (ts : List Tok). any_module ts v.1) (append_assoc front (u ∷ []) v.0) v.2 in
-    let r = stuck v.0 in
-    let d : module_of (front ++ u ∷ v.0) ≡ wrong (record { left = length (u ∷ v.0); kind = r.0 }) = sym (module_is (front ++ u ∷ v.0)) ∙ ap (whole_of item_refusal) r.2 in
-    by_read v.1 (u ∷ v.0) r.0 r.1 d (module_read (front ++ u ∷ v.0) v.1 s)
+    let r = refused v.0 in
+    by_read v.1 (u ∷ v.0) r.0 r.1 r.2 (module_read (front ++ u ∷ v.0) v.1 s)
   where
     by_read : (is : List Item) (us : List Tok) (k : FaultKind) → (IsBound k → ⊥) → module_of (front ++ us) ≡ wrong (record { left = length us; kind = k }) → (module_of (front ++ us) ≡ Ok is) ⊎ ((left : ℕ) × (k : FaultKind) × IsBound k × (module_of (front ++ us) ≡ Err (record { left = left; kind = k }))) → ⊥
     by_read is us k n d (inl e) = never is (record { left = length us; kind = k }) (sym e ∙ d)
@@ -289,3 +293,71 @@ none_goes_on front u stuck v =
         never : (is : List Item) (f : Fault) → Ok is ≡ wrong f → ⊥
         never is f e = cc
     by_read is us k n d (inr (left, l, b, e)) = n (subst IsBound (ap (λ (x : Fault). x.kind) (wrong_is {X = List Item} (record { left = left; kind = l }) (record { left = length us; kind = k }) (sym e ∙ d))) b)
+
+pub none_goes_on : (front : List Tok) (u : Tok) → Stuck all_at front u → Extends any_module (front ++ u ∷ []) → ⊥
+none_goes_on front u stuck = none_at front u (λ rest. let r = stuck rest in (r.0, r.1, sym (module_is (front ++ u ∷ rest)) ∙ ap (whole_of item_refusal) r.2))
+
+-- ---- a number directly behind `<`
+
+-- it is told to be left out only where a brace goes on, and against the syntax only where none does
+abbrev pub Vector : List Tok → FaultKind → Type 0
+Vector front Syntax = (u : Tok) → among tokens OPEN_BRACE u ≡ true → Extends any_module (front ++ u ∷ []) → ⊥
+Vector front Profile = (u : Tok) × (among tokens OPEN_BRACE u ≡ true) × Goes any_module front u
+Vector front Number = Unit {0}
+Vector front Limit = Unit {0}
+
+abbrev is_number : Head → Bool
+is_number h = nat_eq (number h) (number heads.Number)
+
+number_told : (h : Head) (S G : Tok → Type 0) (P : Type 0) → is_number h ≡ true → IsTold true h S G P → (u : Tok) × (among tokens OPEN_BRACE u ≡ true) × G u
+number_told heads.Number S G P e n = n refl
+number_told h S G P e n = absurd cc
+
+number_not : (h : Head) (S G : Tok → Type 0) (P : Type 0) → is_number h ≡ true → NotTold true h S G P → (u : Tok) → among tokens OPEN_BRACE u ≡ true → S u
+number_not heads.Number S G P e n = n refl
+number_not h S G P e n = absurd cc
+
+stays_too : (h : Head) (is : List Item) (front : List Tok) → is_number h ≡ true → OutcomeAt false in_module any_module all_at true front h (Ok is) → (u : Tok) → among tokens OPEN_BRACE u ≡ true → Stays all_at front is u
+stays_too heads.Number is front e (inl stays) = stays
+stays_too heads.Number is front e (inr w) = absurd w.1
+stays_too h is front e o = absurd cc
+
+-- neither begins an item
+number_refused : (t : Tok) → is_number t.head ≡ true → item_refusal t ≡ Syntax
+number_refused t e = ap name_refusal (same (number t.head) (number heads.Number) e)
+
+brace_refused : (u : Tok) → among tokens OPEN_BRACE u ≡ true → item_refusal u ≡ Syntax
+brace_refused u i = by_test (nat_eq (number u.head) (number heads.OpenBrace)) refl i
+  where
+    by_test : (b : Bool) → nat_eq (number u.head) (number heads.OpenBrace) ≡ b → b || false ≡ true → item_refusal u ≡ Syntax
+    by_test true e i = ap name_refusal (same (number u.head) (number heads.OpenBrace) e)
+    by_test false e i = absurd cc
+
+module _ (front : List Tok) (t : Tok) (n : is_number t.head ≡ true) (q : is_angled front ≡ true) where
+  -- what is said there
+  said : (rest : List Tok) (o : Result (List Item) FaultKind) → all_at (front ++ t ∷ rest) ≡ ends o (t ∷ rest) → OutcomeAt false in_module any_module all_at true front t.head o
+  said rest o d = subst (λ (b : Bool). OutcomeAt false in_module any_module all_at b front t.head o) q (all_exchanged.swap front t rest o d)
+
+  items_end : (rest : List Tok) (is : List Item) → all_at (front ++ t ∷ rest) ≡ reads is (t ∷ rest) → Vector front Syntax
+  items_end rest is d u i = none_at front u (λ rest'. (Syntax, λ b. b, sym (module_is (front ++ u ∷ rest')) ∙ ap (whole_of item_refusal) (stays_too t.head is front n (said rest (Ok is) d) u i rest') ∙ ap (λ (k : FaultKind). wrong (record { left = length (u ∷ rest'); kind = k })) (brace_refused u i)))
+
+  by_kind : (k : FaultKind) → OutcomeAt false in_module any_module all_at true front t.head (Err k) → Vector front k
+  by_kind Syntax o = λ u i. none_goes_on front u (number_not t.head (Stuck all_at front) (Goes any_module front) (in_module front tt) n o u i)
+  by_kind Profile o = number_told t.head (Stuck all_at front) (Goes any_module front) (Open front) n o
+  by_kind Number o = tt
+  by_kind Limit o = tt
+
+  pub vector_placed : (rest : List Tok) (k : FaultKind) → module_of (front ++ t ∷ rest) ≡ wrong (record { left = length (t ∷ rest); kind = k }) → Vector front k
+  vector_placed rest k d = by_result (all_at (front ++ t ∷ rest)) refl (module_is (front ++ t ∷ rest) ∙ d)
+    where
+      by_end : (is : List Item) (left : List Tok) → all_at (front ++ t ∷ rest) ≡ reads is left → ended item_refusal is left ≡ wrong (record { left = length (t ∷ rest); kind = k }) → Vector front k
+      by_end is [] e h = absurd cc
+      by_end is (u ∷ us) e h =
+          let f = wrong_is {X = List Item} (record { left = length (u ∷ us); kind = item_refusal u }) (record { left = length (t ∷ rest); kind = k }) h in
+          let s = all_exchanged.sound (front ++ t ∷ rest) (u ∷ us) is e in
+          let c = cut_is front (t ∷ rest) s.0 (u ∷ us) s.1 (sym (ap (λ (x : Fault). x.left) f)) in
+          subst (Vector front) (sym (number_refused t n) ∙ ap item_refusal (cons_is t u rest us c.1).0 ∙ ap (λ (x : Fault). x.kind) f) (items_end rest is (e ∙ ap (λ (y : List Tok). reads is y) (sym c.1)))
+
+      by_result : (r : Result (List Item × List Tok) Fault) → all_at (front ++ t ∷ rest) ≡ r → whole_of item_refusal r ≡ wrong (record { left = length (t ∷ rest); kind = k }) → Vector front k
+      by_result (Ok x) e h = by_end x.0 x.1 e h
+      by_result (Err f) e h = by_kind k (said rest (Err k) (e ∙ ap wrong (wrong_is {X = List Item} f (record { left = length (t ∷ rest); kind = k }) h)))

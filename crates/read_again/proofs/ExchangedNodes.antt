@@ -21,8 +21,9 @@ use Rattle.ir_read.specs.declared.brackets.Bracket.TheVariants.{Paren, Curly}
 use Rattle.ir_read.specs.declared.brackets.Bracket.{Bracket}
 use Rattle.ir_read.proofs.Nodes.{attachment_rule, line_rule}
 use Rattle.ir_read.proofs.Singles.{meta_real, sample}
-use Rattle.read_again.proofs.Exchanged.{Exchanges, alt, anywhere, maybe, nothing, seq, star, taken, is_target, target_is}
-use Rattle.read_again.proofs.ExchangedGroups.{group_exchanged, somewhere_stays}
+use Rattle.lto_forms.specs.Lawful.{ends}
+use Rattle.read_again.proofs.Exchanged.{Exchanges, OutcomeAt, Swaps, alt, anywhere, ends_anywhere, loosely, maybe, nothing, nowhere, seq, seq_loosely, star, taken, is_target, target_is}
+use Rattle.read_again.proofs.ExchangedGroups.{group_exchanged, steady_stays}
 use Rattle.read_again.proofs.ExchangedTokens.{one_sample}
 use Rattle.read_again.proofs.ExchangedWords.{bang_exchanged, comma_exchanged, meta_exchanged}
 
@@ -89,13 +90,17 @@ never_run bs (v ∷ front) t rest k d e = by_step (λ next d'. never_run next fr
     by_step again last d = cc
     by_step again (onward next) d = again next d
 
-pub line_exchanged : (bs : List Bracket) → Exchanges (Run line_step bs) (run_at line_step bs)
-line_exchanged bs = anywhere (line_rule bs) (λ front t rest k d i. never_run bs front t rest k d (somewhere_stays t.head i))
+pub line_exchanged : (bs : List Bracket) → Swaps false true nowhere (Run line_step bs) (run_at line_step bs)
+line_exchanged bs = anywhere (line_rule bs) (λ front t rest k d i. never_run bs front t rest k d (steady_stays t.head i)) (λ front rest a d q. refl)
 
-pub rest_of_line_exchanged : (ends : Bool) → Exchanges (rest_of_line ends) (rest_of_line_at ends)
-rest_of_line_exchanged true = nothing tt
+-- also behind `<`
+pub line_after : (bs : List Bracket) (t : Tok) (rest : List Tok) (o : Result (Unit {0}) FaultKind) → run_at line_step bs (t ∷ rest) ≡ ends o (t ∷ rest) → OutcomeAt false nowhere (Run line_step bs) (run_at line_step bs) true [] t.head o
+line_after bs t rest o d = ends_anywhere (line_rule bs) (λ front t rest k d i. never_run bs front t rest k d (steady_stays t.head i)) true [] t rest o d
+
+pub rest_of_line_exchanged : (ends : Bool) → Swaps false true nowhere (rest_of_line ends) (rest_of_line_at ends)
+rest_of_line_exchanged true = loosely (nothing tt)
 rest_of_line_exchanged false = line_exchanged []
 
-pub metadata_line_exchanged : Exchanges metadata_line metadata_line_at
+pub metadata_line_exchanged : Swaps false true nowhere metadata_line metadata_line_at
 unfolding metadata_line metadata_line_at
-metadata_line_exchanged = seq meta_one rest_of_line_exchanged
+metadata_line_exchanged = seq_loosely meta_one rest_of_line_exchanged

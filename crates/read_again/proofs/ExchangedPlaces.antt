@@ -19,50 +19,51 @@ use Rattle.ir_parse.specs.Kinds.{grammar_fault}
 use Rattle.ir_parse.specs.declared.fault.FaultKind as told_kind
 use Rattle.ir_parse.specs.declared.fault.FaultKind.TheVariants as kinds
 use Rattle.read_again.specs.NamedCalls.{in_module}
-use Rattle.read_again.specs.Refusals.{FitsPlace, GoesOn, INTEGER, MEMORY, NoneOfThem, NotEach, SomeGoesOn, TARGET, TYPE, WORD}
-use Rattle.read_again.proofs.Exchanged.{Goes, IsTold, NotTold, Open, Outcome, SOMEWHERE, Stuck}
+use Rattle.ir_instructions.specs.ShapeForms.{OPEN_BRACE}
+use Rattle.read_again.specs.Refusals.{BeginsVector, FitsPlace, GoesOn, INTEGER, MEMORY, NoneOfThem, NotEach, SomeGoesOn, TARGET, TYPE, WORD}
+use Rattle.read_again.proofs.Exchanged.{Goes, IsTold, NotTold, Open, Outcome, SOMEWHERE, Stuck, is_angled}
 use Rattle.read_again.proofs.NamedCallees.{never_left_out}
-use Rattle.read_again.proofs.ExchangedModules.{all_at, module_exchanged, none_goes_on}
+use Rattle.read_again.proofs.ExchangedModules.{Vector, vector_placed, all_at, module_exchanged, none_goes_on}
 
 -- ---- what is said of each class
 
-type_told : (h : Head) (S G : Tok → Type 0) (P : Type 0) → contains TYPE (number h) ≡ true → IsTold h S G P → ((u : Tok) × (among tokens REG u ≡ true) × G u) ⊎ P
-type_told heads.RefusedType S G P e n = n
-type_told h S G P e n = absurd cc
+type_told : (b : Bool) (h : Head) (S G : Tok → Type 0) (P : Type 0) → contains TYPE (number h) ≡ true → IsTold b h S G P → ((u : Tok) × (among tokens REG u ≡ true) × G u) ⊎ P
+type_told b heads.RefusedType S G P e n = n
+type_told b h S G P e n = absurd cc
 
-target_told : (h : Head) (S G : Tok → Type 0) (P : Type 0) → contains TARGET (number h) ≡ true → IsTold h S G P → (((u : Tok) × (among tokens REG u ≡ true) × G u) ⊎ P) × ((w : Tok) → among tokens WORD w ≡ true → S w)
-target_told heads.Target S G P e n = n
-target_told h S G P e n = absurd cc
+target_told : (b : Bool) (h : Head) (S G : Tok → Type 0) (P : Type 0) → contains TARGET (number h) ≡ true → IsTold b h S G P → (((u : Tok) × (among tokens REG u ≡ true) × G u) ⊎ P) × ((w : Tok) → among tokens WORD w ≡ true → S w)
+target_told b heads.Target S G P e n = n
+target_told b h S G P e n = absurd cc
 
-integer_told : (h : Head) (S G : Tok → Type 0) (P : Type 0) → contains INTEGER (number h) ≡ true → IsTold h S G P → (u : Tok) → among tokens MEMORY u ≡ true → IsReal u → G u
-integer_told heads.RegisterInteger S G P e n = n
-integer_told h S G P e n = absurd cc
+integer_told : (b : Bool) (h : Head) (S G : Tok → Type 0) (P : Type 0) → contains INTEGER (number h) ≡ true → IsTold b h S G P → (u : Tok) → among tokens MEMORY u ≡ true → IsReal u → G u
+integer_told b heads.RegisterInteger S G P e n = n
+integer_told b h S G P e n = absurd cc
 
-name_told : (h : Head) (S G : Tok → Type 0) (P : Type 0) → contains NUMBERED (number h) ≡ true → IsTold h S G P → (u : Tok) × (among tokens GLOBAL u ≡ true) × G u
-name_told heads.NumberedGlobal S G P e n = n
-name_told heads.NumberedDefinition S G P e n = n
-name_told h S G P e n = absurd cc
+name_told : (b : Bool) (h : Head) (S G : Tok → Type 0) (P : Type 0) → contains NUMBERED (number h) ≡ true → IsTold b h S G P → (u : Tok) × (among tokens GLOBAL u ≡ true) × G u
+name_told b heads.NumberedGlobal S G P e n = n
+name_told b heads.NumberedDefinition S G P e n = n
+name_told b h S G P e n = absurd cc
 
-type_not : (h : Head) (S G : Tok → Type 0) (P : Type 0) → contains TYPE (number h) ≡ true → NotTold h S G P → (u : Tok) → among tokens REG u ≡ true → S u
-type_not heads.RefusedType S G P e n = n
-type_not h S G P e n = absurd cc
+type_not : (b : Bool) (h : Head) (S G : Tok → Type 0) (P : Type 0) → contains TYPE (number h) ≡ true → NotTold b h S G P → (u : Tok) → among tokens REG u ≡ true → S u
+type_not b heads.RefusedType S G P e n = n
+type_not b h S G P e n = absurd cc
 
-target_not : (h : Head) (S G : Tok → Type 0) (P : Type 0) → contains TARGET (number h) ≡ true → NotTold h S G P → ((u : Tok) → among tokens REG u ≡ true → S u) ⊎ ((w : Tok) × (among tokens WORD w ≡ true) × G w)
-target_not heads.Target S G P e n = n
-target_not h S G P e n = absurd cc
+target_not : (b : Bool) (h : Head) (S G : Tok → Type 0) (P : Type 0) → contains TARGET (number h) ≡ true → NotTold b h S G P → ((u : Tok) → among tokens REG u ≡ true → S u) ⊎ ((w : Tok) × (among tokens WORD w ≡ true) × G w)
+target_not b heads.Target S G P e n = n
+target_not b h S G P e n = absurd cc
 
-integer_not : (h : Head) (S G : Tok → Type 0) (P : Type 0) → contains INTEGER (number h) ≡ true → NotTold h S G P → (u : Tok) × (among tokens MEMORY u ≡ true) × IsReal u × S u
-integer_not heads.RegisterInteger S G P e n = n
-integer_not h S G P e n = absurd cc
+integer_not : (b : Bool) (h : Head) (S G : Tok → Type 0) (P : Type 0) → contains INTEGER (number h) ≡ true → NotTold b h S G P → (u : Tok) × (among tokens MEMORY u ≡ true) × IsReal u × S u
+integer_not b heads.RegisterInteger S G P e n = n
+integer_not b h S G P e n = absurd cc
 
-name_not : (h : Head) (S G : Tok → Type 0) (P : Type 0) → contains NUMBERED (number h) ≡ true → NotTold h S G P → (u : Tok) → among tokens GLOBAL u ≡ true → S u
-name_not heads.NumberedGlobal S G P e n = n
-name_not heads.NumberedDefinition S G P e n = n
-name_not h S G P e n = absurd cc
+name_not : (b : Bool) (h : Head) (S G : Tok → Type 0) (P : Type 0) → contains NUMBERED (number h) ≡ true → NotTold b h S G P → (u : Tok) → among tokens GLOBAL u ≡ true → S u
+name_not b heads.NumberedGlobal S G P e n = n
+name_not b heads.NumberedDefinition S G P e n = n
+name_not b h S G P e n = absurd cc
 
-marker_not : (h : Head) (S G : Tok → Type 0) (P : Type 0) → contains MARKER (number h) ≡ true → NotTold h S G P → P
-marker_not heads.LifetimeMarker S G P e n = n
-marker_not h S G P e n = absurd cc
+marker_not : (b : Bool) (h : Head) (S G : Tok → Type 0) (P : Type 0) → contains MARKER (number h) ≡ true → NotTold b h S G P → P
+marker_not b heads.LifetimeMarker S G P e n = n
+marker_not b h S G P e n = absurd cc
 
 -- ---- in terms of the grammar
 
@@ -115,32 +116,40 @@ module _ (front : List Tok) (t : Tok) where
   abbrev Unnamed : Type 0
   Unnamed = contains MARKER (number t.head) ≡ true → in_module front tt → ⊥
 
-  left_out : (kind : told_kind.FaultKind) → (kind ≡ kinds.Syntax → ⊥) → Placed Profile → Unnamed → FitsPlace front t kind
-  left_out kind never p unnamed = record {
-    type_left_out = λ e word h. some_or_open (Open front) (type_told t.head (Stuck all_at front) (Goes any_module front) (Open front) e (p (in_types e)));
+  -- what is said of a number directly behind `<`
+  abbrev Vectors : FaultKind → Type 0
+  Vectors k = BeginsVector front t → Vector front k
+
+  left_out : (kind : told_kind.FaultKind) → (kind ≡ kinds.Syntax → ⊥) → Placed Profile → Unnamed → Vectors Profile → FitsPlace front t kind
+  left_out kind never p unnamed vector = record {
+    type_left_out = λ e word h. some_or_open (Open front) (type_told (is_angled front) t.head (Stuck all_at front) (Goes any_module front) (Open front) e (p (in_types e)));
     type_misplaced = λ e h. absurd (never h);
-    target_left_out = λ e word h. told_target (target_told t.head (Stuck all_at front) (Goes any_module front) (Open front) e (p (in_target e)));
+    target_left_out = λ e word h. told_target (target_told (is_angled front) t.head (Stuck all_at front) (Goes any_module front) (Open front) e (p (in_target e)));
     target_misplaced = λ e h. absurd (never h);
-    integer_left_out = λ e word h u i r. goes_on u (integer_told t.head (Stuck all_at front) (Goes any_module front) (Open front) e (p (in_integers e)) u i r);
+    integer_left_out = λ e word h u i r. goes_on u (integer_told (is_angled front) t.head (Stuck all_at front) (Goes any_module front) (Open front) e (p (in_integers e)) u i r);
     integer_misplaced = λ e h. absurd (never h);
-    name_left_out = λ e word h. some_goes_on GLOBAL (name_told t.head (Stuck all_at front) (Goes any_module front) (Open front) e (p (in_names e)));
+    name_left_out = λ e word h. some_goes_on GLOBAL (name_told (is_angled front) t.head (Stuck all_at front) (Goes any_module front) (Open front) e (p (in_names e)));
     name_misplaced = λ e h. absurd (never h);
     marker_left_out = λ e word h. unnamed e;
     marker_misplaced = λ e h. absurd (never h);
+    vector_left_out = λ v word h. some_goes_on OPEN_BRACE (vector v);
+    vector_misplaced = λ v h. absurd (never h);
   }
 
-  misplaced : (kind : told_kind.FaultKind) → ((word : List ℕ) → kind ≡ kinds.Profile word → ⊥) → Placed Syntax → FitsPlace front t kind
-  misplaced kind never p = record {
+  misplaced : (kind : told_kind.FaultKind) → ((word : List ℕ) → kind ≡ kinds.Profile word → ⊥) → Placed Syntax → Vectors Syntax → FitsPlace front t kind
+  misplaced kind never p vector = record {
     type_left_out = λ e word h. absurd (never word h);
-    type_misplaced = λ e h u i. none_goes_on front u (type_not t.head (Stuck all_at front) (Goes any_module front) (in_module front tt) e (p (in_types e)) u i);
+    type_misplaced = λ e h u i. none_goes_on front u (type_not (is_angled front) t.head (Stuck all_at front) (Goes any_module front) (in_module front tt) e (p (in_types e)) u i);
     target_left_out = λ e word h. absurd (never word h);
-    target_misplaced = λ e h. none_or_word (target_not t.head (Stuck all_at front) (Goes any_module front) (in_module front tt) e (p (in_target e)));
+    target_misplaced = λ e h. none_or_word (target_not (is_angled front) t.head (Stuck all_at front) (Goes any_module front) (in_module front tt) e (p (in_target e)));
     integer_left_out = λ e word h. absurd (never word h);
-    integer_misplaced = λ e h. not_each (integer_not t.head (Stuck all_at front) (Goes any_module front) (in_module front tt) e (p (in_integers e)));
+    integer_misplaced = λ e h. not_each (integer_not (is_angled front) t.head (Stuck all_at front) (Goes any_module front) (in_module front tt) e (p (in_integers e)));
     name_left_out = λ e word h. absurd (never word h);
-    name_misplaced = λ e h u i. none_goes_on front u (name_not t.head (Stuck all_at front) (Goes any_module front) (in_module front tt) e (p (in_names e)) u i);
+    name_misplaced = λ e h u i. none_goes_on front u (name_not (is_angled front) t.head (Stuck all_at front) (Goes any_module front) (in_module front tt) e (p (in_names e)) u i);
     marker_left_out = λ e word h. absurd (never word h);
-    marker_misplaced = λ e h. marker_not t.head (Stuck all_at front) (Goes any_module front) (in_module front tt) e (p (in_markers e));
+    marker_misplaced = λ e h. marker_not (is_angled front) t.head (Stuck all_at front) (Goes any_module front) (in_module front tt) e (p (in_markers e));
+    vector_left_out = λ v word h. absurd (never word h);
+    vector_misplaced = λ v h. vector v;
   }
 
   neither : (kind : told_kind.FaultKind) → ((word : List ℕ) → kind ≡ kinds.Profile word → ⊥) → (kind ≡ kinds.Syntax → ⊥) → FitsPlace front t kind
@@ -155,17 +164,19 @@ module _ (front : List Tok) (t : Tok) where
     name_misplaced = λ e h. absurd (no_syntax h);
     marker_left_out = λ e word h. absurd (no_profile word h);
     marker_misplaced = λ e h. absurd (no_syntax h);
+    vector_left_out = λ v word h. absurd (no_profile word h);
+    vector_misplaced = λ v h. absurd (no_syntax h);
   }
 
-  by_string : (b : Bool) → Placed Profile → Unnamed → FitsPlace front t (cond b kinds.Layout (kinds.Profile t.text))
-  by_string true p unnamed = left_out kinds.Layout (λ h. cc) p unnamed
-  by_string false p unnamed = left_out (kinds.Profile t.text) (λ h. cc) p unnamed
+  by_string : (b : Bool) → Placed Profile → Unnamed → Vectors Profile → FitsPlace front t (cond b kinds.Layout (kinds.Profile t.text))
+  by_string true p unnamed vector = left_out kinds.Layout (λ h. cc) p unnamed vector
+  by_string false p unnamed vector = left_out (kinds.Profile t.text) (λ h. cc) p unnamed vector
 
-  by_kind : (k : FaultKind) → Placed k → (k ≡ Profile → Unnamed) → FitsPlace front t (grammar_fault t k)
-  by_kind Syntax p unnamed = misplaced kinds.Syntax (λ word h. cc) p
-  by_kind Profile p unnamed = by_string (among tokens STRING t) p (unnamed refl)
-  by_kind Number p unnamed = neither kinds.Number (λ word h. cc) (λ h. cc)
-  by_kind Limit p unnamed = neither kinds.Limit (λ word h. cc) (λ h. cc)
+  by_kind : (k : FaultKind) → Placed k → (k ≡ Profile → Unnamed) → Vectors k → FitsPlace front t (grammar_fault t k)
+  by_kind Syntax p unnamed vector = misplaced kinds.Syntax (λ word h. cc) p vector
+  by_kind Profile p unnamed vector = by_string (among tokens STRING t) p (unnamed refl) vector
+  by_kind Number p unnamed vector = neither kinds.Number (λ word h. cc) (λ h. cc)
+  by_kind Limit p unnamed vector = neither kinds.Limit (λ word h. cc) (λ h. cc)
 
   pub place_fits : (rest : List Tok) (k : FaultKind) → module_of (front ++ t ∷ rest) ≡ wrong (record { left = length (t ∷ rest); kind = k }) → FitsPlace front t (grammar_fault t k)
-  place_fits rest k e = by_kind k (λ i. module_exchanged front t rest k e i) (λ p m v. never_left_out front t rest v m (e ∙ ap (λ (x : FaultKind). wrong (record { left = length (t ∷ rest); kind = x })) p))
+  place_fits rest k e = by_kind k (λ i. module_exchanged front t rest k e i) (λ p m v. never_left_out front t rest v m (e ∙ ap (λ (x : FaultKind). wrong (record { left = length (t ∷ rest); kind = x })) p)) (λ v. vector_placed front t v.0 v.1 rest k e)

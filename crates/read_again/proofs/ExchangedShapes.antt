@@ -1,5 +1,5 @@
 -- The readers of shapes tell a token that is left out in some places where a type that memory holds goes on.
-use Rattle.std.proofs.Common.{◌≡◌, ℕ, zero, suc, Bool, true, false, cond, nat_eq, nat_lt, Option, Some, None, ◌&&◌, ◌||◌, not, List, [], ◌∷◌, ◌++◌, Result, Ok, Err, refl, sym, ap, subst, ◌∙◌}
+use Rattle.std.proofs.Common.{length, arith, ◌≡◌, ℕ, zero, suc, Bool, true, false, cond, nat_eq, nat_lt, Option, Some, None, ◌&&◌, ◌||◌, not, List, [], ◌∷◌, ◌++◌, Result, Ok, Err, refl, sym, ap, subst, ◌∙◌}
 use Rattle.std.proofs.lemmas.List.{append-nil}
 use Rattle.std.specs.Prelude.{codes}
 use Rattle.ir_lex.specs.Heads.{number}
@@ -7,11 +7,17 @@ use Rattle.ir_lex.specs.Tok.{Tok}
 use Rattle.ir_lex.specs.declared.head.Head.TheVariants as heads
 use Rattle.lto_forms.specs.Alphabet.{among}
 use Rattle.lto_forms.specs.Chained.{Chain, chain_at}
-use Rattle.lto_forms.specs.Lawful.{IsBound}
-use Rattle.lto_forms.specs.Readers.{Reader, token_means}
+use Rattle.lto_forms.proofs.Composed.{cons_is}
+use Rattle.lto_forms.specs.Alphabet.{AllReal}
+use Rattle.lto_forms.specs.Forms as form
+use Rattle.lto_forms.specs.Forms.{Form}
+use Rattle.lto_forms.specs.Lawful.{IsBound, ends}
+use Rattle.lto_forms.specs.Readers.{Reader, fault_at, follow, ◌>>=◌, token_means}
 use Rattle.lto_forms.specs.Rules.{in_range, is_class, is_valued}
-use Rattle.lto_forms.specs.declared.fault.FaultKind.TheVariants.{Number, Limit}
+use Rattle.lto_forms.specs.declared.fault.FaultKind.TheVariants.{Number, Limit, Profile}
+use Rattle.lto_forms.specs.declared.fault.Fault.{Fault}
 use Rattle.lto_forms.specs.declared.fault.FaultKind.{FaultKind}
+use Rattle.ir_lex.specs.declared.head.Head.{Head}
 use Rattle.ir_read.specs.Ahead.{BRACKETS}
 use Rattle.ir_read.specs.Classes.{tokens, IsReal, refusal, the, the_at}
 use Rattle.ir_instructions.specs.Extents.{extent_of, grown, left, no_bytes, room_for, shared, whole}
@@ -30,9 +36,9 @@ use Rattle.ir_instructions.proofs.ShapeRules.{nested}
 use Rattle.ir_read.proofs.Singles.{mark, open_angle_real, open_brace_real, open_bracket_real, word}
 use Rattle.ir_read.proofs.Words.{int_32_real}
 use Rattle.read_again.specs.Refusals.{MEMORY}
-use Rattle.read_again.proofs.Exchanged.{Exchanges, Goes, alt, barred, nothing, recast, seq, single, token_begins}
+use Rattle.read_again.proofs.Exchanged.{Exchanges, Goes, IsTold, Open, OutcomeAt, Stuck, Swaps, alt, barred, differ, err_ends, nothing, nowhere, recast, same_at, seq, seq_by, single, token_begins}
 use Rattle.read_again.proofs.ExchangedChains.{chain}
-use Rattle.read_again.proofs.ExchangedTokens.{angle_says, of_token, one_sample, plain_class, plain_valued, says_shaped}
+use Rattle.read_again.proofs.ExchangedTokens.{angle_says, class_outside, loose_one, of_token, one_sample, plain_class, plain_valued, refuses_angle, says_shaped}
 use Rattle.read_again.proofs.ExchangedWords.{close_angle_exchanged, close_brace_exchanged, close_bracket_exchanged, comma_exchanged}
 
 -- ---- scalars and type names
@@ -96,7 +102,7 @@ leaf_right room t x e = let s = (leaf_rule room).law.sound (t ∷ []) [] x (ap (
     one_token front e s = subst (λ (y : List Tok). leaf whole y x) (sym (e ∙ append-nil front)) s
 
 pub leaf_exchanged : (room : Room) → Exchanges (leaf whole) (leaf_at room)
-leaf_exchanged room = single (leaf whole) (leaf_means room) (leaf_right room) (i32 ∷ [], scalar_typed i32, scalar_spelled i32 refl, (int_32_real, tt)) (says_shaped (leaf whole) (leaf_means room) LEAF (leaf_inside room) (leaf_outside room) refl refl (i32, refl, scalar_goes i32 refl int_32_real) (λ v i r. scalar_goes v (memory_is_scalar v i) r))
+leaf_exchanged room = single (leaf whole) (leaf_means room) (refuses_angle (leaf_means room) LEAF memory_refusal (leaf_outside room) refl) (leaf_right room) (i32 ∷ [], scalar_typed i32, scalar_spelled i32 refl, (int_32_real, tt)) (says_shaped (leaf whole) (leaf_means room) LEAF (leaf_inside room) (leaf_outside room) refl refl (i32, refl, scalar_goes i32 refl int_32_real) (λ v i r. scalar_goes v (memory_is_scalar v i) r))
 
 -- ---- arrays and structures
 
@@ -107,7 +113,7 @@ pub times_exchanged : Exchanges (the heads.Times) (the_at heads.Times)
 times_exchanged = plain_class heads.Times times_rule refl
 
 pub brace_behind_angle_exchanged : Exchanges brace_behind_angle brace_behind_angle_at
-brace_behind_angle_exchanged = of_token (is_class tokens angle_refusal (number heads.OpenBrace)) brace_behind_angle_rule (angle_says (number heads.OpenBrace) refl)
+brace_behind_angle_exchanged = of_token (is_class tokens angle_refusal (number heads.OpenBrace)) brace_behind_angle_rule (refuses_angle (is_class tokens angle_refusal (number heads.OpenBrace)) OPEN_BRACE angle_refusal (class_outside angle_refusal (number heads.OpenBrace)) refl) (angle_says (number heads.OpenBrace) refl)
 
 module _ (of : ℕ → Reader Tok Typed) (of_one : (n : ℕ) → Exchanges any_shape (of n)) where
   elements_exchanged : (line : ℕ) → Exchanges (elements (λ _. any_shape) line) (elements_at of line)
@@ -142,13 +148,66 @@ structure_exchanged : (part : Extent → Reader Tok Typed) → ((s : Extent) →
 unfolding structure_of structure_at
 structure_exchanged part each = seq (one_sample OPEN_BRACE line_of (mark heads.OpenBrace (codes "{")) refl open_brace_real refl) (λ line. seq (members_exchanged false part each) (λ parts. nothing _))
 
-packed_behind_exchanged : (part : Extent → Reader Tok Typed) → ((s : Extent) → Exchanges any_shape (part s)) → (line : ℕ) → Exchanges (packed_behind (λ _. any_shape) line) (packed_behind_at part line)
-unfolding packed_behind packed_behind_at
-packed_behind_exchanged part each line = seq brace_behind_angle_exchanged (λ _. seq (members_exchanged true part each) (λ parts. seq close_angle_exchanged (λ _. nothing _)))
+-- ---- `<`, and a number directly behind it
+
+same : (n m : ℕ) → nat_eq n m ≡ true → n ≡ m
+same n m h = grind arith
+
+abbrev fine : Unit {0} → Result (Unit {0}) FaultKind
+fine u = Ok u
+
+module _ {B : Type 0} {wide : Unit {0} → Form Tok B} {h : Unit {0} → Reader Tok B} (laws : (u : Unit {0}) → Exchanges (wide u) (h u)) where
+  abbrev behind_one : Form Tok B
+  behind_one = form.◌>>=◌ brace_behind_angle wide
+
+  abbrev behind_one_at : Reader Tok B
+  behind_one_at = brace_behind_angle_at >>= h
+
+  behind_law : Exchanges behind_one behind_one_at
+  behind_law = seq brace_behind_angle_exchanged laws
+
+  begins_some : (x : B) → behind_one [] x → ⊥
+  begins_some x q = token_begins (is_class tokens angle_refusal (number heads.OpenBrace)) wide x q
+
+  -- a brace goes on behind `<`
+  brace_goes : (u : Tok) × (among tokens OPEN_BRACE u ≡ true) × Goes behind_one [] u
+  unfolding form.◌>>=◌ is_class
+  brace_goes = let z = behind_law.some in by_some z.0 z.1 z.2 z.3
+    where
+      by_test : (v : Tok) (b : Bool) → cond b (fine tt) (Err (angle_refusal (number v.head))) ≡ fine tt → b || false ≡ true
+      by_test v true s = refl
+      by_test v false s = absurd cc
+
+      by_some : (ts : List Tok) (x : B) → behind_one ts x → AllReal tokens ts → (u : Tok) × (among tokens OPEN_BRACE u ≡ true) × Goes behind_one [] u
+      by_some [] x q r = absurd (begins_some x q)
+      by_some (t ∷ more) x ([], back, u, e, s, q) r = absurd s
+      by_some (t ∷ more) x (v ∷ w ∷ front, back, u, e, s, q) r = absurd s
+      by_some (t ∷ more) x (v ∷ [], back, u, e, s, q) r = (t, ap (λ (y : Tok). among tokens OPEN_BRACE y) (cons_is t v more back e).0 ∙ by_test v (nat_eq (number v.head) (number heads.OpenBrace)) s, (more, x, (v ∷ [], back, u, e, s, q), r))
+
+  number_told : (t : Tok) (rest : List Tok) → nat_eq (number t.head) (number heads.Number) ≡ true → behind_one_at (t ∷ rest) ≡ fault_at Profile (t ∷ rest)
+  unfolding is_class
+  number_told t rest e = ap (λ (n : ℕ). follow (token_means t rest (cond (nat_eq n (number heads.OpenBrace)) (fine tt) (Err (angle_refusal n)))) h) (same (number t.head) (number heads.Number) e)
+
+  told_number : (k : Head) → nat_eq (number k) (number heads.Number) ≡ true → IsTold true k (Stuck behind_one_at []) (Goes behind_one []) (Open [])
+  told_number heads.Number e = λ _. brace_goes
+  told_number k e = absurd cc
+
+  after_angle : (t : Tok) (rest : List Tok) (o : Result B FaultKind) → behind_one_at (t ∷ rest) ≡ ends o (t ∷ rest) → OutcomeAt false nowhere behind_one behind_one_at true [] t.head o
+  after_angle t rest o d = by_test (nat_eq (number t.head) (number heads.Number)) refl
+    where
+      by_test : (b : Bool) → nat_eq (number t.head) (number heads.Number) ≡ b → OutcomeAt false nowhere behind_one behind_one_at true [] t.head o
+      by_test true e =
+          let w = err_ends (record { left = length (t ∷ rest); kind = Profile }) o (t ∷ rest) (sym (number_told t rest e) ∙ d) in
+          subst (λ (x : Result B FaultKind). OutcomeAt false nowhere behind_one behind_one_at true [] t.head x) (ap (λ (x : Fault). Err x.kind) w.2 ∙ sym w.1) (told_number t.head e)
+      by_test false e = same_at false nowhere behind_one behind_one_at [] t.head o e (behind_law.swap [] t rest o d)
+
+-- `<`, and `{` behind it
+pub angle_and_brace : {A B : Type 0} {wide : Form Tok A} {f : Reader Tok A} {wide' : A → Unit {0} → Form Tok B} {h : A → Unit {0} → Reader Tok B} → Swaps false true nowhere wide f → ((a : A) (u : Unit {0}) → Exchanges (wide' a u) (h a u)) → Exchanges (form.◌>>=◌ wide (λ a. form.◌>>=◌ brace_behind_angle (wide' a))) (f >>= λ a. brace_behind_angle_at >>= h a)
+angle_and_brace law laws = seq_by false false nowhere law (λ a. behind_law (laws a)) (λ e. e) (λ e a x q. absurd (begins_some (laws a) x q)) (λ e. e) (λ e a t rest o d. after_angle (laws a) t rest o d) (λ front v. v) (λ one two a s v. v) (λ e. absurd (differ e))
 
 packed_exchanged : (part : Extent → Reader Tok Typed) → ((s : Extent) → Exchanges any_shape (part s)) → Exchanges (packed_of (λ _. any_shape)) (packed_at part)
-unfolding packed_of packed_at
-packed_exchanged part each = seq (one_sample OPEN_ANGLE line_of (mark heads.OpenAngle (codes "<")) refl open_angle_real refl) (λ line. packed_behind_exchanged part each line)
+unfolding packed_of packed_at packed_behind packed_behind_at
+packed_exchanged part each = angle_and_brace (loose_one OPEN_ANGLE line_of (mark heads.OpenAngle (codes "<")) refl open_angle_real refl) (λ line _. seq (members_exchanged true part each) (λ parts. seq close_angle_exchanged (λ _. nothing _)))
 
 shape_over_exchanged : (of : ℕ → Reader Tok Typed) → ((n : ℕ) → Exchanges any_shape (of n)) → (part : Bool → Extent → Reader Tok Typed) → ((b : Bool) (s : Extent) → Exchanges any_shape (part b s)) → (innermost : Reader Tok Typed) → Exchanges (leaf whole) innermost
     → Exchanges (shape_over (λ _. any_shape) (λ _ _. any_shape) (leaf whole)) (shape_over_at of part innermost)

@@ -23,6 +23,7 @@ use Rattle.ir_read.specs.Targets.{STRING, fits_item, has_64_bits, fits_layout, i
 use Rattle.ir_read.specs.TargetsAt.{LAYOUT, layout_line_at, triple_line_at, target_line_at, source_line_at, comdat_line_at}
 use Rattle.ir_read.specs.declared.raw.Item.TheVariants.{Datalayout, Triple}
 use Rattle.ir_read.proofs.Singles.{sample, word, the_rule, string_real}
+use Rattle.ir_instructions.specs.ShapeForms.{OPEN_ANGLE}
 use Rattle.read_again.specs.Refusals.{MEMORY}
 use Rattle.read_again.proofs.Exchanged.{Exchanges, Says, alt, nothing, seq, single, SOMEWHERE, apart}
 use Rattle.read_again.proofs.ExchangedTokens.{elsewhere, i8_real, one_sample, plain_class, not_bound}
@@ -106,6 +107,12 @@ layout_stuck u e = (refusal (number u.head), not_bound (number u.head), by_class
     by_class true e = absurd cc
     by_class false e = refl
 
+layout_no_angle : (t a : Tok) → among tokens OPEN_ANGLE t ≡ true → is_layout t ≡ Ok a → ⊥
+layout_no_angle t a i e = let s = layout_stuck t (apart OPEN_ANGLE STRING refl (number t.head) i) in refused s.0 (sym s.2 ∙ e)
+  where
+    refused : (k : FaultKind) → failed k ≡ Ok a → ⊥
+    refused k e = cc
+
 no_string : (bs : List ℕ) → disjoint bs STRING ≡ true → (u : Tok) → among tokens bs u ≡ true → (k : FaultKind) × (IsBound k → ⊥) × (is_layout u ≡ Err k)
 no_string bs d u i = layout_stuck u (apart bs STRING d (number u.head) i)
 
@@ -136,7 +143,7 @@ layout_says t k d = by_class (nat_eq (number t.head) (number heads.Str)) refl d
     by_class false p d = subst (λ (x : FaultKind). Says (form.token is_layout) is_layout t.head x) (err_is (refusal (number t.head)) k d) (layout_class t.head)
 
 pub layout_exchanged : Exchanges (form.token is_layout) (token_at is_layout)
-layout_exchanged = single (form.token is_layout) is_layout (λ t a e. e) (empty_string ∷ [], empty_string, empty_fits, (empty_real, tt)) layout_says
+layout_exchanged = single (form.token is_layout) is_layout layout_no_angle (λ t a e. e) (empty_string ∷ [], empty_string, empty_fits, (empty_real, tt)) layout_says
 
 pub string_name_exchanged : Exchanges (one_of STRING itself) (one_of_at STRING itself)
 string_name_exchanged = one_sample STRING itself (sample kinds.Str heads.Str (codes "\"\"")) refl string_real refl

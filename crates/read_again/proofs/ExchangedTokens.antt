@@ -1,5 +1,5 @@
 -- Single tokens tell one that is left out in some places as such exactly where a token that it stands for goes on.
-use Rattle.std.proofs.Common.{◌≡◌, ℕ, Bool, true, false, cond, Option, Some, None, ◌&&◌, ◌||◌, nat_eq, List, [], ◌∷◌, Result, Ok, Err, refl, ap, subst, ◌∙◌, inl, inr}
+use Rattle.std.proofs.Common.{sym, ◌++◌, ◌≡◌, ℕ, Bool, true, false, cond, Option, Some, None, ◌&&◌, ◌||◌, nat_eq, List, [], ◌∷◌, Result, Ok, Err, refl, ap, subst, ◌∙◌, inl, inr}
 use Rattle.std.specs.Prelude.{codes}
 use Rattle.ir_lex.specs.Bytes.{has}
 use Rattle.ir_lex.specs.Heads.{number, head_of, word_head, listed_head, words_1, words_2, words_3}
@@ -21,12 +21,12 @@ use Rattle.lto_forms.specs.declared.fault.FaultKind.{FaultKind}
 use Rattle.ir_read.specs.Classes.{tokens, IsReal, refusal, the, the_at, one_of, one_of_at}
 use Rattle.ir_read.specs.FunctionHeads.{name_refusal}
 use Rattle.ir_read.specs.Operands.{REG, memory_refusal, type_refusal}
-use Rattle.ir_instructions.specs.ShapeForms.{angle_refusal}
+use Rattle.ir_instructions.specs.ShapeForms.{OPEN_ANGLE, angle_refusal}
 use Rattle.ir_read.proofs.FunctionHeadRules.{name_not_number, name_not_limit}
 use Rattle.ir_read.proofs.OperandRules.{type_not_number, type_not_limit, memory_not_number, memory_not_limit}
 use Rattle.ir_read.proofs.Singles.{word, not_number, not_limit}
 use Rattle.read_again.specs.Refusals.{MEMORY, WORD}
-use Rattle.read_again.proofs.Exchanged.{Exchanges, Goes, Place, SOMEWHERE, Says, SaysAt, nowhere, single, stands_for, apart, a_type, is_target, target_is}
+use Rattle.read_again.proofs.Exchanged.{Exchanges, Goes, Place, SOMEWHERE, Says, SaysAt, Swaps, differ, nowhere, single, single_at, stands_for, apart, a_type, is_target, target_is}
 
 pub i8_real : IsReal (word heads.MemoryInteger (codes "i8"))
 unfolding best_fit rest_fit label_len number_len word_len name_len meta_len dots_len other_len string_len has is_bad is_zero_name head_of word_head listed_head words_2
@@ -52,23 +52,40 @@ bound_is Profile b n l = b
 
 -- one of this class is taken, or none that it stands for
 abbrev pub plain_at : List ℕ → Head → Bool
-plain_at wanted h = contains wanted (number h) || disjoint (stands_for h) wanted
+plain_at wanted h = contains wanted (number h) || disjoint (stands_for false h) wanted
 
 abbrev pub plain_numbers : List ℕ → Bool
 plain_numbers wanted = plain_at wanted heads.RegisterInteger && (plain_at wanted heads.NumberedGlobal && plain_at wanted heads.NumberedDefinition)
 
--- no plain word is taken
+-- neither `<` nor a plain word is taken
 abbrev pub wordless : List ℕ → Bool
-wordless wanted = disjoint WORD wanted
+wordless wanted = disjoint (OPEN_ANGLE ++ WORD) wanted
 
+abbrev pub plain_types : List ℕ → Bool
+plain_types wanted = plain_at wanted heads.RefusedType && (plain_at wanted heads.Target && plain_at wanted heads.RegisterInteger)
+
+-- nor `<`
 abbrev pub plain_names : List ℕ → Bool
-plain_names wanted = plain_at wanted heads.RefusedType && (plain_at wanted heads.Target && plain_at wanted heads.RegisterInteger)
+plain_names wanted = disjoint OPEN_ANGLE wanted && plain_types wanted
 
 abbrev pub plain_globals : List ℕ → Bool
 plain_globals wanted = plain_at wanted heads.NumberedGlobal && plain_at wanted heads.NumberedDefinition
 
 abbrev pub plain : List ℕ → Bool
 plain wanted = plain_names wanted && plain_globals wanted
+
+-- but `<` may be
+abbrev pub plain_otherwise : List ℕ → Bool
+plain_otherwise wanted = plain_types wanted && plain_globals wanted
+
+both_hold : (a b : Bool) → a ≡ true → b ≡ true → a && b ≡ true
+both_hold true b p q = q
+both_hold false b p q = absurd cc
+
+otherwise_of : (wanted : List ℕ) → plain wanted ≡ true → plain_otherwise wanted ≡ true
+otherwise_of wanted p =
+    let one = and_parts (plain_names wanted) (plain_globals wanted) p in
+    both_hold (plain_types wanted) (plain_globals wanted) (and_parts (disjoint OPEN_ANGLE wanted) (plain_types wanted) one.0).1 one.1
 
 module _ {A : Type 0} (place : Place) (wide : Form Tok A) (meaning : Tok → Result A FaultKind) where
   bound_says : (h : Head) (k : FaultKind) → IsBound k → SaysAt place wide meaning h k
@@ -87,6 +104,8 @@ module _ {A : Type 0} (place : Place) (wide : Form Tok A) (meaning : Tok → Res
   elsewhere_at heads.NumberedGlobal k n = absurd (n refl)
   elsewhere_at heads.NumberedDefinition k n = absurd (n refl)
   elsewhere_at heads.LifetimeMarker k n = absurd (n refl)
+  elsewhere_at heads.Number Syntax n = λ q. absurd (differ q)
+  elsewhere_at heads.Number Profile n = λ q. absurd (differ q)
   elsewhere_at h Syntax n = tt
   elsewhere_at h Profile n = tt
 
@@ -111,13 +130,26 @@ module _ {A : Type 0} (wide : Form Tok A) (meaning : Tok → Result A FaultKind)
     stuck_outside u e = (refuse (number u.head), unbound (number u.head), outside u e)
 
     pub no_word : wordless wanted ≡ true → (w : Tok) → among tokens WORD w ≡ true → (k : FaultKind) × (IsBound k → ⊥) × (meaning w ≡ Err k)
-    no_word p w i = stuck_outside w (apart WORD wanted p (number w.head) i)
+    no_word p w i = stuck_outside w (apart (OPEN_ANGLE ++ WORD) wanted p (number w.head) (within_of WORD (OPEN_ANGLE ++ WORD) refl (number w.head) i))
 
-    pub none_taken : (h : Head) → plain_at wanted h ≡ true → contains wanted (number h) ≡ false → (u : Tok) → among tokens (stands_for h) u ≡ true → (k : FaultKind) × (IsBound k → ⊥) × (meaning u ≡ Err k)
-    none_taken h p n u i = stuck_outside u (apart (stands_for h) wanted (left_false (contains wanted (number h)) (disjoint (stands_for h) wanted) p n) (number u.head) i)
+    pub none_taken : (h : Head) → plain_at wanted h ≡ true → contains wanted (number h) ≡ false → (u : Tok) → among tokens (stands_for false h) u ≡ true → (k : FaultKind) × (IsBound k → ⊥) × (meaning u ≡ Err k)
+    none_taken h p n u i = stuck_outside u (apart (stands_for false h) wanted (left_false (contains wanted (number h)) (disjoint (stands_for false h) wanted) p n) (number u.head) i)
 
     pub says_by : ((h : Head) → contains wanted (number h) ≡ false → Says wide meaning h (refuse (number h))) → (t : Tok) (k : FaultKind) → meaning t ≡ Err k → Says wide meaning t.head k
     says_by = says_at nowhere wide meaning wanted refuse unbound outside inside
+
+-- `<` isn't taken
+pub refuses_angle : {A : Type 0} (meaning : Tok → Result A FaultKind) (wanted : List ℕ) (refuse : ℕ → FaultKind) → ((t : Tok) → among tokens wanted t ≡ false → meaning t ≡ Err (refuse (number t.head))) → disjoint OPEN_ANGLE wanted ≡ true → (t : Tok) (a : A) → among tokens OPEN_ANGLE t ≡ true → meaning t ≡ Ok a → ⊥
+refuses_angle {A} meaning wanted refuse outside d t a i e = taken_refused (refuse (number t.head)) a (sym (outside t (apart OPEN_ANGLE wanted d (number t.head) i)) ∙ e)
+  where
+    taken_refused : (k : FaultKind) (a : A) → Err k ≡ Ok a → ⊥
+    taken_refused k a e = cc
+
+pub plain_angle : (wanted : List ℕ) → plain wanted ≡ true → disjoint OPEN_ANGLE wanted ≡ true
+plain_angle wanted p = (and_parts (disjoint OPEN_ANGLE wanted) (plain_types wanted) (and_parts (plain_names wanted) (plain_globals wanted) p).0).0
+
+wordless_angle : (wanted : List ℕ) → wordless wanted ≡ true → disjoint OPEN_ANGLE wanted ≡ true
+wordless_angle wanted p = ap (λ (b : Bool). b && true) (and_parts _ _ p).0
 
 -- ---- where nothing of that may stand
 
@@ -137,15 +169,15 @@ module _ {A : Type 0} (wide : Form Tok A) (meaning : Tok → Result A FaultKind)
   abbrev i8 : Tok
   i8 = word heads.MemoryInteger (codes "i8")
 
-  module _ (outside : (t : Tok) → among tokens wanted t ≡ false → meaning t ≡ Err (refusal (number t.head))) (p : plain wanted ≡ true) where
-    names : plain_names wanted ≡ true
-    names = (and_parts (plain_names wanted) (plain_globals wanted) p).0
+  module _ (outside : (t : Tok) → among tokens wanted t ≡ false → meaning t ≡ Err (refusal (number t.head))) (p : plain_otherwise wanted ≡ true) where
+    names : plain_types wanted ≡ true
+    names = (and_parts (plain_types wanted) (plain_globals wanted) p).0
 
     two : plain_at wanted heads.Target && plain_at wanted heads.RegisterInteger ≡ true
     two = (and_parts (plain_at wanted heads.RefusedType) (plain_at wanted heads.Target && plain_at wanted heads.RegisterInteger) names).1
 
     globals : (plain_at wanted heads.NumberedGlobal ≡ true) × (plain_at wanted heads.NumberedDefinition ≡ true)
-    globals = and_parts (plain_at wanted heads.NumberedGlobal) (plain_at wanted heads.NumberedDefinition) (and_parts (plain_names wanted) (plain_globals wanted) p).1
+    globals = and_parts (plain_at wanted heads.NumberedGlobal) (plain_at wanted heads.NumberedDefinition) (and_parts (plain_types wanted) (plain_globals wanted) p).1
 
     plainly : (h : Head) → contains wanted (number h) ≡ false → Says wide meaning h (refusal (number h))
     plainly heads.RefusedType n = none_taken wide meaning wanted refusal not_bound outside inside heads.RefusedType (and_parts (plain_at wanted heads.RefusedType) (plain_at wanted heads.Target && plain_at wanted heads.RegisterInteger) names).0 n
@@ -198,11 +230,14 @@ module _ {A : Type 0} (wide : Form Tok A) (meaning : Tok → Result A FaultKind)
   -- ---- where a name may stand
 
   module _ (outside : (t : Tok) → among tokens wanted t ≡ false → meaning t ≡ Err (name_refusal (number t.head))) (p : plain_names wanted ≡ true) (name : (u : Tok) × (among tokens (number heads.Global ∷ []) u ≡ true) × Goes wide [] u) where
+    typeless : plain_types wanted ≡ true
+    typeless = (and_parts (disjoint OPEN_ANGLE wanted) (plain_types wanted) p).1
+
     later : plain_at wanted heads.Target && plain_at wanted heads.RegisterInteger ≡ true
-    later = (and_parts (plain_at wanted heads.RefusedType) (plain_at wanted heads.Target && plain_at wanted heads.RegisterInteger) p).1
+    later = (and_parts (plain_at wanted heads.RefusedType) (plain_at wanted heads.Target && plain_at wanted heads.RegisterInteger) typeless).1
 
     named : (h : Head) → contains wanted (number h) ≡ false → Says wide meaning h (name_refusal (number h))
-    named heads.RefusedType n = none_taken wide meaning wanted name_refusal name_not_bound outside inside heads.RefusedType (and_parts (plain_at wanted heads.RefusedType) (plain_at wanted heads.Target && plain_at wanted heads.RegisterInteger) p).0 n
+    named heads.RefusedType n = none_taken wide meaning wanted name_refusal name_not_bound outside inside heads.RefusedType (and_parts (plain_at wanted heads.RefusedType) (plain_at wanted heads.Target && plain_at wanted heads.RegisterInteger) typeless).0 n
     named heads.Target n = inl (λ u i. none_taken wide meaning wanted name_refusal name_not_bound outside inside heads.Target (and_parts (plain_at wanted heads.Target) (plain_at wanted heads.RegisterInteger) later).0 n u (a_type u i))
     named heads.RegisterInteger n = (i8, refl, i8_real, none_taken wide meaning wanted name_refusal name_not_bound outside inside heads.RegisterInteger (and_parts (plain_at wanted heads.Target) (plain_at wanted heads.RegisterInteger) later).1 n i8 refl)
     named heads.NumberedGlobal n = name
@@ -216,8 +251,8 @@ module _ {A : Type 0} (wide : Form Tok A) (meaning : Tok → Result A FaultKind)
 -- ---- readers of tokens
 
 -- of a rule for one token
-pub of_token : {A : Type 0} {wide : Form Tok A} {xs ms : List ℕ} {e : Bool} (meaning : Tok → Result A FaultKind) → Rule tokens (form.token meaning) wide (token_at meaning) xs ms e → ((t : Tok) (k : FaultKind) → meaning t ≡ Err k → Says wide meaning t.head k) → Exchanges wide (token_at meaning)
-of_token {wide = wide} meaning rule says = single wide meaning (λ t a e. rule.law.contains (t ∷ []) a e) (let z = rule.law.some in (z.0, z.1, rule.law.contains z.0 z.1 z.2, z.3)) says
+pub of_token : {A : Type 0} {wide : Form Tok A} {xs ms : List ℕ} {e : Bool} (meaning : Tok → Result A FaultKind) → Rule tokens (form.token meaning) wide (token_at meaning) xs ms e → ((t : Tok) (a : A) → among tokens OPEN_ANGLE t ≡ true → meaning t ≡ Ok a → ⊥) → ((t : Tok) (k : FaultKind) → meaning t ≡ Err k → Says wide meaning t.head k) → Exchanges wide (token_at meaning)
+of_token {wide = wide} meaning rule refuses says = single wide meaning refuses (λ t a e. rule.law.contains (t ∷ []) a e) (let z = rule.law.some in (z.0, z.1, rule.law.contains z.0 z.1 z.2, z.3)) says
 
 abbrev pub refuse : {A : Type 0} → FaultKind → Result A FaultKind
 refuse k = Err k
@@ -225,7 +260,7 @@ refuse k = Err k
 abbrev fine : Unit {0} → Result (Unit {0}) FaultKind
 fine u = Ok u
 
-class_inside : (refuse' : ℕ → FaultKind) (wanted : ℕ) (t : Tok) → among tokens (wanted ∷ []) t ≡ true → (k : FaultKind) → is_class tokens refuse' wanted t ≡ Err k → IsBound k
+pub class_inside : (refuse' : ℕ → FaultKind) (wanted : ℕ) (t : Tok) → among tokens (wanted ∷ []) t ≡ true → (k : FaultKind) → is_class tokens refuse' wanted t ≡ Err k → IsBound k
 unfolding is_class
 class_inside refuse' wanted t p k d = by_test (nat_eq (number t.head) wanted) p d
   where
@@ -233,7 +268,7 @@ class_inside refuse' wanted t p k d = by_test (nat_eq (number t.head) wanted) p 
     by_test true p d = absurd cc
     by_test false p d = absurd cc
 
-class_outside : (refuse' : ℕ → FaultKind) (wanted : ℕ) (t : Tok) → among tokens (wanted ∷ []) t ≡ false → is_class tokens refuse' wanted t ≡ Err (refuse' (number t.head))
+pub class_outside : (refuse' : ℕ → FaultKind) (wanted : ℕ) (t : Tok) → among tokens (wanted ∷ []) t ≡ false → is_class tokens refuse' wanted t ≡ Err (refuse' (number t.head))
 unfolding is_class
 class_outside refuse' wanted t p = by_test (nat_eq (number t.head) wanted) p
   where
@@ -241,7 +276,7 @@ class_outside refuse' wanted t p = by_test (nat_eq (number t.head) wanted) p
     by_test true p = absurd cc
     by_test false p = refl
 
-one_inside : {A : Type 0} (refuse' : ℕ → FaultKind) (wanted : List ℕ) (value : Tok → A) (t : Tok) → among tokens wanted t ≡ true → (k : FaultKind) → is_among tokens refuse' wanted value t ≡ Err k → IsBound k
+pub one_inside : {A : Type 0} (refuse' : ℕ → FaultKind) (wanted : List ℕ) (value : Tok → A) (t : Tok) → among tokens wanted t ≡ true → (k : FaultKind) → is_among tokens refuse' wanted value t ≡ Err k → IsBound k
 unfolding is_among
 one_inside {A} refuse' wanted value t p k d = by_test (among tokens wanted t) p d
   where
@@ -249,7 +284,7 @@ one_inside {A} refuse' wanted value t p k d = by_test (among tokens wanted t) p 
     by_test true p d = absurd cc
     by_test false p d = absurd cc
 
-one_outside : {A : Type 0} (refuse' : ℕ → FaultKind) (wanted : List ℕ) (value : Tok → A) (t : Tok) → among tokens wanted t ≡ false → is_among tokens refuse' wanted value t ≡ Err (refuse' (number t.head))
+pub one_outside : {A : Type 0} (refuse' : ℕ → FaultKind) (wanted : List ℕ) (value : Tok → A) (t : Tok) → among tokens wanted t ≡ false → is_among tokens refuse' wanted value t ≡ Err (refuse' (number t.head))
 unfolding is_among
 one_outside refuse' wanted value t p = ap (λ (b : Bool). cond b (Ok (value t)) (Err (refuse' (number t.head)))) p
 
@@ -271,29 +306,29 @@ valued_outside refuse' wanted value t p = ap (λ (b : Bool). cond b (in_range (v
 
 -- a word, a mark or a name that stands for no type and no global
 pub plain_class : {xs ms : List ℕ} {e : Bool} (wanted : Head) → Rule tokens (the wanted) (the wanted) (the_at wanted) xs ms e → plain (number wanted ∷ []) ≡ true → Exchanges (the wanted) (the_at wanted)
-plain_class wanted rule p = of_token (is_class tokens refusal (number wanted)) rule (says_plainly (the wanted) (is_class tokens refusal (number wanted)) (number wanted ∷ []) (class_inside refusal (number wanted)) (class_outside refusal (number wanted)) p)
+plain_class wanted rule p = of_token (is_class tokens refusal (number wanted)) rule (refuses_angle (is_class tokens refusal (number wanted)) (number wanted ∷ []) refusal (class_outside refusal (number wanted)) (plain_angle (number wanted ∷ []) p)) (says_plainly (the wanted) (is_class tokens refusal (number wanted)) (number wanted ∷ []) (class_inside refusal (number wanted)) (class_outside refusal (number wanted)) (otherwise_of (number wanted ∷ []) p))
 
 -- or one of several classes
 pub plain_one : {A : Type 0} {wide : Form Tok A} {xs ms : List ℕ} {e : Bool} (wanted : List ℕ) (value : Tok → A) → Rule tokens (one_of wanted value) wide (one_of_at wanted value) xs ms e → plain wanted ≡ true → Exchanges wide (one_of_at wanted value)
-plain_one {wide = wide} wanted value rule p = of_token (is_among tokens refusal wanted value) rule (says_plainly wide (is_among tokens refusal wanted value) wanted (one_inside refusal wanted value) (one_outside refusal wanted value) p)
+plain_one {wide = wide} wanted value rule p = of_token (is_among tokens refusal wanted value) rule (refuses_angle (is_among tokens refusal wanted value) wanted refusal (one_outside refusal wanted value) (plain_angle wanted p)) (says_plainly wide (is_among tokens refusal wanted value) wanted (one_inside refusal wanted value) (one_outside refusal wanted value) (otherwise_of wanted p))
 
 pub plain_valued : {A : Type 0} {wide : Form Tok A} {xs ms : List ℕ} {e : Bool} (wanted : List ℕ) (value : Tok → Option A) → Rule tokens (form.token (is_valued tokens refusal wanted value)) wide (token_at (is_valued tokens refusal wanted value)) xs ms e → plain wanted ≡ true → Exchanges wide (token_at (is_valued tokens refusal wanted value))
-plain_valued {wide = wide} wanted value rule p = of_token (is_valued tokens refusal wanted value) rule (says_plainly wide (is_valued tokens refusal wanted value) wanted (valued_inside refusal wanted value) (valued_outside refusal wanted value) p)
+plain_valued {wide = wide} wanted value rule p = of_token (is_valued tokens refusal wanted value) rule (refuses_angle (is_valued tokens refusal wanted value) wanted refusal (valued_outside refusal wanted value) (plain_angle wanted p)) (says_plainly wide (is_valued tokens refusal wanted value) wanted (valued_inside refusal wanted value) (valued_outside refusal wanted value) (otherwise_of wanted p))
 
 -- a type of a register
 pub type_class : {xs ms : List ℕ} {e : Bool} (wanted : ℕ) → Rule tokens (form.token (is_class tokens type_refusal wanted)) (form.token (is_class tokens type_refusal wanted)) (token_at (is_class tokens type_refusal wanted)) xs ms e → plain_numbers (wanted ∷ []) ≡ true → wordless (wanted ∷ []) ≡ true
     → (u : Tok) → among tokens REG u ≡ true → IsReal u → is_class tokens type_refusal wanted u ≡ Ok tt → Exchanges (form.token (is_class tokens type_refusal wanted)) (token_at (is_class tokens type_refusal wanted))
-type_class wanted rule p q u i r e = of_token (is_class tokens type_refusal wanted) rule (says_typed (form.token (is_class tokens type_refusal wanted)) (is_class tokens type_refusal wanted) (wanted ∷ []) (class_inside type_refusal wanted) (class_outside type_refusal wanted) p q (u, i, ([], tt, e, (r, tt))))
+type_class wanted rule p q u i r e = of_token (is_class tokens type_refusal wanted) rule (refuses_angle (is_class tokens type_refusal wanted) (wanted ∷ []) type_refusal (class_outside type_refusal wanted) (wordless_angle (wanted ∷ []) q)) (says_typed (form.token (is_class tokens type_refusal wanted)) (is_class tokens type_refusal wanted) (wanted ∷ []) (class_inside type_refusal wanted) (class_outside type_refusal wanted) p q (u, i, ([], tt, e, (r, tt))))
 
 pub type_one : {A : Type 0} {xs ms : List ℕ} {e : Bool} (wanted : List ℕ) (value : Tok → A) → Rule tokens (form.token (is_among tokens type_refusal wanted value)) (form.token (is_among tokens type_refusal wanted value)) (token_at (is_among tokens type_refusal wanted value)) xs ms e → plain_numbers wanted ≡ true → wordless wanted ≡ true
     → (u : Tok) → among tokens REG u ≡ true → IsReal u → among tokens wanted u ≡ true → Exchanges (form.token (is_among tokens type_refusal wanted value)) (token_at (is_among tokens type_refusal wanted value))
 unfolding is_among
-type_one wanted value rule p q u i r e = of_token (is_among tokens type_refusal wanted value) rule (says_typed (form.token (is_among tokens type_refusal wanted value)) (is_among tokens type_refusal wanted value) wanted (one_inside type_refusal wanted value) (one_outside type_refusal wanted value) p q (u, i, ([], value u, ap (λ (b : Bool). cond b (Ok (value u)) (Err (type_refusal (number u.head)))) e, (r, tt))))
+type_one wanted value rule p q u i r e = of_token (is_among tokens type_refusal wanted value) rule (refuses_angle (is_among tokens type_refusal wanted value) wanted type_refusal (one_outside type_refusal wanted value) (wordless_angle wanted q)) (says_typed (form.token (is_among tokens type_refusal wanted value)) (is_among tokens type_refusal wanted value) wanted (one_inside type_refusal wanted value) (one_outside type_refusal wanted value) p q (u, i, ([], value u, ap (λ (b : Bool). cond b (Ok (value u)) (Err (type_refusal (number u.head)))) e, (r, tt))))
 
 pub memory_one : {A : Type 0} {xs ms : List ℕ} {e : Bool} (wanted : List ℕ) (value : Tok → A) → Rule tokens (form.token (is_among tokens memory_refusal wanted value)) (form.token (is_among tokens memory_refusal wanted value)) (token_at (is_among tokens memory_refusal wanted value)) xs ms e → plain_globals wanted ≡ true → wordless wanted ≡ true
     → (u : Tok) → among tokens REG u ≡ true → IsReal u → among tokens wanted u ≡ true → ((v : Tok) → among tokens MEMORY v ≡ true → among tokens wanted v ≡ true) → Exchanges (form.token (is_among tokens memory_refusal wanted value)) (token_at (is_among tokens memory_refusal wanted value))
 unfolding is_among
-memory_one {A} wanted value rule p q' u i r e each = of_token (is_among tokens memory_refusal wanted value) rule (says_shaped (form.token (is_among tokens memory_refusal wanted value)) (is_among tokens memory_refusal wanted value) wanted (one_inside memory_refusal wanted value) (one_outside memory_refusal wanted value) p q' (u, i, goes u r e) (λ v j q. goes v q (each v j)))
+memory_one {A} wanted value rule p q' u i r e each = of_token (is_among tokens memory_refusal wanted value) rule (refuses_angle (is_among tokens memory_refusal wanted value) wanted memory_refusal (one_outside memory_refusal wanted value) (wordless_angle wanted q')) (says_shaped (form.token (is_among tokens memory_refusal wanted value)) (is_among tokens memory_refusal wanted value) wanted (one_inside memory_refusal wanted value) (one_outside memory_refusal wanted value) p q' (u, i, goes u r e) (λ v j q. goes v q (each v j)))
   where
     goes : (v : Tok) → IsReal v → among tokens wanted v ≡ true → Goes (form.token (is_among tokens memory_refusal wanted value)) [] v
     goes v q j = ([], value v, ap (λ (b : Bool). cond b (Ok (value v)) (Err (memory_refusal (number v.head)))) j, (q, tt))
@@ -304,7 +339,7 @@ module _ {A : Type 0} (wanted : List ℕ) (passes : Tok → Bool) (value : Tok �
   tested = is_exact tokens type_refusal wanted passes value
 
   abbrev APART : List ℕ
-  APART = number heads.Word ∷ number heads.RefusedType ∷ number heads.Target ∷ number heads.Global ∷ number heads.NumberedGlobal ∷ number heads.NumberedDefinition ∷ []
+  APART = number heads.OpenAngle ∷ number heads.Word ∷ number heads.RefusedType ∷ number heads.Target ∷ number heads.Global ∷ number heads.NumberedGlobal ∷ number heads.NumberedDefinition ∷ []
 
   both_true : (b c : Bool) (a : A) (k : FaultKind) → b ≡ true → c ≡ true → cond (b && c) (Ok a) (Err k) ≡ Ok a
   both_true true true a k p q = refl
@@ -360,22 +395,37 @@ module _ {A : Type 0} (wanted : List ℕ) (passes : Tok → Bool) (value : Tok �
     unfolding is_exact
     exact_says t k e = subst (λ (x : FaultKind). Says (form.token tested) tested t.head x) (kind_of (among tokens wanted t && passes t) (value t) k (type_refusal (number t.head)) e) (exact_class t.head)
 
+    tested_no_angle : (t : Tok) (a : A) → among tokens OPEN_ANGLE t ≡ true → tested t ≡ Ok a → ⊥
+    unfolding is_exact
+    tested_no_angle t a i e = refused (type_refusal (number t.head)) a (sym (left_no (among tokens wanted t) (passes t) (value t) (type_refusal (number t.head)) (apart APART wanted none (number t.head) (within_of OPEN_ANGLE APART refl (number t.head) i))) ∙ e)
+      where
+        refused : (k : FaultKind) (a : A) → refuse {A = A} k ≡ Ok a → ⊥
+        refused k a e = cc
+
     pub exact_type : {xs ms : List ℕ} {e : Bool} → Rule tokens (form.token tested) (form.token tested) (token_at tested) xs ms e → Exchanges (form.token tested) (token_at tested)
-    exact_type rule = of_token tested rule exact_says
+    exact_type rule = of_token tested rule tested_no_angle exact_says
 
 -- ---- without a rule
 
 -- some text has this token, which means this
 pub valued_sample : {A : Type 0} (wanted : List ℕ) (value : Tok → Option A) (t : Tok) (a : A) → is_valued tokens refusal wanted value t ≡ Ok a → IsReal t → plain wanted ≡ true → Exchanges (form.token (is_valued tokens refusal wanted value)) (token_at (is_valued tokens refusal wanted value))
-valued_sample wanted value t a e r p = single (form.token (is_valued tokens refusal wanted value)) (is_valued tokens refusal wanted value) (λ u b d. d) (t ∷ [], a, e, (r, tt)) (says_plainly (form.token (is_valued tokens refusal wanted value)) (is_valued tokens refusal wanted value) wanted (valued_inside refusal wanted value) (valued_outside refusal wanted value) p)
+valued_sample wanted value t a e r p = single (form.token (is_valued tokens refusal wanted value)) (is_valued tokens refusal wanted value) (refuses_angle (is_valued tokens refusal wanted value) wanted refusal (valued_outside refusal wanted value) (plain_angle wanted p)) (λ u b d. d) (t ∷ [], a, e, (r, tt)) (says_plainly (form.token (is_valued tokens refusal wanted value)) (is_valued tokens refusal wanted value) wanted (valued_inside refusal wanted value) (valued_outside refusal wanted value) (otherwise_of wanted p))
 
 pub one_sample : {A : Type 0} (wanted : List ℕ) (value : Tok → A) (t : Tok) → among tokens wanted t ≡ true → IsReal t → plain wanted ≡ true → Exchanges (one_of wanted value) (one_of_at wanted value)
 unfolding is_among
-one_sample wanted value t i r p = single (one_of wanted value) (is_among tokens refusal wanted value) (λ u b d. d) (t ∷ [], value t, ap (λ (b : Bool). cond b (Ok (value t)) (Err (refusal (number t.head)))) i, (r, tt)) (says_plainly (one_of wanted value) (is_among tokens refusal wanted value) wanted (one_inside refusal wanted value) (one_outside refusal wanted value) p)
+one_sample wanted value t i r p = single (one_of wanted value) (is_among tokens refusal wanted value) (refuses_angle (is_among tokens refusal wanted value) wanted refusal (one_outside refusal wanted value) (plain_angle wanted p)) (λ u b d. d) (t ∷ [], value t, ap (λ (b : Bool). cond b (Ok (value t)) (Err (refusal (number t.head)))) i, (r, tt)) (says_plainly (one_of wanted value) (is_among tokens refusal wanted value) wanted (one_inside refusal wanted value) (one_outside refusal wanted value) (otherwise_of wanted p))
+
+-- a word, a mark or a name that may be `<`
+pub loose_one : {A : Type 0} (wanted : List ℕ) (value : Tok → A) (t : Tok) → among tokens wanted t ≡ true → IsReal t → plain_otherwise wanted ≡ true → Swaps false true nowhere (one_of wanted value) (one_of_at wanted value)
+unfolding is_among
+loose_one wanted value t i r p = single_at true nowhere (one_of wanted value) (is_among tokens refusal wanted value) (λ u b j d. refl) (λ u b d. d) (t ∷ [], value t, ap (λ (b : Bool). cond b (Ok (value t)) (Err (refusal (number t.head)))) i, (r, tt)) (says_plainly (one_of wanted value) (is_among tokens refusal wanted value) wanted (one_inside refusal wanted value) (one_outside refusal wanted value) p)
+
+pub loose_class : {xs ms : List ℕ} {e : Bool} (wanted : Head) → Rule tokens (the wanted) (the wanted) (the_at wanted) xs ms e → plain_otherwise (number wanted ∷ []) ≡ true → Swaps false true nowhere (the wanted) (the_at wanted)
+loose_class wanted rule p = single_at true nowhere (the wanted) (is_class tokens refusal (number wanted)) (λ u b j d. refl) (λ u b d. d) (let z = rule.law.some in (z.0, z.1, rule.law.contains z.0 z.1 z.2, z.3)) (says_plainly (the wanted) (is_class tokens refusal (number wanted)) (number wanted ∷ []) (class_inside refusal (number wanted)) (class_outside refusal (number wanted)) p)
 
 -- a meaning that refuses none that is left out in some places only
-pub elsewhere_sample : {A : Type 0} (meaning : Tok → Result A FaultKind) → ((t : Tok) (k : FaultKind) → meaning t ≡ Err k → contains SOMEWHERE (number t.head) ≡ true → ⊥) → (t : Tok) (a : A) → meaning t ≡ Ok a → IsReal t → Exchanges (form.token meaning) (token_at meaning)
-elsewhere_sample meaning never t a e r = single (form.token meaning) meaning (λ u b d. d) (t ∷ [], a, e, (r, tt)) (λ u k d. elsewhere (form.token meaning) meaning u.head k (never u k d))
+pub elsewhere_sample : {A : Type 0} (meaning : Tok → Result A FaultKind) → ((t : Tok) (k : FaultKind) → meaning t ≡ Err k → contains SOMEWHERE (number t.head) ≡ true → ⊥) → (t : Tok) (a : A) → meaning t ≡ Ok a → IsReal t → Swaps false true nowhere (form.token meaning) (token_at meaning)
+elsewhere_sample meaning never t a e r = single_at true nowhere (form.token meaning) meaning (λ u b i d. refl) (λ u b d. d) (t ∷ [], a, e, (r, tt)) (λ u k d. elsewhere (form.token meaning) meaning u.head k (never u k d))
 
 -- ---- words, of which `target` is none
 
@@ -387,8 +437,11 @@ pub a_word_real : IsReal a_word
 unfolding best_fit rest_fit label_len number_len word_len name_len meta_len dots_len other_len string_len has is_bad is_zero_name head_of word_head listed_head words_1
 a_word_real = record { behind = []; some = refl; fits = refl; good = refl; class = refl }
 
+abbrev pub spoken : List ℕ → Bool
+spoken wanted = contains wanted (number heads.Word) && (plain_at wanted heads.RefusedType && (plain_at wanted heads.RegisterInteger && plain_globals wanted))
+
 abbrev pub worded : List ℕ → Bool
-worded wanted = contains wanted (number heads.Word) && (plain_at wanted heads.RefusedType && (plain_at wanted heads.RegisterInteger && plain_globals wanted))
+worded wanted = disjoint OPEN_ANGLE wanted && spoken wanted
 
 module _ {A : Type 0} (wanted : List ℕ) (value : Tok → A) (p : worded wanted ≡ true) where
   abbrev one_word : Tok → Result A FaultKind
@@ -398,12 +451,12 @@ module _ {A : Type 0} (wanted : List ℕ) (value : Tok → A) (p : worded wanted
   unfolding is_among
   word_goes e = ([], value a_word, ap (λ (b : Bool). cond b (Ok (value a_word)) (Err (refusal (number heads.Word)))) e, (a_word_real, tt))
 
-  abbrev taken_none : (h : Head) → plain_at wanted h ≡ true → contains wanted (number h) ≡ false → (u : Tok) → among tokens (stands_for h) u ≡ true → (k : FaultKind) × (IsBound k → ⊥) × (one_word u ≡ Err k)
+  abbrev taken_none : (h : Head) → plain_at wanted h ≡ true → contains wanted (number h) ≡ false → (u : Tok) → among tokens (stands_for false h) u ≡ true → (k : FaultKind) × (IsBound k → ⊥) × (one_word u ≡ Err k)
   taken_none = none_taken (one_of wanted value) one_word wanted refusal not_bound (one_outside refusal wanted value) (one_inside refusal wanted value)
 
   parts_of : (contains wanted (number heads.Word) ≡ true) × (plain_at wanted heads.RefusedType ≡ true) × (plain_at wanted heads.RegisterInteger ≡ true) × (plain_at wanted heads.NumberedGlobal ≡ true) × (plain_at wanted heads.NumberedDefinition ≡ true)
   parts_of =
-      let one = and_parts (contains wanted (number heads.Word)) (plain_at wanted heads.RefusedType && (plain_at wanted heads.RegisterInteger && plain_globals wanted)) p in
+      let one = and_parts (contains wanted (number heads.Word)) (plain_at wanted heads.RefusedType && (plain_at wanted heads.RegisterInteger && plain_globals wanted)) (and_parts (disjoint OPEN_ANGLE wanted) (spoken wanted) p).1 in
       let two = and_parts (plain_at wanted heads.RefusedType) (plain_at wanted heads.RegisterInteger && plain_globals wanted) one.1 in
       let three = and_parts (plain_at wanted heads.RegisterInteger) (plain_globals wanted) two.1 in
       let four = and_parts (plain_at wanted heads.NumberedGlobal) (plain_at wanted heads.NumberedDefinition) three.1 in
@@ -420,7 +473,7 @@ module _ {A : Type 0} (wanted : List ℕ) (value : Tok → A) (p : worded wanted
 
   pub word_one : Exchanges (one_of wanted value) (one_of_at wanted value)
   unfolding is_among
-  word_one = single (one_of wanted value) one_word (λ u b d. d) (a_word ∷ [], value a_word, ap (λ (b : Bool). cond b (Ok (value a_word)) (Err (refusal (number heads.Word)))) parts_of.0, (a_word_real, tt)) (says_by (one_of wanted value) one_word wanted refusal not_bound (one_outside refusal wanted value) (one_inside refusal wanted value) word_class)
+  word_one = single (one_of wanted value) one_word (refuses_angle one_word wanted refusal (one_outside refusal wanted value) (and_parts (disjoint OPEN_ANGLE wanted) (spoken wanted) p).0) (λ u b d. d) (a_word ∷ [], value a_word, ap (λ (b : Bool). cond b (Ok (value a_word)) (Err (refusal (number heads.Word)))) parts_of.0, (a_word_real, tt)) (says_by (one_of wanted value) one_word wanted refusal not_bound (one_outside refusal wanted value) (one_inside refusal wanted value) word_class)
 
 -- ---- behind `<`
 
@@ -435,13 +488,14 @@ module _ (wanted : ℕ) (p : plain (wanted ∷ []) ≡ true) where
   abbrev behind_angle : Tok → Result (Unit {0}) FaultKind
   behind_angle = is_class tokens angle_refusal wanted
 
-  abbrev angle_taken : (h : Head) → plain_at (wanted ∷ []) h ≡ true → contains (wanted ∷ []) (number h) ≡ false → (u : Tok) → among tokens (stands_for h) u ≡ true → (k : FaultKind) × (IsBound k → ⊥) × (behind_angle u ≡ Err k)
+  abbrev angle_taken : (h : Head) → plain_at (wanted ∷ []) h ≡ true → contains (wanted ∷ []) (number h) ≡ false → (u : Tok) → among tokens (stands_for false h) u ≡ true → (k : FaultKind) × (IsBound k → ⊥) × (behind_angle u ≡ Err k)
   angle_taken = none_taken (form.token behind_angle) behind_angle (wanted ∷ []) angle_refusal angle_not_bound (class_outside angle_refusal wanted) (class_inside angle_refusal wanted)
 
   angle_parts : (plain_at (wanted ∷ []) heads.RefusedType ≡ true) × (plain_at (wanted ∷ []) heads.Target ≡ true) × (plain_at (wanted ∷ []) heads.RegisterInteger ≡ true) × (plain_at (wanted ∷ []) heads.NumberedGlobal ≡ true) × (plain_at (wanted ∷ []) heads.NumberedDefinition ≡ true)
   angle_parts =
       let one = and_parts (plain_names (wanted ∷ [])) (plain_globals (wanted ∷ [])) p in
-      let two = and_parts (plain_at (wanted ∷ []) heads.RefusedType) (plain_at (wanted ∷ []) heads.Target && plain_at (wanted ∷ []) heads.RegisterInteger) one.0 in
+      let types = and_parts (disjoint OPEN_ANGLE (wanted ∷ [])) (plain_types (wanted ∷ [])) one.0 in
+      let two = and_parts (plain_at (wanted ∷ []) heads.RefusedType) (plain_at (wanted ∷ []) heads.Target && plain_at (wanted ∷ []) heads.RegisterInteger) types.1 in
       let three = and_parts (plain_at (wanted ∷ []) heads.Target) (plain_at (wanted ∷ []) heads.RegisterInteger) two.1 in
       let four = and_parts (plain_at (wanted ∷ []) heads.NumberedGlobal) (plain_at (wanted ∷ []) heads.NumberedDefinition) one.1 in
       (two.0, three.0, three.1, four.0, four.1)
@@ -463,7 +517,7 @@ module _ (wanted : ℕ) (p : plain (wanted ∷ []) ≡ true) where
 pub name_valued : {xs ms : List ℕ} {e : Bool} (wanted : List ℕ) (value : Tok → Option Tok) → Rule tokens (form.token (is_valued tokens name_refusal wanted value)) (form.token (is_valued tokens name_refusal wanted value)) (token_at (is_valued tokens name_refusal wanted value)) xs ms e → plain_names wanted ≡ true
     → (u a : Tok) → among tokens (number heads.Global ∷ []) u ≡ true → among tokens wanted u ≡ true → value u ≡ Some a → IsReal u → Exchanges (form.token (is_valued tokens name_refusal wanted value)) (token_at (is_valued tokens name_refusal wanted value))
 unfolding is_valued
-name_valued wanted value rule p u a i j v r = of_token (is_valued tokens name_refusal wanted value) rule (says_named (form.token (is_valued tokens name_refusal wanted value)) (is_valued tokens name_refusal wanted value) wanted (valued_inside name_refusal wanted value) (valued_outside name_refusal wanted value) p (u, i, ([], a, ap (λ (b : Bool). cond b (in_range (value u)) (Err (name_refusal (number u.head)))) j ∙ ap in_range v, (r, tt))))
+name_valued wanted value rule p u a i j v r = of_token (is_valued tokens name_refusal wanted value) rule (refuses_angle (is_valued tokens name_refusal wanted value) wanted name_refusal (valued_outside name_refusal wanted value) (and_parts (disjoint OPEN_ANGLE wanted) (plain_types wanted) p).0) (says_named (form.token (is_valued tokens name_refusal wanted value)) (is_valued tokens name_refusal wanted value) wanted (valued_inside name_refusal wanted value) (valued_outside name_refusal wanted value) p (u, i, ([], a, ap (λ (b : Bool). cond b (in_range (value u)) (Err (name_refusal (number u.head)))) j ∙ ap in_range v, (r, tt))))
 
 -- ---- at `target`
 

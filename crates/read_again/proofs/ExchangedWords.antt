@@ -1,12 +1,12 @@
 -- Words and marks tell a token that is left out in some places against the syntax.
-use Rattle.std.proofs.Common.{refl}
+use Rattle.std.proofs.Common.{false, true, refl}
 use Rattle.ir_lex.specs.declared.head.Head.TheVariants as heads
 use Rattle.lto_forms.specs.Rules.{is_class}
 use Rattle.ir_read.specs.Classes.{the, the_at}
 use Rattle.ir_read.proofs.Singles.{align_rule, attributes_rule, bang_rule, close_angle_rule, close_brace_rule, close_bracket_rule, close_paren_rule, comma_rule, equals_rule, group_name_rule, meta_rule, number_rule, open_angle_rule, open_brace_rule, open_bracket_rule, open_paren_rule, parameter_group_rule, parameter_word_rule, string_rule}
 use Rattle.ir_read.proofs.Words.{disjoint_rule, exact_rule, label_rule, nneg_rule, samesign_rule, to_rule}
-use Rattle.read_again.proofs.Exchanged.{Exchanges}
-use Rattle.read_again.proofs.ExchangedTokens.{plain_class}
+use Rattle.read_again.proofs.Exchanged.{Exchanges, Swaps, nowhere}
+use Rattle.read_again.proofs.ExchangedTokens.{loose_class, plain_class}
 
 pub comma_exchanged : Exchanges (the heads.Comma) (the_at heads.Comma)
 unfolding is_class
@@ -40,9 +40,9 @@ pub close_brace_exchanged : Exchanges (the heads.CloseBrace) (the_at heads.Close
 unfolding is_class
 close_brace_exchanged = plain_class heads.CloseBrace close_brace_rule refl
 
-pub open_angle_exchanged : Exchanges (the heads.OpenAngle) (the_at heads.OpenAngle)
+pub open_angle_exchanged : Swaps false true nowhere (the heads.OpenAngle) (the_at heads.OpenAngle)
 unfolding is_class
-open_angle_exchanged = plain_class heads.OpenAngle open_angle_rule refl
+open_angle_exchanged = loose_class heads.OpenAngle open_angle_rule refl
 
 pub close_angle_exchanged : Exchanges (the heads.CloseAngle) (the_at heads.CloseAngle)
 unfolding is_class

@@ -12,7 +12,7 @@ use Rattle.ir_read.specs.Classes.{IsReal, tokens}
 use Rattle.ir_read.specs.FunctionHeads.{GLOBAL, NUMBERED}
 use Rattle.ir_read.specs.MetadataAt.{PAREN}
 use Rattle.ir_read.specs.Operands.{REG}
-use Rattle.ir_instructions.specs.ShapeForms.{OPEN_ANGLE}
+use Rattle.ir_instructions.specs.ShapeForms.{OPEN_ANGLE, OPEN_BRACE}
 use Rattle.ir_read.specs.Targets.{STRING}
 use Rattle.lto_forms.specs.Alphabet.{among}
 use Rattle.lto_forms.specs.Faults.{Extends, LimitGoesOn, NoNumberGoesOn, NoneGoesOn, NumberGoesOn, Viable}
@@ -106,6 +106,9 @@ pub record FitsPlace (front : List Tok) (t : Tok) (kind : FaultKind) : Type 0 wh
   -- a lifetime marker, but as the callee of a void call that has a name: its call is dropped, and then nothing has the name
   pub marker_left_out : among tokens MARKER t ≡ true → (word : List ℕ) → kind ≡ kinds.Profile word → NamedVoidCall front → ⊥
   pub marker_misplaced : among tokens MARKER t ≡ true → kind ≡ kinds.Syntax → NamedVoidCall front
+  -- a number directly behind `<`, where `{` goes on: where the shape of a packed structure, or its value, may begin
+  pub vector_left_out : BeginsVector front t → (word : List ℕ) → kind ≡ kinds.Profile word → SomeGoesOn OPEN_BRACE front
+  pub vector_misplaced : BeginsVector front t → kind ≡ kinds.Syntax → NoneOfThem OPEN_BRACE front
 
 -- Of what is refused everywhere it is told that it is left out, and of nothing else but what is refused somewhere, in the places of it,
 -- and a number behind `<`. A layout that isn't supported is a string. A number is out of range only where another one goes on in its
