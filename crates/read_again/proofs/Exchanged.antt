@@ -10,7 +10,7 @@ use Rattle.lto_forms.proofs.Composed.{all_real, cut_is, reads, reads_is, wrong, 
 use Rattle.lto_forms.proofs.Rules.{apart_from, within_of}
 use Rattle.lto_forms.specs.Alphabet.{AllReal, among, contains}
 use Rattle.lto_forms.specs.Forms as form
-use Rattle.lto_forms.specs.Forms.{Form, Many, Star}
+use Rattle.lto_forms.specs.Forms.{Form, Star}
 use Rattle.lto_forms.specs.Lawful.{IsBound, ends}
 use Rattle.lto_forms.specs.Readers.{Reader, fault_at, done, follow, ◌>>=◌, token_means, token_at, pick, many_at, star_at, optional_at}
 use Rattle.lto_forms.specs.Rules.{Rule, disjoint, subset}
@@ -19,7 +19,6 @@ use Rattle.lto_forms.specs.declared.fault.FaultKind.TheVariants.{Syntax, Profile
 use Rattle.lto_forms.specs.declared.fault.FaultKind.{FaultKind}
 use Rattle.ir_read.specs.Classes.{tokens, IsReal}
 use Rattle.ir_read.specs.FunctionHeads.{GLOBAL}
-use Rattle.ir_read.specs.MetadataAt.{PAREN}
 use Rattle.ir_read.specs.Operands.{REG}
 use Rattle.ir_instructions.specs.ShapeForms.{OPEN_ANGLE, OPEN_BRACE}
 use Rattle.read_again.specs.Refusals.{MEMORY, WORD, last_is}
@@ -39,8 +38,8 @@ abbrev pub WordGoes : Head → (Tok → Type 0) → Type 0
 WordGoes heads.Target Goes = (w : Tok) × (among tokens WORD w ≡ true) × Goes w
 WordGoes h Goes = ⊥
 
--- why one of this class isn't told to be left out: no token that it stands for goes on, or not each; a lifetime marker isn't in some
--- places only
+-- why one of this class isn't told to be left out: no token that it stands for goes on, or not each; of a number that is said directly
+-- behind `<`, and of a lifetime marker what stands before it
 abbrev pub NotTold : Bool → Head → (Tok → Type 0) → (Tok → Type 0) → Type 0 → Type 0
 NotTold angled heads.RefusedType Stuck Goes Named = (u : Tok) → among tokens REG u ≡ true → Stuck u
 NotTold angled heads.Target Stuck Goes Named = ((u : Tok) → among tokens REG u ≡ true → Stuck u) ⊎ ((w : Tok) × (among tokens WORD w ≡ true) × Goes w)
@@ -51,26 +50,15 @@ NotTold angled heads.LifetimeMarker Stuck Goes Named = Named
 NotTold angled heads.Number Stuck Goes Named = angled ≡ true → (u : Tok) → among tokens OPEN_BRACE u ≡ true → Stuck u
 NotTold angled h Stuck Goes Named = Unit {0}
 
--- why it is: one that it stands for goes on, or each; a type is told behind `(` as well, where arguments may stand; and where `target`
--- is told no plain word goes on
-abbrev pub IsTold : Bool → Head → (Tok → Type 0) → (Tok → Type 0) → Type 0 → Type 0
-IsTold angled heads.RefusedType Stuck Goes Open = ((u : Tok) × (among tokens REG u ≡ true) × Goes u) ⊎ Open
-IsTold angled heads.Target Stuck Goes Open = (((u : Tok) × (among tokens REG u ≡ true) × Goes u) ⊎ Open) × ((w : Tok) → among tokens WORD w ≡ true → Stuck w)
-IsTold angled heads.RegisterInteger Stuck Goes Open = (u : Tok) → among tokens MEMORY u ≡ true → IsReal u → Goes u
-IsTold angled heads.NumberedGlobal Stuck Goes Open = (u : Tok) × (among tokens GLOBAL u ≡ true) × Goes u
-IsTold angled heads.NumberedDefinition Stuck Goes Open = (u : Tok) × (among tokens GLOBAL u ≡ true) × Goes u
-IsTold angled heads.Number Stuck Goes Open = angled ≡ true → (u : Tok) × (among tokens OPEN_BRACE u ≡ true) × Goes u
-IsTold angled h Stuck Goes Open = Unit {0}
-
--- the last of them is `(`
-abbrev pub Open : List Tok → Type 0
-Open front = last_is (among tokens PAREN) front ≡ true
-
-pub open_behind : (one two : List Tok) → Open two → Open (one ++ two)
-open_behind [] two h = h
-open_behind (t ∷ []) [] h = absurd cc
-open_behind (t ∷ []) (u ∷ two) h = h
-open_behind (t ∷ v ∷ one) two h = open_behind (v ∷ one) two h
+-- why it is: one that it stands for goes on, or each; and where `target` is told no plain word goes on
+abbrev pub IsTold : Bool → Head → (Tok → Type 0) → (Tok → Type 0) → Type 0
+IsTold angled heads.RefusedType Stuck Goes = (u : Tok) × (among tokens REG u ≡ true) × Goes u
+IsTold angled heads.Target Stuck Goes = ((u : Tok) × (among tokens REG u ≡ true) × Goes u) × ((w : Tok) → among tokens WORD w ≡ true → Stuck w)
+IsTold angled heads.RegisterInteger Stuck Goes = (u : Tok) → among tokens MEMORY u ≡ true → IsReal u → Goes u
+IsTold angled heads.NumberedGlobal Stuck Goes = (u : Tok) × (among tokens GLOBAL u ≡ true) × Goes u
+IsTold angled heads.NumberedDefinition Stuck Goes = (u : Tok) × (among tokens GLOBAL u ≡ true) × Goes u
+IsTold angled heads.Number Stuck Goes = angled ≡ true → (u : Tok) × (among tokens OPEN_BRACE u ≡ true) × Goes u
+IsTold angled h Stuck Goes = Unit {0}
 
 -- behind these tokens this one is refused, not only for its range or a limit
 abbrev pub Stuck : {A : Type 0} → Reader Tok A → List Tok → Tok → Type 0
@@ -100,14 +88,15 @@ is_angled front = last_is (among tokens OPEN_ANGLE) front
 abbrev pub OutcomeAt : {A : Type 0} → Bool → Place → Form Tok A → Reader Tok A → Bool → List Tok → Head → Result A FaultKind → Type 0
 OutcomeAt words place wide f angled front h (Ok a) = ((u : Tok) → among tokens (stands_for angled h) u ≡ true → Stays f front a u) ⊎ ((words ≡ true) × WordGoes h (Goes wide front))
 OutcomeAt words place wide f angled front h (Err Syntax) = NotTold angled h (Stuck f front) (Goes wide front) (place front tt)
-OutcomeAt words place wide f angled front h (Err Profile) = IsTold angled h (Stuck f front) (Goes wide front) (Open front)
+OutcomeAt words place wide f angled front h (Err Profile) = IsTold angled h (Stuck f front) (Goes wide front)
 OutcomeAt words place wide f angled front h (Err Number) = Unit {0}
 OutcomeAt words place wide f angled front h (Err Limit) = Unit {0}
 
 abbrev pub Outcome : {A : Type 0} → Bool → Place → Form Tok A → Reader Tok A → List Tok → Head → Result A FaultKind → Type 0
 Outcome words place wide f front h o = OutcomeAt words place wide f (is_angled front) front h o
 
--- some readings end where a plain word goes on, and some behind `<`
+-- Some readings end where a plain word goes on, and some behind `<`; before a lifetime marker that is told against the syntax stands such
+-- a place.
 pub record Swaps {A : Type 0} (words loose : Bool) (place : Place) (wide : Form Tok A) (f : Reader Tok A) : Type 0 where
   pub sound : (ts rest : List Tok) (a : A) → f ts ≡ reads a rest → (front : List Tok) × (ts ≡ front ++ rest) × wide front a
   pub placed : (ts : List Tok) (e : Fault) → f ts ≡ wrong e → (front : List Tok) × (rest : List Tok) × (ts ≡ front ++ rest) × (length rest ≡ e.left)
@@ -145,16 +134,14 @@ not_told_too angled heads.LifetimeMarker S S' G G' P P' s g p n = p n
 not_told_too angled heads.Number S S' G G' P P' s g p n = λ q u i. s u (subst (λ (b : Bool). among tokens (cond b OPEN_BRACE []) u ≡ true) (sym q) i) (n q u i)
 not_told_too angled h S S' G G' P P' s g p n = tt
 
-pub told_too : (angled : Bool) (h : Head) (S S' G G' : Tok → Type 0) (P P' : Type 0) → ((u : Tok) → among tokens (stands_for angled h) u ≡ true → S u → S' u) → ((u : Tok) → G u → G' u) → (P → P') → IsTold angled h S G P → IsTold angled h S' G' P'
-told_too angled heads.RefusedType S S' G G' P P' s g p (inl (u, i, n)) = inl (u, i, g u n)
-told_too angled heads.RefusedType S S' G G' P P' s g p (inr o) = inr (p o)
-told_too angled heads.Target S S' G G' P P' s g p (inl (u, i, n), m) = (inl (u, i, g u n), λ w j. s w (a_plain_word w j) (m w j))
-told_too angled heads.Target S S' G G' P P' s g p (inr o, m) = (inr (p o), λ w j. s w (a_plain_word w j) (m w j))
-told_too angled heads.RegisterInteger S S' G G' P P' s g p n = λ u i r. g u (n u i r)
-told_too angled heads.NumberedGlobal S S' G G' P P' s g p (u, i, n) = (u, i, g u n)
-told_too angled heads.NumberedDefinition S S' G G' P P' s g p (u, i, n) = (u, i, g u n)
-told_too angled heads.Number S S' G G' P P' s g p n = λ q. let v = n q in (v.0, v.1, g v.0 v.2)
-told_too angled h S S' G G' P P' s g p n = tt
+pub told_too : (angled : Bool) (h : Head) (S S' G G' : Tok → Type 0) → ((u : Tok) → among tokens (stands_for angled h) u ≡ true → S u → S' u) → ((u : Tok) → G u → G' u) → IsTold angled h S G → IsTold angled h S' G'
+told_too angled heads.RefusedType S S' G G' s g (u, i, n) = (u, i, g u n)
+told_too angled heads.Target S S' G G' s g ((u, i, n), m) = ((u, i, g u n), λ w j. s w (a_plain_word w j) (m w j))
+told_too angled heads.RegisterInteger S S' G G' s g n = λ u i r. g u (n u i r)
+told_too angled heads.NumberedGlobal S S' G G' s g (u, i, n) = (u, i, g u n)
+told_too angled heads.NumberedDefinition S S' G G' s g (u, i, n) = (u, i, g u n)
+told_too angled heads.Number S S' G G' s g n = λ q. let v = n q in (v.0, v.1, g v.0 v.2)
+told_too angled h S S' G G' s g n = tt
 
 pub word_too : (h : Head) (G G' : Tok → Type 0) → ((u : Tok) → G u → G' u) → WordGoes h G → WordGoes h G'
 word_too heads.Target G G' g (w, i, n) = (w, i, g w n)
@@ -167,20 +154,20 @@ word_not_told angled h S G P n = absurd n
 
 module _ {A B : Type 0} (words words' : Bool) (place place' : Place) (wide : Form Tok A) (wide' : Form Tok B) (f : Reader Tok A) (f' : Reader Tok B) (angled : Bool) (front front' : List Tok) (h : Head) where
   -- what is said of one reading is said of another
-  pub err_too : (k : FaultKind) → (Open front → Open front') → (place front tt → place' front' tt) → ((u : Tok) → among tokens (stands_for angled h) u ≡ true → Stuck f front u → Stuck f' front' u) → ((u : Tok) → Goes wide front u → Goes wide' front' u) → OutcomeAt words place wide f angled front h (Err k) → OutcomeAt words' place' wide' f' angled front' h (Err k)
-  err_too Syntax p v s g n = not_told_too angled h (Stuck f front) (Stuck f' front') (Goes wide front) (Goes wide' front') (place front tt) (place' front' tt) s g v n
-  err_too Profile p v s g n = told_too angled h (Stuck f front) (Stuck f' front') (Goes wide front) (Goes wide' front') (Open front) (Open front') s g p n
-  err_too Number p v s g n = tt
-  err_too Limit p v s g n = tt
+  pub err_too : (k : FaultKind) → (place front tt → place' front' tt) → ((u : Tok) → among tokens (stands_for angled h) u ≡ true → Stuck f front u → Stuck f' front' u) → ((u : Tok) → Goes wide front u → Goes wide' front' u) → OutcomeAt words place wide f angled front h (Err k) → OutcomeAt words' place' wide' f' angled front' h (Err k)
+  err_too Syntax v s g n = not_told_too angled h (Stuck f front) (Stuck f' front') (Goes wide front) (Goes wide' front') (place front tt) (place' front' tt) s g v n
+  err_too Profile v s g n = told_too angled h (Stuck f front) (Stuck f' front') (Goes wide front) (Goes wide' front') s g n
+  err_too Number v s g n = tt
+  err_too Limit v s g n = tt
 
   pub ok_too : (words ≡ true → words' ≡ true) → (a : A) (b : B) → ((u : Tok) → among tokens (stands_for angled h) u ≡ true → Stays f front a u → Stays f' front' b u) → ((u : Tok) → Goes wide front u → Goes wide' front' u) → OutcomeAt words place wide f angled front h (Ok a) → OutcomeAt words' place' wide' f' angled front' h (Ok b)
   ok_too q a b s g (inl n) = inl (λ u i. s u i (n u i))
   ok_too q a b s g (inr (e, w)) = inr (q e, word_too h (Goes wide front) (Goes wide' front') g w)
 
-pub outcome_too : {A : Type 0} (words words' : Bool) (place place' : Place) (wide wide' : Form Tok A) (f f' : Reader Tok A) (angled : Bool) (front front' : List Tok) (h : Head) (o : Result A FaultKind) → (words ≡ true → words' ≡ true) → (Open front → Open front') → (place front tt → place' front' tt) → ((u : Tok) → among tokens (stands_for angled h) u ≡ true → (rest : List Tok) → f (front ++ u ∷ rest) ≡ f' (front' ++ u ∷ rest)) → ((u : Tok) → Goes wide front u → Goes wide' front' u)
+pub outcome_too : {A : Type 0} (words words' : Bool) (place place' : Place) (wide wide' : Form Tok A) (f f' : Reader Tok A) (angled : Bool) (front front' : List Tok) (h : Head) (o : Result A FaultKind) → (words ≡ true → words' ≡ true) → (place front tt → place' front' tt) → ((u : Tok) → among tokens (stands_for angled h) u ≡ true → (rest : List Tok) → f (front ++ u ∷ rest) ≡ f' (front' ++ u ∷ rest)) → ((u : Tok) → Goes wide front u → Goes wide' front' u)
     → OutcomeAt words place wide f angled front h o → OutcomeAt words' place' wide' f' angled front' h o
-outcome_too words words' place place' wide wide' f f' angled front front' h (Ok a) q p v same g n = ok_too words words' place place' wide wide' f f' angled front front' h q a a (λ u i s rest. sym (same u i rest) ∙ s rest) g n
-outcome_too words words' place place' wide wide' f f' angled front front' h (Err k) q p v same g n = err_too words words' place place' wide wide' f f' angled front front' h k p v (λ u i s rest. let r = s rest in (r.0, r.1, sym (same u i rest) ∙ r.2)) g n
+outcome_too words words' place place' wide wide' f f' angled front front' h (Ok a) q v same g n = ok_too words words' place place' wide wide' f f' angled front front' h q a a (λ u i s rest. sym (same u i rest) ∙ s rest) g n
+outcome_too words words' place place' wide wide' f f' angled front front' h (Err k) q v same g n = err_too words words' place place' wide wide' f f' angled front front' h k v (λ u i s rest. let r = s rest in (r.0, r.1, sym (same u i rest) ∙ r.2)) g n
 
 pub differ : false ≡ true → ⊥
 differ e = cc
@@ -323,7 +310,7 @@ module _ {A B : Type 0} {words words' loose loose' : Bool} (result result_loose 
   behind : (one two : List Tok) (a : A) → wide one a → (angled : Bool) → angled ≡ is_angled (one ++ two) → (k : Head) (o : Result B FaultKind) → ((u : Tok) → among tokens (stands_for angled k) u ≡ true → (rest : List Tok) → f (one ++ (two ++ u ∷ rest)) ≡ reads a (two ++ u ∷ rest)) → OutcomeAt words' (other_place a) (wide' a) (h a) angled two k o → Outcome result place both (f >>= h) (one ++ two) k o
   behind one two a s angled e k o stays n =
       subst (λ (b : Bool). OutcomeAt result place both (f >>= h) b (one ++ two) k o) e
-      (outcome_too words' result (other_place a) place (wide' a) both (h a) (f >>= h) angled two (one ++ two) k o into (open_behind one two) (within_second one two a s) (λ u i rest. sym (whole one two a u rest (stays u i rest))) (λ u g. goes_second one two a s u g) n)
+      (outcome_too words' result (other_place a) place (wide' a) both (h a) (f >>= h) angled two (one ++ two) k o into (within_second one two a s) (λ u i rest. sym (whole one two a u rest (stays u i rest))) (λ u g. goes_second one two a s u g) n)
 
   word_is : (k : Head) (G : Tok → Type 0) → WordGoes k G → is_target k ≡ true
   unfolding is_target
@@ -353,7 +340,7 @@ module _ {A B : Type 0} {words words' loose loose' : Bool} (result result_loose 
   swap_seq : (front : List Tok) (t : Tok) (rest : List Tok) (o : Result B FaultKind) (r : Result (A × List Tok) Fault) → f (front ++ t ∷ rest) ≡ r → follow r h ≡ ends o (t ∷ rest) → Outcome result place both (f >>= h) front t.head o
   swap_seq front t rest o (Err e) i d =
       let w = err_ends e o (t ∷ rest) d in
-      subst (λ (x : Result B FaultKind). Outcome result place both (f >>= h) front t.head x) (sym w.1) (err_too words result one_place place wide both f (f >>= h) (is_angled front) front front t.head w.0 (λ p. p) (within_first front) (λ u _ s. stuck_first front u s) (λ u g. goes_first front u g) (law.swap front t rest (Err w.0) (i ∙ ap wrong w.2)))
+      subst (λ (x : Result B FaultKind). Outcome result place both (f >>= h) front t.head x) (sym w.1) (err_too words result one_place place wide both f (f >>= h) (is_angled front) front front t.head w.0 (within_first front) (λ u _ s. stuck_first front u s) (λ u g. goes_first front u g) (law.swap front t rest (Err w.0) (i ∙ ap wrong w.2)))
   swap_seq front t rest o (Ok x) i d =
       let c = cut front t rest o x.0 x.1 i d in
       subst (λ (y : List Tok). Outcome result place both (f >>= h) y t.head o) (sym c.front_is) (swap_second c.one c.two t rest o x.0 c.spelled c.first (ap (h x.0) (sym c.left_is) ∙ d))
@@ -473,7 +460,7 @@ recast {words = words} {place = place} {wide = wide} {wide' = wide'} {f = f} ove
   local = law.local;
   some = let z = law.some in (z.0, z.1, over z.0 z.1 z.2, z.3);
   closed = law.closed;
-  swap = λ front t rest o d. outcome_too words words place place wide wide' f f (is_angled front) front front t.head o (λ e. e) (λ p. p) (λ v. v) (λ u i rest'. refl) (λ u g. (g.0, g.1, over (front ++ u ∷ g.0) g.1 g.2, g.3)) (law.swap front t rest o d);
+  swap = λ front t rest o d. outcome_too words words place place wide wide' f f (is_angled front) front front t.head o (λ e. e) (λ v. v) (λ u i rest'. refl) (λ u g. (g.0, g.1, over (front ++ u ∷ g.0) g.1 g.2, g.3)) (law.swap front t rest o d);
 }
 
 -- the same reader, with more places before a lifetime marker
@@ -484,7 +471,7 @@ placed_too {words = words} {place = place} place' {wide = wide} {f = f} too law 
   local = law.local;
   some = law.some;
   closed = law.closed;
-  swap = λ front t rest o d. outcome_too words words place place' wide wide f f (is_angled front) front front t.head o (λ e. e) (λ p. p) (too front) (λ u i rest'. refl) (λ u g. g) (law.swap front t rest o d);
+  swap = λ front t rest o d. outcome_too words words place place' wide wide f f (is_angled front) front front t.head o (λ e. e) (too front) (λ u i rest'. refl) (λ u g. g) (law.swap front t rest o d);
 }
 
 pub placed_none : {A : Type 0} {words : Bool} {place : Place} {wide : Form Tok A} {f : Reader Tok A} → Exchanging words wide f → Swapping words place wide f
@@ -502,7 +489,7 @@ loosened {wide = wide} {f = f} law = record {
   local = law.local;
   some = law.some;
   closed = law.closed;
-  swap = λ front t rest o d. outcome_too false true nowhere nowhere wide wide f f (is_angled front) front front t.head o (λ e. absurd (differ e)) (λ p. p) (λ v. v) (λ u i rest'. refl) (λ u g. g) (law.swap front t rest o d);
+  swap = λ front t rest o d. outcome_too false true nowhere nowhere wide wide f f (is_angled front) front front t.head o (λ e. absurd (differ e)) (λ v. v) (λ u i rest'. refl) (λ u g. g) (law.swap front t rest o d);
 }
 
 pub tight : {A : Type 0} {words : Bool} {wide : Form Tok A} {f : Reader Tok A} → Exchanges wide f → Exchanging words wide f
@@ -647,8 +634,8 @@ module _ {A : Type 0} {wide wide' : Form Tok A} {f f' : Reader Tok A} {words loo
   swap_fair t rest o e d = by_test (among tokens bs t) refl d
     where
       by_test : (b : Bool) → among tokens bs t ≡ b → cond b (f (t ∷ rest)) (f' (t ∷ rest)) ≡ ends o (t ∷ rest) → Outcome words place of_two one_of_two [] t.head o
-      by_test true q d = outcome_too words words one_place place wide of_two f one_of_two false [] [] t.head o (λ e. e) (λ p. p) (within_one []) (λ u i rest'. sym (taken_first bs f f' u rest' (alike bs t.head e u i ∙ q))) (λ u g. goes_one [] u g) (law.swap [] t rest o d)
-      by_test false q d = outcome_too words words other_place place wide' of_two f' one_of_two false [] [] t.head o (λ e. e) (λ p. p) (within_other []) (λ u i rest'. sym (passed bs f f' u rest' (alike bs t.head e u i ∙ q))) (λ u g. goes_other [] u g) (law'.swap [] t rest o d)
+      by_test true q d = outcome_too words words one_place place wide of_two f one_of_two false [] [] t.head o (λ e. e) (within_one []) (λ u i rest'. sym (taken_first bs f f' u rest' (alike bs t.head e u i ∙ q))) (λ u g. goes_one [] u g) (law.swap [] t rest o d)
+      by_test false q d = outcome_too words words other_place place wide' of_two f' one_of_two false [] [] t.head o (λ e. e) (within_other []) (λ u i rest'. sym (passed bs f f' u rest' (alike bs t.head e u i ∙ q))) (λ u g. goes_other [] u g) (law'.swap [] t rest o d)
 
   -- at `target`, where a word goes on
   swap_word : words ≡ true → (h : Head) (o : Result A FaultKind) → WordGoes h (Goes of_two []) → (o ≡ Err Profile → ⊥) → Outcome words place of_two one_of_two [] h o
@@ -678,8 +665,8 @@ module _ {A : Type 0} {wide wide' : Form Tok A} {f f' : Reader Tok A} {words loo
   swap_alt (v ∷ front) t rest o d = by_test (among tokens bs v) refl d
     where
       by_test : (b : Bool) → among tokens bs v ≡ b → cond b (f (v ∷ (front ++ t ∷ rest))) (f' (v ∷ (front ++ t ∷ rest))) ≡ ends o (t ∷ rest) → Outcome words place of_two one_of_two (v ∷ front) t.head o
-      by_test true q d = outcome_too words words one_place place wide of_two f one_of_two (is_angled (v ∷ front)) (v ∷ front) (v ∷ front) t.head o (λ e. e) (λ p. p) (within_one (v ∷ front)) (λ u i rest'. sym (taken_first bs f f' v (front ++ u ∷ rest') q)) (λ u g. goes_one (v ∷ front) u g) (law.swap (v ∷ front) t rest o d)
-      by_test false q d = outcome_too words words other_place place wide' of_two f' one_of_two (is_angled (v ∷ front)) (v ∷ front) (v ∷ front) t.head o (λ e. e) (λ p. p) (within_other (v ∷ front)) (λ u i rest'. sym (passed bs f f' v (front ++ u ∷ rest') q)) (λ u g. goes_other (v ∷ front) u g) (law'.swap (v ∷ front) t rest o d)
+      by_test true q d = outcome_too words words one_place place wide of_two f one_of_two (is_angled (v ∷ front)) (v ∷ front) (v ∷ front) t.head o (λ e. e) (within_one (v ∷ front)) (λ u i rest'. sym (taken_first bs f f' v (front ++ u ∷ rest') q)) (λ u g. goes_one (v ∷ front) u g) (law.swap (v ∷ front) t rest o d)
+      by_test false q d = outcome_too words words other_place place wide' of_two f' one_of_two (is_angled (v ∷ front)) (v ∷ front) (v ∷ front) t.head o (λ e. e) (within_other (v ∷ front)) (λ u i rest'. sym (passed bs f f' v (front ++ u ∷ rest') q)) (λ u g. goes_other (v ∷ front) u g) (law'.swap (v ∷ front) t rest o d)
 
   closed_alt : (front rest : List Tok) (a : A) → one_of_two (front ++ rest) ≡ reads a rest → is_angled front ≡ true → loose ≡ true
   closed_alt [] rest a d q = absurd (differ q)
@@ -863,7 +850,7 @@ module _ {A : Type 0} {words : Bool} (wide : Form Tok A) (f : Reader Tok A) (bs 
 
     swap_all : (front : List Tok) (h : Head) (o : Result (List A) FaultKind) → Outcome words place (Star wide) (at_most (suc (length front))) front h o → Outcome words place (Star wide) all_at front h o
     swap_all front h (Ok as') n = ok_too words words place place (Star wide) (Star wide) (at_most (suc (length front))) all_at (is_angled front) front front h (λ e. e) as' as' (λ u i s rest. enough_for front (suc (length front)) (omega arith) u rest (Ok as') (s rest)) (λ u g. g) n
-    swap_all front h (Err k) n = err_too words words place place (Star wide) (Star wide) (at_most (suc (length front))) all_at (is_angled front) front front h k (λ p. p) (λ v. v) (λ u i s rest. let r = s rest in (r.0, r.1, enough_for front (suc (length front)) (omega arith) u rest (Err r.0) r.2)) (λ u g. g) n
+    swap_all front h (Err k) n = err_too words words place place (Star wide) (Star wide) (at_most (suc (length front))) all_at (is_angled front) front front h k (λ v. v) (λ u i s rest. let r = s rest in (r.0, r.1, enough_for front (suc (length front)) (omega arith) u rest (Err r.0) r.2)) (λ u g. g) n
 
     pub all : Swapping words place (Star wide) all_at
     all = record {
@@ -884,7 +871,7 @@ star {wide = wide} {f = f} bs e law some = all wide f bs nowhere (λ front v. v)
 -- what a meaning says at a token of this class
 abbrev pub SaysAt : {A : Type 0} → Place → Form Tok A → (Tok → Result A FaultKind) → Head → FaultKind → Type 0
 SaysAt place wide meaning h Syntax = NotTold false h (λ u. (k : FaultKind) × (IsBound k → ⊥) × (meaning u ≡ Err k)) (Goes wide []) (place [] tt)
-SaysAt place wide meaning h Profile = IsTold false h (λ u. (k : FaultKind) × (IsBound k → ⊥) × (meaning u ≡ Err k)) (Goes wide []) (Open [])
+SaysAt place wide meaning h Profile = IsTold false h (λ u. (k : FaultKind) × (IsBound k → ⊥) × (meaning u ≡ Err k)) (Goes wide [])
 SaysAt place wide meaning h Number = Unit {0}
 SaysAt place wide meaning h Limit = Unit {0}
 
@@ -932,7 +919,7 @@ module _ {A : Type 0} (loose : Bool) (place : Place) (wide : Form Tok A) (meanin
 
   by_kind : (h : Head) (k : FaultKind) → SaysAt place wide meaning h k → Outcome false place wide (token_at meaning) [] h (Err k)
   by_kind h Syntax s = not_told_too false h (λ u. (k : FaultKind) × (IsBound k → ⊥) × (meaning u ≡ Err k)) (Stuck (token_at meaning) []) (Goes wide []) (Goes wide []) (place [] tt) (place [] tt) (λ u i r rest. (r.0, r.1, ap (token_means u rest) r.2)) (λ u g. g) (λ v. v) s
-  by_kind h Profile s = told_too false h (λ u. (k : FaultKind) × (IsBound k → ⊥) × (meaning u ≡ Err k)) (Stuck (token_at meaning) []) (Goes wide []) (Goes wide []) (Open []) (Open []) (λ u i r rest. (r.0, r.1, ap (token_means u rest) r.2)) (λ u g. g) (λ p. p) s
+  by_kind h Profile s = told_too false h (λ u. (k : FaultKind) × (IsBound k → ⊥) × (meaning u ≡ Err k)) (Stuck (token_at meaning) []) (Goes wide []) (Goes wide []) (λ u i r rest. (r.0, r.1, ap (token_means u rest) r.2)) (λ u g. g) s
   by_kind h Number s = tt
   by_kind h Limit s = tt
 
@@ -1016,7 +1003,7 @@ same_reader {words = words} {place = place} {wide = wide} {f = f} {f' = f'} same
   local = λ front t rest rest' o d. sym (same (front ++ t ∷ rest')) ∙ law.local front t rest rest' o (same (front ++ t ∷ rest) ∙ d);
   some = law.some;
   closed = λ front rest a d q. law.closed front rest a (same (front ++ rest) ∙ d) q;
-  swap = λ front t rest o d. outcome_too words words place place wide wide f f' (is_angled front) front front t.head o (λ e. e) (λ p. p) (λ v. v) (λ u i rest'. same (front ++ u ∷ rest')) (λ u g. g) (law.swap front t rest o (same (front ++ t ∷ rest) ∙ d));
+  swap = λ front t rest o d. outcome_too words words place place wide wide f f' (is_angled front) front front t.head o (λ e. e) (λ v. v) (λ u i rest'. same (front ++ u ∷ rest')) (λ u g. g) (law.swap front t rest o (same (front ++ t ∷ rest) ∙ d));
 }
 
 -- what begins with a token isn't empty

@@ -18,7 +18,7 @@ use Rattle.lto_forms.specs.declared.fault.FaultKind.{FaultKind}
 use Rattle.lto_forms.specs.Rules.{disjoint}
 use Rattle.ir_read.specs.Classes.{tokens}
 use Rattle.ir_instructions.specs.ShapeForms.{OPEN_BRACE}
-use Rattle.read_again.proofs.Exchanged.{Exchanges, OutcomeAt, Place, Stays, Swaps, angled_behind, apart, is_angled, never_angled, nowhere, same_at, Goes, Outcome, Stuck, fair, alike, ends_in_front, err_ends, err_too, fair_at, fair_of, fewer, in_front, joined, ok_too, open_behind, stands_for, without}
+use Rattle.read_again.proofs.Exchanged.{Exchanges, OutcomeAt, Place, Stays, Swaps, angled_behind, apart, is_angled, never_angled, nowhere, same_at, Goes, Outcome, Stuck, fair, alike, ends_in_front, err_ends, err_too, fair_at, fair_of, fewer, in_front, joined, ok_too, stands_for, without}
 
 and_parts : (a b : Bool) → a && b ≡ true → (a ≡ true) × (b ≡ true)
 and_parts true b h = (refl, h)
@@ -262,14 +262,14 @@ module _ {S A : Type 0} (final : S → Bool) (bs : S → List ℕ) (wide : S →
         → ((u : Tok) → among tokens (stands_for angled h) u ≡ true → (rest : List Tok) → here_at ((one ++ two) ++ u ∷ rest) ≡ in_front x.0 (at_most n x.1 (two ++ u ∷ rest)))
         → OutcomeAt false (place x.1) (of_all x.1) (at_most n x.1) angled two h o → OutcomeAt false (place s) (of_all s) here_at angled (one ++ two) h (joined x.0 o)
     joined_too one two x q angled h (Ok m) whole p = ok_too false false (place x.1) (place s) (of_all x.1) (of_all s) (at_most n x.1) here_at angled two (one ++ two) h (λ e. e) m (x.0 ∷ m) (λ u i st rest. whole u i rest ∙ ap (in_front x.0) (st rest)) (λ u g. goes_second s one two x q u g) p
-    joined_too one two x q angled h (Err k) whole p = err_too false false (place x.1) (place s) (of_all x.1) (of_all s) (at_most n x.1) here_at angled two (one ++ two) h k (open_behind one two) (within_further s one two x q) (λ u i st rest. let r = st rest in (r.0, r.1, whole u i rest ∙ ap (in_front x.0) r.2)) (λ u g. goes_second s one two x q u g) p
+    joined_too one two x q angled h (Err k) whole p = err_too false false (place x.1) (place s) (of_all x.1) (of_all s) (at_most n x.1) here_at angled two (one ++ two) h k (within_further s one two x q) (λ u i st rest. let r = st rest in (r.0, r.1, whole u i rest ∙ ap (in_front x.0) r.2)) (λ u g. goes_second s one two x q u g) p
 
     module _ (front : List Tok) (t : Tok) (rest : List Tok) (here : stop s (front ++ t ∷ rest) ≡ false) where
       stuck_too : Keeps s front t rest → (u : Tok) → among tokens (stands_for (is_angled front) t.head) u ≡ true → Stuck (f s) front u → Stuck here_at front u
       stuck_too keeps u i st rest' = let r = st rest' in (r.0, r.1, stop_not n s (front ++ u ∷ rest') (keeps u i rest' ∙ here) ∙ ap (λ (y : Result ((A × S) × List Tok) Fault). follow y (further n)) r.2)
 
       piece_err : Keeps s front t rest → (k : FaultKind) → f s (front ++ t ∷ rest) ≡ fault_at k (t ∷ rest) → Outcome false (place s) (of_all s) here_at front t.head (Err k)
-      piece_err keeps k e = err_too false false one_place (place s) (wide s) (of_all s) (f s) here_at (is_angled front) front front t.head k (λ p. p) (within_first s front) (λ u i st. stuck_too keeps u i st) (λ u g. goes_first s front u g) ((laws s).swap front t rest (Err k) e)
+      piece_err keeps k e = err_too false false one_place (place s) (wide s) (of_all s) (f s) here_at (is_angled front) front front t.head k (within_first s front) (λ u i st. stuck_too keeps u i st) (λ u g. goes_first s front u g) ((laws s).swap front t rest (Err k) e)
 
       -- at a number behind `<` the rest of the chain stops, where a piece ends there
       stops_after : (next : S) (o : Result (List A) FaultKind) → loose ≡ true → nat_eq (number t.head) (number heads.Number) ≡ true → at_most n next (t ∷ rest) ≡ ends o (t ∷ rest) → OutcomeAt false (place next) (of_all next) (at_most n next) true [] t.head o
@@ -380,7 +380,7 @@ module _ {S A : Type 0} (final : S → Bool) (bs : S → List ℕ) (wide : S →
 
       swap_all : (front : List Tok) (h : Head) (o : Result (List A) FaultKind) → Outcome false (place s) (of_all s) (at_most (suc (length front)) s) front h o → Outcome false (place s) (of_all s) (chain_at final begins f s) front h o
       swap_all front h (Ok m) p = ok_too false false (place s) (place s) (of_all s) (of_all s) (at_most (suc (length front)) s) (chain_at final begins f s) (is_angled front) front front h (λ e. e) m m (λ u i st rest. enough_for front u rest (Ok m) (st rest)) (λ u g. g) p
-      swap_all front h (Err k) p = err_too false false (place s) (place s) (of_all s) (of_all s) (at_most (suc (length front)) s) (chain_at final begins f s) (is_angled front) front front h k (λ p. p) (λ v. v) (λ u i st rest. let r = st rest in (r.0, r.1, enough_for front u rest (Err r.0) r.2)) (λ u g. g) p
+      swap_all front h (Err k) p = err_too false false (place s) (place s) (of_all s) (of_all s) (at_most (suc (length front)) s) (chain_at final begins f s) (is_angled front) front front h k (λ v. v) (λ u i st rest. let r = st rest in (r.0, r.1, enough_for front u rest (Err r.0) r.2)) (λ u g. g) p
 
 pub chain : {S A : Type 0} (final : S → Bool) (bs : S → List ℕ) (wide : S → Form Tok (A × S)) (f : S → Reader Tok (A × S)) → ((s : S) → Exchanges (wide s) (f s)) → ((s : S) (x : A × S) → wide s [] x → ⊥) → ((s : S) → (ts : List Tok) × (as' : List A) × Chain final wide s ts as' × AllReal tokens ts) → ((s : S) → final s ≡ true → fair (bs s) ≡ true)
     → (s : S) → Exchanges (Chain final wide s) (chain_at final (λ s. among tokens (bs s)) f s)

@@ -47,7 +47,7 @@ use Rattle.ir_items.specs.ItemsAt.{SOURCE, TARGET, COMDAT, DECLARE, NAMING, left
 use Rattle.ir_items.proofs.ItemRules.{there_rule}
 use Rattle.read_again.specs.Refusals.{MEMORY, WORD}
 use Rattle.read_again.specs.NamedCalls.{in_definition}
-use Rattle.read_again.proofs.Exchanged.{Exchanges, Goes, Place, Swapping, Swaps, alt_loosely, is_angled, loosely, value_loosely, nowhere, alt, alt_by, seq_from, fair, nothing, same_reader, seq, star, taken, tested, Open, Outcome, outcome_too, stands_for, apart, passed, taken_first, IsTold, Stuck, is_target, target_is, placed_of}
+use Rattle.read_again.proofs.Exchanged.{Exchanges, Goes, Place, Swapping, Swaps, alt_loosely, is_angled, loosely, value_loosely, nowhere, alt, alt_by, seq_from, fair, nothing, same_reader, seq, star, taken, tested, Outcome, outcome_too, stands_for, apart, passed, taken_first, IsTold, Stuck, is_target, target_is, placed_of}
 use Rattle.read_again.proofs.ExchangedAttributes.{attribute_group_exchanged, head_attribute_exchanged}
 use Rattle.read_again.proofs.ExchangedBlocks.{definition_exchanged}
 use Rattle.read_again.proofs.ExchangedChains.{chain_behind}
@@ -288,10 +288,10 @@ module _ (room : ℕ) (before : Before) (names : ℕ) where
   abbrev whole_piece : Form Tok (Option Item × Position)
   whole_piece = any_piece before names
 
-  numbered_too : (t : Tok) → among tokens NUMBERED_NAME t ≡ true → IsTold false t.head (Stuck (named_with room names) []) (Goes (any_named names) []) (Open []) → IsTold false t.head (Stuck (piece_with room before names) []) (Goes whole_piece []) (Open [])
+  numbered_too : (t : Tok) → among tokens NUMBERED_NAME t ≡ true → IsTold false t.head (Stuck (named_with room names) []) (Goes (any_named names) []) → IsTold false t.head (Stuck (piece_with room before names) []) (Goes whole_piece [])
   numbered_too t e n = by_head t.head e n
     where
-      by_head : (h : Head) → contains NUMBERED_NAME (number h) ≡ true → IsTold false h (Stuck (named_with room names) []) (Goes (any_named names) []) (Open []) → IsTold false h (Stuck (piece_with room before names) []) (Goes whole_piece []) (Open [])
+      by_head : (h : Head) → contains NUMBERED_NAME (number h) ≡ true → IsTold false h (Stuck (named_with room names) []) (Goes (any_named names) []) → IsTold false h (Stuck (piece_with room before names) []) (Goes whole_piece [])
       by_head heads.NumberedGlobal e (u, i, g) = (u, i, named_is_piece before names [] u g)
       by_head h e n = absurd cc
 
@@ -305,12 +305,12 @@ module _ (room : ℕ) (before : Before) (names : ℕ) where
     where
       by_test : (b : Bool) → among tokens NUMBERED_NAME t ≡ b → cond b (named_with room names (t ∷ rest)) (within_at room before names (t ∷ rest)) ≡ ends o (t ∷ rest) → Outcome false in_definition whole_piece (piece_with room before names) [] t.head o
       by_test true e d = swap_numbered t rest o e d
-      by_test false e d = outcome_too false false in_definition in_definition whole_piece whole_piece (within_at room before names) (piece_with room before names) false [] [] t.head o (λ e. e) (λ p. p) (λ v. v) (λ u i rest'. sym (passed NUMBERED_NAME (named_with room names) (within_at room before names) u rest' (unnumbered t.head u i))) (λ u g. g) ((within_exchanged room before names).swap [] t rest o d)
+      by_test false e d = outcome_too false false in_definition in_definition whole_piece whole_piece (within_at room before names) (piece_with room before names) false [] [] t.head o (λ e. e) (λ v. v) (λ u i rest'. sym (passed NUMBERED_NAME (named_with room names) (within_at room before names) u rest' (unnumbered t.head u i))) (λ u g. g) ((within_exchanged room before names).swap [] t rest o d)
   swap_piece (v ∷ front) t rest o d = by_test (among tokens NUMBERED_NAME v) refl d
     where
       by_test : (b : Bool) → among tokens NUMBERED_NAME v ≡ b → cond b (named_with room names (v ∷ (front ++ t ∷ rest))) (within_at room before names (v ∷ (front ++ t ∷ rest))) ≡ ends o (t ∷ rest) → Outcome false in_definition whole_piece (piece_with room before names) (v ∷ front) t.head o
-      by_test true e d = outcome_too false false in_definition in_definition (any_named names) whole_piece (named_with room names) (piece_with room before names) (is_angled (v ∷ front)) (v ∷ front) (v ∷ front) t.head o (λ e. e) (λ p. p) (λ v. v) (λ u i rest'. sym (taken_first NUMBERED_NAME (named_with room names) (within_at room before names) v (front ++ u ∷ rest') e)) (λ u g. named_is_piece before names (v ∷ front) u g) ((named_exchanged room names).swap (v ∷ front) t rest o d)
-      by_test false e d = outcome_too false false in_definition in_definition whole_piece whole_piece (within_at room before names) (piece_with room before names) (is_angled (v ∷ front)) (v ∷ front) (v ∷ front) t.head o (λ e. e) (λ p. p) (λ v. v) (λ u i rest'. sym (passed NUMBERED_NAME (named_with room names) (within_at room before names) v (front ++ u ∷ rest') e)) (λ u g. g) ((within_exchanged room before names).swap (v ∷ front) t rest o d)
+      by_test true e d = outcome_too false false in_definition in_definition (any_named names) whole_piece (named_with room names) (piece_with room before names) (is_angled (v ∷ front)) (v ∷ front) (v ∷ front) t.head o (λ e. e) (λ v. v) (λ u i rest'. sym (taken_first NUMBERED_NAME (named_with room names) (within_at room before names) v (front ++ u ∷ rest') e)) (λ u g. named_is_piece before names (v ∷ front) u g) ((named_exchanged room names).swap (v ∷ front) t rest o d)
+      by_test false e d = outcome_too false false in_definition in_definition whole_piece whole_piece (within_at room before names) (piece_with room before names) (is_angled (v ∷ front)) (v ∷ front) (v ∷ front) t.head o (λ e. e) (λ v. v) (λ u i rest'. sym (passed NUMBERED_NAME (named_with room names) (within_at room before names) v (front ++ u ∷ rest') e)) (λ u g. g) ((within_exchanged room before names).swap (v ∷ front) t rest o d)
 
   sound_piece : (ts rest : List Tok) (x : Option Item × Position) → piece_with room before names ts ≡ Ok (x, rest) → (front : List Tok) × (ts ≡ front ++ rest) × whole_piece front x
   sound_piece [] rest x d = (within_exchanged room before names).sound [] rest x d

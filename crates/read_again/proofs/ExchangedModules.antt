@@ -34,7 +34,7 @@ use Rattle.ir_items.specs.Modules.{FURTHER_PARAMETERS, GLOBAL_NAMES, any_module,
 use Rattle.ir_items.proofs.ItemRules.{ANY, items_rule, there_rule}
 use Rattle.read_again.specs.NamedCalls.{in_module}
 use Rattle.ir_instructions.specs.ShapeForms.{OPEN_BRACE}
-use Rattle.read_again.proofs.Exchanged.{Goes, IsTold, NotTold, Open, Outcome, OutcomeAt, Stays, is_angled, SOMEWHERE, STAND_INS, Stuck, Swaps, placed_too, value_loosely, taken, apart, passed, taken_first}
+use Rattle.read_again.proofs.Exchanged.{Goes, IsTold, NotTold, Outcome, OutcomeAt, Stays, is_angled, SOMEWHERE, STAND_INS, Stuck, Swaps, placed_too, value_loosely, taken, apart, passed, taken_first}
 use Rattle.read_again.proofs.ExchangedItems.{NUMBERED_NAME, STARTS, TYPES, all_items_at, all_items_exchanged, in_items, named_with, naming_with, numbered_is, numbered_told, piece_exchanged, piece_there, piece_with, starts_there, unnamed_refuses, within_at}
 
 -- ---- at each token that begins an item the two are the same
@@ -309,9 +309,9 @@ Vector front Limit = Unit {0}
 abbrev is_number : Head → Bool
 is_number h = nat_eq (number h) (number heads.Number)
 
-number_told : (h : Head) (S G : Tok → Type 0) (P : Type 0) → is_number h ≡ true → IsTold true h S G P → (u : Tok) × (among tokens OPEN_BRACE u ≡ true) × G u
-number_told heads.Number S G P e n = n refl
-number_told h S G P e n = absurd cc
+number_told : (h : Head) (S G : Tok → Type 0) → is_number h ≡ true → IsTold true h S G → (u : Tok) × (among tokens OPEN_BRACE u ≡ true) × G u
+number_told heads.Number S G e n = n refl
+number_told h S G e n = absurd cc
 
 number_not : (h : Head) (S G : Tok → Type 0) (P : Type 0) → is_number h ≡ true → NotTold true h S G P → (u : Tok) → among tokens OPEN_BRACE u ≡ true → S u
 number_not heads.Number S G P e n = n refl
@@ -343,7 +343,7 @@ module _ (front : List Tok) (t : Tok) (n : is_number t.head ≡ true) (q : is_an
 
   by_kind : (k : FaultKind) → OutcomeAt false in_module any_module all_at true front t.head (Err k) → Vector front k
   by_kind Syntax o = λ u i. none_goes_on front u (number_not t.head (Stuck all_at front) (Goes any_module front) (in_module front tt) n o u i)
-  by_kind Profile o = number_told t.head (Stuck all_at front) (Goes any_module front) (Open front) n o
+  by_kind Profile o = number_told t.head (Stuck all_at front) (Goes any_module front) n o
   by_kind Number o = tt
   by_kind Limit o = tt
 

@@ -21,28 +21,28 @@ use Rattle.ir_parse.specs.declared.fault.FaultKind.TheVariants as kinds
 use Rattle.read_again.specs.NamedCalls.{in_module}
 use Rattle.ir_instructions.specs.ShapeForms.{OPEN_BRACE}
 use Rattle.read_again.specs.Refusals.{BeginsVector, FitsPlace, GoesOn, INTEGER, MEMORY, NoneOfThem, NotEach, SomeGoesOn, TARGET, TYPE, WORD}
-use Rattle.read_again.proofs.Exchanged.{Goes, IsTold, NotTold, Open, Outcome, SOMEWHERE, Stuck, is_angled}
+use Rattle.read_again.proofs.Exchanged.{Goes, IsTold, NotTold, Outcome, SOMEWHERE, Stuck, is_angled}
 use Rattle.read_again.proofs.NamedCallees.{never_left_out}
 use Rattle.read_again.proofs.ExchangedModules.{Vector, vector_placed, all_at, module_exchanged, none_goes_on}
 
 -- ---- what is said of each class
 
-type_told : (b : Bool) (h : Head) (S G : Tok → Type 0) (P : Type 0) → contains TYPE (number h) ≡ true → IsTold b h S G P → ((u : Tok) × (among tokens REG u ≡ true) × G u) ⊎ P
-type_told b heads.RefusedType S G P e n = n
-type_told b h S G P e n = absurd cc
+type_told : (b : Bool) (h : Head) (S G : Tok → Type 0) → contains TYPE (number h) ≡ true → IsTold b h S G → (u : Tok) × (among tokens REG u ≡ true) × G u
+type_told b heads.RefusedType S G e n = n
+type_told b h S G e n = absurd cc
 
-target_told : (b : Bool) (h : Head) (S G : Tok → Type 0) (P : Type 0) → contains TARGET (number h) ≡ true → IsTold b h S G P → (((u : Tok) × (among tokens REG u ≡ true) × G u) ⊎ P) × ((w : Tok) → among tokens WORD w ≡ true → S w)
-target_told b heads.Target S G P e n = n
-target_told b h S G P e n = absurd cc
+target_told : (b : Bool) (h : Head) (S G : Tok → Type 0) → contains TARGET (number h) ≡ true → IsTold b h S G → ((u : Tok) × (among tokens REG u ≡ true) × G u) × ((w : Tok) → among tokens WORD w ≡ true → S w)
+target_told b heads.Target S G e n = n
+target_told b h S G e n = absurd cc
 
-integer_told : (b : Bool) (h : Head) (S G : Tok → Type 0) (P : Type 0) → contains INTEGER (number h) ≡ true → IsTold b h S G P → (u : Tok) → among tokens MEMORY u ≡ true → IsReal u → G u
-integer_told b heads.RegisterInteger S G P e n = n
-integer_told b h S G P e n = absurd cc
+integer_told : (b : Bool) (h : Head) (S G : Tok → Type 0) → contains INTEGER (number h) ≡ true → IsTold b h S G → (u : Tok) → among tokens MEMORY u ≡ true → IsReal u → G u
+integer_told b heads.RegisterInteger S G e n = n
+integer_told b h S G e n = absurd cc
 
-name_told : (b : Bool) (h : Head) (S G : Tok → Type 0) (P : Type 0) → contains NUMBERED (number h) ≡ true → IsTold b h S G P → (u : Tok) × (among tokens GLOBAL u ≡ true) × G u
-name_told b heads.NumberedGlobal S G P e n = n
-name_told b heads.NumberedDefinition S G P e n = n
-name_told b h S G P e n = absurd cc
+name_told : (b : Bool) (h : Head) (S G : Tok → Type 0) → contains NUMBERED (number h) ≡ true → IsTold b h S G → (u : Tok) × (among tokens GLOBAL u ≡ true) × G u
+name_told b heads.NumberedGlobal S G e n = n
+name_told b heads.NumberedDefinition S G e n = n
+name_told b h S G e n = absurd cc
 
 type_not : (b : Bool) (h : Head) (S G : Tok → Type 0) (P : Type 0) → contains TYPE (number h) ≡ true → NotTold b h S G P → (u : Tok) → among tokens REG u ≡ true → S u
 type_not b heads.RefusedType S G P e n = n
@@ -77,12 +77,8 @@ module _ (front : List Tok) (t : Tok) where
   some_goes_on : (classes : List ℕ) → (u : Tok) × (among tokens classes u ≡ true) × Goes any_module front u → SomeGoesOn classes front
   some_goes_on classes (u, i, g) = (u, i, is_real u g, goes_on u g)
 
-  some_or_open : (P : Type 0) → ((u : Tok) × (among tokens REG u ≡ true) × Goes any_module front u) ⊎ P → SomeGoesOn REG front ⊎ P
-  some_or_open P (inl g) = inl (some_goes_on REG g)
-  some_or_open P (inr p) = inr p
-
-  told_target : (((u : Tok) × (among tokens REG u ≡ true) × Goes any_module front u) ⊎ Open front) × ((w : Tok) → among tokens WORD w ≡ true → Stuck all_at front w) → (SomeGoesOn REG front ⊎ Open front) × NoneOfThem WORD front
-  told_target (g, n) = (some_or_open (Open front) g, λ w i. none_goes_on front w (n w i))
+  told_target : ((u : Tok) × (among tokens REG u ≡ true) × Goes any_module front u) × ((w : Tok) → among tokens WORD w ≡ true → Stuck all_at front w) → SomeGoesOn REG front × NoneOfThem WORD front
+  told_target (g, n) = (some_goes_on REG g, λ w i. none_goes_on front w (n w i))
 
   none_or_word : ((u : Tok) → among tokens REG u ≡ true → Stuck all_at front u) ⊎ ((w : Tok) × (among tokens WORD w ≡ true) × Goes any_module front w) → NoneOfThem REG front ⊎ SomeGoesOn WORD front
   none_or_word (inl n) = inl (λ u i. none_goes_on front u (n u i))
@@ -122,13 +118,13 @@ module _ (front : List Tok) (t : Tok) where
 
   left_out : (kind : told_kind.FaultKind) → (kind ≡ kinds.Syntax → ⊥) → Placed Profile → Unnamed → Vectors Profile → FitsPlace front t kind
   left_out kind never p unnamed vector = record {
-    type_left_out = λ e word h. some_or_open (Open front) (type_told (is_angled front) t.head (Stuck all_at front) (Goes any_module front) (Open front) e (p (in_types e)));
+    type_left_out = λ e word h. some_goes_on REG (type_told (is_angled front) t.head (Stuck all_at front) (Goes any_module front) e (p (in_types e)));
     type_misplaced = λ e h. absurd (never h);
-    target_left_out = λ e word h. told_target (target_told (is_angled front) t.head (Stuck all_at front) (Goes any_module front) (Open front) e (p (in_target e)));
+    target_left_out = λ e word h. told_target (target_told (is_angled front) t.head (Stuck all_at front) (Goes any_module front) e (p (in_target e)));
     target_misplaced = λ e h. absurd (never h);
-    integer_left_out = λ e word h u i r. goes_on u (integer_told (is_angled front) t.head (Stuck all_at front) (Goes any_module front) (Open front) e (p (in_integers e)) u i r);
+    integer_left_out = λ e word h u i r. goes_on u (integer_told (is_angled front) t.head (Stuck all_at front) (Goes any_module front) e (p (in_integers e)) u i r);
     integer_misplaced = λ e h. absurd (never h);
-    name_left_out = λ e word h. some_goes_on GLOBAL (name_told (is_angled front) t.head (Stuck all_at front) (Goes any_module front) (Open front) e (p (in_names e)));
+    name_left_out = λ e word h. some_goes_on GLOBAL (name_told (is_angled front) t.head (Stuck all_at front) (Goes any_module front) e (p (in_names e)));
     name_misplaced = λ e h. absurd (never h);
     marker_left_out = λ e word h. unnamed e;
     marker_misplaced = λ e h. absurd (never h);

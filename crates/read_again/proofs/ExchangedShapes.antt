@@ -36,7 +36,7 @@ use Rattle.ir_instructions.proofs.ShapeRules.{nested}
 use Rattle.ir_read.proofs.Singles.{mark, open_angle_real, open_brace_real, open_bracket_real, word}
 use Rattle.ir_read.proofs.Words.{int_32_real}
 use Rattle.read_again.specs.Refusals.{MEMORY}
-use Rattle.read_again.proofs.Exchanged.{Exchanges, Goes, IsTold, Open, OutcomeAt, Stuck, Swaps, alt, barred, differ, err_ends, nothing, nowhere, recast, same_at, seq, seq_by, single, token_begins}
+use Rattle.read_again.proofs.Exchanged.{Exchanges, Goes, IsTold, OutcomeAt, Stuck, Swaps, alt, barred, differ, err_ends, nothing, nowhere, recast, same_at, seq, seq_by, single, token_begins}
 use Rattle.read_again.proofs.ExchangedChains.{chain}
 use Rattle.read_again.proofs.ExchangedTokens.{angle_says, class_outside, loose_one, of_token, one_sample, plain_class, plain_valued, refuses_angle, says_shaped}
 use Rattle.read_again.proofs.ExchangedWords.{close_angle_exchanged, close_brace_exchanged, close_bracket_exchanged, comma_exchanged}
@@ -188,7 +188,7 @@ module _ {B : Type 0} {wide : Unit {0} → Form Tok B} {h : Unit {0} → Reader 
   unfolding is_class
   number_told t rest e = ap (λ (n : ℕ). follow (token_means t rest (cond (nat_eq n (number heads.OpenBrace)) (fine tt) (Err (angle_refusal n)))) h) (same (number t.head) (number heads.Number) e)
 
-  told_number : (k : Head) → nat_eq (number k) (number heads.Number) ≡ true → IsTold true k (Stuck behind_one_at []) (Goes behind_one []) (Open [])
+  told_number : (k : Head) → nat_eq (number k) (number heads.Number) ≡ true → IsTold true k (Stuck behind_one_at []) (Goes behind_one [])
   told_number heads.Number e = λ _. brace_goes
   told_number k e = absurd cc
 

@@ -198,8 +198,8 @@ module _ {A : Type 0} (wide : Form Tok A) (meaning : Tok → Result A FaultKind)
     numbers = and_parts (plain_at wanted heads.NumberedGlobal) (plain_at wanted heads.NumberedDefinition) (and_parts (plain_at wanted heads.RegisterInteger) (plain_at wanted heads.NumberedGlobal && plain_at wanted heads.NumberedDefinition) p).1
 
     typed : (h : Head) → contains wanted (number h) ≡ false → Says wide meaning h (type_refusal (number h))
-    typed heads.RefusedType n = inl type
-    typed heads.Target n = (inl type, no_word wide meaning wanted type_refusal type_not_bound outside inside q)
+    typed heads.RefusedType n = type
+    typed heads.Target n = (type, no_word wide meaning wanted type_refusal type_not_bound outside inside q)
     typed heads.RegisterInteger n = (i8, refl, i8_real, none_taken wide meaning wanted type_refusal type_not_bound outside inside heads.RegisterInteger (and_parts (plain_at wanted heads.RegisterInteger) (plain_at wanted heads.NumberedGlobal && plain_at wanted heads.NumberedDefinition) p).0 n i8 refl)
     typed heads.NumberedGlobal n = none_taken wide meaning wanted type_refusal type_not_bound outside inside heads.NumberedGlobal numbers.0 n
     typed heads.NumberedDefinition n = none_taken wide meaning wanted type_refusal type_not_bound outside inside heads.NumberedDefinition numbers.1 n
@@ -216,8 +216,8 @@ module _ {A : Type 0} (wide : Form Tok A) (meaning : Tok → Result A FaultKind)
     both = and_parts (plain_at wanted heads.NumberedGlobal) (plain_at wanted heads.NumberedDefinition) p
 
     shaped : (h : Head) → contains wanted (number h) ≡ false → Says wide meaning h (memory_refusal (number h))
-    shaped heads.RefusedType n = inl type
-    shaped heads.Target n = (inl type, no_word wide meaning wanted memory_refusal memory_not_bound outside inside q)
+    shaped heads.RefusedType n = type
+    shaped heads.Target n = (type, no_word wide meaning wanted memory_refusal memory_not_bound outside inside q)
     shaped heads.RegisterInteger n = each
     shaped heads.NumberedGlobal n = none_taken wide meaning wanted memory_refusal memory_not_bound outside inside heads.NumberedGlobal both.0 n
     shaped heads.NumberedDefinition n = none_taken wide meaning wanted memory_refusal memory_not_bound outside inside heads.NumberedDefinition both.1 n
@@ -383,8 +383,8 @@ module _ {A : Type 0} (wanted : List ℕ) (passes : Tok → Bool) (value : Tok �
     stuck_word w i = (type_refusal (number w.head), type_not_bound (number w.head), left_no (among tokens wanted w) (passes w) (value w) (type_refusal (number w.head)) (apart APART wanted none (number w.head) (within_of WORD APART refl (number w.head) i)))
 
     exact_class : (h : Head) → Says (form.token tested) tested h (type_refusal (number h))
-    exact_class heads.RefusedType = inl passing
-    exact_class heads.Target = (inl passing, stuck_word)
+    exact_class heads.RefusedType = passing
+    exact_class heads.Target = (passing, stuck_word)
     exact_class heads.RegisterInteger = failing
     exact_class heads.NumberedGlobal = λ g p. stuck_global g p
     exact_class heads.NumberedDefinition = λ g p. stuck_global g p

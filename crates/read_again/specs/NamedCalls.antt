@@ -1,4 +1,5 @@
--- What stands before the callee of a void call that has a name, without the limits (LangRef, "'call' Instruction").
+-- What stands before the callee of a void call that has a name, without the limits (LangRef, "'call' Instruction"): each form goes from
+-- some part of a module up to that callee.
 use Rattle.std.specs.Prelude.{ℕ}
 use Rattle.ir_lex.specs.Tok.{Tok}
 use Rattle.ir_lex.specs.declared.head.Head.TheVariants as heads

@@ -10,7 +10,6 @@ use Rattle.ir_parse.specs.declared.fault.FaultKind.TheVariants as kinds
 use Rattle.ir_parse.specs.FirstFault.{Stuck}
 use Rattle.ir_read.specs.Classes.{IsReal, tokens}
 use Rattle.ir_read.specs.FunctionHeads.{GLOBAL, NUMBERED}
-use Rattle.ir_read.specs.MetadataAt.{PAREN}
 use Rattle.ir_read.specs.Operands.{REG}
 use Rattle.ir_instructions.specs.ShapeForms.{OPEN_ANGLE, OPEN_BRACE}
 use Rattle.ir_read.specs.Targets.{STRING}
@@ -23,8 +22,7 @@ use Rattle.read_again.specs.NamedCalls.{in_module}
 abbrev pub REFUSED_EVERYWHERE : List ℕ
 REFUSED_EVERYWHERE = number heads.RefusedWord ∷ number heads.RefusedAttribute ∷ number heads.RefusedInteger ∷ number heads.ReservedGlobal ∷ number heads.RefusedMark ∷ []
 
--- refused in some places, and in others against the syntax: a lifetime marker, but as the callee of a named call; and those of which
--- `FitsPlace` says where
+-- refused in some places, and in others against the syntax: `FitsPlace` says where
 abbrev pub REFUSED_SOMEWHERE : List ℕ
 REFUSED_SOMEWHERE =
     number heads.LifetimeMarker ∷ number heads.RefusedType ∷ number heads.Target ∷ number heads.RegisterInteger ∷ number heads.NumberedGlobal ∷ number heads.NumberedDefinition ∷ []
@@ -90,12 +88,11 @@ NamedVoidCall front = in_module front tt
 
 -- Where what is refused in some places is told to be left out, and where it is told to be against the syntax.
 pub record FitsPlace (front : List Tok) (t : Tok) (kind : FaultKind) : Type 0 where
-  -- a type is told to be left out where some type of a register goes on, or directly behind `(`, where the arguments of a call of no
-  -- parameters may stand; against the syntax only where none goes on
-  pub type_left_out : among tokens TYPE t ≡ true → (word : List ℕ) → kind ≡ kinds.Profile word → SomeGoesOn REG front ⊎ (last_is (among tokens PAREN) front ≡ true)
+  -- a type is told to be left out where some type of a register goes on, and against the syntax where none does
+  pub type_left_out : among tokens TYPE t ≡ true → (word : List ℕ) → kind ≡ kinds.Profile word → SomeGoesOn REG front
   pub type_misplaced : among tokens TYPE t ≡ true → kind ≡ kinds.Syntax → NoneOfThem REG front
   -- so is `target`, but not where a plain word goes on, as behind the head of a definition: there it is against the syntax
-  pub target_left_out : among tokens TARGET t ≡ true → (word : List ℕ) → kind ≡ kinds.Profile word → (SomeGoesOn REG front ⊎ (last_is (among tokens PAREN) front ≡ true)) × NoneOfThem WORD front
+  pub target_left_out : among tokens TARGET t ≡ true → (word : List ℕ) → kind ≡ kinds.Profile word → SomeGoesOn REG front × NoneOfThem WORD front
   pub target_misplaced : among tokens TARGET t ≡ true → kind ≡ kinds.Syntax → NoneOfThem REG front ⊎ SomeGoesOn WORD front
   -- an integer that memory doesn't hold, where each that memory holds goes on
   pub integer_left_out : among tokens INTEGER t ≡ true → (word : List ℕ) → kind ≡ kinds.Profile word → EachGoesOn MEMORY front

@@ -13,14 +13,14 @@
 //! ([`modules_numbered_anew_are_read`]).
 //!
 //! [`kinds_fit_tokens`] is of bytes that are read as no module: what the kind of a fault of the grammar says of the token
-//! at which it stands, in which places a type, `target`, an integer or a name that is a number is told to be left out, and
-//! that a passed limit is told as one (`specs/Refusals.antt`).
+//! at which it stands, in which places a type, `target`, an integer, a name that is a number, a lifetime marker or a number
+//! behind `<` is told to be left out, and that a passed limit is told as one (`specs/Refusals.antt`).
 //!
 //! [`read_twice`] does so with the real calls: it reads, prints and reads again, and its promise is that the second
 //! reading gives the module of the first and refuses nothing.
 //!
 //! **Cost.** That of two readings and a print; the laws don't run. **Not shown**: that a linked module is within the
-//! limits, which inlining may pass; and in which places a lifetime marker or a number behind `<` is told to be left out.
+//! limits, which inlining may pass.
 #![tactic(auto)]
 
 mod laws;
