@@ -28,6 +28,6 @@ returns g c =
     c.deref.ensures.value ∙ c.in_ok-parts.ensures symbols live (λ s. c.in_ok-live.ensures s ∙ ap (λ (ss : List Symbol). is_live ss live s) c.symbols.ensures.symbols) in
     IfOk-weaker c.units.result _ _
     (λ made units. subst (λ (ps : List (List GlobalValue)). AreCompiled c.args.limit (joined ps) symbols suffixes imports 0 ps made.items) of_modules
-        (subst (λ (ss : List Symbol). AreCompiled c.args.limit (joined c.deref.result.now) ss suffixes imports 0 c.deref.result.now made.items) c.symbols-2.ensures.symbols
-        (subst (λ (is : List (List ℕ)). AreCompiled c.args.limit (joined c.deref.result.now) c.symbols-2.result.now suffixes is 0 c.deref.result.now made.items) (ap rows c.deref-2.ensures.value) units)))
+    (subst (λ (ss : List Symbol). AreCompiled c.args.limit (joined c.deref.result.now) ss suffixes imports 0 c.deref.result.now made.items) c.symbols-2.ensures.symbols
+    (subst (λ (is : List (List ℕ)). AreCompiled c.args.limit (joined c.deref.result.now) c.symbols-2.result.now suffixes is 0 c.deref.result.now made.items) (ap rows c.deref-2.ensures.value) units)))
     c.units.ensures
