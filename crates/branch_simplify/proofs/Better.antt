@@ -1,7 +1,7 @@
 -- A sound function with its decided terminators as jumps is better in every program.
-use Rattle.std.proofs.Common.{◌≡◌, ℕ, zero, suc, ◌+◌, ◌≤◌, ◌<◌, nat_eq, ◌==◌, Bool, true, false, List, [], ◌∷◌, ◌++◌, Option, Some, None, map, option_map, ◌⊎◌, inl, inr, refl, sym, ◌∙◌, ap, subst, arith, if◌then◌else◌, append-nil}
+use Rattle.std.proofs.Common.{◌≡◌, ℕ, zero, suc, ◌+◌, ◌≤◌, ◌<◌, nat_eq, Bool, true, false, List, [], ◌∷◌, ◌++◌, Option, Some, None, map, option_map, ◌⊎◌, inl, inr, refl, sym, ◌∙◌, ap, subst, arith, if◌then◌else◌, append-nil}
 use Rattle.std.specs.Prelude.{All, nat_le, nat_lt, ◌^◌, slice_get}
-use Rattle.std.proofs.lemmas.Bool.{eqb-true, eq-eqb, leb-true, leb-false}
+use Rattle.std.proofs.lemmas.Bool.{eqb-true, eq-eqb, leb-false}
 use Rattle.std.proofs.lemmas.List.Elements.{All-head, All-tail}
 use Rattle.ir_tree.specs.Flow.{targets}
 use Rattle.ir_tree.specs.Formed.{Distinct}
@@ -18,7 +18,7 @@ use Rattle.ir_tree.specs.declared.instr.Phi.{Phi}
 use Rattle.ir_tree.specs.declared.operand.Operand.{Operand}
 use Rattle.ir_tree.specs.declared.operand.Operand.TheVariants.{Local, Null, Number as Constant, Poison as PoisonOf, Symbol as Named}
 use Rattle.ir_tree.specs.declared.rule.Rule.TheVariants.{PhiEdges}
-use Rattle.ir_meaning.specs.Act.{Exit, Leads', Stuck, by_bits, by_value, case_target, exit_of, find_block, incoming_value, phis_bound, side}
+use Rattle.ir_meaning.specs.Act.{Leads', by_bits, by_value, case_target, exit_of, find_block, incoming_value, phis_bound, side}
 use Rattle.ir_meaning.specs.Frame.{Locals, Signature, value_of}
 use Rattle.ir_meaning.specs.Near.{BetterThan}
 use Rattle.ir_meaning.specs.Operate.{bits_of}
@@ -26,14 +26,14 @@ use Rattle.ir_meaning.specs.Program.{Program}
 use Rattle.ir_meaning.specs.declared.value.Value.{Value}
 use Rattle.ir_meaning.specs.declared.value.Value.TheVariants.{Number}
 use Rattle.ir_better.specs.Formed.{IsFormed}
-use Rattle.ir_better.specs.Reshape.{GoesQuietly, IsShape, IsStuck, Layout, LeavesAlike, Spot, laid, spot_of}
+use Rattle.ir_better.specs.Reshape.{IsShape, IsStuck, Layout, LeavesAlike, Spot, laid, spot_of}
 use Rattle.ir_better.proofs.Alike.Itself.{same_better}
 use Rattle.ir_better.proofs.Blocks.Reshaped.{reshaped_is_better}
 use Rattle.ir_better.specs.Counted.{sources, times}
 use Rattle.ir_better.proofs.Counting.{numbers_in}
 use Rattle.ir_better.proofs.Entries.{apart, entries_of, phis_on_edges}
 use Rattle.ir_better.proofs.Exits.{end_in, end_of, exit_among, found_at, number_found}
-use Rattle.branch_simplify.specs.Decided.{branch_target, constant, decided, jump_or, lost, straight, switch_target}
+use Rattle.branch_simplify.specs.Decided.{branch_target, constant, jump_or, lost, straight, switch_target}
 use Rattle.branch_simplify.specs.Laws.{SimplifiedIsBetter}
 use Rattle.branch_simplify.specs.Simplified.{entries_left, lost_into, phi_left, simplified}
 use Rattle.branch_simplify.proofs.Counting.{edges_stay, lost_from}

@@ -1,5 +1,5 @@
 -- A function without a decided terminator stays.
-use Rattle.std.proofs.Common.{◌≡◌, ℕ, ◌&&◌, Bool, true, not, List, [], ◌∷◌, ◌++◌, Option, Some, None, map, refl, sym, ◌∙◌, ap, arith, if◌then◌else◌}
+use Rattle.std.proofs.Common.{◌≡◌, ℕ, Bool, true, not, List, [], ◌∷◌, ◌++◌, Option, Some, None, map, refl, sym, ◌∙◌, ap, arith, if◌then◌else◌}
 use Rattle.std.specs.Prelude.{is_some}
 use Rattle.std.proofs.lemmas.Bool.{and_parts, le-leb}
 use Rattle.ir_tree.specs.Flow.{repeated, targets}
@@ -8,7 +8,7 @@ use Rattle.ir_tree.specs.declared.function.Function.{Function}
 use Rattle.ir_tree.specs.declared.instr.Incoming.{Incoming}
 use Rattle.ir_tree.specs.declared.instr.Phi.{Phi}
 use Rattle.ir_better.specs.Counted.{sources, times}
-use Rattle.branch_simplify.specs.Decided.{all_but_one, decided, jump_or, straight}
+use Rattle.branch_simplify.specs.Decided.{all_but_one, decided, jump_or}
 use Rattle.branch_simplify.specs.Simplified.{entries_left, lost_into, phi_left, simplified, simplified_block}
 use Rattle.branch_simplify.specs.Staying.{ends_stay}
 

@@ -1,8 +1,8 @@
 -- A sound function with its decided terminators as jumps is sound.
-use Rattle.std.proofs.Common.{◌≡◌, ℕ, zero, suc, ◌+◌, ◌-◌, ◌≤◌, ◌<◌, nat_eq, Bool, true, false, List, [], ◌∷◌, ◌++◌, Option, Some, None, map, option_map, length, refl, sym, ◌∙◌, ap, subst, arith, if◌then◌else◌}
+use Rattle.std.proofs.Common.{◌≡◌, ℕ, suc, ◌+◌, ◌-◌, ◌≤◌, nat_eq, List, [], ◌∷◌, ◌++◌, Option, Some, None, map, option_map, refl, sym, ◌∙◌, ap, subst, arith}
 use Rattle.std.specs.Prelude.{All, count_by, slice_get}
 use Rattle.std.proofs.lemmas.List.Elements.{All-append, All-cons, All-head, All-nil, All-tail, All-weaker}
-use Rattle.ir_tree.specs.Flow.{edges, holds, leading_to, locals, targets}
+use Rattle.ir_tree.specs.Flow.{edges, holds, locals, targets}
 use Rattle.ir_tree.specs.Formed.{ArgumentFormed, CasesFormed, Distinct, Formed, IsBlock, ItemFormed, OperandFormed, numbers}
 use Rattle.ir_tree.specs.Items.{Item, phi_item, line_item, end_item, block_items, end_reads, entries, items, items_from, lines_from, phi_reads, reads, taken_as, typed}
 use Rattle.ir_tree.specs.Rules.{EndDiffers, EndTypes, EntriesThere, HasType, IsNoPhi, IsThere, IsThereAtEnd, Keeps, LineOnEdges, OnEdges, Sound, StandsRight, place}
@@ -20,13 +20,13 @@ use Rattle.ir_tree.specs.declared.operand.Operand.{Operand}
 use Rattle.ir_tree.specs.declared.operand.Operand.TheVariants as operand
 use Rattle.ir_tree.specs.declared.rule.Rule.{Rule}
 use Rattle.ir_tree.specs.declared.rule.Rule.TheVariants.{TypeMismatch, NotAvailable, PhiEdges, PhiPlace, EntryBranch, Index, Cast, CaseTwice}
-use Rattle.ir_better.specs.Counted.{sources, times}
+use Rattle.ir_better.specs.Counted.{times}
 use Rattle.ir_better.proofs.Counting.{edges_from, numbers_in, out_to, times_is}
 use Rattle.ir_better.proofs.Entries.{apart, by_number, entries_of}
 use Rattle.ir_better.proofs.Everywhere.{all_among, all_back, all_front, all_with}
-use Rattle.branch_simplify.specs.Decided.{decided, jump_or, lost, straight}
+use Rattle.branch_simplify.specs.Decided.{decided, jump_or, straight}
 use Rattle.branch_simplify.specs.Laws.{SimplifiedIsSound}
-use Rattle.branch_simplify.specs.Simplified.{entries_left, lost_into, phi_left, simplified, simplified_block}
+use Rattle.branch_simplify.specs.Simplified.{entries_left, lost_into, phi_left, simplified}
 use Rattle.branch_simplify.proofs.Counting.{decided_among, edges_stay, lost_from}
 use Rattle.branch_simplify.proofs.Kept.{available_at_end_stays, available_at_stays, block_at, locals_stay, numbers_stay, place_stays, step, type_stays}
 use Rattle.branch_simplify.proofs.Left.{all_left, count_left, each_left, fewer, was_there}

@@ -1,12 +1,12 @@
 -- A table of what stands for locals: one more pair, and one more row.
 use Rattle.std.proofs.Common.{◌≡◌, ◌≢◌, ℕ, zero, suc, ◌+◌, ◌<◌, ◌==◌, nat_eq, Bool, true, false, List, [], ◌∷◌, ◌++◌, Option, Some, None, length, get_or, drop, refl, sym, ◌∙◌, ap, add-one, drop-cons, if◌then◌else◌, arith}
 use Rattle.std.specs.Borrow.{Bor}
-use Rattle.std.specs.Prelude.{slice_get, slice_set}
+use Rattle.std.specs.Prelude.{slice_set}
 use Rattle.std.proofs.lemmas.Bool.{eqb-false, eqb-true}
 use Rattle.ir_tree.specs.declared.operand.Operand.{Operand}
 use Rattle.ir_edit.specs.Numbered.{later_or}
 use Rattle.ir_edit.specs.Substituted.{replacement}
-use Rattle.local_names.specs.Tables.{row_of, taken}
+use Rattle.local_names.specs.Tables.{row_of}
 
 -- ---- pairs
 

@@ -1,16 +1,15 @@
 -- A function without slots stays.
-use Rattle.std.proofs.Common.{◌≡◌, ℕ, suc, Bool, true, false, List, [], ◌∷◌, ◌++◌, length, Option, Some, None, refl, sym, ◌∙◌, ap, arith, if◌then◌else◌}
+use Rattle.std.proofs.Common.{◌≡◌, ℕ, suc, Bool, false, List, [], ◌∷◌, ◌++◌, length, Option, Some, None, refl, sym, ◌∙◌, ap, arith, if◌then◌else◌}
 use Rattle.ir_tree.specs.Flow.{edges}
 use Rattle.ir_tree.specs.declared.block.Block.{Block}
 use Rattle.ir_tree.specs.declared.function.Function.{Function}
 use Rattle.ir_tree.specs.declared.instr.Instr.{Instr}
 use Rattle.ir_tree.specs.declared.instr.Instr.TheVariants.{Address, Alloca, Binary, Call, Cast, Freeze, Icmp, Load, Phi as StrayPhi, Select, Store}
 use Rattle.ir_tree.specs.declared.instr.Line.{Line}
-use Rattle.ir_tree.specs.declared.instr.Phi.{Phi}
 use Rattle.ir_tree.specs.declared.operand.Operand.{Operand}
 use Rattle.ir_tree.specs.declared.operand.Operand.TheVariants.{Local, Null, Number, Poison, Symbol}
 use Rattle.ir_better.specs.Promote.{Current}
-use Rattle.slot_promote.specs.Promoted.{End, block_with, blocks_with, end_at, first_at, new_phis, next_number, promoted_function, promoted_with}
+use Rattle.slot_promote.specs.Promoted.{End, blocks_with, end_at, first_at, new_phis, next_number, promoted_function, promoted_with}
 use Rattle.slot_promote.specs.Slots.{promoted_slots}
 use Rattle.slot_promote.specs.Values.{at_start, behind_line, goes, instr_with, is_slot, load_with, local_goes, without_slots}
 use Rattle.slot_promote.specs.declared.slots.Place.{Place}

@@ -1,4 +1,4 @@
-use Rattle.std.proofs.Common.{◌≡◌, ◌∙◌, ◌++◌, ◌∷◌, [], ap}
+use Rattle.std.proofs.Common.{◌∙◌, ◌++◌, ◌∷◌, [], ap}
 use Rattle.ir_tree.specs.declared.instr.Incoming.{Incoming}
 use Rattle.branch_simplify.specs.Tables.{count_of}
 use Rattle.branch_simplify.proofs.Loops.{counted_down, entry_goes, entry_stays, some_left}

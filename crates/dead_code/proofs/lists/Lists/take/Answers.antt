@@ -1,5 +1,5 @@
-use Rattle.std.proofs.Common.{◌≡◌, ◌<◌, ◌≤◌, ◌+◌, ◌∙◌, length, sym, ap, arith}
-use Rattle.dead_code.specs.Lists.{list_in, total}
+use Rattle.std.proofs.Common.{◌≡◌, ◌<◌, ◌≤◌, ◌∙◌, length, sym, ap, arith}
+use Rattle.dead_code.specs.Lists.{list_in}
 use Rattle.dead_code.proofs.Tables.{fewer, got, none_behind, nothing_taken}
 use Rattle.dead_code.proofs.lists.Lists.take.Goals as goal
 

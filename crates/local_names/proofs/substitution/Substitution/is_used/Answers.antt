@@ -1,6 +1,5 @@
-use Rattle.std.proofs.Common.{ℕ, sym, ◌∙◌, ap, Option}
+use Rattle.std.proofs.Common.{sym, ◌∙◌}
 use Rattle.std.specs.Prelude.{is_some}
-use Rattle.ir_tree.specs.declared.operand.Operand.{Operand}
 use Rattle.local_names.specs.Naming.{blocks_name}
 use Rattle.local_names.proofs.NoneNamed.{blocks_none}
 use Rattle.local_names.proofs.substitution.Substitution.is_used.Goals as goal
