@@ -6,18 +6,16 @@ ghost use Rattle.lto_forms.specs.Readers.{Gives, next_is};
 ghost use Rattle.ir_lex.specs.Tok.{tok};
 ghost use Rattle.lto_forms.specs.Rules.{is_among};
 ghost use Rattle.ir_read.specs.Ahead.{WRAPS};
-ghost use Rattle.ir_read.specs.Operands.{IsReg};
-ghost use Rattle.ir_tree.specs.declared.operand.Reg.TheVariants.{Int};
 ghost use Rattle.ir_read.specs.Classes.{tokens, refusal, one_of_at};
 ghost use Rattle.ir_instructions.specs.Instructions.{is_nuw, with_wrap, no_flags, PREDICATES, predicate_of};
 ghost use Rattle.ir_instructions.specs.Listing.{put_at};
-ghost use Rattle.ir_instructions.specs.InstructionsAt.{wraps_at, on_two_at, behind_left_at, wrapping_at, dividing_at, joining_at, comparing_at, compared_at, cast_to_at, casting_at, extending_at, narrowing_at, other_at, arms_at, selecting_at, freezing_at, aligned_at, align_at, loaded_at, loading_at, stored_at, storing_to_at, storing_at};
+ghost use Rattle.ir_instructions.specs.InstructionsAt.{wraps_at, on_two_at, wrapping_at, dividing_at, joining_at, comparing_at, casting_at, extending_at, narrowing_at, selecting_at, freezing_at, aligned_at, align_at, loading_at, storing_at};
 
 use crate::listing::Listing;
 use crate::values::{argument_at, operand_at, pointer_at};
 use ir_lex::{Head, Token};
 use ir_read::{
-    Argument, Instr, Operand, Tokens, alignment_at, attached_at, attachments_at, bit_at, expect,
+    Instr, Tokens, alignment_at, attached_at, attachments_at, bit_at, expect,
     integer_at, maybe_at, refusal, reg_at, scalar_at,
 };
 use ir_tree::{BinaryOp, CastOp, Flags, Predicate, Reg};
@@ -81,30 +79,6 @@ fn wraps_at(tokens: &mut Tokens) -> Result<Flags, ReadError>
     Ok(flags)
 }
 
-/// Reads what follows the left operand of an operation on integers.
-fn behind_left_into<'a>(
-    alloc: Global,
-    op: BinaryOp,
-    flags: Flags,
-    width: u8,
-    left: Operand<'a>,
-    list: &mut Listing<'a>,
-    tokens: &mut Tokens<'_, 'a>,
-) -> Result<(), ReadError>
-    requires { IsReg (Int width) }
-    ensures { Gives (λ _. (list.new.lines.items, tokens.new)) result (put_at list.old (behind_left_at op flags width left.entry) tokens.old) }
-{
-    expect(Head::Comma, tokens)?;
-    let right = operand_at(alloc, Reg::Int(width), tokens)?;
-    list.put(Instr::Binary {
-        op,
-        flags,
-        width,
-        left,
-        right,
-    })
-}
-
 /// Reads `iN operand , operand`.
 #[tactic(auto, unfolding(crate::specs::InstructionsAt::on_two_at))]
 pub fn on_two_into<'a>(
@@ -118,7 +92,15 @@ pub fn on_two_into<'a>(
 {
     let width = integer_at(tokens)?;
     let left = operand_at(alloc, Reg::Int(width), tokens)?;
-    behind_left_into(alloc, op, flags, width, left, list, tokens)
+    expect(Head::Comma, tokens)?;
+    let right = operand_at(alloc, Reg::Int(width), tokens)?;
+    list.put(Instr::Binary {
+        op,
+        flags,
+        width,
+        left,
+        right,
+    })
 }
 
 /// Reads what follows `add`, `sub`, `mul` or `shl`.
@@ -208,28 +190,6 @@ fn predicate_at(tokens: &mut Tokens) -> Result<Predicate, ReadError>
     }
 }
 
-/// Reads what follows the left operand of an `icmp`.
-fn compared_into<'a>(
-    alloc: Global,
-    predicate: Predicate,
-    reg: Reg,
-    left: Operand<'a>,
-    list: &mut Listing<'a>,
-    tokens: &mut Tokens<'_, 'a>,
-) -> Result<(), ReadError>
-    requires { IsReg reg }
-    ensures { Gives (λ _. (list.new.lines.items, tokens.new)) result (put_at list.old (compared_at predicate reg left.entry) tokens.old) }
-{
-    expect(Head::Comma, tokens)?;
-    let right = operand_at(alloc, reg, tokens)?;
-    list.put(Instr::Icmp {
-        predicate,
-        reg,
-        left,
-        right,
-    })
-}
-
 /// Reads what follows `icmp`.
 #[tactic(auto, unfolding(crate::specs::InstructionsAt::comparing_at))]
 pub fn comparing_into<'a>(
@@ -243,26 +203,13 @@ pub fn comparing_into<'a>(
     let predicate = predicate_at(tokens)?;
     let reg = reg_at(tokens)?;
     let left = operand_at(alloc, reg, tokens)?;
-    compared_into(alloc, predicate, reg, left, list, tokens)
-}
-
-/// Reads what follows the value that is cast.
-fn cast_to_into<'a>(
-    op: CastOp,
-    from: Reg,
-    value: Operand<'a>,
-    list: &mut Listing<'a>,
-    tokens: &mut Tokens<'_, 'a>,
-) -> Result<(), ReadError>
-    ensures { Gives (λ _. (list.new.lines.items, tokens.new)) result (put_at list.old (cast_to_at op from value.entry) tokens.old) }
-{
-    expect(Head::To, tokens)?;
-    let to = reg_at(tokens)?;
-    list.put(Instr::Cast {
-        op,
-        from,
-        value,
-        to,
+    expect(Head::Comma, tokens)?;
+    let right = operand_at(alloc, reg, tokens)?;
+    list.put(Instr::Icmp {
+        predicate,
+        reg,
+        left,
+        right,
     })
 }
 
@@ -278,7 +225,14 @@ pub fn casting_into<'a>(
 {
     let from = reg_at(tokens)?;
     let value = operand_at(alloc, from, tokens)?;
-    cast_to_into(op, from, value, list, tokens)
+    expect(Head::To, tokens)?;
+    let to = reg_at(tokens)?;
+    list.put(Instr::Cast {
+        op,
+        from,
+        value,
+        to,
+    })
 }
 
 /// Reads what follows `zext`.
@@ -309,39 +263,6 @@ pub fn narrowing_into<'a>(
     casting_into(alloc, op, list, tokens)
 }
 
-/// Reads the second arm of a `select`.
-fn other_into<'a>(
-    alloc: Global,
-    condition: Operand<'a>,
-    if_true: Argument<'a>,
-    list: &mut Listing<'a>,
-    tokens: &mut Tokens<'_, 'a>,
-) -> Result<(), ReadError>
-    ensures { Gives (λ _. (list.new.lines.items, tokens.new)) result (put_at list.old (other_at condition.entry if_true.entry) tokens.old) }
-{
-    expect(Head::Comma, tokens)?;
-    let if_false = argument_at(alloc, tokens)?;
-    list.put(Instr::Select {
-        condition,
-        if_true,
-        if_false,
-    })
-}
-
-/// Reads the arms of a `select`.
-fn arms_into<'a>(
-    alloc: Global,
-    condition: Operand<'a>,
-    list: &mut Listing<'a>,
-    tokens: &mut Tokens<'_, 'a>,
-) -> Result<(), ReadError>
-    ensures { Gives (λ _. (list.new.lines.items, tokens.new)) result (put_at list.old (arms_at condition.entry) tokens.old) }
-{
-    expect(Head::Comma, tokens)?;
-    let if_true = argument_at(alloc, tokens)?;
-    other_into(alloc, condition, if_true, list, tokens)
-}
-
 /// Reads what follows `select`.
 #[tactic(auto, unfolding(crate::specs::InstructionsAt::selecting_at))]
 pub fn selecting_into<'a>(
@@ -353,7 +274,15 @@ pub fn selecting_into<'a>(
 {
     let width = bit_at(tokens)?;
     let condition = operand_at(alloc, Reg::Int(width), tokens)?;
-    arms_into(alloc, condition, list, tokens)
+    expect(Head::Comma, tokens)?;
+    let if_true = argument_at(alloc, tokens)?;
+    expect(Head::Comma, tokens)?;
+    let if_false = argument_at(alloc, tokens)?;
+    list.put(Instr::Select {
+        condition,
+        if_true,
+        if_false,
+    })
 }
 
 /// Reads what follows `freeze`.
@@ -400,24 +329,6 @@ pub fn align_at(alloc: Global, tokens: &mut Tokens) -> Result<Option<u64>, ReadE
     }
 }
 
-/// Reads the alignment of a `load`.
-fn loaded_into<'a>(
-    alloc: Global,
-    reg: Reg,
-    address: Operand<'a>,
-    list: &mut Listing<'a>,
-    tokens: &mut Tokens<'_, 'a>,
-) -> Result<(), ReadError>
-    ensures { Gives (λ _. (list.new.lines.items, tokens.new)) result (put_at list.old (loaded_at reg address.entry) tokens.old) }
-{
-    let align = align_at(alloc, tokens)?;
-    list.put(Instr::Load {
-        reg,
-        address,
-        align,
-    })
-}
-
 /// Reads what follows `load`.
 #[tactic(auto, unfolding(crate::specs::InstructionsAt::loading_at))]
 pub fn loading_into<'a>(
@@ -431,43 +342,12 @@ pub fn loading_into<'a>(
     expect(Head::Comma, tokens)?;
     pointer_at(tokens)?;
     let address = operand_at(alloc, Reg::Ptr, tokens)?;
-    loaded_into(alloc, reg, address, list, tokens)
-}
-
-/// Reads the alignment of a `store`.
-fn stored_into<'a>(
-    alloc: Global,
-    reg: Reg,
-    value: Operand<'a>,
-    address: Operand<'a>,
-    list: &mut Listing<'a>,
-    tokens: &mut Tokens<'_, 'a>,
-) -> Result<(), ReadError>
-    ensures { Gives (λ _. (list.new.lines.items, tokens.new)) result (put_at list.old (stored_at reg value.entry address.entry) tokens.old) }
-{
     let align = align_at(alloc, tokens)?;
-    list.put(Instr::Store {
+    list.put(Instr::Load {
         reg,
-        value,
         address,
         align,
     })
-}
-
-/// Reads what follows the value of a `store`.
-fn storing_to_into<'a>(
-    alloc: Global,
-    reg: Reg,
-    value: Operand<'a>,
-    list: &mut Listing<'a>,
-    tokens: &mut Tokens<'_, 'a>,
-) -> Result<(), ReadError>
-    ensures { Gives (λ _. (list.new.lines.items, tokens.new)) result (put_at list.old (storing_to_at reg value.entry) tokens.old) }
-{
-    expect(Head::Comma, tokens)?;
-    pointer_at(tokens)?;
-    let address = operand_at(alloc, Reg::Ptr, tokens)?;
-    stored_into(alloc, reg, value, address, list, tokens)
 }
 
 /// Reads what follows `store`.
@@ -481,5 +361,14 @@ pub fn storing_into<'a>(
 {
     let reg = scalar_at(tokens)?;
     let value = operand_at(alloc, reg, tokens)?;
-    storing_to_into(alloc, reg, value, list, tokens)
+    expect(Head::Comma, tokens)?;
+    pointer_at(tokens)?;
+    let address = operand_at(alloc, Reg::Ptr, tokens)?;
+    let align = align_at(alloc, tokens)?;
+    list.put(Instr::Store {
+        reg,
+        value,
+        address,
+        align,
+    })
 }
