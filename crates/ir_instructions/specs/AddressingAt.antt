@@ -64,12 +64,6 @@ slots_behind_at fits = pick (among tokens COMMA)
       slots_at fits)
     (done (slots 1 None))
 
--- behind the shape
-abbrev pub reserved_at : Typed → Reader Tok Instr
-reserved_at typed = do
-  s ← slots_behind_at (slots_fit typed.shape)
-  done (instrs.Alloca typed s.count s.align)
-
 unfoldable pub reserving_at : Reader Tok Instr
 reserving_at = do
   typed ← memory_shape_at

@@ -8,7 +8,6 @@ use Rattle.ir_tree.specs.declared.instr.BinaryOp.{BinaryOp}
 use Rattle.ir_tree.specs.declared.instr.BinaryOp.TheVariants as ops
 use Rattle.ir_tree.specs.declared.instr.CastOp.{CastOp}
 use Rattle.ir_tree.specs.declared.instr.Flags.{Flags}
-use Rattle.ir_tree.specs.declared.instr.Predicate.{Predicate}
 use Rattle.ir_tree.specs.declared.operand.Reg.{Reg}
 use Rattle.ir_tree.specs.declared.operand.Reg.TheVariants.{Int, Ptr}
 use Rattle.lto_forms.specs.Alphabet.{among}
@@ -33,13 +32,6 @@ wraps_at = do
   fs ← star_at (among tokens WRAPS) (one_of_at WRAPS is_nuw)
   done (fold with_wrap no_flags fs)
 
--- behind the left operand
-abbrev pub behind_left_at : BinaryOp → Flags → ℕ → Operand → Reader Tok Instr
-behind_left_at op f w left = do
-  _ ← the_at heads.Comma
-  right ← operand_at (Int w)
-  done (instrs.Binary op f w left right)
-
 unfoldable pub on_two_at : BinaryOp → Flags → Reader Tok Instr
 on_two_at op f = do
   w ← integer_at
@@ -63,13 +55,6 @@ joining_at = do
   _ ← maybe_at heads.Disjoint
   on_two_at ops.Or no_flags
 
--- behind the left operand
-abbrev pub compared_at : Predicate → Reg → Operand → Reader Tok Instr
-compared_at p r left = do
-  _ ← the_at heads.Comma
-  right ← operand_at r
-  done (instrs.Icmp p r left right)
-
 unfoldable pub comparing_at : Reader Tok Instr
 comparing_at = do
   _ ← maybe_at heads.Samesign
@@ -79,13 +64,6 @@ comparing_at = do
   _ ← the_at heads.Comma
   right ← operand_at r
   done (instrs.Icmp p r left right)
-
--- behind the value
-abbrev pub cast_to_at : CastOp → Reg → Operand → Reader Tok Instr
-cast_to_at op from value = do
-  _ ← the_at heads.To
-  to ← reg_at
-  done (instrs.Cast op from value to)
 
 unfoldable pub casting_at : CastOp → Reader Tok Instr
 casting_at op = do
@@ -149,12 +127,6 @@ align_at = pick (among tokens COMMA)
       _ ← the_at heads.Comma
       aligned_at)
     (done None)
-
--- behind the address
-abbrev pub loaded_at : Reg → Operand → Reader Tok Instr
-loaded_at r address = do
-  n ← align_at
-  done (instrs.Load r address n)
 
 unfoldable pub loading_at : Reader Tok Instr
 loading_at = do

@@ -5,7 +5,7 @@ ghost use Rattle.ir_lex.specs.Tok.{tok};
 ghost use Rattle.lto_forms.specs.Alphabet.{among};
 ghost use Rattle.lto_forms.specs.Readers.{Gives};
 ghost use Rattle.ir_instructions.specs.Addressing.{keep, slots_fit};
-ghost use Rattle.ir_instructions.specs.AddressingAt.{addressing_at, behind_comma_at, count_in_at, count_means, further_at, indices_at, many_slots_at, one_slot_at, reserved_at, reserving_at, slots_at, slots_behind_at, stepped_at, stepping_by_at};
+ghost use Rattle.ir_instructions.specs.AddressingAt.{addressing_at, behind_comma_at, count_in_at, count_means, further_at, indices_at, many_slots_at, one_slot_at, reserving_at, slots_at, slots_behind_at, stepped_at, stepping_by_at};
 ghost use Rattle.ir_read.specs.Classes.{tokens};
 ghost use Rattle.ir_instructions.specs.Extents.{all_nest_within, extent_of, nests_within};
 ghost use Rattle.ir_read.specs.Literals.{IsWidth};
@@ -177,24 +177,6 @@ fn slots_behind_at(alloc: Global, shape: &Measured, tokens: &mut Tokens) -> Resu
     slots_at(alloc, shape, tokens)
 }
 
-/// Reads what follows the shape of an `alloca`.
-fn reserved_into<'a>(
-    alloc: Global,
-    shape: Measured<'a>,
-    list: &mut Listing<'a>,
-    tokens: &mut Tokens<'_, 'a>,
-) -> Result<(), ReadError>
-    requires { shape.extent ≡ extent_of shape.typed.shape }
-    ensures { Gives (λ _. (list.new.lines.items, tokens.new)) result (put_at list.old (reserved_at shape.entry.typed) tokens.old) }
-{
-    let slots = slots_behind_at(alloc, &shape, tokens)?;
-    list.put(Instr::Alloca {
-        typed: shape.typed,
-        count: slots.count,
-        align: slots.align,
-    })
-}
-
 /// Reads what follows `alloca`.
 #[tactic(auto, unfolding(crate::specs::AddressingAt::reserving_at))]
 pub fn reserving_into<'a>(
@@ -205,7 +187,12 @@ pub fn reserving_into<'a>(
     ensures { Gives (λ _. (list.new.lines.items, tokens.new)) result (put_at list.old reserving_at tokens.old) }
 {
     let shape = memory_shape_at(alloc, tokens)?;
-    reserved_into(alloc, shape, list, tokens)
+    let slots = slots_behind_at(alloc, &shape, tokens)?;
+    list.put(Instr::Alloca {
+        typed: shape.typed,
+        count: slots.count,
+        align: slots.align,
+    })
 }
 
 /// What a comma leads to: an index, or an attachment, behind which only attachments follow.
