@@ -15,8 +15,8 @@ use crate::listing::Listing;
 use crate::values::{argument_at, operand_at, pointer_at};
 use ir_lex::{Head, Token};
 use ir_read::{
-    Instr, Tokens, alignment_at, attached_at, attachments_at, bit_at, expect,
-    integer_at, maybe_at, refusal, reg_at, scalar_at,
+    Instr, Tokens, alignment_at, attached_at, attachments_at, bit_at, expect, integer_at, maybe_at,
+    refusal, reg_at, scalar_at,
 };
 use ir_tree::{BinaryOp, CastOp, Flags, Predicate, Reg};
 use lto_forms::{Fault, FaultKind, ReadError};

@@ -5,7 +5,7 @@ ghost use Rattle.lto_forms.specs.Readers.{Gives};
 ghost use Rattle.ir_read.specs.Operands.{IsReg};
 ghost use Rattle.ir_instructions.specs.Listing.{put_at};
 ghost use Rattle.ir_instructions.specs.Phis.{keep};
-ghost use Rattle.ir_instructions.specs.PhisAt.{incoming_at, behind_comma_at, further_at, entries_at, phi_at, phi_of_at};
+ghost use Rattle.ir_instructions.specs.PhisAt.{incoming_at, behind_comma_at, further_at, entries_at, phi_at};
 
 use crate::listing::Listing;
 use crate::values::operand_at;
@@ -122,24 +122,8 @@ fn entries_at<'a>(
     Ok(entries)
 }
 
-/// Reads the entries of a phi of this type.
-#[tactic(auto, unfolding(crate::specs::PhisAt::phi_of_at))]
-fn phi_of_into<'a>(
-    alloc: Global,
-    reg: Reg,
-    list: &mut Listing<'a>,
-    tokens: &mut Tokens<'_, 'a>,
-) -> Result<(), ReadError>
-    requires { IsReg reg }
-    ensures { Gives (λ _. (list.new.lines.items, tokens.new)) result (put_at list.old (phi_of_at reg) tokens.old) }
-{
-    let first = incoming_at(alloc, reg, tokens)?;
-    let incoming = Rows::of(entries_at(alloc, reg, first, tokens)?);
-    list.put(Instr::Phi { reg, incoming })
-}
-
 /// Reads what follows `phi`.
-#[tactic(auto, unfolding(crate::specs::PhisAt::phi_at))]
+#[tactic(auto, unfolding(crate::specs::PhisAt::phi_at, crate::specs::PhisAt::phi_of_at))]
 pub fn phi_into<'a>(
     alloc: Global,
     list: &mut Listing<'a>,
@@ -148,5 +132,7 @@ pub fn phi_into<'a>(
     ensures { Gives (λ _. (list.new.lines.items, tokens.new)) result (put_at list.old phi_at tokens.old) }
 {
     let reg = reg_at(tokens)?;
-    phi_of_into(alloc, reg, list, tokens)
+    let first = incoming_at(alloc, reg, tokens)?;
+    let incoming = Rows::of(entries_at(alloc, reg, first, tokens)?);
+    list.put(Instr::Phi { reg, incoming })
 }

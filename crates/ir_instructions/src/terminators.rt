@@ -8,7 +8,7 @@ ghost use Rattle.ir_read.specs.Classes.{tokens, refusal, one_of_at};
 ghost use Rattle.ir_read.specs.declared.raw.Terminator.TheVariants as terminators;
 ghost use Rattle.ir_read.specs.Operands.{IsReg};
 ghost use Rattle.ir_instructions.specs.Terminators.{case_classes, matched_of, number_matched, ENDS, ending_of};
-ghost use Rattle.ir_instructions.specs.TerminatorsAt.{returning_at, target_at, other_branch_at, branches_at, branching_at, constant_at, case_of_at, case_at, cases_at, end_of_cases_at, switched_at, switches_at, switching_at, behind_end_at, terminator_at};
+ghost use Rattle.ir_instructions.specs.TerminatorsAt.{returning_at, target_at, other_branch_at, branches_at, branching_at, constant_at, case_of_at, case_at, cases_at, end_of_cases_at, switching_at, behind_end_at, terminator_at};
 
 use crate::values::operand_at;
 use ir_lex::{Head, Token};
@@ -236,36 +236,6 @@ fn switch<'a>(
     }
 }
 
-/// Reads the cases of a `switch`.
-fn switched_at<'a>(
-    alloc: Global,
-    width: u8,
-    value: Operand<'a>,
-    default: Name<'a>,
-    tokens: &mut Tokens<'_, 'a>,
-) -> Result<Terminator<'a>, ReadError>
-    ensures { Gives (λ x. (x, tokens.new)) result (switched_at width value.entry default.entry tokens.old) }
-{
-    expect(Head::OpenBracket, tokens)?;
-    let cases = cases_at(alloc, tokens)?;
-    end_of_cases_at(tokens)?;
-    done(switch(width, value, default, cases))
-}
-
-/// Reads what follows the value of a `switch`.
-fn switches_at<'a>(
-    alloc: Global,
-    width: u8,
-    value: Operand<'a>,
-    tokens: &mut Tokens<'_, 'a>,
-) -> Result<Terminator<'a>, ReadError>
-    ensures { Gives (λ x. (x, tokens.new)) result (switches_at width value.entry tokens.old) }
-{
-    expect(Head::Comma, tokens)?;
-    let default = target_at(tokens)?;
-    switched_at(alloc, width, value, default, tokens)
-}
-
 /// Reads what follows `switch`.
 #[tactic(auto, unfolding(crate::specs::TerminatorsAt::switching_at))]
 fn switching_at<'a>(alloc: Global, tokens: &mut Tokens<'_, 'a>) -> Result<Terminator<'a>, ReadError>
@@ -273,7 +243,12 @@ fn switching_at<'a>(alloc: Global, tokens: &mut Tokens<'_, 'a>) -> Result<Termin
 {
     let width = integer_at(tokens)?;
     let value = operand_at(alloc, Reg::Int(width), tokens)?;
-    switches_at(alloc, width, value, tokens)
+    expect(Head::Comma, tokens)?;
+    let default = target_at(tokens)?;
+    expect(Head::OpenBracket, tokens)?;
+    let cases = cases_at(alloc, tokens)?;
+    end_of_cases_at(tokens)?;
+    done(switch(width, value, default, cases))
 }
 
 #[tactic(auto, unfolding(lto_forms::specs::Rules::is_among))]
