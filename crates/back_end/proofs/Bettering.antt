@@ -10,7 +10,7 @@ use Rattle.ir_meaning.specs.Program.{Program}
 use Rattle.ir_better.specs.Formed.{IsFormed}
 use Rattle.ir_better.proofs.Alike.Itself.{same_better}
 use Rattle.ir_better.proofs.Between.InARow.{in_a_row}
-use Rattle.block_merge.specs.Laws.{MergeIsBetter, MergeIsSound}
+use Rattle.block_trim.specs.MergeLaws.{MergeIsBetter, MergeIsSound}
 use Rattle.block_trim.specs.Laws.{TrimIsBetter, TrimIsSound}
 use Rattle.branch_simplify.specs.Laws.{SimplifiedIsBetter, SimplifiedIsSound}
 use Rattle.branch_simplify.specs.Simplified.{simplified}

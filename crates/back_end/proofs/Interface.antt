@@ -11,7 +11,7 @@ use Rattle.ir_better.specs.Facts.{Facts, blocks_replaced}
 use Rattle.ir_better.specs.Needed.{needed_blocks}
 use Rattle.ir_tree.specs.Edited.{param_edited}
 use Rattle.ir_edit.specs.Numbered.{in_text_order, new_number, numbers_of}
-use Rattle.block_merge.specs.Merged.{IsMergeOf, Joins, joined_block, joined_blocks}
+use Rattle.block_trim.specs.Merged.{IsMergeOf, Joins, joined_block, joined_blocks}
 use Rattle.block_trim.specs.Trimmed.{AreReached, IsTrimOf, block_in, blocks_in}
 use Rattle.branch_simplify.specs.Simplified.{simplified}
 use Rattle.dead_code.specs.Least.{IsNeededOf}

@@ -29,7 +29,7 @@ use Rattle.ir_edit.specs.Substituted.{replacement}
 use Rattle.branch_simplify.specs.Decided.{decided, jump_or, straight}
 use Rattle.branch_simplify.specs.Simplified.{entries_left, lost_into, phi_left, simplified, simplified_block}
 use Rattle.block_trim.specs.Trimmed.{IsTrimOf, block_in, blocks_in, entries_in, phi_in}
-use Rattle.block_merge.specs.Merged.{IsMergeOf, Joins, behind_entry, entry_named, joined_block, joined_blocks, phi_named, renamed}
+use Rattle.block_trim.specs.Merged.{IsMergeOf, Joins, behind_entry, entry_named, joined_block, joined_blocks, phi_named, renamed}
 use Rattle.dead_code.specs.Least.{IsNeededOf}
 use Rattle.fact_sources.specs.Settled.{choice_of, frozen_as, settled, settled_block, settled_instr, settled_line}
 use Rattle.ir_facts.specs.Steps.{AreRounds, IsRound, IsStep, candidate_of, end_of, ends_of}

@@ -4,8 +4,8 @@ use Rattle.ir_tree.specs.Rules.{Sound}
 use Rattle.ir_tree.specs.declared.function.Function.{Function}
 use Rattle.ir_edit.specs.Numbered.{in_text_order}
 use Rattle.ir_better.proofs.Entries.{apart}
-use Rattle.block_merge.specs.Laws.{MergeIsOne}
-use Rattle.block_merge.specs.Merged.{IsMergeOf}
+use Rattle.block_trim.specs.MergeLaws.{MergeIsOne}
+use Rattle.block_trim.specs.Merged.{IsMergeOf}
 use Rattle.block_trim.specs.Laws.{TrimIsOne, TrimIsSound}
 use Rattle.block_trim.specs.Trimmed.{IsTrimOf}
 use Rattle.branch_simplify.specs.Laws.{SimplifiedIsSound}

@@ -1,7 +1,7 @@
 -- A turn from its parts; three turns, and three walks, one after another.
 use Rattle.std.proofs.Common.{ℕ, List, Option, refl}
 use Rattle.ir_tree.specs.declared.function.Function.{Function}
-use Rattle.block_merge.specs.Merged.{IsMergeOf}
+use Rattle.block_trim.specs.Merged.{IsMergeOf}
 use Rattle.block_trim.specs.Trimmed.{IsTrimOf}
 use Rattle.branch_simplify.specs.Simplified.{simplified}
 use Rattle.dead_code.specs.Least.{IsNeededOf}

@@ -2,8 +2,9 @@
 ghost use Rattle.back_end.specs.Laws.{MadeHasInterface, MadeIsBetter, MadeIsInOrder, MadeIsKnown, MadeIsOne, MadeIsSound, TurnIsBetter};
 ghost use Rattle.back_end.specs.WalkLaws.{NextIsBehind, WalkIsBetter, WalkIsOne};
 
-use block_merge::{merge_is_better, merge_is_one, merge_is_sound};
-use block_trim::{trim_is_better, trim_is_one, trim_is_sound};
+use block_trim::{
+    merge_is_better, merge_is_one, merge_is_sound, trim_is_better, trim_is_one, trim_is_sound,
+};
 use branch_simplify::{simplified_is_better, simplified_is_sound};
 use dead_code::{needed_is_better, needed_is_one, needed_is_sound, text_order_is_better};
 use inline_site::{

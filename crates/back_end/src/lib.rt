@@ -8,7 +8,7 @@
 //!
 //! The stack slots of the function then become values (`slot_promote`). It goes three times through propagation of copies and
 //! constants (`ir_facts`), decided branches as jumps (`branch_simplify`), trimming of blocks that aren't reached
-//! (`block_trim`), joining of blocks (`block_merge`) and dead code elimination (`dead_code`), and its locals and blocks are
+//! and joining of blocks (`block_trim`) and dead code elimination (`dead_code`), and its locals and blocks are
 //! numbered in the order of its text (`ir_edit`); one that is `optnone` stays as it was. The order is a definition
 //! (`specs/Made.antt`), and [`compile`] gives a function by it: sound, and better in every program whose own the bodies are, as
 //! all are that are made of a sound one with sound bodies ([`made_is_better`]). What is made has the interface of what it was

@@ -5,3 +5,17 @@ mod TrimBetter
 mod TrimKept
 mod TrimPlaces
 mod TrimSound
+mod Better
+mod Defined
+mod Fitting
+mod JoinedPaths
+mod JoinedSound
+mod Left
+mod Loops
+mod Moved
+mod NoneTakes
+mod One
+mod Start
+mod Stepping
+mod Turns
+mod Weights

@@ -1,18 +1,34 @@
-//! Blocks that go: those that aren't reached from a function's entry.
+//! Blocks that go: those that aren't reached from a function's entry, and those that can be joined to the only block before them.
 //!
-//! A block to which no path leads from the entry goes, and with it the phi entries that name it; numbers stay. The
-//! contract says that the result is the one function of the blocks that paths reach (`specs/Trimmed.antt`), that it is
-//! better in every program, and sound where the function is.
+//! **Trim.** A block to which no path leads from the entry goes, and with it the phi entries that name it; numbers stay. The
+//! contract of [`trim`] says that the result is the one function of the blocks that paths reach (`specs/Trimmed.antt`).
+//!
+//! **Merge.** A block that another jumps to, and to which no other edge leads, goes into that block. The first block in block
+//! order that can take another one takes it, until none is left; phi entries that named a block that went name the block that
+//! took it. The contract of [`merge`] says that such joins lead from the function to the result, one after another, and that no
+//! blocks are left there to be joined (`specs/Merged.antt`): there is one such function.
+//!
+//! Both are better in every program, and sound where the function is.
 //!
 //! Below this crate stand `ir_tree`, `ir_flow` for the blocks that are reached, which are a set of `lto_sets`, and
-//! `ir_meaning`, `ir_better` and `ir_edit` for what is proved. Time and memory are linear in the function
-//! and the greatest number of a block.
+//! `ir_meaning`, `ir_better` and `ir_edit` for what is proved. Time and memory are linear in the function and the greatest
+//! number of a block: edges are counted once, two blocks are joined in constant time, since their lines stand in linked lists
+//! until all are joined, so that each instruction moves once, and phi entries are renamed by one table.
 #![tactic(auto)]
 
+mod candidates;
+mod edges;
+mod joining;
 mod laws;
+mod merge_laws;
+mod merging;
+mod names;
 mod reached;
 mod staying;
 mod trimming;
+mod unjoined;
 
 pub use laws::{trim_is_better, trim_is_one, trim_is_sound};
+pub use merge_laws::{merge_is_better, merge_is_one, merge_is_sound};
+pub use merging::{into_merged, merge};
 pub use trimming::{into_trimmed, trim};

@@ -9,9 +9,9 @@ use Rattle.std.specs.List.{All, Contains, list_any}
 use Rattle.std.specs.Str.{bytes_eq}
 use Rattle.indexmap.specs.IndexSet.{insert_key}
 use Rattle.lto_sets.specs.Sets.{contains}
-use Rattle.graph_walk.specs.Reach.{IsReached, leads, starts}
-use Rattle.graph_walk.specs.Rows.{AreBelow, row}
-use Rattle.graph_walk.specs.Walking.{IsReach}
+use Rattle.liveness.specs.Reach.{IsReached, leads, starts}
+use Rattle.liveness.specs.Rows.{AreBelow, row}
+use Rattle.liveness.specs.Walking.{IsReach}
 use Rattle.ir_tree.specs.declared.module.GlobalValue.{GlobalValue}
 use Rattle.ir_summary.specs.References.{global_names}
 use Rattle.ir_program.specs.Programs.{symbol_of}

@@ -5,7 +5,7 @@ use Rattle.std.specs.List.{list_any}
 use Rattle.std.specs.Str.{bytes_eq}
 use Rattle.ir_tree.specs.Formed.{Distinct}
 use Rattle.ir_tree.specs.declared.module.GlobalValue.{GlobalValue}
-use Rattle.graph_walk.specs.Rows.{row}
+use Rattle.liveness.specs.Rows.{row}
 use Rattle.ir_summary.specs.Once.{texts}
 use Rattle.ir_summary.specs.References.{global_names}
 use Rattle.ir_program.specs.Programs.{symbol_of}

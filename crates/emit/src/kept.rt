@@ -4,9 +4,9 @@ ghost use Rattle.emit.specs.Emissions.{IsKept};
 ghost use Rattle.emit.specs.Graphs.{Linked, edges, is_key, is_marked};
 
 use crate::graph::Graph;
-use graph_walk::reached;
 use indexmap::IndexSet;
 use ir_tree::{GlobalValue, Rows, Text};
+use liveness::reached;
 use lto_sets::Bits;
 use std::alloc::{AllocError, Global};
 

@@ -7,7 +7,7 @@
 //! `specs/Emissions.antt`; kept are the names of a least set. Laws say that this module is one, whole and sound, and that it is an
 //! order of the kept definitions, which refer to one another alone.
 //!
-//! Below stand `graph_walk`, for what is reached, `ir_summary`, for references, `indexmap`, for names, and `merge_meaning`, whose
+//! Below stand `liveness`, whose walk finds what is reached, `ir_summary`, for references, `indexmap`, for names, and `merge_meaning`, whose
 //! words the laws use. Each name is looked up for each reference to it, each value that is kept is copied once, and each group is
 //! sorted once. Time and memory are linear but for the sorting.
 #![tactic(auto)]

@@ -7,7 +7,7 @@ use Rattle.ir_tree.specs.declared.function.Function.{Function}
 use Rattle.ir_tree.specs.declared.instr.Instr.{Instr}
 use Rattle.ir_tree.specs.declared.instr.Line.{Line}
 use Rattle.fact_sources.specs.Settled.{any_choice, any_choice_in, choice_of, frozen_as, settled, settled_block, settled_line}
-use Rattle.local_names.proofs.Neither.{neither}
+use Rattle.fact_sources.proofs.Neither.{neither}
 
 instr_kept : (i : Instr) (o : Option (ℕ × ℕ)) → is_some o ≡ false → frozen_as o i ≡ i
 instr_kept i None h = refl

@@ -1,2 +1,9 @@
+mod LookedUp
+pub mod Neither
+pub mod NoneNamed
+pub mod NoneResting
+pub mod Outside
 pub mod Kept
 pub mod Standing
+pub mod KeptEdges
+pub mod Placed

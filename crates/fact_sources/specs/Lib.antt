@@ -1,4 +1,11 @@
+pub mod Apart
+pub mod Membership
+pub mod Naming
+pub mod Substitutions
+pub mod Tables
 pub mod Askable
 pub mod Candidates
 pub mod Laws
 pub mod Settled
+pub mod Above
+pub mod Places

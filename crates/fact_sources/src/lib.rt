@@ -1,18 +1,37 @@
-//! What may stand for the value of a local.
+//! What may stand for the value of a local, and where a function names locals.
 //!
 //! [`candidates`] gives for each local of a function the operand that may stand for its value, if there is one: of
 //! a phi the one operand that it takes beside its own value, of an instruction the operand of the rule table.
 //! The definition is `specs/Candidates.antt`, and the contract is equality with it. [`settled`] makes of each instruction
 //! whose operand rests on a free choice a freeze of that constant (`specs/Settled.antt`).
 //!
-//! Below this crate stand `ir_tree`, `local_names` and `fold_rules`, and `ir_edit`, `ir_meaning` and `ir_better` for
-//! words of the definitions. Each function is one walk: each entry of a phi is compared once, and whether an operand is a
-//! phi of the same block is seen by a look at these, where they are few, and else looked up in a set that is made once for
-//! a block.
+//! Whether an operand of an instruction, a terminator or a block is one of some locals is said by `specs/Naming.antt`, which
+//! locals a block defines, or all blocks that aren't reached, by `specs/Apart.antt`. A set of locals is what answers [`Locals`].
+//! A [`Substitution`] is one table by which uses of locals are both found and replaced. [`places`] gives for each local the
+//! place of the block that defines it, [`places_by_number`] the place of a block by its number. [`above`] gives an order in
+//! which blocks that aren't reached stand as well: dominance in the graph of the function with an edge more from the entry to
+//! each block to which no earlier block leads. A block that stands above another, and is another, stands above its
+//! predecessors as well ([`is_above`]), but for the entry.
+//!
+//! Below this crate stand `ir_tree`, `ir_flow`, `lto_sets`, `fold_rules` and `ir_edit`, and `ir_meaning` and `ir_better` for
+//! words of the definitions. Each function is one walk, and dominators are those of `ir_flow`: each entry of a phi is compared
+//! once, and whether an operand is a phi of the same block is seen by a look at these, where they are few, and else looked up in
+//! a set that is made once for a block.
 #![tactic(auto)]
 
 mod choices;
+mod entered;
+mod naming;
+mod placing;
 mod sources;
+mod substitution;
+mod table;
+mod unreached;
 
 pub use choices::{any_choice_in, settled};
+pub use entered::{above, is_above};
+pub use naming::{Beside, Locals, block_names, end_names, instr_names, is_among, phis_name};
+pub use placing::{places, places_by_number};
 pub use sources::{candidates, is_local, is_phi, phi_locals, push_block, push_blocks, push_phis};
+pub use substitution::Substitution;
+pub use unreached::{apart, defined, firm, resting, set_of};

@@ -7,9 +7,9 @@ ghost use Rattle.fold_rules.specs.Widths.{HasWidths};
 ghost use Rattle.fact_sources.specs.Askable.{BlocksHaveWidths, LinesHaveWidths};
 ghost use Rattle.fact_sources.specs.Candidates.{block_candidates, blocks_candidates, candidates, first_other, line_candidates, line_source, paired, phi_candidates, result_candidate, source_beside, takes_only};
 
+use crate::{Locals, is_among};
 use fold_rules::{Folded, is_same, rule};
 use ir_tree::{Block, Duplicate, Function, Incoming, Instr, Line, Operand, Phi};
-use local_names::{Locals, is_among};
 use std::alloc::{AllocError, Global};
 use std::collections::HashSet;
 

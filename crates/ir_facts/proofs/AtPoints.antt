@@ -27,10 +27,10 @@ use Rattle.ir_better.specs.Needed.{AllKept, EndReads, IsKept, Reads}
 use Rattle.ir_tree.specs.Edited.{argument_edited, case_edited, edited, end_edited, incoming_edited, instr_edited, line_edited, phi_edited, with_operands}
 use Rattle.ir_edit.specs.Substituted.{operand_replaced, or_local}
 use Rattle.ir_facts.specs.Agreement.{marks_of}
-use Rattle.point_edit.specs.AtPoints.{block_at, blocks_at, edges_at, end_at, function_at, last_point, lines_at, phis_at, standing, standing_behind}
+use Rattle.ir_facts.specs.AtPoints.{block_at, blocks_at, edges_at, end_at, function_at, last_point, lines_at, phis_at, standing, standing_behind}
 use Rattle.ir_facts.specs.Points.{EachIsFact, IsFact, held_along, held_behind}
 use Rattle.ir_facts.specs.Steps.{IsSolution, IsStep, end_of, ends_of, substituted_by}
-use Rattle.point_edit.specs.declared.fact.Fact.{Fact}
+use Rattle.ir_facts.specs.declared.fact.Fact.{Fact}
 use Rattle.ir_facts.proofs.Agreeing.{AreMarks, Flows, Marks, along_marks, are_marks, behind_marks, flow_of, solves}
 use Rattle.ir_facts.proofs.Blocks.{find_at}
 use Rattle.ir_facts.proofs.Covers.{BlockCovered, Covers, EdgesCovered, LinesCovered, PhisCovered, TakenAt, behind, closing, closing_is, opening, with_named}

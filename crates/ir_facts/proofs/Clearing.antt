@@ -5,10 +5,10 @@ use Rattle.ir_tree.specs.declared.block.Block.{Block}
 use Rattle.ir_tree.specs.declared.instr.Line.{Line}
 use Rattle.ir_better.specs.Facts.{Facts, is_phi}
 use Rattle.fact_sources.specs.Candidates.{block_candidates, phi_candidates}
-use Rattle.local_names.specs.Apart.{defined}
+use Rattle.fact_sources.specs.Apart.{defined}
 use Rattle.ir_facts.specs.Clear.{all_over, any_among, block_clear, inner_keys, is_over, keys_among, lines_clear, phis_barred, with_given}
-use Rattle.local_names.specs.Membership.{beside}
-use Rattle.local_names.specs.Naming.{end_names, instr_names}
+use Rattle.fact_sources.specs.Membership.{beside}
+use Rattle.fact_sources.specs.Naming.{end_names, instr_names}
 
 -- one line behind the others
 pub line_clear : (bar own front new : ℕ → Bool) (l : Line) (rest more : List Line) → more ≡ l ∷ rest → instr_names bar l.instr ≡ false → instr_names (beside own front) l.instr ≡ false

@@ -5,8 +5,8 @@ use Rattle.ir_tree.specs.declared.block.Block.{Block}
 use Rattle.ir_tree.specs.declared.function.Function.{Function}
 use Rattle.ir_tree.specs.Edited.{block_edited}
 use Rattle.ir_edit.specs.Substituted.{operand_replaced, replacement}
-use Rattle.local_names.specs.Apart.{IsApart}
-use Rattle.local_names.proofs.NoneResting.{none_rest}
+use Rattle.fact_sources.specs.Apart.{IsApart}
+use Rattle.fact_sources.proofs.NoneResting.{none_rest}
 use Rattle.fact_sources.specs.Candidates.{blocks_candidates, candidates}
 use Rattle.fact_sources.specs.Settled.{any_choice_in}
 use Rattle.fact_sources.proofs.Kept.{nothing_settled}

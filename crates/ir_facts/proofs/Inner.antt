@@ -9,14 +9,14 @@ use Rattle.ir_tree.specs.declared.operand.Operand.TheVariants.{Local}
 use Rattle.ir_better.specs.Facts.{Facts, Has}
 use Rattle.ir_edit.specs.Numbered.{later_or}
 use Rattle.ir_edit.specs.Substituted.{replacement}
-use Rattle.local_names.specs.Apart.{defined, is_listed}
+use Rattle.fact_sources.specs.Apart.{defined, is_listed}
 use Rattle.fact_sources.specs.Candidates.{block_candidates, blocks_candidates}
 use Rattle.ir_facts.specs.Clear.{all_inner, all_over, any_among, inner_keys, is_over, keys_among}
-use Rattle.local_names.specs.Membership.{beside, is_member}
+use Rattle.fact_sources.specs.Membership.{beside, is_member}
 use Rattle.ir_facts.proofs.Matching.{KeysIn}
 use Rattle.ir_facts.proofs.OneFunction.{one_of}
-use Rattle.local_names.proofs.Outside.{listed_left, listed_right}
-use Rattle.local_names.proofs.Neither.{neither}
+use Rattle.fact_sources.proofs.Outside.{listed_left, listed_right}
+use Rattle.fact_sources.proofs.Neither.{neither}
 
 -- ---- a fact's local is a key
 

@@ -15,10 +15,10 @@ use Rattle.ir_better.specs.Facts.{Facts, Has}
 use Rattle.ir_edit.specs.Numbered.{later_or}
 use Rattle.ir_edit.specs.Substituted.{replacement}
 use Rattle.ir_edit.proofs.Tally.{tally, tally_both, tally_same}
-use Rattle.local_names.specs.Apart.{firm, resting}
+use Rattle.fact_sources.specs.Apart.{firm, resting}
 use Rattle.fact_sources.specs.Candidates.{block_candidates, blocks_candidates, candidates, line_candidates, line_source, paired, phi_candidates, phi_source, result_candidate}
-use Rattle.local_names.specs.Membership.{is_member}
-use Rattle.local_names.specs.Naming.{is_key}
+use Rattle.fact_sources.specs.Membership.{is_member}
+use Rattle.fact_sources.specs.Naming.{is_key}
 use Rattle.ir_facts.proofs.Matching.{Once, locals_once, once_right}
 use Rattle.ir_facts.proofs.Unnamed.{no_key}
 

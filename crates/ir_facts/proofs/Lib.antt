@@ -1,3 +1,5 @@
+mod Staying
+pub mod Walking
 pub mod Agreeing
 pub mod AnySolution
 pub mod AtPoints

@@ -14,14 +14,14 @@ use Rattle.ir_tree.specs.declared.operand.Operand.{Operand}
 use Rattle.ir_tree.specs.declared.operand.Operand.TheVariants.{Local, Null, Number as Constant, Poison as PoisonOf, Symbol as Named}
 use Rattle.ir_better.specs.Facts.{Facts, Has}
 use Rattle.ir_edit.specs.Substituted.{replacement, substituted}
-use Rattle.local_names.specs.Apart.{IsApart, defined, firm, resting}
-use Rattle.point_edit.specs.AtPoints.{function_at}
+use Rattle.fact_sources.specs.Apart.{IsApart, defined, firm, resting}
+use Rattle.ir_facts.specs.AtPoints.{function_at}
 use Rattle.fact_sources.specs.Candidates.{block_candidates, candidates, line_candidates, phi_candidates}
 use Rattle.ir_facts.specs.Clear.{IsClear, is_barred, is_over, stands_over}
-use Rattle.local_names.specs.Membership.{is_member}
+use Rattle.fact_sources.specs.Membership.{is_member}
 use Rattle.ir_facts.specs.Points.{EachIsFact}
 use Rattle.ir_facts.specs.Steps.{IsStep, candidate_of, step_of}
-use Rattle.point_edit.specs.declared.fact.Fact.{Fact}
+use Rattle.ir_facts.specs.declared.fact.Fact.{Fact}
 use Rattle.ir_facts.proofs.AtPoints.{OwnAll, made_step, pairs}
 use Rattle.ir_facts.proofs.Covering.{covered, or_mono}
 use Rattle.ir_facts.proofs.Covers.{Covers, opening}
@@ -30,7 +30,7 @@ use Rattle.ir_facts.proofs.Inner.{CandidateAt, candidate_at, holds_key, inner_or
 use Rattle.ir_facts.proofs.Keys.{candidates_once, firm_found, firm_sub, found_has, has_found, has_resting, keys, resting_has}
 use Rattle.ir_facts.proofs.Matching.{Once, apart_right, has_site, keys_block, keys_lines, site_of}
 use Rattle.ir_facts.proofs.OneFunction.{one_of}
-use Rattle.local_names.proofs.Outside.{apart_from, apart_to}
+use Rattle.fact_sources.proofs.Outside.{apart_from, apart_to}
 use Rattle.ir_facts.proofs.Passing.{apart_safe, block_once, given_once, one_definer, open_out, source_reached, sources_safe}
 use Rattle.ir_facts.proofs.RightSources.{AreSources, LineSource, LineSources, PhiSources}
 use Rattle.ir_facts.proofs.Sourcing.{are_sources}

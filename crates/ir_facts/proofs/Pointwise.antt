@@ -8,7 +8,7 @@ use Rattle.ir_better.specs.Facts.{Facts, Has}
 use Rattle.ir_tree.specs.Edited.{edited}
 use Rattle.ir_edit.specs.Substituted.{operand_replaced, replacement}
 use Rattle.ir_facts.specs.Agreement.{FactsMakeSteps}
-use Rattle.point_edit.specs.AtPoints.{function_at}
+use Rattle.ir_facts.specs.AtPoints.{function_at}
 use Rattle.fact_sources.specs.Candidates.{candidates}
 use Rattle.ir_facts.specs.Steps.{IsStep}
 use Rattle.ir_facts.proofs.AtPoints.{made_step}
@@ -19,7 +19,7 @@ use Rattle.ir_facts.proofs.Keys.{candidates_once, found_has, has_found}
 use Rattle.ir_facts.proofs.Parting.{own_all, sources_less}
 use Rattle.ir_facts.proofs.Sourcing.{are_sources}
 use Rattle.ir_facts.proofs.Unnamed.{operand_same, unnamed}
-use Rattle.local_names.proofs.NoneNamed.{blocks_none}
+use Rattle.fact_sources.proofs.NoneNamed.{blocks_none}
 
 -- no candidates
 abbrev nothing : ℕ → Option Operand

@@ -8,9 +8,9 @@ use Rattle.ir_tree.specs.declared.operand.Argument.{Argument}
 use Rattle.ir_tree.specs.declared.operand.Operand.{Operand}
 use Rattle.ir_tree.specs.declared.operand.Operand.TheVariants.{Local, Null, Number as Constant, Poison as PoisonOf, Symbol as Named}
 use Rattle.ir_better.specs.Needed.{AllKept, EndReads, IsKept, Reads}
-use Rattle.local_names.specs.Membership.{is_member}
-use Rattle.local_names.specs.Naming.{arguments_name, end_names, instr_names}
-use Rattle.local_names.proofs.Neither.{neither}
+use Rattle.fact_sources.specs.Membership.{is_member}
+use Rattle.fact_sources.specs.Naming.{arguments_name, end_names, instr_names}
+use Rattle.fact_sources.proofs.Neither.{neither}
 
 module _ (s t among : ℕ → Bool) (into : (x : ℕ) → s x ≡ true → among x ≡ false → t x ≡ true) where
   pub operand_into : (o : Operand) → is_member among o ≡ false → IsKept s o → IsKept t o

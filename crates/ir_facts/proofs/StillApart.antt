@@ -10,7 +10,7 @@ use Rattle.ir_tree.specs.declared.operand.Operand.{Operand}
 use Rattle.ir_better.specs.Facts.{Facts, behind_local, block_replaced, blocks_replaced, function_replaced, lines_replaced, phis_replaced}
 use Rattle.ir_edit.specs.Numbered.{line_numbers, local_number, phi_numbers}
 use Rattle.ir_flow.specs.OfFunction.{IsReach}
-use Rattle.local_names.specs.Apart.{IsApart, given_apart, given_where, is_listed}
+use Rattle.fact_sources.specs.Apart.{IsApart, given_apart, given_where, is_listed}
 use Rattle.fact_sources.specs.Settled.{settled}
 use Rattle.ir_facts.specs.Steps.{IsRound, IsStep, candidate_of, ends_of}
 use Rattle.ir_facts.proofs.Replaced.{edges_still, length_still}

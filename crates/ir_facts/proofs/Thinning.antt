@@ -16,17 +16,17 @@ use Rattle.ir_better.specs.Facts.{is_phi}
 use Rattle.ir_better.specs.Needed.{IsKept, Reads}
 use Rattle.ir_flow.proofs.Solved.{at_end, at_ends}
 use Rattle.fact_sources.specs.Candidates.{phi_candidates}
-use Rattle.local_names.specs.Apart.{defined, is_listed}
+use Rattle.fact_sources.specs.Apart.{defined, is_listed}
 use Rattle.ir_facts.specs.Clear.{IsClear, all_inner, all_over, any_among, barred, block_clear, blocks_clear, entries_barred, given_by, is_barred, is_taken, lines_clear, phis_barred, with_given}
-use Rattle.local_names.specs.Membership.{beside}
-use Rattle.local_names.specs.Naming.{end_names, instr_names}
+use Rattle.fact_sources.specs.Membership.{beside}
+use Rattle.fact_sources.specs.Naming.{end_names, instr_names}
 use Rattle.ir_facts.proofs.Blocks.{find_at}
 use Rattle.ir_facts.proofs.Covers.{BlockCovered, Covers, EdgesCovered, LinesCovered, PhisCovered, TakenAt, closing, named, opening, with_named}
 use Rattle.ir_facts.proofs.Holding.{phi_held}
 use Rattle.ir_facts.proofs.Matching.{apart_left, locals_once}
 use Rattle.ir_facts.proofs.Reading.{end_into, instr_into, operand_into}
 use Rattle.ir_facts.proofs.Substituting.{in_blocks}
-use Rattle.local_names.proofs.Neither.{neither}
+use Rattle.fact_sources.proofs.Neither.{neither}
 
 not_false : (a : Bool) → not a ≡ true → a ≡ false
 not_false true h = absurd (false≢true h)

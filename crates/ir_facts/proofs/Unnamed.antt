@@ -17,9 +17,9 @@ use Rattle.ir_better.specs.Facts.{Facts}
 use Rattle.ir_tree.specs.Edited.{argument_edited, case_edited, edited, end_edited, incoming_edited, instr_edited, line_edited, phi_edited}
 use Rattle.ir_edit.specs.Numbered.{later_or}
 use Rattle.ir_edit.specs.Substituted.{operand_replaced, or_local, replacement}
-use Rattle.local_names.specs.Membership.{is_member}
-use Rattle.local_names.specs.Naming.{arguments_name, block_names, blocks_name, end_names, entries_name, instr_names, is_key, lines_name, phis_name}
-use Rattle.local_names.proofs.Neither.{neither}
+use Rattle.fact_sources.specs.Membership.{is_member}
+use Rattle.fact_sources.specs.Naming.{arguments_name, block_names, blocks_name, end_names, entries_name, instr_names, is_key, lines_name, phis_name}
+use Rattle.fact_sources.proofs.Neither.{neither}
 use Rattle.ir_facts.proofs.Editing.{block_by}
 use Rattle.ir_facts.proofs.Holding.{params_kept}
 

@@ -10,13 +10,13 @@ use Rattle.ir_tree.specs.declared.instr.Phi.{Phi}
 use Rattle.ir_tree.specs.declared.operand.Operand.{Operand}
 use Rattle.ir_tree.specs.declared.operand.Operand.TheVariants.{Local, Null, Number as Constant, Poison as PoisonOf, Symbol as Named}
 use Rattle.ir_better.specs.Facts.{Facts, behind_local, block_replaced, blocks_replaced, edges_replaced, lines_replaced, phis_replaced, replaced}
-use Rattle.local_names.specs.Membership.{is_member}
-use Rattle.local_names.specs.Naming.{block_names, blocks_name, end_names, entries_name, instr_names, lines_name, phis_name}
+use Rattle.fact_sources.specs.Membership.{is_member}
+use Rattle.fact_sources.specs.Naming.{block_names, blocks_name, end_names, entries_name, instr_names, lines_name, phis_name}
 use Rattle.ir_facts.specs.Steps.{IsSolution, IsStep, candidate_of, ends_of}
 use Rattle.ir_facts.proofs.Holding.{Known, known_one, local_none}
 use Rattle.ir_facts.proofs.Replaced.{end_is}
 use Rattle.ir_facts.proofs.StepsSound.{ends_known}
-use Rattle.local_names.proofs.Neither.{neither}
+use Rattle.fact_sources.proofs.Neither.{neither}
 use Rattle.ir_facts.proofs.Unnamed.{end_same, instr_same}
 
 module _ (among : ℕ → Bool) (c : ℕ → Option Operand) (out : (x : ℕ) → among x ≡ false → c x ≡ None) where

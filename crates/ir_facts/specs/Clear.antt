@@ -10,11 +10,11 @@ use Rattle.ir_tree.specs.declared.instr.Line.{Line}
 use Rattle.ir_tree.specs.declared.instr.Phi.{Phi}
 use Rattle.ir_tree.specs.declared.operand.Operand.{Operand}
 use Rattle.ir_better.specs.Facts.{Facts, is_phi}
-use Rattle.block_places.specs.Places.{AreNumbered, ArePlaced}
-use Rattle.local_names.specs.Apart.{defined, is_listed}
+use Rattle.fact_sources.specs.Places.{AreNumbered, ArePlaced}
+use Rattle.fact_sources.specs.Apart.{defined, is_listed}
 use Rattle.fact_sources.specs.Candidates.{block_candidates, phi_candidates}
-use Rattle.local_names.specs.Membership.{beside, is_member}
-use Rattle.local_names.specs.Naming.{end_names, instr_names}
+use Rattle.fact_sources.specs.Membership.{beside, is_member}
+use Rattle.fact_sources.specs.Naming.{end_names, instr_names}
 
 -- the locals of the facts whose operand is a local of the set, and whether there are any
 abbrev pub keys_among : (ℕ → Bool) → Facts → List ℕ

@@ -1,3 +1,4 @@
+pub mod AtPoints
 pub mod Agreement
 pub mod Blocks
 pub mod Clear

@@ -5,9 +5,9 @@ use Rattle.std.specs.HashSet.{contains}
 use Rattle.std.specs.Ordering.{nat_cmp}
 use Rattle.ir_tree.specs.declared.function.Function.{Function}
 use Rattle.ir_flow.specs.Dominating.{dominance}
-use Rattle.block_places.specs.Above.{StandsAbove, is_above}
-use Rattle.block_places.specs.Places.{AreNumbered, ArePlaced}
-use Rattle.local_names.specs.Apart.{is_listed}
+use Rattle.fact_sources.specs.Above.{StandsAbove, is_above}
+use Rattle.fact_sources.specs.Places.{AreNumbered, ArePlaced}
+use Rattle.fact_sources.specs.Apart.{is_listed}
 use Rattle.ir_facts.specs.Clear.{all_inner, all_over, barred}
 use Rattle.ir_facts.specs.declared.scopes.Scopes.{Scopes}
 

@@ -10,9 +10,8 @@ ghost use Rattle.ir_facts.specs.Clear.{IsClear, any_among, block_clear, blocks_c
 ghost use Rattle.ir_facts.specs.Scopes.{bars};
 
 use crate::scopes::{Barred, Scopes, place_of, scopes_of};
-use fact_sources::{phi_locals, push_phis};
+use fact_sources::{Beside, defined, end_names, instr_names, is_among, phi_locals, push_phis};
 use ir_tree::{Block, Function, Incoming, Line, Operand, Phi};
-use local_names::{Beside, defined, end_names, instr_names, is_among};
 use std::alloc::{AllocError, Global};
 use std::collections::HashSet;
 

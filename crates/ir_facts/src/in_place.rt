@@ -2,15 +2,14 @@
 ghost use Rattle.std.specs.Prelude.{◌≡◌, false, map, IfOk, OnOk};
 ghost use Rattle.ir_tree.specs.Edited.{block_edited, end_edited, line_edited, phi_edited};
 ghost use Rattle.ir_edit.specs.Substituted.{operand_replaced, replacement};
-ghost use Rattle.local_names.specs.Substitutions.{value_in};
+ghost use Rattle.fact_sources.specs.Substitutions.{value_in};
 ghost use Rattle.fact_sources.specs.Askable.{BlocksHaveWidths};
 ghost use Rattle.fact_sources.specs.Candidates.{blocks_candidates};
 ghost use Rattle.ir_facts.specs.Blocks.{with_blocks};
 
-use fact_sources::push_blocks;
+use crate::{end_edited, instr_edited, phis_edited};
+use fact_sources::{Substitution, end_names, instr_names, phis_name, push_blocks};
 use ir_tree::{Block, Duplicate, Function, Line, Phi, Rows, Terminator};
-use local_names::{Substitution, end_names, instr_names, phis_name};
-use point_edit::{end_edited, instr_edited, phis_edited};
 use std::alloc::{AllocError, Global};
 use std::mem::replace;
 

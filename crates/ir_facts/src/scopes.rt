@@ -4,18 +4,19 @@ ghost use Rattle.std.specs.BTreeMap.{get};
 ghost use Rattle.std.specs.HashSet.{contains};
 ghost use Rattle.std.specs.Ordering.{nat_cmp};
 ghost use Rattle.ir_flow.specs.Dominating.{dominance};
-ghost use Rattle.block_places.specs.Above.{is_above as stands_above};
-ghost use Rattle.local_names.specs.Apart.{is_listed};
+ghost use Rattle.fact_sources.specs.Above.{is_above as stands_above};
+ghost use Rattle.fact_sources.specs.Apart.{is_listed};
 ghost use Rattle.fact_sources.specs.Askable.{BlocksHaveWidths, LinesHaveWidths};
 ghost use Rattle.fact_sources.specs.Candidates.{block_candidates};
 ghost use Rattle.ir_facts.specs.Clear.{all_inner, all_over, inner_keys, is_barred, is_over, keys_among};
 ghost use Rattle.ir_facts.specs.Scopes.{AreScopes};
 
-use block_places::{above, is_above, places, places_by_number};
-use fact_sources::push_block;
+use fact_sources::{
+    Beside, Locals, above, defined, is_above, is_among, places, places_by_number, push_block,
+    set_of,
+};
 use ir_flow::Dominators;
 use ir_tree::{Block, Function, Operand};
-use local_names::{Beside, Locals, defined, is_among, set_of};
 use std::alloc::{AllocError, Global};
 use std::collections::{BTreeMap, HashSet};
 
@@ -93,7 +94,7 @@ impl<'a> Locals for Under<'a> {
     ghost use Rattle.std.specs.BTreeMap.{get};
     ghost use Rattle.std.specs.Ordering.{nat_cmp};
     ghost use Rattle.ir_flow.specs.Dominating.{dominance};
-    ghost use Rattle.block_places.specs.Above.{is_above};
+    ghost use Rattle.fact_sources.specs.Above.{is_above};
     ghost use Rattle.ir_facts.specs.Clear.{is_over};
 
     ghost members = { λ u. is_over (get nat_cmp u.places.now) (is_above (dominance u.above.now)) u.place };

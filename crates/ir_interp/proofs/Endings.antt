@@ -7,10 +7,10 @@ use Rattle.ir_meaning.specs.Program.{Broken, Done, Next, On, Program, State, Too
 use Rattle.ir_meaning.specs.Run as meaning
 use Rattle.ir_meaning.specs.Run.{Ran, run, run_on}
 use Rattle.ir_meaning.specs.declared.event.Event.{Event}
-use Rattle.machine_steps.specs.Steps.{IsEnd}
-use Rattle.machine_steps.specs.declared.end.StepEnd.{StepEnd}
-use Rattle.machine_steps.specs.declared.end.StepEnd.TheVariants as step_end
-use Rattle.machine_steps.specs.declared.machine.Machine.{Machine}
+use Rattle.ir_interp.specs.Steps.{IsEnd}
+use Rattle.ir_interp.specs.declared.step_end.StepEnd.{StepEnd}
+use Rattle.ir_interp.specs.declared.step_end.StepEnd.TheVariants as step_end
+use Rattle.ir_interp.specs.declared.machine.Machine.{Machine}
 use Rattle.ir_interp.specs.Runs.{Agree, HasFedPart, HasFedRun, HasLeft, HasRun, HasSentPart, IsBlamed, IsFed, bytes_read, ending_meant, left_behind, reads, run_each, written}
 use Rattle.ir_interp.specs.Turns.{HasTurned, IsLast, Shows}
 use Rattle.ir_interp.specs.declared.end.RunEnd.{RunEnd}

@@ -9,11 +9,11 @@ use Rattle.ir_meaning.specs.declared.event.Event.{Event}
 use Rattle.ir_meaning.specs.declared.event.Event.TheVariants.{Wrote}
 use Rattle.lto_outside.specs.Bytes.{Gives}
 use Rattle.lto_outside.specs.declared.fault.Fault.{Fault}
-use Rattle.machine_steps.specs.Scenes.{Heard, Said, Silent, behind, heard}
-use Rattle.machine_steps.specs.Steps.{IsEnd, IsRunning, IsStep, Leads, WantsByte}
-use Rattle.machine_steps.specs.declared.end.StepEnd.{StepEnd}
-use Rattle.machine_steps.specs.declared.end.StepEnd.TheVariants as step_end
-use Rattle.machine_steps.specs.declared.machine.Machine.{Machine}
+use Rattle.ir_interp.specs.Scenes.{Heard, Said, Silent, behind, heard}
+use Rattle.ir_interp.specs.Steps.{IsEnd, IsRunning, IsStep, Leads, WantsByte}
+use Rattle.ir_interp.specs.declared.step_end.StepEnd.{StepEnd}
+use Rattle.ir_interp.specs.declared.step_end.StepEnd.TheVariants as step_end
+use Rattle.ir_interp.specs.declared.machine.Machine.{Machine}
 use Rattle.ir_interp.specs.Runs.{Agree, HasLeft, bytes_read, left_behind, reads, written}
 use Rattle.ir_interp.specs.Turns.{Ends, GoesOn, HasAdvanced, Shows}
 use Rattle.ir_interp.specs.declared.end.RunFault.TheVariants.{NoMemory}

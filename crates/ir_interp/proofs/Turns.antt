@@ -6,9 +6,9 @@ use Rattle.ir_tree.specs.declared.operand.Symbol.{Symbol}
 use Rattle.ir_meaning.specs.Program.{On, Program, State, Took, step}
 use Rattle.ir_meaning.specs.Run.{Ran, run, run_on}
 use Rattle.ir_meaning.specs.declared.event.Event.{Event}
-use Rattle.machine_steps.specs.Steps.{IsRunning}
-use Rattle.machine_steps.specs.declared.end.StepEnd.TheVariants as step_end
-use Rattle.machine_steps.specs.declared.machine.Machine.{Machine}
+use Rattle.ir_interp.specs.Steps.{IsRunning}
+use Rattle.ir_interp.specs.declared.step_end.StepEnd.TheVariants as step_end
+use Rattle.ir_interp.specs.declared.machine.Machine.{Machine}
 use Rattle.ir_interp.specs.Runs.{Agree, bytes_read, reads, run_each, written}
 use Rattle.ir_interp.specs.Turns.{GoesOn, HasAdvanced, HasTurned, Shows}
 use Rattle.ir_interp.proofs.Traces.{agree_behind, agree_front, first_agrees, read_both, reads_both, sent_more, sent_none, written_both}

@@ -9,8 +9,8 @@ use Rattle.ir_meaning.specs.Run.{Ran, run, run_on}
 use Rattle.ir_meaning.specs.declared.event.Event.{Event}
 use Rattle.ir_meaning.specs.declared.event.Event.TheVariants as event
 use Rattle.lto_outside.specs.Cause.{Rose}
-use Rattle.machine_steps.specs.Scenes.{answer_meant}
-use Rattle.machine_steps.specs.Steps.{place_meant}
+use Rattle.ir_interp.specs.Scenes.{answer_meant}
+use Rattle.ir_interp.specs.Steps.{place_meant}
 use Rattle.ir_interp.specs.declared.end.RunEnd.{RunEnd}
 use Rattle.ir_interp.specs.declared.end.RunEnd.TheVariants.{OutOfSteps, Returned, Undefined, Uninit}
 use Rattle.ir_interp.specs.declared.end.RunFault.{RunFault}

@@ -5,10 +5,10 @@ use Rattle.ir_tree.specs.declared.operand.Symbol.{Symbol}
 use Rattle.ir_meaning.specs.Program.{Next, On, Program, State, step}
 use Rattle.ir_meaning.specs.declared.event.Event.{Event}
 use Rattle.ir_meaning.specs.declared.event.Event.TheVariants as event
-use Rattle.machine_steps.specs.Steps.{IsEnd, IsRunning}
-use Rattle.machine_steps.specs.declared.end.StepEnd.{StepEnd}
-use Rattle.machine_steps.specs.declared.end.StepEnd.TheVariants as step_end
-use Rattle.machine_steps.specs.declared.machine.Machine.{Machine}
+use Rattle.ir_interp.specs.Steps.{IsEnd, IsRunning}
+use Rattle.ir_interp.specs.declared.step_end.StepEnd.{StepEnd}
+use Rattle.ir_interp.specs.declared.step_end.StepEnd.TheVariants as step_end
+use Rattle.ir_interp.specs.declared.machine.Machine.{Machine}
 use Rattle.ir_interp.specs.Runs.{Agree, HasLeft, bytes_read, reads, written}
 use Rattle.ir_interp.specs.declared.end.RunEnd.{RunEnd}
 use Rattle.ir_interp.specs.declared.end.RunEnd.TheVariants.{Returned, Undefined, Uninit}

@@ -1,8 +1,8 @@
 //! How a run ended, and why it was given up.
 
+use crate::Place;
 use ir_machine::Scalar;
 use ir_meaning::Cause;
-use machine_steps::Place;
 
 /// How a run ended.
 #[derive(Clone, Copy, Debug)]

@@ -3,14 +3,14 @@ ghost use Rattle.std.specs.Prelude.{◌≡◌, ◌≤◌, ℕ, List, Some, drop,
 ghost use Rattle.std.specs.Io.KnownBytes.{Keeps};
 ghost use Rattle.ir_tree.specs.declared.operand.Symbol.{Symbol};
 ghost use Rattle.ir_meaning.specs.Program.{Program, State};
-ghost use Rattle.machine_steps.specs.Code.{IsRunnable};
-ghost use Rattle.machine_steps.specs.Steps.{IsRunning, WantsByte};
+ghost use Rattle.ir_interp.specs.Code.{IsRunnable};
+ghost use Rattle.ir_interp.specs.Steps.{IsRunning, WantsByte};
 ghost use Rattle.ir_interp.specs.Runs.{HasFedPart, HasFedRun, HasLeft, HasRun, HasSentPart, IsBlamed};
 ghost use Rattle.ir_interp.specs.Turns.{HasAdvanced, HasTurned, Leaves};
 
 use crate::end::{RunEnd, RunFault};
+use crate::{Machine, StepEnd};
 use lto_outside::{ByteIn, ByteOut};
-use machine_steps::{Machine, StepEnd};
 use std::alloc::Global;
 
 /// Gives the machine the next byte of the input, or its end, and takes the step that asks for it.

@@ -24,7 +24,7 @@ use Rattle.combined_index.specs.Combined.{Combined, prevailing_of}
 use Rattle.combined_index.specs.Entries.{Entry}
 use Rattle.combined_index.specs.Entries as entries
 use Rattle.combined_index.specs.declared.definition.Definition.{Definition as Listed}
-use Rattle.graph_walk.specs.Reach.{leads}
+use Rattle.liveness.specs.Reach.{leads}
 use Rattle.liveness.specs.Liveness.{IsLive, is_host}
 use Rattle.liveness.proofs.Lacking.{referred}
 use Rattle.liveness.proofs.Sources.{any_one}

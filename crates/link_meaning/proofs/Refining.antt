@@ -17,7 +17,7 @@ use Rattle.ir_program.specs.Programs.{shared}
 use Rattle.ir_program.proofs.Numbered.{programs_formed}
 use Rattle.combined_index.specs.Combined.{Combined, is_plain, number_of, prevailing_of}
 use Rattle.combined_index.specs.declared.definition.Definition.{Definition as Listed}
-use Rattle.graph_walk.specs.Reach.{starts}
+use Rattle.liveness.specs.Reach.{starts}
 use Rattle.liveness.specs.Liveness.{IsDefined}
 use Rattle.liveness.proofs.Sources.{any_one, first_at}
 use Rattle.merge_meaning.specs.Linked.{Improves}

@@ -11,7 +11,7 @@ use Rattle.combined_index.specs.declared.definition.Definition.{Definition}
 use Rattle.liveness.specs.Best.{Found, IsBest, lesser_if}
 use Rattle.liveness.specs.Liveness.{AllExported, AreLive, IsDefined, IsLacking, IsLive, IsUndefined, IsUnexported, NoneUndefined, refs, is_host}
 use Rattle.liveness.specs.Marks.{IsLackingAt, IsUnexportedAt, exported, is_lacking}
-use Rattle.graph_walk.specs.Reach.{leads, starts}
+use Rattle.liveness.specs.Reach.{leads, starts}
 use Rattle.liveness.proofs.Leasts.{best-more, best-same}
 use Rattle.liveness.proofs.Starting.{exported_is, exported_there}
 

@@ -1,3 +1,6 @@
+pub mod Growing
+pub mod Walks
+pub mod Starts
 pub mod Lacking
 mod Leasts
 pub mod Sources

@@ -8,10 +8,10 @@ use Rattle.combined_index.specs.Combined.{Combined, is_plain, number_of, prevail
 use Rattle.combined_index.specs.declared.definition.Definition.{Definition}
 use Rattle.liveness.specs.Liveness.{IsDefined, IsExported, refs}
 use Rattle.liveness.specs.Marks.{IsStarted, exported, if_defined}
-use Rattle.graph_walk.specs.Reach.{starts}
-use Rattle.graph_walk.specs.Walking.{Grown, IsWalk}
-use Rattle.graph_walk.proofs.Growing.{alone}
-use Rattle.graph_walk.proofs.Starts.{no_member}
+use Rattle.liveness.specs.Reach.{starts}
+use Rattle.liveness.specs.Walking.{Grown, IsWalk}
+use Rattle.liveness.proofs.Growing.{alone}
+use Rattle.liveness.proofs.Starts.{no_member}
 
 none_some : {X : Type 0} {x : X} → None ≡ Some x → ⊥
 none_some h = cc

@@ -5,7 +5,7 @@ use Rattle.lto_sets.specs.Sets.{contains}
 use Rattle.symbol_resolve.specs.Clashes.{IsLeast}
 use Rattle.combined_index.specs.Combined.{Combined, number_of, prevailing_of}
 use Rattle.combined_index.specs.declared.definition.Definition.{Definition}
-use Rattle.graph_walk.specs.Reach.{IsReached}
+use Rattle.liveness.specs.Reach.{IsReached}
 use Rattle.liveness.specs.declared.refused.LiveError.{LiveError}
 use Rattle.liveness.specs.declared.refused.LiveError.TheVariants as error
 use Rattle.liveness.specs.declared.refused.Refused.{Refused}

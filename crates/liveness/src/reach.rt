@@ -3,8 +3,8 @@ ghost use Rattle.std.specs.Prelude.{◌≡◌, IfOk};
 ghost use Rattle.liveness.specs.Liveness.{AreLive};
 ghost use Rattle.liveness.specs.Marks.{IsStarted, exported};
 
+use crate::Walk;
 use combined_index::Index;
-use graph_walk::Walk;
 use ir_tree::Text;
 use lto_sets::Bits;
 use std::alloc::{AllocError, Global};

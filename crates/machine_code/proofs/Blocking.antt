@@ -4,8 +4,8 @@ use Rattle.std.proofs.lemmas.List.{length-append}
 use Rattle.std.proofs.Common.{inl, inr}
 use Rattle.ir_tree.specs.declared.block.Block.{Block as MeantBlock}
 use Rattle.ir_meaning.specs.Program.{counted}
-use Rattle.machine_steps.specs.Code.{counted_before}
-use Rattle.machine_steps.specs.declared.code.Block.{Block}
+use Rattle.ir_interp.specs.Code.{counted_before}
+use Rattle.ir_interp.specs.declared.code.Block.{Block}
 use Rattle.machine_code.specs.Blocks.{AreBlocksFor, IsBlockFor}
 use Rattle.machine_code.specs.declared.addresses.Addresses.{Addresses}
 use Rattle.machine_code.proofs.Lists.{got_pushed, read_got}

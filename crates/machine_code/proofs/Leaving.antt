@@ -14,12 +14,12 @@ use Rattle.ir_meaning.specs.Act.{Leads', Leaves, by_bits, by_value, side}
 use Rattle.ir_meaning.specs.Frame.{value_of}
 use Rattle.ir_meaning.specs.Operate.{bits_of}
 use Rattle.ir_meaning.specs.declared.value.Value.{Value as MeantValue}
-use Rattle.ir_frames.specs.declared.source.Source.{Source}
-use Rattle.ir_frames.specs.Exits.{case_target}
-use Rattle.ir_frames.specs.declared.exit.Case.{Case}
-use Rattle.ir_frames.specs.declared.exit.Exit.{Exit}
-use Rattle.ir_frames.specs.declared.exit.Exit.TheVariants as exit
-use Rattle.machine_steps.specs.Code.{at_positions, position}
+use Rattle.ir_interp.specs.declared.source.Source.{Source}
+use Rattle.ir_interp.specs.Exits.{case_target}
+use Rattle.ir_interp.specs.declared.exit.Case.{Case}
+use Rattle.ir_interp.specs.declared.exit.Exit.{Exit}
+use Rattle.ir_interp.specs.declared.exit.Exit.TheVariants as exit
+use Rattle.ir_interp.specs.Code.{at_positions, position}
 use Rattle.machine_code.specs.Blocks.{IsCase, IsExit}
 use Rattle.machine_code.specs.Sources.{StandsFor}
 use Rattle.machine_code.specs.declared.addresses.Addresses.{Addresses}

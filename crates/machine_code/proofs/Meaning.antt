@@ -11,15 +11,15 @@ use Rattle.ir_meaning.specs.Frame.{Locals, Signature, value_of}
 use Rattle.ir_meaning.specs.Memory.{Memory as MeantMemory}
 use Rattle.ir_meaning.specs.declared.value.Value.{Value as MeantValue}
 use Rattle.ir_machine.specs.declared.memory.Memory.{Memory}
-use Rattle.ir_frames.specs.Locals.{source_meant}
-use Rattle.ir_frames.specs.Phis.{AreEdgesKnown, ArePhisKnown, edge_meant, phis_meant}
-use Rattle.ir_frames.specs.Tasks.{CanRun}
-use Rattle.ir_frames.specs.declared.phis.Edge.{Edge}
-use Rattle.ir_frames.specs.declared.phis.Phi.{Phi}
-use Rattle.ir_frames.specs.Lines.{IsLine}
-use Rattle.ir_frames.specs.declared.line.Line.{Line}
-use Rattle.machine_steps.specs.Code.{IsBlock, IsBlockKnown, counted_before}
-use Rattle.machine_steps.specs.declared.code.Block.{Block}
+use Rattle.ir_interp.specs.Locals.{source_meant}
+use Rattle.ir_interp.specs.Phis.{AreEdgesKnown, ArePhisKnown, edge_meant, phis_meant}
+use Rattle.ir_interp.specs.Tasks.{CanRun}
+use Rattle.ir_interp.specs.declared.phis.Edge.{Edge}
+use Rattle.ir_interp.specs.declared.phis.Phi.{Phi}
+use Rattle.ir_interp.specs.Lines.{IsLine}
+use Rattle.ir_interp.specs.declared.line.Line.{Line}
+use Rattle.ir_interp.specs.Code.{IsBlock, IsBlockKnown, counted_before}
+use Rattle.ir_interp.specs.declared.code.Block.{Block}
 use Rattle.machine_code.specs.Addresses.{AreValid, HasAddresses}
 use Rattle.machine_code.specs.Blocks.{IsBlockFor, IsEdge, IsLineFor, IsPhi}
 use Rattle.machine_code.specs.declared.addresses.Addresses.{Addresses}

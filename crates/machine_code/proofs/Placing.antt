@@ -3,7 +3,7 @@ use Rattle.std.proofs.Common.{◌≡◌, ℕ, zero, suc, ◌+◌, ◌<◌, ◌�
 use Rattle.std.proofs.Math.Seq.{drop-cons}
 use Rattle.std.specs.Option.{unwrap_or}
 use Rattle.ir_tree.specs.declared.block.Block.{Block}
-use Rattle.machine_steps.specs.Code.{position}
+use Rattle.ir_interp.specs.Code.{position}
 
 -- where nothing is noted, each number is behind all blocks
 pub none_placed : (blocks : List Block) (at : ℕ → Option ℕ) (k : ℕ) → ((n : ℕ) → at n ≡ None) → k ≡ length blocks → (n : ℕ) → unwrap_or (at n) (length blocks) ≡ k + position (drop k blocks) n

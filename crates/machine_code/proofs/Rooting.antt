@@ -14,13 +14,13 @@ use Rattle.ir_tree.specs.declared.operand.Symbol.{Symbol}
 use Rattle.ir_meaning.specs.Frame.{AFunction, AHost, AVariable, Kind, Missing}
 use Rattle.ir_machine.specs.declared.scalar.Base.{Base}
 use Rattle.ir_machine.specs.declared.scalar.Base.TheVariants as base
-use Rattle.ir_frames.specs.Calls.{IsKind}
-use Rattle.ir_frames.specs.declared.call.Entity.{Entity}
-use Rattle.ir_frames.specs.declared.call.Entity.TheVariants as entity
+use Rattle.ir_interp.specs.Calls.{IsKind}
+use Rattle.ir_interp.specs.declared.callee.Entity.{Entity}
+use Rattle.ir_interp.specs.declared.callee.Entity.TheVariants as entity
 use Rattle.ir_program.specs.Programs.{body_of, defined_blocks, kind_of, regs_of, shared, symbol_of}
-use Rattle.machine_steps.specs.Code.{function_in, locals_of}
-use Rattle.machine_steps.specs.Steps.{CanBegin}
-use Rattle.machine_steps.specs.declared.code.Function.{Function}
+use Rattle.ir_interp.specs.Code.{function_in, locals_of}
+use Rattle.ir_interp.specs.Steps.{CanBegin}
+use Rattle.ir_interp.specs.declared.code.Function.{Function}
 use Rattle.machine_code.specs.Addresses.{base_in}
 use Rattle.machine_code.specs.Blocks.{IsFunctionFor}
 use Rattle.machine_code.specs.Lowered.{IsMadeOf}

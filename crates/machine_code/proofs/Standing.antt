@@ -17,10 +17,10 @@ use Rattle.ir_machine.specs.declared.memory.Memory.{Memory}
 use Rattle.ir_machine.specs.declared.scalar.Base.TheVariants as base
 use Rattle.ir_machine.specs.declared.scalar.Scalar.{Scalar}
 use Rattle.ir_machine.specs.declared.scalar.Scalar.TheVariants as scalar
-use Rattle.ir_frames.specs.Locals.{AreKnown, IsValid}
-use Rattle.ir_frames.specs.Tasks as tasks
-use Rattle.ir_frames.specs.declared.source.Source.TheVariants.{Known, Register}
-use Rattle.ir_frames.specs.declared.source.Typed.{Typed}
+use Rattle.ir_interp.specs.Locals.{AreKnown, IsValid}
+use Rattle.ir_interp.specs.Tasks as tasks
+use Rattle.ir_interp.specs.declared.source.Source.TheVariants.{Known, Register}
+use Rattle.ir_interp.specs.declared.source.Typed.{Typed}
 use Rattle.machine_code.specs.MemoryAddresses.{address_at}
 use Rattle.machine_code.specs.Addresses.{AreValid, HasAddresses, base_in}
 use Rattle.machine_code.specs.Sources.{IsTyped, StandsFor}

@@ -20,13 +20,13 @@ use Rattle.ir_meaning.specs.Execute as meaning
 use Rattle.ir_meaning.specs.Frame.{regs_of, value_of}
 use Rattle.ir_meaning.specs.declared.value.Value.{Value as MeantValue}
 use Rattle.ir_machine.specs.Marks.{HasWidth}
-use Rattle.ir_frames.specs.Locals.{source_meant}
-use Rattle.ir_frames.specs.Tasks.{IsSoundCast, indices_meant, values_meant}
-use Rattle.ir_frames.specs.declared.source.Source.{Source}
-use Rattle.ir_frames.specs.declared.source.Typed.{Typed}
-use Rattle.ir_frames.specs.declared.task.Compute.TheVariants as compute
-use Rattle.ir_frames.specs.declared.task.Task.{Task}
-use Rattle.ir_frames.specs.declared.task.Task.TheVariants as task
+use Rattle.ir_interp.specs.Locals.{source_meant}
+use Rattle.ir_interp.specs.Tasks.{IsSoundCast, indices_meant, values_meant}
+use Rattle.ir_interp.specs.declared.source.Source.{Source}
+use Rattle.ir_interp.specs.declared.source.Typed.{Typed}
+use Rattle.ir_interp.specs.declared.task.Compute.TheVariants as compute
+use Rattle.ir_interp.specs.declared.task.Task.{Task}
+use Rattle.ir_interp.specs.declared.task.Task.TheVariants as task
 use Rattle.machine_code.specs.Sources.{IsTyped, StandsFor}
 use Rattle.machine_code.specs.Tasks.{IsSoundInstr, IsTask}
 use Rattle.machine_code.specs.declared.addresses.Addresses.{Addresses}

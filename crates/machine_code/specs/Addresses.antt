@@ -5,7 +5,7 @@ use Rattle.ir_meaning.specs.Frame.{Signature}
 use Rattle.ir_meaning.specs.Memory.{Memory as MeantMemory}
 use Rattle.ir_machine.specs.declared.memory.Memory.{Memory}
 use Rattle.ir_machine.specs.declared.scalar.Base.{Base}
-use Rattle.ir_frames.specs.Locals.{IsValid}
+use Rattle.ir_interp.specs.Locals.{IsValid}
 use Rattle.machine_code.specs.MemoryAddresses as symbols
 use Rattle.machine_code.specs.MemoryAddresses.{address_at}
 use Rattle.machine_code.specs.declared.addresses.Addresses.{Addresses}

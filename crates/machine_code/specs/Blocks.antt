@@ -15,15 +15,15 @@ use Rattle.ir_meaning.specs.Act.{exit_of}
 use Rattle.ir_meaning.specs.Frame.{Locals, Signature, value_of}
 use Rattle.ir_meaning.specs.Memory.{Memory as MeantMemory}
 use Rattle.ir_machine.specs.declared.memory.Memory.{Memory}
-use Rattle.ir_frames.specs.declared.phis.Edge.{Edge}
-use Rattle.ir_frames.specs.declared.phis.Phi.{Phi}
-use Rattle.ir_frames.specs.Exits.{IsExitKnown, exit_meant}
-use Rattle.ir_frames.specs.declared.exit.Case.{Case}
-use Rattle.ir_frames.specs.declared.exit.Exit.{Exit}
-use Rattle.ir_frames.specs.declared.line.Line.{Line}
-use Rattle.machine_steps.specs.Code.{at_positions, counted_before, locals_of, position}
-use Rattle.machine_steps.specs.declared.code.Block.{Block}
-use Rattle.machine_steps.specs.declared.code.Function.{Function}
+use Rattle.ir_interp.specs.declared.phis.Edge.{Edge}
+use Rattle.ir_interp.specs.declared.phis.Phi.{Phi}
+use Rattle.ir_interp.specs.Exits.{IsExitKnown, exit_meant}
+use Rattle.ir_interp.specs.declared.exit.Case.{Case}
+use Rattle.ir_interp.specs.declared.exit.Exit.{Exit}
+use Rattle.ir_interp.specs.declared.line.Line.{Line}
+use Rattle.ir_interp.specs.Code.{at_positions, counted_before, locals_of, position}
+use Rattle.ir_interp.specs.declared.code.Block.{Block}
+use Rattle.ir_interp.specs.declared.code.Function.{Function}
 use Rattle.machine_code.specs.Addresses.{AreValid, HasAddresses}
 use Rattle.machine_code.specs.Sources.{StandsFor}
 use Rattle.machine_code.specs.Tasks.{IsSoundInstr, IsTask}

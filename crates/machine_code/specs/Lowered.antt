@@ -7,8 +7,8 @@ use Rattle.ir_meaning.specs.Memory.{Memory as MeantMemory}
 use Rattle.ir_machine.specs.Names.{AreDistinct}
 use Rattle.ir_machine.specs.declared.memory.Memory.{Memory}
 use Rattle.ir_program.specs.Programs.{program_of}
-use Rattle.machine_steps.specs.Code.{IsCode, IsRunnable, Knows}
-use Rattle.machine_steps.specs.declared.code.Code.{Code}
+use Rattle.ir_interp.specs.Code.{IsCode, IsRunnable, Knows}
+use Rattle.ir_interp.specs.declared.code.Code.{Code}
 use Rattle.machine_code.specs.Openings.{HoldsVariables}
 use Rattle.machine_code.specs.Tables.{IsTable}
 use Rattle.machine_code.specs.Programs.{IsBodyFor, IsEntityFor}

@@ -5,11 +5,11 @@ use Rattle.ir_tree.specs.declared.function.Function.{Function as MeantFunction}
 use Rattle.ir_tree.specs.declared.module.GlobalValue.{GlobalValue}
 use Rattle.ir_tree.specs.declared.module.GlobalValue.TheVariants as global
 use Rattle.ir_meaning.specs.Frame.{AHost, Kind, Missing}
-use Rattle.ir_frames.specs.Calls.{IsKind, host_meant}
-use Rattle.ir_frames.specs.declared.call.Entity.{Entity}
-use Rattle.ir_frames.specs.declared.host.Host.{Host}
+use Rattle.ir_interp.specs.Calls.{IsKind, host_meant}
+use Rattle.ir_interp.specs.declared.callee.Entity.{Entity}
+use Rattle.ir_interp.specs.declared.host.Host.{Host}
 use Rattle.ir_program.specs.Programs.{defined_blocks}
-use Rattle.machine_steps.specs.declared.code.Function.{Function as CodeFunction}
+use Rattle.ir_interp.specs.declared.code.Function.{Function as CodeFunction}
 use Rattle.machine_code.specs.Tables.{kind_at}
 use Rattle.machine_code.specs.Blocks.{HasSoundInstrs, IsFunctionFor}
 use Rattle.machine_code.specs.declared.addresses.Addresses.{Addresses}

@@ -8,8 +8,8 @@ use Rattle.ir_tree.specs.declared.operand.Reg.{Reg}
 use Rattle.ir_tree.specs.declared.operand.Reg.TheVariants.{Int, Ptr}
 use Rattle.ir_machine.specs.declared.scalar.Base.{Base}
 use Rattle.ir_machine.specs.declared.scalar.Base.TheVariants.{Block, Function, Null}
-use Rattle.ir_frames.specs.declared.call.Entity.{Entity}
-use Rattle.ir_frames.specs.declared.call.Entity.TheVariants as entity
+use Rattle.ir_interp.specs.declared.callee.Entity.{Entity}
+use Rattle.ir_interp.specs.declared.callee.Entity.TheVariants as entity
 use Rattle.ir_program.specs.Programs.{defined_blocks, regs_of, shared}
 
 -- the function at an index goes by this name, which modules share, is defined, and takes integers of these types

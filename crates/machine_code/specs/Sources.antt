@@ -6,9 +6,9 @@ use Rattle.ir_tree.specs.declared.operand.Symbol.{Symbol}
 use Rattle.ir_meaning.specs.Frame.{Locals, Signature, value_of}
 use Rattle.ir_meaning.specs.Memory.{Memory as MeantMemory}
 use Rattle.ir_machine.specs.declared.memory.Memory.{Memory}
-use Rattle.ir_frames.specs.Locals.{IsKnown, source_meant}
-use Rattle.ir_frames.specs.declared.source.Source.{Source}
-use Rattle.ir_frames.specs.declared.source.Typed.{Typed}
+use Rattle.ir_interp.specs.Locals.{IsKnown, source_meant}
+use Rattle.ir_interp.specs.declared.source.Source.{Source}
+use Rattle.ir_interp.specs.declared.source.Typed.{Typed}
 use Rattle.machine_code.specs.Addresses.{AreValid, HasAddresses}
 use Rattle.machine_code.specs.declared.addresses.Addresses.{Addresses}
 

@@ -9,8 +9,8 @@ use Rattle.ir_meaning.specs.Frame.{Locals, Signature, value_of}
 use Rattle.ir_meaning.specs.Memory.{Memory as MeantMemory}
 use Rattle.ir_machine.specs.Marks.{HasWidth}
 use Rattle.ir_machine.specs.declared.memory.Memory.{Memory}
-use Rattle.ir_frames.specs.Tasks.{CanRun, IsSoundCast, IsTaskKnown, task_meant}
-use Rattle.ir_frames.specs.declared.task.Task.{Task}
+use Rattle.ir_interp.specs.Tasks.{CanRun, IsSoundCast, IsTaskKnown, task_meant}
+use Rattle.ir_interp.specs.declared.task.Task.{Task}
 use Rattle.machine_code.specs.Addresses.{AreValid, HasAddresses}
 use Rattle.machine_code.specs.declared.addresses.Addresses.{Addresses}
 

@@ -4,7 +4,7 @@ ghost use Rattle.std.specs.List.{AllZip};
 ghost use Rattle.machine_code.specs.Sources.{IsTyped, StandsFor};
 
 use crate::bases::Bases;
-use ir_frames::{Source, Typed};
+use ir_interp::{Source, Typed};
 use ir_machine::{Base, Pointer, Scalar};
 use ir_tree::{Argument, Operand};
 use std::alloc::{AllocError, Global};

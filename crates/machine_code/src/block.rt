@@ -2,15 +2,14 @@
 ghost use Rattle.std.specs.Prelude.{◌≡◌, ◌+◌, ◌<◌, ◌^◌, All, IfOk, List, length};
 ghost use Rattle.std.specs.List.{AllZip};
 ghost use Rattle.ir_tree.specs.declared.block.Block.{Block as MeantBlock};
-ghost use Rattle.machine_steps.specs.Code.{counted_before, locals_of};
+ghost use Rattle.ir_interp.specs.Code.{counted_before, locals_of};
 ghost use Rattle.machine_code.specs.Blocks.{AreBlocksFor, ArePositions, HasSoundInstrs, IsBlockFor, IsFunctionFor, IsLineFor, IsSoundBlock};
 ghost use Rattle.machine_code.specs.Tasks.{IsSoundInstr};
 
 use crate::addresses::Addresses;
 use crate::positions::Positions;
-use ir_frames::Line;
+use ir_interp::{Block, Function, Line};
 use ir_tree::Param;
-use machine_steps::{Block, Function};
 use std::alloc::{AllocError, Global};
 
 /// A sum of counts; one past 64 bits is refused as memory.

@@ -8,9 +8,9 @@ ghost use Rattle.machine_code.specs.Programs.{IsBodyFor, IsSoundGlobal};
 use crate::addresses::Addresses;
 use crate::bases::Bases;
 use crate::symbol::entities;
+use ir_interp::{Code, Function};
 use ir_program::defined_blocks;
 use ir_tree::GlobalValue;
-use machine_steps::{Code, Function};
 use std::alloc::{AllocError, Global};
 
 impl<'a> Addresses<'a> {

@@ -6,7 +6,7 @@ ghost use Rattle.machine_code.specs.Blocks.{ArePositions, IsCase, IsExit};
 
 use crate::addresses::Addresses;
 use crate::positions::Positions;
-use ir_frames::{Case, Exit, Source};
+use ir_interp::{Case, Exit, Source};
 use ir_tree::{Argument, Terminator};
 use std::alloc::{AllocError, Global};
 

@@ -4,7 +4,7 @@ ghost use Rattle.std.specs.List.{AllZip};
 ghost use Rattle.machine_code.specs.Blocks.{IsEdge, IsPhi};
 
 use crate::addresses::Addresses;
-use ir_frames::{Edge, Phi};
+use ir_interp::{Edge, Phi};
 use std::alloc::{AllocError, Global};
 
 impl<'a> Addresses<'a> {

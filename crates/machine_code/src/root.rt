@@ -2,7 +2,7 @@
 ghost use Rattle.std.specs.Prelude.{◌≡◌, ℕ, List, None, IfSome, length, option_copied, slice_get};
 ghost use Rattle.ir_tree.specs.declared.module.GlobalValue.{GlobalValue};
 ghost use Rattle.ir_tree.specs.declared.operand.Reg.{Reg};
-ghost use Rattle.machine_steps.specs.Steps.{CanBegin};
+ghost use Rattle.ir_interp.specs.Steps.{CanBegin};
 ghost use Rattle.ir_program.specs.Programs.{shared};
 ghost use Rattle.machine_code.specs.Addresses.{base_in};
 ghost use Rattle.machine_code.specs.Lowered.{IsMadeOf};
@@ -10,7 +10,7 @@ ghost use Rattle.machine_code.specs.Roots.{IsRoot, are_integers, index_in, integ
 
 use crate::code::Lowered;
 use crate::key::Key;
-use ir_frames::Entity;
+use ir_interp::Entity;
 use ir_machine::Base;
 use ir_tree::Reg;
 

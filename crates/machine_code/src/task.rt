@@ -5,7 +5,7 @@ ghost use Rattle.ir_machine.specs.Marks.{HasWidth};
 ghost use Rattle.machine_code.specs.Tasks.{IsSoundInstr, IsTask};
 
 use crate::addresses::Addresses;
-use ir_frames::{Compute, Task};
+use ir_interp::{Compute, Task};
 use ir_tree::{Argument, Instr, Operand, Reg, Shape, size_of};
 use std::alloc::{AllocError, Global};
 

@@ -1,5 +1,6 @@
-//! Tests of passes and of what they stand on: facts (`ir_facts`), dead code (`dead_code`), slots (`slot_promote`), the passes
-//! over blocks (`branch_simplify`, `block_trim`, `block_merge`), inlining at a call (`inline_site`), the inline walk and the
+//! Tests of passes and of what they stand on: operations on numbers (`lto_bits`) and on sets (`lto_sets`), over vectors that were
+//! worked out outside; and facts (`ir_facts`), dead code (`dead_code`), slots (`slot_promote`), the passes
+//! over blocks (`branch_simplify`, `block_trim`), inlining at a call (`inline_site`), the inline walk and the
 //! order of all (`back_end`), by tables of texts: a module, and its first function as the pass makes it, worked out by hand. The
 //! rows of facts try the rule table (`fold_rules`).
 //!
@@ -9,6 +10,8 @@
 //! one crate, so that their statements are loaded once.
 #![tactic(auto)]
 
+#[cfg(test)]
+mod numbers;
 #[cfg(test)]
 mod points;
 #[cfg(test)]

@@ -5,8 +5,7 @@ ghost use Rattle.back_end.specs.Walking.{bodies_in};
 ghost use Rattle.ir_tree.specs.Rules.{Sound};
 
 use back_end::{Bodies, compile, walk};
-use block_merge::merge;
-use block_trim::trim;
+use block_trim::{merge, trim};
 use branch_simplify::branches;
 use dead_code::needed;
 use inline_site::inline_at;

@@ -1,6 +1,6 @@
 //! Long functions, which loops write.
 use crate::rows::{Pass, after, first, read};
-use block_merge::merge;
+use block_trim::merge;
 use std::alloc::{AllocError, Global};
 use std::fmt::Write;
 

@@ -21,8 +21,8 @@ use Rattle.lto_fault.specs.declared.refusal.Refusal.{Refusal}
 use Rattle.lto_fault.specs.declared.refusal.Refusal.TheVariants.{Undefined, Uninit}
 use Rattle.lto_fault.specs.declared.returned.Returned as line
 use Rattle.lto_words.specs.declared.list.Decimal.{Decimal}
-use Rattle.machine_steps.specs.Steps.{HasBegun, IsRunning, numbers_meant}
-use Rattle.machine_steps.specs.declared.machine.Machine.{Machine}
+use Rattle.ir_interp.specs.Steps.{HasBegun, IsRunning, numbers_meant}
+use Rattle.ir_interp.specs.declared.machine.Machine.{Machine}
 use Rattle.run_program.specs.Said.{IsTold}
 use Rattle.run_program.specs.Causes.{Because, Causes, Comes, never}
 use Rattle.run_program.specs.Endings.{IsSaid, Unbegun, given_up}

@@ -26,8 +26,8 @@ use Rattle.machine_code.specs.Roots as lowered
 use Rattle.machine_code.proofs.Lists.{all_got}
 use Rattle.machine_code.proofs.Naming.{code_is, symbol_is}
 use Rattle.machine_code.specs.Tables.{number_at}
-use Rattle.machine_steps.specs.Steps.{CanBegin, numbers_meant}
-use Rattle.machine_steps.specs.declared.code.Code.{Code}
+use Rattle.ir_interp.specs.Steps.{CanBegin, numbers_meant}
+use Rattle.ir_interp.specs.declared.code.Code.{Code}
 use Rattle.run_program.specs.Arguments.{IsGiven, IsTyped}
 use Rattle.run_program.specs.Roots.{IsBegun, IsRoot, NoRoot, begun_with, function_in}
 use Rattle.run_program.specs.Starting.{arguments, result_of, root_of, started, taken_by}

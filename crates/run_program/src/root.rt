@@ -2,7 +2,7 @@
 ghost use Rattle.std.specs.Prelude.{◌≡◌, All, IfOk, IfSome, None, length, option_copied, slice_get};
 ghost use Rattle.ir_program.specs.Runnable.{AreRunnable};
 ghost use Rattle.machine_code.specs.Lowered.{IsMadeOf};
-ghost use Rattle.machine_steps.specs.Steps.{CanBegin};
+ghost use Rattle.ir_interp.specs.Steps.{CanBegin};
 ghost use Rattle.run_program.specs.Arguments.{IsGiven, IsTyped};
 ghost use Rattle.run_program.specs.Roots.{IsBegun, IsRoot, NoRoot, begun_with, function_in};
 

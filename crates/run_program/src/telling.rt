@@ -8,12 +8,13 @@ ghost use Rattle.ir_meaning.specs.Operate.{bits_of as bits_in};
 ghost use Rattle.ir_meaning.specs.declared.value.Value.TheVariants.{Number};
 ghost use Rattle.ir_machine.specs.Meant.{symbol_at};
 ghost use Rattle.machine_code.specs.MemoryAddresses.{key_symbol};
-ghost use Rattle.machine_steps.specs.Scenes.{answer_meant};
+ghost use Rattle.ir_interp.specs.Scenes.{answer_meant};
 ghost use Rattle.run_program.specs.Arguments.{IsGiven};
 ghost use Rattle.run_program.specs.Files.{file_at, file_in, home_in};
 ghost use Rattle.run_program.specs.Said.{IsTold, answer_said, bits_said, failure_refusal, told_cause, typed_said};
 
 use crate::literals::number_said;
+use ir_interp::Place;
 use ir_machine::Scalar;
 use ir_meaning::{Cause, Value, bits_of};
 use ir_program::symbol_of;
@@ -21,7 +22,6 @@ use ir_tree::{GlobalValue, Reg, Text};
 use lto_fault::{Refusal, Returned};
 use lto_words::FileName;
 use machine_code::Key;
-use machine_steps::Place;
 use std::alloc::Global;
 use symbol_resolve::Resolution;
 

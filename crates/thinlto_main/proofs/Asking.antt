@@ -2,7 +2,7 @@
 use Rattle.std.proofs.Common.{ℕ, ◌≡◌, true, List, [], ◌∷◌, ◌++◌, OnErr, OnOk, Result, Ok, Err, ap, inl, inr, refl, subst}
 use Rattle.lto_fault.specs.declared.kind.Kind.{Kind}
 use Rattle.lto_fault.specs.declared.refusal.Refusal.{Refusal}
-use Rattle.lto_fetch.specs.Fetching.{FetchFailed, fetch_calls}
+use Rattle.thinlto_main.specs.Fetching.{FetchFailed, fetch_calls}
 use Rattle.lto_outside.specs.Calls.{Call, DidNoPut, Fetched, NoPut, Put}
 use Rattle.lto_outside.specs.declared.fault.FetchFault.TheVariants.{Fault}
 use Rattle.lto_words.specs.Commands.{IsCommand}

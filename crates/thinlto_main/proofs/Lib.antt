@@ -1,3 +1,4 @@
+pub mod Fetches
 mod Reading
 mod Unlinked
 mod Renumbered

@@ -7,7 +7,7 @@ use Rattle.link_one.specs.Laws.{AcceptedIsOne}
 use Rattle.link_one.specs.Linking.{IsLinkOf, IsOnlyLinkOf}
 use Rattle.link_one.specs.Refusing.{IsUnlinked}
 use Rattle.link_one.proofs.Texts.{one_accepted}
-use Rattle.lto_fetch.specs.Fetching.{fetch_calls}
+use Rattle.thinlto_main.specs.Fetching.{fetch_calls}
 use Rattle.lto_outside.specs.Calls.{Call, Put}
 use Rattle.lto_outside.specs.Seen.{FilesSeen}
 use Rattle.lto_words.specs.declared.request.LinkOptions.{LinkOptions}

@@ -1,3 +1,5 @@
+pub mod Fetching
+pub mod Fetched
 pub mod Exit
 pub mod Honest
 pub mod Seen

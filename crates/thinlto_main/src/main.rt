@@ -4,7 +4,8 @@
 //! objects, and its contract says when each answer comes and what was done to each object. `main`
 //! makes the real objects, calls `top`, and ends with the status's number.
 //!
-//! What words ask for is said by `lto_words`; a command fetches its files (`lto_fetch`) and reads each (`link_one`), and by
+//! What words ask for is said by `lto_words`; a command fetches its files, each once and in order
+//! (`specs/Fetching.antt`), and reads each (`link_one`), and by
 //! the modules' summaries it is decided what is kept and imported (`thin_link`). `link` puts the linked module, `index` prints
 //! what was decided, and `run` merges the modules (`merge_meaning`), lowers what they mean together and opens its memory
 //! (`machine_code`), and runs it with the input and the output (`ir_interp`). A refusal and what a run returned are told on the
@@ -21,6 +22,7 @@
 mod cache;
 mod command;
 mod entry;
+mod fetching;
 mod index;
 mod link;
 mod modules;

@@ -2,16 +2,16 @@
 ghost use Rattle.std.specs.Prelude.{◌≡◌, ◌≤◌, ◌<◌, All, IfOk, IfErr, OnErr, length};
 ghost use Rattle.std.specs.List.{AllZip};
 ghost use Rattle.lto_fault.specs.declared.refusal.Refusal.{Refusal};
-ghost use Rattle.lto_fetch.specs.Fetching.{IsShort};
+ghost use Rattle.thinlto_main.specs.Fetching.{IsShort};
 ghost use Rattle.lto_outside.specs.Seen.{files_seen};
 ghost use Rattle.run_program.specs.Causes.{Because, never};
 ghost use Rattle.thinlto_main.specs.Linking.{suffixes_of};
 ghost use Rattle.thinlto_main.specs.Modules.{AreFetched, AreRead, FirstBad, IsBad, IsRead, bytes_of, reading, unfetched};
 
+use crate::fetching::{FetchError, fetch_all};
 use ir_tree::{Rows, Text, Verified};
 use link_one::{LinkError, accepted};
 use lto_fault::{Kind, Refusal};
-use lto_fetch::{FetchError, fetch_all};
 use lto_outside::Files;
 use lto_words::FileName;
 use promote_rename::suffix;

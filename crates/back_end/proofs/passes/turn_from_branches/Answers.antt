@@ -1,6 +1,6 @@
 use Rattle.std.proofs.Common.{IfOk, subst}
 use Rattle.ir_tree.specs.declared.function.Function.{Function}
-use Rattle.block_merge.specs.Merged.{IsMergeOf}
+use Rattle.block_trim.specs.Merged.{IsMergeOf}
 use Rattle.block_trim.specs.Trimmed.{IsTrimOf}
 use Rattle.dead_code.specs.Least.{IsNeededOf}
 use Rattle.back_end.proofs.passes.turn_from_branches.Goals as goal

@@ -2,8 +2,8 @@ use Rattle.std.proofs.Common.{◌≡◌, ◌∙◌, ◌<◌, ◌↔◌, true, Bo
 use Rattle.std.specs.List.{All, Contains, flat_map}
 use Rattle.std.specs.Prelude.{IfOk}
 use Rattle.indexmap.specs.IndexSet.{IndexSet}
-use Rattle.graph_walk.specs.Rows.{AreBelow, row}
-use Rattle.graph_walk.specs.Walking.{IsReach}
+use Rattle.liveness.specs.Rows.{AreBelow, row}
+use Rattle.liveness.specs.Walking.{IsReach}
 use Rattle.ir_tree.specs.declared.module.GlobalValue.{GlobalValue}
 use Rattle.emit.specs.Graphs.{Edge, Linked, edges, edges_of, is_key, is_marked}
 use Rattle.emit.specs.Emissions.{IsKept}

@@ -4,7 +4,7 @@ use Rattle.std.specs.HashSet.{contains}
 use Rattle.std.specs.Ordering.{nat_cmp}
 use Rattle.ir_tree.specs.declared.function.Function.{Function}
 use Rattle.ir_flow.specs.Dominating.{dominance}
-use Rattle.block_places.specs.Above.{is_above}
+use Rattle.fact_sources.specs.Above.{is_above}
 use Rattle.ir_facts.specs.Clear.{IsClear, barred, blocks_clear}
 use Rattle.ir_facts.specs.Scopes.{AreScopes, bars}
 use Rattle.ir_facts.specs.declared.scopes.Scopes.{Scopes}

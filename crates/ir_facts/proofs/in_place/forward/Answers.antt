@@ -5,9 +5,9 @@ use Rattle.ir_tree.specs.declared.block.Block.{Block}
 use Rattle.ir_tree.specs.declared.operand.Operand.{Operand}
 use Rattle.ir_tree.specs.Edited.{block_edited}
 use Rattle.ir_edit.specs.Substituted.{operand_replaced, replacement}
-use Rattle.local_names.specs.Naming.{blocks_name}
-use Rattle.local_names.specs.Substitutions.{IsOf, value_in}
-use Rattle.local_names.specs.declared.substitution.Substitution.{Substitution}
+use Rattle.fact_sources.specs.Naming.{blocks_name}
+use Rattle.fact_sources.specs.Substitutions.{IsOf, value_in}
+use Rattle.fact_sources.specs.declared.substitution.Substitution.{Substitution}
 use Rattle.fact_sources.specs.Candidates.{blocks_candidates}
 use Rattle.ir_facts.proofs.Unnamed.{blocks_same, operand_same}
 use Rattle.ir_facts.proofs.Unused.{nothing}

@@ -1,7 +1,7 @@
 use Rattle.std.proofs.Common.{ℕ, sym, ◌∙◌}
 use Rattle.std.specs.Prelude.{is_some}
 use Rattle.ir_edit.specs.Substituted.{operand_replaced}
-use Rattle.local_names.specs.Substitutions.{value_in}
+use Rattle.fact_sources.specs.Substitutions.{value_in}
 use Rattle.ir_facts.proofs.Unnamed.{instr_same, operand_same, own}
 use Rattle.ir_facts.proofs.Unused.{nothing}
 use Rattle.ir_facts.proofs.in_place.replace_in_line.Goals as goal

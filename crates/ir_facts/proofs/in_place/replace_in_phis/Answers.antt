@@ -1,8 +1,8 @@
 use Rattle.std.proofs.Common.{ℕ, sym, ◌∙◌, ap}
 use Rattle.std.specs.Prelude.{is_some}
 use Rattle.ir_edit.specs.Substituted.{operand_replaced}
-use Rattle.local_names.specs.Naming.{phis_name}
-use Rattle.local_names.specs.Substitutions.{value_in}
+use Rattle.fact_sources.specs.Naming.{phis_name}
+use Rattle.fact_sources.specs.Substitutions.{value_in}
 use Rattle.ir_facts.proofs.Unnamed.{phis_same, operand_same}
 use Rattle.ir_facts.proofs.Unused.{nothing}
 use Rattle.ir_facts.proofs.in_place.replace_in_phis.Goals as goal

@@ -2,8 +2,8 @@ use Rattle.std.proofs.Common.{ℕ, List, sym, ◌∙◌, ap}
 use Rattle.std.specs.Prelude.{is_some}
 use Rattle.ir_tree.specs.declared.operand.Operand.{Operand}
 use Rattle.ir_edit.specs.Substituted.{replacement}
-use Rattle.local_names.specs.Naming.{blocks_name}
-use Rattle.local_names.specs.Substitutions.{value_in}
+use Rattle.fact_sources.specs.Naming.{blocks_name}
+use Rattle.fact_sources.specs.Substitutions.{value_in}
 use Rattle.ir_facts.proofs.Unused.{unused_step}
 use Rattle.ir_facts.proofs.Widths.{formed_wide}
 use Rattle.ir_facts.proofs.rounds.forwarded.Goals as goal

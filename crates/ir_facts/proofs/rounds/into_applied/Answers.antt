@@ -3,8 +3,8 @@ use Rattle.std.specs.HashSet.{contains}
 use Rattle.std.specs.List.{list_any}
 use Rattle.ir_tree.specs.Rules.{Sound}
 use Rattle.ir_tree.specs.declared.block.Block.{Block}
-use Rattle.local_names.specs.Apart.{IsApart}
-use Rattle.local_names.proofs.NoneNamed.{empty_list}
+use Rattle.fact_sources.specs.Apart.{IsApart}
+use Rattle.fact_sources.proofs.NoneNamed.{empty_list}
 use Rattle.ir_facts.specs.Blocks.{with_blocks}
 use Rattle.ir_facts.specs.Steps.{AreRounds, IsApplied}
 use Rattle.ir_facts.proofs.InRounds.{are_better}

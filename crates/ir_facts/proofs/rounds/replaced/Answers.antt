@@ -4,10 +4,10 @@ use Rattle.ir_tree.specs.declared.function.Function.{Function}
 use Rattle.ir_tree.specs.declared.operand.Operand.{Operand}
 use Rattle.ir_tree.specs.Edited.{edited}
 use Rattle.ir_edit.specs.Substituted.{operand_replaced, substituted}
-use Rattle.local_names.specs.Apart.{resting}
-use Rattle.local_names.specs.Substitutions.{IsOf, value_in}
-use Rattle.local_names.specs.declared.substitution.Substitution.{Substitution}
-use Rattle.local_names.proofs.NoneNamed.{empty_list}
+use Rattle.fact_sources.specs.Apart.{resting}
+use Rattle.fact_sources.specs.Substitutions.{IsOf, value_in}
+use Rattle.fact_sources.specs.declared.substitution.Substitution.{Substitution}
+use Rattle.fact_sources.proofs.NoneNamed.{empty_list}
 use Rattle.fact_sources.specs.Candidates.{candidates}
 use Rattle.ir_facts.specs.Steps.{IsStep, candidate_of, step_of}
 use Rattle.ir_facts.proofs.Parting.{step_clear, step_everywhere}

@@ -2,7 +2,7 @@ use Rattle.std.proofs.Common.{◌≡◌, nat_eq, Option, Some, None, subst, sym}
 use Rattle.std.specs.HashSet.{contains}
 use Rattle.ir_tree.specs.Rules.{Sound}
 use Rattle.ir_tree.specs.declared.function.Function.{Function}
-use Rattle.local_names.specs.Apart.{IsApart}
+use Rattle.fact_sources.specs.Apart.{IsApart}
 use Rattle.fact_sources.specs.Settled.{settled}
 use Rattle.fact_sources.specs.Settled.{or_same}
 use Rattle.ir_facts.specs.Steps.{IsRound, IsStep, candidate_of}

@@ -1,9 +1,9 @@
 use Rattle.std.proofs.Common.{None, inl, sym, subst}
 use Rattle.ir_meaning.specs.Program.{On}
-use Rattle.machine_steps.specs.Code.{IsRunnable}
-use Rattle.machine_steps.specs.Steps.{IsStep}
-use Rattle.machine_steps.specs.declared.code.Code.{Code}
-use Rattle.machine_steps.specs.declared.end.StepEnd.{StepEnd}
+use Rattle.ir_interp.specs.Code.{IsRunnable}
+use Rattle.ir_interp.specs.Steps.{IsStep}
+use Rattle.ir_interp.specs.declared.code.Code.{Code}
+use Rattle.ir_interp.specs.declared.step_end.StepEnd.{StepEnd}
 use Rattle.ir_interp.proofs.Feeding.{advance_quiet, nothing_taken, then_err, then_ok}
 use Rattle.ir_interp.proofs.running.advance.Goals as goal
 

@@ -3,9 +3,9 @@ use Rattle.std.specs.Prelude.{IfErr}
 use Rattle.std.proofs.lemmas.Result.{err_from_is_err_and}
 use Rattle.ir_tree.specs.declared.operand.Symbol.{Symbol}
 use Rattle.ir_meaning.specs.Program.{Program, State}
-use Rattle.machine_steps.specs.Code.{IsRunnable}
-use Rattle.machine_steps.specs.Steps.{IsRunning}
-use Rattle.machine_steps.specs.declared.code.Code.{Code}
+use Rattle.ir_interp.specs.Code.{IsRunnable}
+use Rattle.ir_interp.specs.Steps.{IsRunning}
+use Rattle.ir_interp.specs.declared.code.Code.{Code}
 use Rattle.ir_interp.specs.Runs.{HasSentPart, IsBlamed}
 use Rattle.ir_interp.specs.Turns.{HasTurned}
 use Rattle.ir_interp.specs.declared.end.RunEnd.{RunEnd}

@@ -1,8 +1,8 @@
 use Rattle.std.proofs.Common.{◌≡◌, ◌-◌, ◌≤◌, List}
 use Rattle.ir_tree.specs.declared.operand.Symbol.{Symbol}
 use Rattle.ir_meaning.specs.Program.{Program, State}
-use Rattle.machine_steps.specs.Code.{IsRunnable}
-use Rattle.machine_steps.specs.Steps.{IsRunning}
+use Rattle.ir_interp.specs.Code.{IsRunnable}
+use Rattle.ir_interp.specs.Steps.{IsRunning}
 use Rattle.ir_interp.proofs.Turns.{Comes}
 use Rattle.ir_interp.proofs.running.run.Given as goal
 

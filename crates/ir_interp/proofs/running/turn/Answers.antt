@@ -2,8 +2,8 @@ use Rattle.std.proofs.Common.{◌≡◌, [], ◌∷◌, Option, Result, Err, ref
 use Rattle.std.specs.Prelude.{IfErr}
 use Rattle.std.proofs.lemmas.Result.{err_from_is_err_and}
 use Rattle.ir_meaning.specs.declared.event.Event.TheVariants as event
-use Rattle.machine_steps.specs.declared.end.StepEnd.{StepEnd}
-use Rattle.machine_steps.specs.declared.end.StepEnd.TheVariants as step_end
+use Rattle.ir_interp.specs.declared.step_end.StepEnd.{StepEnd}
+use Rattle.ir_interp.specs.declared.step_end.StepEnd.TheVariants as step_end
 use Rattle.ir_interp.specs.Runs.{IsBlamed}
 use Rattle.ir_interp.specs.Turns.{HasAdvanced, Leaves}
 use Rattle.ir_interp.specs.declared.end.RunEnd.{RunEnd}

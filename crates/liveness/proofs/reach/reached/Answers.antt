@@ -1,9 +1,9 @@
 use Rattle.std.proofs.Common.{◌∙◌, ◌-◌, ◌++◌, [], ℕ, List, take, ap, subst}
 use Rattle.liveness.specs.Liveness.{IsExported, refs, refs_of}
-use Rattle.graph_walk.specs.Walking.{Grown}
-use Rattle.graph_walk.proofs.Growing.{grown-none}
+use Rattle.liveness.specs.Walking.{Grown}
+use Rattle.liveness.proofs.Growing.{grown-none}
 use Rattle.liveness.proofs.Starting.{started}
-use Rattle.graph_walk.proofs.Walks.{walk-done, walk-step}
+use Rattle.liveness.proofs.Walks.{walk-done, walk-step}
 use Rattle.liveness.proofs.reach.reached.Goals as goal
 
 pub loop-number-init : goal.loop-number-init

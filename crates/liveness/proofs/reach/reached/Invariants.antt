@@ -1,6 +1,6 @@
 use Rattle.std.proofs.Common.{◌≡◌, ◌+◌, length}
 use Rattle.liveness.specs.Liveness.{IsExported, refs}
-use Rattle.graph_walk.specs.Walking.{IsWalk, outside}
+use Rattle.liveness.specs.Walking.{IsWalk, outside}
 use Rattle.liveness.proofs.reach.reached.Given as goal
 
 abbrev pub invariant-loop-number : goal.invariant-loop-number

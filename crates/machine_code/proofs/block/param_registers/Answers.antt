@@ -1,6 +1,6 @@
 use Rattle.std.proofs.Common.{◌∙◌, refl}
 use Rattle.ir_tree.specs.declared.function.Param.{Param}
-use Rattle.machine_steps.specs.Code.{locals_of}
+use Rattle.ir_interp.specs.Code.{locals_of}
 use Rattle.machine_code.proofs.Rows.{row_more}
 use Rattle.machine_code.proofs.block.param_registers.Goals as goal
 

@@ -1,5 +1,5 @@
 use Rattle.std.proofs.Common.{◌≡◌, ◌++◌, drop}
-use Rattle.machine_steps.specs.Code.{locals_of}
+use Rattle.ir_interp.specs.Code.{locals_of}
 use Rattle.machine_code.proofs.block.param_registers.Given as goal
 
 abbrev pub invariant-loop-param : goal.invariant-loop-param

@@ -1,4 +1,4 @@
-use Rattle.machine_steps.specs.declared.code.Code.{Code}
+use Rattle.ir_interp.specs.declared.code.Code.{Code}
 use Rattle.machine_code.specs.Tables.{IsTable}
 use Rattle.machine_code.proofs.Beginning.{laid_globals}
 use Rattle.machine_code.specs.declared.addresses.Addresses.{Addresses}

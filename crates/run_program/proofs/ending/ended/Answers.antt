@@ -3,7 +3,7 @@ use Rattle.ir_tree.specs.Wholes.{symbols}
 use Rattle.ir_machine.specs.Meant.{symbol_at}
 use Rattle.ir_interp.specs.Runs.{ending_meant}
 use Rattle.ir_interp.specs.declared.end.RunEnd.{RunEnd}
-use Rattle.machine_steps.specs.Scenes.{answer_meant}
+use Rattle.ir_interp.specs.Scenes.{answer_meant}
 use Rattle.run_program.specs.Files.{file_in}
 use Rattle.run_program.specs.Said.{ending_refusal, told_cause}
 use Rattle.run_program.proofs.Interpreting.{tells_undefined, tells_uninit}

@@ -1,9 +1,9 @@
 use Rattle.std.proofs.Common.{ℕ, List, length, refl, sym, subst, inl}
 use Rattle.ir_tree.specs.Wholes.{symbols}
 use Rattle.ir_program.specs.Programs.{program_of}
-use Rattle.machine_steps.specs.Code.{IsRunnable}
-use Rattle.machine_steps.specs.Steps.{CanBegin, HasBegun}
-use Rattle.machine_steps.specs.declared.code.Code.{Code}
+use Rattle.ir_interp.specs.Code.{IsRunnable}
+use Rattle.ir_interp.specs.Steps.{CanBegin, HasBegun}
+use Rattle.ir_interp.specs.declared.code.Code.{Code}
 use Rattle.run_program.specs.Streams.{streams_seen}
 use Rattle.run_program.proofs.Interpreting.{begun_fed, begun_ran, begun_stops}
 use Rattle.run_program.proofs.program.ran.Goals as goal

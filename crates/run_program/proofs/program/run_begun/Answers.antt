@@ -5,7 +5,7 @@ use Rattle.ir_meaning.specs.Program.{State}
 use Rattle.ir_meaning.specs.Run.{start}
 use Rattle.ir_program.specs.Programs.{program_of}
 use Rattle.lto_fault.specs.declared.refusal.Refusal.{Refusal}
-use Rattle.machine_steps.specs.Steps.{numbers_meant}
+use Rattle.ir_interp.specs.Steps.{numbers_meant}
 use Rattle.run_program.specs.Files.{file_in}
 use Rattle.run_program.specs.Causes.{Because}
 use Rattle.run_program.specs.Runs.{run_causes}

@@ -2,7 +2,7 @@ use Rattle.std.proofs.Common.{◌≡◌, ◌∙◌, ℕ, List, Option, IfSome, l
 use Rattle.std.specs.Prelude.{All}
 use Rattle.ir_tree.specs.declared.function.Param.{Param}
 use Rattle.lto_words.specs.declared.list.Decimal.{Decimal}
-use Rattle.machine_steps.specs.Steps.{CanBegin}
+use Rattle.ir_interp.specs.Steps.{CanBegin}
 use Rattle.run_program.specs.Arguments.{IsGiven, IsTyped}
 use Rattle.run_program.specs.Roots.{IsBegun, IsRoot, NoRoot}
 use Rattle.run_program.specs.Starting.{arguments}

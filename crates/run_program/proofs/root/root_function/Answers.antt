@@ -1,6 +1,6 @@
 use Rattle.std.proofs.Common.{◌≡◌, ℕ, Some, slice_get, refl, subst}
 use Rattle.machine_code.specs.Roots as lowered
-use Rattle.machine_steps.specs.Steps.{CanBegin}
+use Rattle.ir_interp.specs.Steps.{CanBegin}
 use Rattle.run_program.specs.Roots.{function_in}
 use Rattle.run_program.proofs.Rooting.{is_root, no_root, root_count, root_gives, root_there, root_typed}
 use Rattle.run_program.proofs.root.root_function.Goals as goal

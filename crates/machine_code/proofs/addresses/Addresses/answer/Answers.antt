@@ -1,7 +1,7 @@
 use Rattle.std.proofs.Common.{Option, Some, None, sym, subst}
 use Rattle.ir_tree.specs.declared.block.Terminator.TheVariants as end
 use Rattle.ir_tree.specs.declared.operand.Argument.{Argument}
-use Rattle.ir_frames.specs.declared.exit.Exit.TheVariants as exit
+use Rattle.ir_interp.specs.declared.exit.Exit.TheVariants as exit
 use Rattle.machine_code.specs.Blocks.{IsExit}
 use Rattle.machine_code.proofs.Leaving.{none_returned, one_returned}
 use Rattle.machine_code.proofs.addresses.Addresses.answer.Goals as goal

@@ -1,5 +1,5 @@
 use Rattle.std.proofs.Common.{List, length, ap, sym, arith}
-use Rattle.machine_steps.specs.declared.code.Block.{Block}
+use Rattle.ir_interp.specs.declared.code.Block.{Block}
 use Rattle.machine_code.specs.Blocks.{IsSoundBlock}
 use Rattle.machine_code.proofs.Blocking.{counted_next, long_pushed, no_blocks, none_counted, one_block}
 use Rattle.machine_code.proofs.Zips.{all_at}

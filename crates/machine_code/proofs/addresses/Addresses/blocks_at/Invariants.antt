@@ -1,5 +1,5 @@
 use Rattle.std.proofs.Common.{◌≡◌, length}
-use Rattle.machine_steps.specs.Code.{counted_before}
+use Rattle.ir_interp.specs.Code.{counted_before}
 use Rattle.machine_code.specs.Blocks.{AreBlocksFor}
 use Rattle.machine_code.proofs.addresses.Addresses.blocks_at.Given as goal
 

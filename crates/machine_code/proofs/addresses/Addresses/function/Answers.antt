@@ -2,7 +2,7 @@ use Rattle.std.proofs.Common.{◌≡◌, ◌+◌, List, length, sym, ap, subst, 
 use Rattle.std.specs.Prelude.{All}
 use Rattle.ir_tree.specs.declared.block.Block.{Block as MeantBlock}
 use Rattle.ir_tree.specs.declared.function.Param.{Param}
-use Rattle.machine_steps.specs.Code.{counted_before, locals_of}
+use Rattle.ir_interp.specs.Code.{counted_before, locals_of}
 use Rattle.machine_code.specs.Blocks.{AreBlocksFor, IsSoundBlock}
 use Rattle.machine_code.proofs.addresses.Addresses.function.Goals as goal
 

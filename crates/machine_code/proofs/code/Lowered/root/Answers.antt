@@ -1,6 +1,6 @@
 use Rattle.std.proofs.Common.{◌≡◌, ℕ, List, length, true, false, Some, None, slice_get, sym, ap, subst, ◌∙◌}
 use Rattle.ir_tree.specs.declared.operand.Reg.{Reg}
-use Rattle.machine_steps.specs.Steps.{CanBegin}
+use Rattle.ir_interp.specs.Steps.{CanBegin}
 use Rattle.machine_code.specs.Roots.{integers_of}
 use Rattle.machine_code.proofs.Rooting.{is_root, root_begins, root_indexed, root_integers}
 use Rattle.machine_code.proofs.code.Lowered.root.Goals as goal

@@ -3,7 +3,7 @@ use Rattle.std.specs.HashMap as hash
 use Rattle.std.specs.Map.{lookup}
 use Rattle.std.specs.Option.{unwrap_or}
 use Rattle.ir_tree.specs.declared.block.Block.{Block}
-use Rattle.machine_steps.specs.Code.{position}
+use Rattle.ir_interp.specs.Code.{position}
 use Rattle.machine_code.proofs.Placing.{all_placed, none_placed, one_placed}
 use Rattle.machine_code.proofs.positions.Positions.of.Goals as goal
 

@@ -1,7 +1,7 @@
 use Rattle.std.proofs.Common.{◌≡◌, ℕ, ◌+◌, ◌≤◌, drop, length, nat_eq}
 use Rattle.std.specs.HashMap as hash
 use Rattle.std.specs.Option.{unwrap_or}
-use Rattle.machine_steps.specs.Code.{position}
+use Rattle.ir_interp.specs.Code.{position}
 use Rattle.machine_code.proofs.positions.Positions.of.Given as goal
 
 abbrev pub invariant-loop-position : goal.invariant-loop-position

@@ -1,7 +1,0 @@
-use Rattle.std.proofs.Common.{◌≡◌, drop, nat_eq}
-use Rattle.std.specs.HashSet.{contains}
-use Rattle.block_merge.specs.Staying.{all_stay}
-use Rattle.block_merge.proofs.staying.all_stay.Given as goal
-
-abbrev pub invariant-loop-block : goal.invariant-loop-block
-invariant-loop-block l = all_stay (contains nat_eq l.candidates) (drop l.block-index l.blocks) ≡ all_stay (contains nat_eq l.candidates) l.blocks

@@ -1,2 +1,0 @@
-pub mod KeptEdges
-pub mod Placed

@@ -1,8 +1,0 @@
-use Rattle.std.specs.BTreeMap.{get}
-use Rattle.std.specs.Ordering.{nat_cmp}
-use Rattle.ir_tree.specs.Flow.{holds, results}
-use Rattle.block_places.proofs.Placed.{Places}
-use Rattle.block_places.proofs.standing.place_lines.Given as goal
-
-abbrev pub invariant-loop-line : goal.invariant-loop-line
-invariant-loop-line l = Places (get nat_cmp l.places) (get nat_cmp l.initial.places) l.place (λ x. holds (results l.lines) x)

@@ -1,0 +1,69 @@
+//! The pass.
+ghost use Rattle.std.specs.Prelude.{◌≡◌, ◌-◌, ◌^◌, ℕ, nat_eq, length, IfOk};
+ghost use Rattle.std.specs.HashSet.{contains};
+ghost use Rattle.ir_tree.specs.Formed.{Distinct, numbers};
+ghost use Rattle.ir_tree.specs.Rules.{Sound};
+ghost use Rattle.ir_meaning.specs.Near.{BetterThan};
+ghost use Rattle.ir_meaning.specs.Program.{Program};
+ghost use Rattle.ir_better.specs.Formed.{IsFormed};
+ghost use Rattle.block_trim.specs.Merged.{IsMergeOf, behind_entry};
+ghost use Rattle.block_trim.specs.Working.{has_one_edge, may_go};
+
+use crate::candidates::candidates;
+use crate::joining::Joining;
+use crate::unjoined::all_stay;
+use ir_tree::{Duplicate, Function};
+use std::alloc::{AllocError, Global};
+use std::collections::HashSet;
+
+/// The function with its blocks joined, where these can go into another one.
+fn merged(alloc: Global, f: &Function, candidates: HashSet<u32>) -> Result<Function, AllocError>
+    requires { (n : ℕ) → contains nat_eq candidates n ≡ may_go (has_one_edge f.now.blocks) (behind_entry f.now.blocks) n }
+    ensures { IfOk result (λ g. Distinct (numbers f.now) → IsMergeOf f.now g) }
+{
+    let old = f.blocks.as_slice();
+    let mut joining = Joining::of(alloc, old, candidates)?;
+    joining.grow_all(old)?;
+    let symbol = f.symbol.duplicate(alloc)?;
+    let params = f.params.duplicate(alloc)?;
+    let blocks = joining.blocks(alloc, old)?;
+    Ok(Function {
+        symbol,
+        linkage: f.linkage,
+        result: f.result,
+        params,
+        noinline: f.noinline,
+        optnone: f.optnone,
+        blocks,
+    })
+}
+
+/// The function with its blocks joined: as long as a block jumps to another one, which is not the entry, has no phis and
+/// has no other predecessor edge, the first such block takes that one's instructions and end, and phi entries that named it
+/// name the taker. Blocks that stay keep their order and numbers.
+///
+/// Where no two blocks have one number, as in every sound function, joins lead from the function to the result, each of the
+/// first block in block order that can take another one, and none is left. Refused for want of memory alone.
+pub fn merge(alloc: Global, f: &Function) -> Result<Function, AllocError>
+    ensures merged { IfOk result (λ g. Distinct (numbers f.now) → IsMergeOf f.now g) }
+    ensures better { IfOk result (λ g. Sound f.now → (p : Program) → IsFormed p → BetterThan p (2 ^ (length f.now.blocks - length g.blocks)) g f.now) }
+    ensures sound { IfOk result (λ g. Sound f.now → Sound g) }
+{
+    let candidates = candidates(alloc, f.blocks.as_slice())?;
+    let g = merged(alloc, f, candidates)?;
+    Ok(g)
+}
+
+/// What [`merge`] makes of a function that is given up: the function itself where no block takes another one.
+pub fn into_merged(alloc: Global, f: Function) -> Result<Function, AllocError>
+    ensures merged { IfOk result (λ g. Distinct (numbers f) → IsMergeOf f g) }
+    ensures sound { IfOk result (λ g. Sound f → Sound g) }
+{
+    let candidates = candidates(alloc, f.blocks.as_slice())?;
+    let stay = all_stay(&candidates, f.blocks.as_slice());
+    if stay {
+        return Ok(f);
+    }
+    let g = merged(alloc, &f, candidates)?;
+    Ok(g)
+}

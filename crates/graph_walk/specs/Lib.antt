@@ -1,3 +1,0 @@
-pub mod Reach
-pub mod Walking
-pub mod Rows

@@ -1,9 +1,0 @@
-pub mod Locals
-pub mod Tasks
-pub mod Phis
-pub mod Runs
-pub mod Lines
-pub mod Calls
-pub mod Exits
-pub mod Entering
-pub mod Slots

@@ -1,5 +1,0 @@
-mod LookedUp
-pub mod Neither
-pub mod NoneNamed
-pub mod NoneResting
-pub mod Outside

@@ -1,6 +1,0 @@
-use Rattle.std.proofs.Common.{◌≡◌, drop}
-use Rattle.local_names.specs.Naming.{blocks_name}
-use Rattle.local_names.proofs.naming.blocks_name.Given as goal
-
-abbrev pub invariant-loop-block : goal.invariant-loop-block
-invariant-loop-block g l = blocks_name (g.L.Locals.members l.among) (drop l.block-index l.blocks) ≡ blocks_name (g.L.Locals.members l.among) l.blocks

@@ -1,6 +1,0 @@
-use Rattle.std.proofs.Common.{◌≡◌, drop}
-use Rattle.local_names.specs.Naming.{entries_name}
-use Rattle.local_names.proofs.naming.entries_name.Given as goal
-
-abbrev pub invariant-loop-entry : goal.invariant-loop-entry
-invariant-loop-entry g l = entries_name (g.L.Locals.members l.among) (drop l.entry-index l.incoming) ≡ entries_name (g.L.Locals.members l.among) l.incoming

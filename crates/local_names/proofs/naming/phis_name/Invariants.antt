@@ -1,6 +1,0 @@
-use Rattle.std.proofs.Common.{◌≡◌, drop}
-use Rattle.local_names.specs.Naming.{phis_name}
-use Rattle.local_names.proofs.naming.phis_name.Given as goal
-
-abbrev pub invariant-loop-phi : goal.invariant-loop-phi
-invariant-loop-phi g l = phis_name (g.L.Locals.members l.among) (drop l.phi-index l.phis) ≡ phis_name (g.L.Locals.members l.among) l.phis

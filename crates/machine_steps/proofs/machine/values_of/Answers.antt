@@ -1,7 +1,0 @@
-use Rattle.std.proofs.Common.{◌∙◌}
-use Rattle.machine_steps.proofs.Begun.{one_more}
-use Rattle.machine_steps.proofs.machine.values_of.Goals as goal
-
-pub loop-number-preserved : goal.loop-number-preserved
-loop-number-preserved c =
-    one_more c.args.numbers.now c.loop-number.number-index _ c.loop-number.values.items c.push.new.self.items c.loop-number-test.true c.in_ok-push.ensures.items ∙ c.loop-number.invariant

@@ -1,2 +1,0 @@
-mod Staying
-pub mod Walking
