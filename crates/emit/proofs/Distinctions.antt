@@ -27,7 +27,7 @@ pub stands_in : (ss : List Symbol) (s : Symbol) → Contains ss s → StandsIn s
 stands_in ss s h = (h.0, contained ss h.0 s h.1 h.2)
 
 -- the first stands nowhere else
-not_again : (u : Symbol) (ss : List Symbol) → Distinct (u ∷ ss) → Contains ss u → ⊥
+pub not_again : (u : Symbol) (ss : List Symbol) → Distinct (u ∷ ss) → Contains ss u → ⊥
 not_again u ss once h = clash (symbol_eq u u) (not_first u u ss once (stands_in ss u h)) (symbol_same u u refl)
 
 pub apart : (xs ys : List Symbol) → Distinct (xs ++ ys) → (s : Symbol) → Contains xs s → Contains ys s → ⊥

@@ -5,6 +5,7 @@ use Rattle.std.proofs.lemmas.Cmp.{nat_list_eq_equiv}
 use Rattle.std.proofs.lemmas.List.{drop_all, drop_more}
 use Rattle.std.proofs.lemmas.List.Elements.{All-from_get_or, Contains-get_or}
 use Rattle.std.proofs.lemmas.Slice.Eq.{bytes_eq-Decides}
+use Rattle.std.specs.HashSet.{HashSet, Updates}
 use Rattle.std.specs.List.{All, Contains, list_any}
 use Rattle.std.specs.Str.{bytes_eq}
 use Rattle.indexmap.specs.IndexSet.{insert_key}
@@ -12,12 +13,11 @@ use Rattle.lto_sets.specs.Sets.{contains}
 use Rattle.liveness.specs.Reach.{IsReached, leads, starts}
 use Rattle.liveness.specs.Rows.{AreBelow, row}
 use Rattle.liveness.specs.Walking.{IsReach}
-use Rattle.ir_tree.specs.declared.module.GlobalValue.{GlobalValue}
-use Rattle.ir_summary.specs.References.{global_names}
-use Rattle.ir_program.specs.Programs.{symbol_of}
+use Rattle.lto_task.specs.declared.piece.Piece.{Piece}
 use Rattle.merge_meaning.proofs.Standing.{alone, in_joined, joined_from}
+use Rattle.emit.specs.Chosen.{has}
 use Rattle.emit.specs.Graphs.{AreStarts, Edge, IsNumber, Linked, edge, edges, edges_of, is_key, is_marked}
-use Rattle.emit.specs.Emissions.{IsKept, exported, referred}
+use Rattle.emit.specs.Joins.{IsUsed, asked, referred_by}
 use Rattle.emit.proofs.Linking.{alike, number_within}
 
 abbrev Keys : Type 0
@@ -26,17 +26,17 @@ Keys = List (Bor (List ℕ))
 inside : {X : Type 0} {x y : X} → Some x ≡ Some y → x ≡ y
 inside e = cc
 
--- ---- references of values
+-- ---- references of pieces
 
-from_edges : (hs : List GlobalValue) (from to : List ℕ) → Contains (edges hs) (from, to) → (p : GlobalValue) × Contains hs p × ((symbol_of p).name ≡ from) × Contains (global_names p) to
+from_edges : (hs : List Piece) (from to : List ℕ) → Contains (edges hs) (from, to) → (p : Piece) × Contains hs p × (p.name ≡ from) × Contains p.refs to
 from_edges hs from to h =
     let p = joined_from edges_of hs (from, to) h in
-    let r = joined_from (edge (symbol_of p.0).name) (global_names p.0) (from, to) p.2 in
-    let same : ◌≡◌ {A = Edge} ((symbol_of p.0).name, r.0) (from, to) = alone ((symbol_of p.0).name, r.0) (from, to) r.2 in
-    (p.0, p.1, ap (λ (e : Edge). e.0) same, subst (Contains (global_names p.0)) (ap (λ (e : Edge). e.1) same) r.1)
+    let r = joined_from (edge p.0.name) p.0.refs (from, to) p.2 in
+    let same : ◌≡◌ {A = Edge} (p.0.name, r.0) (from, to) = alone (p.0.name, r.0) (from, to) r.2 in
+    (p.0, p.1, ap (λ (e : Edge). e.0) same, subst (Contains p.0.refs) (ap (λ (e : Edge). e.1) same) r.1)
 
-to_edges : (hs : List GlobalValue) (p : GlobalValue) (to : List ℕ) → Contains hs p → Contains (global_names p) to → Contains (edges hs) ((symbol_of p).name, to)
-to_edges hs p to there refers = in_joined edges_of hs p ((symbol_of p).name, to) there (in_joined (edge (symbol_of p).name) (global_names p) to ((symbol_of p).name, to) refers (0, omega arith, refl))
+to_edges : (hs : List Piece) (p : Piece) (to : List ℕ) → Contains hs p → Contains p.refs to → Contains (edges hs) (p.name, to)
+to_edges hs p to there refers = in_joined edges_of hs p (p.name, to) there (in_joined (edge p.name) p.refs to (p.name, to) refers (0, omega arith, refl))
 
 -- ---- marks
 
@@ -62,29 +62,29 @@ is_marked_so (key ∷ keys) (mark ∷ marks) name (suc n) at on = or_right (mark
 
 -- ---- what is kept
 
-module _ (exports : List (List ℕ)) (hs : List GlobalValue) (keys : Keys) (rows : List (List ℕ)) (begun : List ℕ) (l : Linked (edges hs) keys rows) (s : AreStarts keys exports begun) where
+module _ (exports : List (List ℕ)) (hs : List Piece) (keys : Keys) (rows : List (List ℕ)) (begun : List ℕ) (l : Linked (edges hs) keys rows) (s : AreStarts keys exports begun) where
   one_name : (n : ℕ) (a b : List ℕ) → IsNumber keys a n → IsNumber keys b n → a ≡ b
   one_name n a b at_a at_b = inside (sym at_a ∙ at_b)
 
-  kept_of : (n : ℕ) → IsReached (Contains begun) (row rows) n → (a : List ℕ) → IsNumber keys a n → IsKept exports hs a
+  kept_of : (n : ℕ) → IsReached (Contains begun) (row rows) n → (a : List ℕ) → IsNumber keys a n → IsUsed exports hs a
   kept_of n (starts _ h) a at =
       let from = s.sound n h in
-      subst (IsKept exports hs) (one_name n from.0 a from.2 at) (exported from.0 from.1)
+      subst (IsUsed exports hs) (one_name n from.0 a from.2 at) (asked from.0 from.1)
   kept_of n (leads m _ r h) a at =
       let e = l.sound m n h in
       let p = from_edges hs e.0 e.1 e.4 in
-      subst (IsKept exports hs) (one_name n e.1 a e.3 at)
-      (referred p.0 e.1 p.1 (subst (IsKept exports hs) (sym p.2) (kept_of m r e.0 e.2)) p.3)
+      subst (IsUsed exports hs) (one_name n e.1 a e.3 at)
+      (referred_by p.0 e.1 p.1 (subst (IsUsed exports hs) (sym p.2) (kept_of m r e.0 e.2)) p.3)
 
-  reached_of : (a : List ℕ) → IsKept exports hs a → (n : ℕ) × IsNumber keys a n × IsReached (Contains begun) (row rows) n
-  reached_of a (exported _ h) = let at = s.complete a h in (at.0, at.2, starts at.0 at.1)
-  reached_of a (referred p _ there r h) =
-      let from = reached_of (symbol_of p).name r in
-      let e = l.complete (symbol_of p).name a (to_edges hs p a there h) in
-      let same : from.0 ≡ e.0 = l.once from.0 e.0 (symbol_of p).name from.1 e.2 in
+  reached_of : (a : List ℕ) → IsUsed exports hs a → (n : ℕ) × IsNumber keys a n × IsReached (Contains begun) (row rows) n
+  reached_of a (asked _ h) = let at = s.complete a h in (at.0, at.2, starts at.0 at.1)
+  reached_of a (referred_by p _ there r h) =
+      let from = reached_of p.name r in
+      let e = l.complete p.name a (to_edges hs p a there h) in
+      let same : from.0 ≡ e.0 = l.once from.0 e.0 p.name from.1 e.2 in
       (e.1, e.3, leads e.0 e.1 (subst (IsReached (Contains begun) (row rows)) same from.2) e.4)
 
-  pub kept_so : (marks : List Bool) → IsReach (Contains begun) (row rows) marks → (name : List ℕ) → (is_marked keys marks name ≡ true) ↔ IsKept exports hs name
+  pub kept_so : (marks : List Bool) → IsReach (Contains begun) (row rows) marks → (name : List ℕ) → (is_marked keys marks name ≡ true) ↔ IsUsed exports hs name
   kept_so marks reach name = (
     λ h. let at = marked_is keys marks name h in kept_of at.0 ((reach at.0).0 at.2) name at.1,
     λ k. let at = reached_of name k in is_marked_so keys marks name at.0 at.1 ((reach at.0).1 at.2),
@@ -168,12 +168,21 @@ marked_done names marks i kept past so_far name =
 
 -- ---- a list of names as a set, one name further
 
-pub named_more : (keys then : Keys) (k : Bor (List ℕ)) (names : List (List ℕ)) (i : ℕ) (d : List ℕ) → i < length names → k.now ≡ get_or names i d → then ≡ insert_key alike keys k
-    → (name : List ℕ) → (is_key keys name || list_any (bytes_eq name) (drop i names)) ≡ list_any (bytes_eq name) names
-    → (is_key then name || list_any (bytes_eq name) (drop (i + 1) names)) ≡ list_any (bytes_eq name) names
-named_more keys then k names i d lt is then_is name so_far =
-    ap (λ (ks : Keys). is_key ks name || list_any (bytes_eq name) (drop (i + 1) names)) then_is
-    ∙ ap (λ (b : Bool). b || list_any (bytes_eq name) (drop (i + 1) names)) (key_more keys k name ∙ ap (λ (n : List ℕ). is_key keys name || bytes_eq name n) is)
-    ∙ or_grouped (is_key keys name) (bytes_eq name (get_or names i d)) (list_any (bytes_eq name) (drop (i + 1) names))
-    ∙ sym (ap (λ (ns : List (List ℕ)). is_key keys name || list_any (bytes_eq name) ns) (drop_more names i d lt))
+-- a borrow of this name
+abbrev borrowed : List ℕ → Bor (List ℕ)
+borrowed name = record { ref_ptr = (0, 0); now = name }
+
+named : (b c rest : Bool) → (cond b true c || rest) ≡ (c || (b || rest))
+named true true rest = refl
+named true false rest = refl
+named false c rest = refl
+
+pub has_more : {S : Type 0} (old new : HashSet (Bor (List ℕ)) S) (k : Bor (List ℕ)) (names : List (List ℕ)) (i : ℕ) (d : List ℕ) → i < length names → k.now ≡ get_or names i d
+    → Updates alike old new k true → (name : List ℕ) → (has old name || list_any (bytes_eq name) (drop i names)) ≡ list_any (bytes_eq name) names
+    → (has new name || list_any (bytes_eq name) (drop (i + 1) names)) ≡ list_any (bytes_eq name) names
+has_more old new k names i d lt is updates name so_far =
+    ap (λ (b : Bool). b || list_any (bytes_eq name) (drop (i + 1) names)) (updates.0 (borrowed name))
+    ∙ named (bytes_eq k.now name) (has old name) (list_any (bytes_eq name) (drop (i + 1) names))
+    ∙ ap (λ (b : Bool). has old name || (b || list_any (bytes_eq name) (drop (i + 1) names))) (nat_list_eq_equiv.symm k.now name ∙ ap (bytes_eq name) is)
+    ∙ sym (ap (λ (ns : List (List ℕ)). has old name || list_any (bytes_eq name) ns) (drop_more names i d lt))
     ∙ so_far

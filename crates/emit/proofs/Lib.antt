@@ -11,3 +11,5 @@ mod Reordering
 mod Closing
 mod Settled
 mod Wholes
+mod Printed
+mod Joined

@@ -26,7 +26,7 @@ use Rattle.emit.specs.Emissions.{getchar, linkage_of, putchar, settled}
 
 -- ---- a definition has a body or an initialiser
 
-has_blocks : (f : Function) → IsDefinition (global.Function f) → f.blocks ≡ [] → ⊥
+pub has_blocks : (f : Function) → IsDefinition (global.Function f) → f.blocks ≡ [] → ⊥
 has_blocks f is none = is (by (defines f.linkage))
   where
     by : (b : Bool) → body_of (cond b f.blocks []) f ≡ None

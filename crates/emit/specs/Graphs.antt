@@ -1,28 +1,26 @@
--- References as a graph: a name has a number, which leads to the numbers of the names that its definitions refer to.
+-- References as a graph: a name has a number, which leads to the numbers of the names that its pieces refer to.
 use Rattle.std.specs.Prelude.{◌≡◌, ℕ, Bool, false, ◌&&◌, ◌||◌, List, [], ◌∷◌, length, flat_map, Contains, Some, slice_get}
 use Rattle.std.specs.Borrow.{Bor}
 use Rattle.std.specs.List.{list_any}
 use Rattle.std.specs.Str.{bytes_eq}
 use Rattle.ir_tree.specs.Formed.{Distinct}
-use Rattle.ir_tree.specs.declared.module.GlobalValue.{GlobalValue}
+use Rattle.lto_task.specs.declared.piece.Piece.{Piece}
 use Rattle.liveness.specs.Rows.{row}
 use Rattle.ir_summary.specs.Once.{texts}
-use Rattle.ir_summary.specs.References.{global_names}
-use Rattle.ir_program.specs.Programs.{symbol_of}
 
 -- ---- references
 
--- a definition of the first name refers to the second
+-- a piece of the first name refers to the second
 abbrev pub Edge : Type 0
 Edge = List ℕ × List ℕ
 
 abbrev pub edge : List ℕ → List ℕ → List Edge
 edge from to = (from, to) ∷ []
 
-abbrev pub edges_of : GlobalValue → List Edge
-edges_of h = flat_map (edge (symbol_of h).name) (global_names h)
+abbrev pub edges_of : Piece → List Edge
+edges_of h = flat_map (edge h.name) h.refs
 
-abbrev pub edges : List GlobalValue → List Edge
+abbrev pub edges : List Piece → List Edge
 edges hs = flat_map edges_of hs
 
 -- ---- numbers

@@ -1,13 +1,20 @@
--- The linked module is one, whole and sound, and it is an order of the kept definitions, which refer to one another alone.
-use Rattle.std.specs.Prelude.{◌≡◌, ℕ, Bool, true, ◌&&◌, is_none, ◌⊎◌, List, ◌++◌, All, Contains, None, codes}
+-- The linked module is one, whole and sound, it is an order of the kept definitions, which refer to one another alone, and its text is
+-- joined of pieces.
+use Rattle.std.specs.Prelude.{◌≡◌, ℕ, Bool, true, ◌&&◌, is_none, ◌⊎◌, List, [], ◌++◌, All, Contains, None, codes}
+use Rattle.std.specs.List.{AllZip}
 use Rattle.ir_tree.specs.Formed.{Distinct}
 use Rattle.ir_tree.specs.Wholes.{GlobalFormed, GlobalKnown, GlobalSound, Whole, symbols}
 use Rattle.ir_tree.specs.declared.module.GlobalValue.{GlobalValue}
 use Rattle.ir_tree.specs.declared.operand.Symbol.{Symbol}
+use Rattle.ir_tree.specs.declared.module.Module.{Module}
+use Rattle.ir_print.specs.Modules.{module_text}
+use Rattle.lto_task.specs.Pieces.{IsPieceOf}
+use Rattle.lto_task.specs.declared.piece.Piece.{Piece}
 use Rattle.ir_program.specs.Programs.{defined, shared, symbol_of}
 use Rattle.merge_meaning.specs.Lives.{is_export}
 use Rattle.merge_meaning.specs.Linked.{IsClosed, IsDefinition, IsReordering, emission}
 use Rattle.emit.specs.Emissions.{IsEmission, getchar, putchar, settled}
+use Rattle.emit.specs.Joins.{IsJoin}
 
 -- names as symbols, which have no home
 abbrev pub keeps_symbol : (List ℕ → Bool) → Symbol → Bool
@@ -64,3 +71,12 @@ EmissionIsWhole =
 
 abbrev pub EmissionIsSound : Type 0
 EmissionIsSound = (exports : List (List ℕ)) (hs ks : List GlobalValue) → All IsDefinition hs → All GlobalSound hs → IsEmission exports hs ks → All GlobalSound ks
+
+-- ---- its text
+
+-- what is joined of the pieces of definitions, each settled, is the text of their linked module, behind the target lines of m
+abbrev pub JoinIsEmission : Type 0
+JoinIsEmission =
+    (exports : List (List ℕ)) (hs hosts : List GlobalValue) (pieces : List Piece) (m : Module) (text : List ℕ) → AreLinkable exports hs hosts
+    → AllZip (λ h. IsPieceOf (settled exports h)) hs pieces → IsJoin exports pieces (module_text (record m { globals = [] })) text
+    → (ks : List GlobalValue) × IsEmission exports hs ks × (text ≡ module_text (record m { globals = ks }))

@@ -1,27 +1,17 @@
 //! The graph of references: names with numbers, and where each leads.
-ghost use Rattle.std.specs.Prelude.{◌≡◌, ◌++◌, ℕ, List, [], flat_map, length, IfOk, OnOk};
-ghost use Rattle.ir_program.specs.Programs.{symbol_of};
-ghost use Rattle.ir_summary.specs.Once.{texts};
+ghost use Rattle.std.specs.Prelude.{◌≡◌, ◌++◌, ℕ, List, [], length, IfOk, OnOk};
 ghost use Rattle.emit.specs.Graphs.{AreStarts, Edge, IsNumber, Linked, edge, edges, edges_of};
 
 use indexmap::IndexSet;
-use ir_program::symbol_of;
-use ir_summary::references;
-use ir_tree::{GlobalValue, Rows, Text};
+use ir_tree::{Rows, Text};
+use lto_task::Piece;
 use std::alloc::{AllocError, Global};
 
-/// Names, which go by number, and for each the numbers of the names that its definitions refer to.
+/// Names, which go by number, and for each the numbers of the names that its pieces refer to.
 #[derive(Drop)]
 pub(crate) struct Graph<'a> {
     pub names: IndexSet<&'a [u8]>,
     pub rows: Vec<Rows<u32>>,
-}
-
-/// The name of a global value.
-pub(crate) fn name_of<'a>(global: &'a GlobalValue) -> &'a [u8]
-    ensures { result.now ≡ (symbol_of global.entry.now).name }
-{
-    symbol_of(global).name.as_slice()
 }
 
 /// A place in a table as a number. `2^32` and more are refused.
@@ -74,46 +64,28 @@ impl<'a> Graph<'a> {
         Ok(())
     }
 
-    /// Leads from a name to each of these.
-    fn link_names(
-        &mut self,
-        alloc: Global,
-        from: &'a [u8],
-        names: &[&'a [u8]],
-    ) -> Result<(), AllocError>
+    /// Leads from the name of a piece to those that it refers to.
+    fn link_piece(&mut self, alloc: Global, piece: &'a Piece) -> Result<(), AllocError>
         requires { length self.old.rows.items ≡ length self.old.names.keys }
         ensures long { OnOk result (length self.new.rows.items ≡ length self.new.names.keys) }
-        ensures linked { OnOk result ((es : List Edge) → Linked es self.old.names.keys self.old.rows.items → Linked (es ++ flat_map (edge from.entry.now) (texts names.entry.now)) self.new.names.keys self.new.rows.items) }
+        ensures linked { OnOk result ((es : List Edge) → Linked es self.old.names.keys self.old.rows.items → Linked (es ++ edges_of piece.entry.now) self.new.names.keys self.new.rows.items) }
     {
-        for to in names {
-            self.link(alloc, from, *to)?;
+        let from = piece.name.as_slice();
+        let refs = piece.refs.as_slice();
+        for to in refs {
+            self.link(alloc, from, to.as_slice())?;
         }
         Ok(())
     }
 
-    /// Leads from the name of a value to those that it refers to.
-    fn link_value(&mut self, alloc: Global, global: &'a GlobalValue) -> Result<(), AllocError>
+    /// The same for each of these pieces.
+    pub fn link_pieces(&mut self, alloc: Global, pieces: &'a [Piece]) -> Result<(), AllocError>
         requires { length self.old.rows.items ≡ length self.old.names.keys }
         ensures long { OnOk result (length self.new.rows.items ≡ length self.new.names.keys) }
-        ensures linked { OnOk result ((es : List Edge) → Linked es self.old.names.keys self.old.rows.items → Linked (es ++ edges_of global.entry.now) self.new.names.keys self.new.rows.items) }
+        ensures linked { OnOk result ((es : List Edge) → Linked es self.old.names.keys self.old.rows.items → Linked (es ++ edges pieces.entry.now) self.new.names.keys self.new.rows.items) }
     {
-        let names = references(alloc, global)?;
-        self.link_names(alloc, name_of(global), &names)?;
-        Ok(())
-    }
-
-    /// The same for each of these values.
-    pub fn link_values(
-        &mut self,
-        alloc: Global,
-        globals: &'a [GlobalValue],
-    ) -> Result<(), AllocError>
-        requires { length self.old.rows.items ≡ length self.old.names.keys }
-        ensures long { OnOk result (length self.new.rows.items ≡ length self.new.names.keys) }
-        ensures linked { OnOk result ((es : List Edge) → Linked es self.old.names.keys self.old.rows.items → Linked (es ++ edges globals.entry.now) self.new.names.keys self.new.rows.items) }
-    {
-        for global in globals {
-            self.link_value(alloc, global)?;
+        for piece in pieces {
+            self.link_piece(alloc, piece)?;
         }
         Ok(())
     }

@@ -1,105 +1,69 @@
 //! Declarations of the functions that the system gives to a program (ISO C, section 7.21.7).
-ghost use Rattle.std.specs.Prelude.{◌≡◌, ◌++◌, ◌&&◌, ◌∷◌, [], not, IfOk, OnOk};
-ghost use Rattle.emit.specs.Chosen.{any_named, host_due};
-ghost use Rattle.emit.specs.Emissions.{getchar, host, is_named, putchar};
+ghost use Rattle.std.specs.Prelude.{◌≡◌, ◌++◌, ◌&&◌, not, codes, OnOk};
+ghost use Rattle.emit.specs.Chosen.{any_has, line_due};
+ghost use Rattle.emit.specs.Joins.{getchar_line, has_piece, putchar_line};
 ghost use Rattle.emit.specs.Graphs.{is_key};
 
-use crate::graph::name_of;
 use indexmap::IndexSet;
-use ir_tree::{Function, GlobalValue, Linkage, Param, Reg, Rows, Symbol, Text};
-use std::alloc::{AllocError, Global};
+use ir_tree::{Rows, Text};
+use lto_task::Piece;
+use std::alloc::AllocError;
 
-/// Whether one of these values has the name.
-fn is_named(globals: &[GlobalValue], name: &[u8]) -> bool
-    ensures { result ≡ is_named globals.now name.now }
+/// Whether one of these pieces has the name.
+fn has_piece(pieces: &[Piece], name: &[u8]) -> bool
+    ensures { result ≡ has_piece pieces.now name.now }
 {
-    for global in globals {
-        if name_of(global) == name {
+    for piece in pieces {
+        if piece.name.equals(name) {
             return true;
         }
     }
     false
 }
 
-/// Whether a value of one of these units has the name.
-fn any_named(units: &[Rows<GlobalValue>], name: &[u8]) -> bool
-    ensures { result ≡ any_named units.now name.now }
+/// Whether a piece of one of these units has the name.
+fn any_has(units: &[Rows<Piece>], name: &[u8]) -> bool
+    ensures { result ≡ any_has units.now name.now }
 {
     for unit in units {
-        if is_named(unit.as_slice(), name) {
+        if has_piece(unit.as_slice(), name) {
             return true;
         }
     }
     false
 }
 
-/// Whether a name is kept and no value has it.
-fn is_due(units: &[Rows<GlobalValue>], kept: &IndexSet<&[u8]>, name: &[u8]) -> bool
-    ensures { result ≡ (is_key kept.now.keys name.now && not (any_named units.now name.now)) }
+/// Whether a name is kept and no piece has it.
+fn is_due(units: &[Rows<Piece>], kept: &IndexSet<&[u8]>, name: &[u8]) -> bool
+    ensures { result ≡ (is_key kept.now.keys name.now && not (any_has units.now name.now)) }
 {
-    kept.contains(name) && !any_named(units, name)
+    kept.contains(name) && !any_has(units, name)
 }
 
-/// The declaration of a function that gives an `i32`.
-fn host(alloc: Global, name: &[u8], params: Rows<Param>) -> Result<GlobalValue, AllocError>
-    ensures { IfOk result (λ g. g ≡ host name.now params) }
-{
-    let name = Text::copied(alloc, name)?;
-    Ok(GlobalValue::Function(Function {
-        symbol: Symbol { home: None, name },
-        linkage: Linkage::External,
-        result: Some(Reg::Int(32)),
-        params,
-        noinline: false,
-        optnone: false,
-        blocks: Rows::new(alloc),
-    }))
-}
-
-fn push_getchar(
-    alloc: Global,
-    out: &mut Rows<GlobalValue>,
-    units: &[Rows<GlobalValue>],
+/// Adds the line that declares a function, where it is due.
+fn push_line(
+    out: &mut Text,
+    units: &[Rows<Piece>],
     kept: &IndexSet<&[u8]>,
+    name: &[u8],
+    line: &[u8],
 ) -> Result<(), AllocError>
-    ensures { OnOk result (out.new ≡ out.old ++ host_due kept.now.keys units.now getchar) }
+    ensures { OnOk result (out.new ≡ out.old ++ line_due kept.now.keys units.now name.now line.now) }
 {
-    if is_due(units, kept, b"getchar") {
-        let declaration = host(alloc, b"getchar", Rows::new(alloc))?;
-        out.push(declaration)?;
-    }
-    Ok(())
-}
-
-fn push_putchar(
-    alloc: Global,
-    out: &mut Rows<GlobalValue>,
-    units: &[Rows<GlobalValue>],
-    kept: &IndexSet<&[u8]>,
-) -> Result<(), AllocError>
-    ensures { OnOk result (out.new ≡ out.old ++ host_due kept.now.keys units.now putchar) }
-{
-    if is_due(units, kept, b"putchar") {
-        let mut params = Rows::new(alloc);
-        params.push(Param {
-            local: 0,
-            reg: Reg::Int(32),
-        })?;
-        let declaration = host(alloc, b"putchar", params)?;
-        out.push(declaration)?;
+    if is_due(units, kept, name) {
+        out.append(line)?;
     }
     Ok(())
 }
 
 /// Adds declarations of the outside's functions that are in use and that nobody defines.
 pub(crate) fn push_hosts(
-    alloc: Global,
-    out: &mut Rows<GlobalValue>,
-    units: &[Rows<GlobalValue>],
+    out: &mut Text,
+    units: &[Rows<Piece>],
     kept: &IndexSet<&[u8]>,
 ) -> Result<(), AllocError>
-    ensures { OnOk result (out.new ≡ out.old ++ (host_due kept.now.keys units.now getchar ++ host_due kept.now.keys units.now putchar)) }
+    ensures { OnOk result (out.new ≡ out.old ++ (line_due kept.now.keys units.now (codes "getchar") getchar_line ++ line_due kept.now.keys units.now (codes "putchar") putchar_line)) }
 {
-    push_getchar(alloc, out, units, kept)?;
-    push_putchar(alloc, out, units, kept)
+    push_line(out, units, kept, b"getchar", b"declare i32 @getchar()\n")?;
+    push_line(out, units, kept, b"putchar", b"declare i32 @putchar(i32)\n")
 }

@@ -1,23 +1,24 @@
 //! The names that a link keeps.
 ghost use Rattle.std.specs.Prelude.{◌≡◌, ◌↔◌, ℕ, List, true, length, flat_map, IfOk};
-ghost use Rattle.emit.specs.Emissions.{IsKept};
+ghost use Rattle.emit.specs.Joins.{IsUsed};
 ghost use Rattle.emit.specs.Graphs.{Linked, edges, is_key, is_marked};
 
 use crate::graph::Graph;
 use indexmap::IndexSet;
-use ir_tree::{GlobalValue, Rows, Text};
+use ir_tree::{Rows, Text};
 use liveness::reached;
 use lto_sets::Bits;
+use lto_task::Piece;
 use std::alloc::{AllocError, Global};
 
-/// The references of all values.
-fn graph_of<'a>(alloc: Global, units: &'a [Rows<GlobalValue>]) -> Result<Graph<'a>, AllocError>
+/// The references of all pieces.
+fn graph_of<'a>(alloc: Global, units: &'a [Rows<Piece>]) -> Result<Graph<'a>, AllocError>
     ensures long { IfOk result (λ graph. length graph.rows.items ≡ length graph.names.keys) }
     ensures linked { IfOk result (λ graph. Linked (flat_map edges units.entry.now) graph.names.keys graph.rows.items) }
 {
     let mut graph = Graph::new(alloc);
     for unit in units {
-        graph.link_values(alloc, unit.as_slice())?;
+        graph.link_pieces(alloc, unit.as_slice())?;
     }
     Ok(graph)
 }
@@ -41,13 +42,13 @@ fn marked<'a>(
     Ok(kept)
 }
 
-/// The names that are reached from the exported ones by what definitions refer to.
+/// The names that are reached from the exported ones by what pieces refer to.
 pub(crate) fn kept<'a>(
     alloc: Global,
-    units: &'a [Rows<GlobalValue>],
+    units: &'a [Rows<Piece>],
     exports: &'a [Text],
 ) -> Result<IndexSet<&'a [u8]>, AllocError>
-    ensures { IfOk result (λ kept. (name : List ℕ) → (is_key kept.keys name ≡ true) ↔ IsKept exports.entry.now (flat_map (λ u. u) units.entry.now) name) }
+    ensures { IfOk result (λ kept. (name : List ℕ) → (is_key kept.keys name ≡ true) ↔ IsUsed exports.entry.now (flat_map (λ u. u) units.entry.now) name) }
 {
     let mut graph = graph_of(alloc, units)?;
     let starts = graph.numbers_of(alloc, exports)?;

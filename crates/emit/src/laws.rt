@@ -1,5 +1,5 @@
 //! The laws, as functions whose contracts state them.
-ghost use Rattle.emit.specs.Laws.{EmissionComesFrom, EmissionIsClosed, EmissionIsOne, EmissionIsReordering, EmissionIsSound, EmissionIsWhole, ExportsAreKept};
+ghost use Rattle.emit.specs.Laws.{EmissionComesFrom, EmissionIsClosed, EmissionIsOne, EmissionIsReordering, EmissionIsSound, EmissionIsWhole, ExportsAreKept, JoinIsEmission};
 
 /// Values have one linked module, and each of its values is one of them, settled, or declares a function of the outside.
 pub fn emission_is_one()
@@ -18,4 +18,9 @@ pub fn emission_is_reordering()
 pub fn emission_is_whole()
     ensures whole { EmissionIsWhole }
     ensures sound { EmissionIsSound }
+{}
+
+/// A text that is joined of the pieces of definitions is the text of their linked module.
+pub fn joined_is_emission()
+    ensures { JoinIsEmission }
 {}

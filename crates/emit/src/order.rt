@@ -1,67 +1,72 @@
-//! Kept values by group and name.
+//! Kept pieces by group and name.
 ghost use Rattle.std.specs.Prelude.{◌≡◌, ◌++◌, flat_map, IfOk, OnOk};
 ghost use Rattle.emit.specs.Chosen.{due, is_of, unit_due, values};
-ghost use Rattle.emit.specs.Emissions.{IsInOrder};
+ghost use Rattle.emit.specs.Joins.{IsInNameOrder, is_function};
 
-use crate::graph::name_of;
 use indexmap::IndexSet;
-use ir_tree::{GlobalValue, Rows};
+use ir_tree::Rows;
+use lto_task::Piece;
 use std::alloc::{AllocError, Global};
 
-/// Where a value stands in the linked module.
+/// Where a piece stands in the linked module.
 #[derive(Clone, Copy)]
 pub(crate) enum Group {
     Variables,
     Functions,
 }
 
-fn is_of(group: Group, global: &GlobalValue) -> bool
-    ensures { result ≡ is_of group global.now }
+/// Whether a piece is a function: its text begins as the definition of one does.
+fn is_function(piece: &Piece) -> bool
+    ensures { result ≡ is_function piece.now }
 {
-    match (group, global) {
-        (Group::Variables, GlobalValue::Variable(_)) => true,
-        (Group::Variables, GlobalValue::Function(_)) => false,
-        (Group::Functions, GlobalValue::Variable(_)) => false,
-        (Group::Functions, GlobalValue::Function(_)) => true,
+    piece.text.as_slice().starts_with(b"define ")
+}
+
+fn is_of(group: Group, piece: &Piece) -> bool
+    ensures { result ≡ is_of group piece.now }
+{
+    match group {
+        Group::Variables => !is_function(piece),
+        Group::Functions => is_function(piece),
     }
 }
 
-/// Adds a value, where it is kept and of the group.
-fn push_value<'a>(
-    chosen: &mut Vec<&'a GlobalValue>,
+/// Adds a piece, where it is kept and of the group.
+fn push_piece<'a>(
+    chosen: &mut Vec<&'a Piece>,
     kept: &IndexSet<&'a [u8]>,
     group: Group,
-    global: &'a GlobalValue,
+    piece: &'a Piece,
 ) -> Result<(), AllocError>
-    ensures { OnOk result (values chosen.new.items ≡ values chosen.old.items ++ due kept.now.keys group global.entry.now) }
+    ensures { OnOk result (values chosen.new.items ≡ values chosen.old.items ++ due kept.now.keys group piece.entry.now) }
 {
-    if kept.contains(name_of(global)) && is_of(group, global) {
-        chosen.push(global)?;
+    if kept.contains(piece.name.as_slice()) && is_of(group, piece) {
+        chosen.push(piece)?;
     }
     Ok(())
 }
 
 fn push_unit<'a>(
-    chosen: &mut Vec<&'a GlobalValue>,
+    chosen: &mut Vec<&'a Piece>,
     kept: &IndexSet<&'a [u8]>,
     group: Group,
-    globals: &'a [GlobalValue],
+    pieces: &'a [Piece],
 ) -> Result<(), AllocError>
-    ensures { OnOk result (values chosen.new.items ≡ values chosen.old.items ++ unit_due kept.now.keys group globals.entry.now) }
+    ensures { OnOk result (values chosen.new.items ≡ values chosen.old.items ++ unit_due kept.now.keys group pieces.entry.now) }
 {
-    for global in globals {
-        push_value(chosen, kept, group, global)?;
+    for piece in pieces {
+        push_piece(chosen, kept, group, piece)?;
     }
     Ok(())
 }
 
-/// The kept values of a group, in the order in which they are given.
+/// The kept pieces of a group, in the order in which they are given.
 fn given<'a>(
     alloc: Global,
-    units: &'a [Rows<GlobalValue>],
+    units: &'a [Rows<Piece>],
     kept: &IndexSet<&'a [u8]>,
     group: Group,
-) -> Result<Vec<&'a GlobalValue>, AllocError>
+) -> Result<Vec<&'a Piece>, AllocError>
     ensures { IfOk result (λ chosen. values chosen.items ≡ flat_map (unit_due kept.now.keys group) units.entry.now) }
 {
     let mut chosen = Vec::new(alloc);
@@ -71,24 +76,24 @@ fn given<'a>(
     Ok(chosen)
 }
 
-/// Sorts values by name, in the order of bytes.
-fn sort_values(chosen: &mut Vec<&GlobalValue>) -> Result<(), AllocError>
-    ensures { OnOk result (IsInOrder (values chosen.old.items) (values chosen.new.items)) }
+/// Sorts pieces by name, in the order of bytes.
+fn sort_pieces(chosen: &mut Vec<&Piece>) -> Result<(), AllocError>
+    ensures { OnOk result (IsInNameOrder (values chosen.old.items) (values chosen.new.items)) }
 {
-    chosen.sort_by(|a, b| name_of(a).cmp(name_of(b)))?;
+    chosen.sort_by(|a, b| a.name.as_slice().cmp(b.name.as_slice()))?;
     Ok(())
 }
 
-/// The kept values of a group, by name; those of one name in the order in which they are given.
+/// The kept pieces of a group, by name; those of one name in the order in which they are given.
 pub(crate) fn sorted<'a>(
     alloc: Global,
-    units: &'a [Rows<GlobalValue>],
+    units: &'a [Rows<Piece>],
     kept: &IndexSet<&'a [u8]>,
     group: Group,
-) -> Result<Vec<&'a GlobalValue>, AllocError>
-    ensures { IfOk result (λ chosen. IsInOrder (flat_map (unit_due kept.now.keys group) units.entry.now) (values chosen.items)) }
+) -> Result<Vec<&'a Piece>, AllocError>
+    ensures { IfOk result (λ chosen. IsInNameOrder (flat_map (unit_due kept.now.keys group) units.entry.now) (values chosen.items)) }
 {
     let mut chosen = given(alloc, units, kept, group)?;
-    sort_values(&mut chosen)?;
+    sort_pieces(&mut chosen)?;
     Ok(chosen)
 }

@@ -1,75 +1,64 @@
-//! Copies of values as they stand in the linked module.
-ghost use Rattle.std.specs.Prelude.{◌≡◌, ◌++◌, ◌||◌, ℕ, List, map, IfOk, OnOk};
+//! The linkage of values in the linked module.
+ghost use Rattle.std.specs.Prelude.{◌≡◌, ℕ, List, IfOk};
 ghost use Rattle.std.specs.List.{list_any};
 ghost use Rattle.std.specs.Str.{bytes_eq};
-ghost use Rattle.emit.specs.Chosen.{linkage_by, settled_by, values};
-ghost use Rattle.emit.specs.Graphs.{is_key};
+ghost use Rattle.emit.specs.Chosen.{has};
+ghost use Rattle.emit.specs.Emissions.{linkage_of, settled};
 
-use indexmap::IndexSet;
-use ir_tree::{Duplicate, GlobalValue, Linkage, Rows, Text};
+use ir_tree::{GlobalValue, Linkage, Text};
 use std::alloc::{AllocError, Global};
+use std::collections::HashSet;
 
 /// These names, as a set.
-pub(crate) fn names_of<'a>(
-    alloc: Global,
-    names: &'a [Text],
-) -> Result<IndexSet<&'a [u8]>, AllocError>
-    ensures { IfOk result (λ set. (name : List ℕ) → is_key set.keys name ≡ list_any (bytes_eq name) names.entry.now) }
+fn names_of<'a>(alloc: Global, names: &'a [Text]) -> Result<HashSet<&'a [u8]>, AllocError>
+    ensures { IfOk result (λ set. (name : List ℕ) → has set name ≡ list_any (bytes_eq name) names.entry.now) }
 {
-    let mut set = IndexSet::new(alloc);
+    let mut set = HashSet::new(alloc);
     for name in names {
         set.insert(name.as_slice())?;
     }
     Ok(set)
 }
 
-/// The linkage under which a name stands in the linked module.
-fn linkage_by(exported: &IndexSet<&[u8]>, name: &[u8]) -> Linkage
-    ensures { result ≡ linkage_by exported.now.keys name.now }
-{
-    if exported.contains(name) {
-        Linkage::External
-    } else {
-        Linkage::Internal
-    }
+/// The exported names of a link, which threads may share.
+#[derive(Drop)]
+pub struct Exported<'a> {
+    pub exports: &'a [Text],
+    names: HashSet<&'a [u8]>,
+    ghost knows: { (name : List ℕ) → has names name ≡ list_any (bytes_eq name) exports.now },
 }
 
-/// A copy of a value, under the linkage that the exported names say.
-fn settled(
-    alloc: Global,
-    exported: &IndexSet<&[u8]>,
-    global: &GlobalValue,
-) -> Result<GlobalValue, AllocError>
-    ensures { IfOk result (λ copy. copy ≡ settled_by exported.now.keys global.now) }
-{
-    match global {
-        GlobalValue::Variable(variable) => {
-            let linkage = linkage_by(exported, variable.symbol.name.as_slice());
-            let mut copy = variable.duplicate(alloc)?;
-            copy.linkage = linkage;
-            Ok(GlobalValue::Variable(copy))
-        }
-        GlobalValue::Function(function) => {
-            let linkage = linkage_by(exported, function.symbol.name.as_slice());
-            let mut copy = function.duplicate(alloc)?;
-            copy.linkage = linkage;
-            Ok(GlobalValue::Function(copy))
-        }
+impl<'a> Exported<'a> {
+    /// These names.
+    pub fn of(alloc: Global, exports: &'a [Text]) -> Result<Exported<'a>, AllocError>
+        ensures { IfOk result (λ exported. exported.exports.now ≡ exports.entry.now) }
+    {
+        let names = names_of(alloc, exports)?;
+        Ok(Exported { exports, names })
     }
-}
 
-/// Adds a copy of each of these values.
-pub(crate) fn push_settled(
-    alloc: Global,
-    out: &mut Rows<GlobalValue>,
-    exported: &IndexSet<&[u8]>,
-    chosen: &[&GlobalValue],
-) -> Result<(), AllocError>
-    ensures { OnOk result (out.new ≡ out.old ++ map (settled_by exported.now.keys) (values chosen.now)) }
-{
-    for global in chosen {
-        let copy = settled(alloc, exported, *global)?;
-        out.push(copy)?;
+    /// The linkage under which a name stands in the linked module.
+    fn linkage_of(&self, name: &[u8]) -> Linkage
+        ensures { result ≡ linkage_of self.now.exports.now name.now }
+    {
+        if self.names.contains(name) {
+            Linkage::External
+        } else {
+            Linkage::Internal
+        }
     }
-    Ok(())
+
+    /// Gives a value the linkage that it has in the linked module.
+    pub fn settle(&self, global: &mut GlobalValue)
+        ensures { global.new ≡ settled self.now.exports.now global.old }
+    {
+        match global {
+            GlobalValue::Variable(variable) => {
+                variable.linkage = self.linkage_of(variable.symbol.name.as_slice());
+            }
+            GlobalValue::Function(function) => {
+                function.linkage = self.linkage_of(function.symbol.name.as_slice());
+            }
+        }
+    }
 }

@@ -12,7 +12,10 @@ use Rattle.merge_meaning.specs.Linked.{Improves, IsDefinition}
 use Rattle.merge_meaning.specs.Lives.{live_globals, live_outside, parts}
 use Rattle.back_end.specs.Laws.{MadeHasInterface, MadeIsBetter, MadeIsKnown, MadeIsSound}
 use Rattle.link_meaning.specs.Laws.{AreLinkable as AreTogether, LiveIsKnown}
-use Rattle.link_one.specs.Linked.{IsLinked, joined}
+use Rattle.combined_index.specs.Combined.{Combined}
+use Rattle.promote_rename.specs.Finals.{NoneTaken, final_names}
+use Rattle.thin_link.specs.Linking.{IsThinLink}
+use Rattle.link_one.specs.Linked.{AreUnits, joined}
 use Rattle.link_one.proofs.Bettering.{CanImprove, bounded, improved_symbols, one_value, themselves}
 use Rattle.link_one.proofs.Compiling.{pairs}
 use Rattle.link_one.proofs.Knowing.{Follows, all_follow, value_follows}
@@ -35,38 +38,48 @@ all_whole ms verified k m here = (of_each IsVerified ms m verified (k, here)).wh
 pub parts_sound_in : PartsAreSound → (ms : List Module) (ss : List Symbol) (live : List Bool) (suffixes : List (List ℕ)) → All IsVerified ms → All GlobalSound (joined (parts ms ss live suffixes))
 parts_sound_in law ms ss live suffixes verified = all_joined GlobalSound (parts ms ss live suffixes) (law ms ss live suffixes verified).0
 
-module _ (laws : MakingLaws) (exports : List (List ℕ)) (import_limit inline_limit : ℕ) (suffixes : List (List ℕ)) (ms : List Module) (l : Module) (verified : All IsVerified ms) (linked : IsLinked exports import_limit inline_limit suffixes ms l) where
+-- what a link has before it keeps of it what is reached
+pub record Compilation (exports : List (List ℕ)) (import_limit inline_limit : ℕ) (suffixes : List (List ℕ)) (ms : List Module) : Type 0 where
+  pub index : Combined
+  pub live : List Bool
+  pub imports : List (List ℕ)
+  pub thin : IsThinLink ms exports import_limit index live imports
+  pub named : NoneTaken (final_names suffixes index.symbols live)
+  pub units : List (List GlobalValue)
+  pub compiled : AreUnits inline_limit suffixes ms index.symbols live imports units
+
+module _ (laws : MakingLaws) (exports : List (List ℕ)) (import_limit inline_limit : ℕ) (suffixes : List (List ℕ)) (ms : List Module) (verified : All IsVerified ms) (c : Compilation exports import_limit inline_limit suffixes ms) where
   abbrev pub lives : List GlobalValue
-  lives = live_globals ms linked.index.symbols linked.live suffixes
+  lives = live_globals ms c.index.symbols c.live suffixes
 
   abbrev pub all : List GlobalValue
-  all = joined (parts ms linked.index.symbols linked.live suffixes)
+  all = joined (parts ms c.index.symbols c.live suffixes)
 
   abbrev pub outs : List GlobalValue
-  outs = live_outside ms linked.index.symbols linked.live suffixes
+  outs = live_outside ms c.index.symbols c.live suffixes
 
   abbrev pub made : List GlobalValue
-  made = joined linked.made.units
+  made = joined c.units
 
   pub together : AreTogether lives
-  together = laws.known ms exports import_limit linked.index linked.live linked.imports suffixes (all_whole ms verified) linked.thin linked.named
+  together = laws.known ms exports import_limit c.index c.live c.imports suffixes (all_whole ms verified) c.thin c.named
 
   -- ---- the parts
 
   pub by_parts : lives ≡ all ++ outs
-  by_parts = laws.by_module ms linked.index.symbols linked.live suffixes
+  by_parts = laws.by_module ms c.index.symbols c.live suffixes
 
   pub own : (g : GlobalValue) → Stands all g → Stands lives g
   own g s = subst (λ (gs : List GlobalValue). Stands gs g) (sym by_parts) (in_front all outs g s)
 
   pub parts_sound : All GlobalSound all
-  parts_sound = parts_sound_in laws.sound ms linked.index.symbols linked.live suffixes verified
+  parts_sound = parts_sound_in laws.sound ms c.index.symbols c.live suffixes verified
 
   pub parts_formed : All GlobalFormed all
-  parts_formed = all_joined GlobalFormed (parts ms linked.index.symbols linked.live suffixes) (laws.sound ms linked.index.symbols linked.live suffixes verified).1
+  parts_formed = all_joined GlobalFormed (parts ms c.index.symbols c.live suffixes) (laws.sound ms c.index.symbols c.live suffixes verified).1
 
   parts_define : All IsDefinition all
-  parts_define = all_joined IsDefinition (parts ms linked.index.symbols linked.live suffixes) (laws.defines ms linked.index.symbols linked.live suffixes)
+  parts_define = all_joined IsDefinition (parts ms c.index.symbols c.live suffixes) (laws.defines ms c.index.symbols c.live suffixes)
 
   parts_known : All (GlobalKnown (symbols lives)) all
   parts_known = all_of (GlobalKnown (symbols lives)) all (λ g s. of_each (GlobalKnown (symbols lives)) lives g together.known (own g s))
@@ -75,8 +88,8 @@ module _ (laws : MakingLaws) (exports : List (List ℕ)) (import_limit inline_li
 
   each_improves : AllZip (CanImprove (program_of lives)) all made
   each_improves =
-      pairs inline_limit all linked.index.symbols suffixes (CanImprove (program_of lives))
-      (one_value laws.interface laws.better inline_limit all lives together.once own parts_sound) linked.imports 0 (parts ms linked.index.symbols linked.live suffixes) linked.made.units (λ g s. s) linked.made.compiled
+      pairs inline_limit all c.index.symbols suffixes (CanImprove (program_of lives))
+      (one_value laws.interface laws.better inline_limit all lives together.once own parts_sound) c.imports 0 (parts ms c.index.symbols c.live suffixes) c.units (λ g s. s) c.compiled
 
   pub improved : (bound : ℕ) × AllZip (Improves (program_of lives) bound) lives (made ++ outs)
   improved =
@@ -93,8 +106,8 @@ module _ (laws : MakingLaws) (exports : List (List ℕ)) (import_limit inline_li
 
   follow : AllZip (Follows (symbols lives)) all made
   follow =
-      pairs inline_limit all linked.index.symbols suffixes (Follows (symbols lives))
-      (value_follows laws.interface laws.sounds laws.knows inline_limit all (symbols lives) parts_sound parts_known) linked.imports 0 (parts ms linked.index.symbols linked.live suffixes) linked.made.units (λ g s. s) linked.made.compiled
+      pairs inline_limit all c.index.symbols suffixes (Follows (symbols lives))
+      (value_follows laws.interface laws.sounds laws.knows inline_limit all (symbols lives) parts_sound parts_known) c.imports 0 (parts ms c.index.symbols c.live suffixes) c.units (λ g s. s) c.compiled
 
   pub made_sound : All GlobalSound made
   made_sound = all_follow (symbols lives) GlobalSound GlobalSound (λ g h f _. f.sound) all made follow parts_sound

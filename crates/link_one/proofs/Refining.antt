@@ -1,5 +1,6 @@
 -- The linked program refines what the modules mean together, and the linked module is verified.
 use Rattle.std.proofs.Common.{◌≡◌, ◌≢◌, ◌∙◌, ◌⊎◌, inl, inr, ℕ, suc, Bool, true, false, ◌||◌, cond, List, [], ◌∷◌, ◌++◌, All, Option, Some, None, codes, refl, sym, subst}
+use Rattle.std.specs.List.{AllZip}
 use Rattle.std.specs.Prelude.{Contains, IsTrue}
 use Rattle.ir_tree.specs.Symbols.{symbol_eq}
 use Rattle.ir_tree.proofs.Symbols.{symbol_true}
@@ -15,12 +16,19 @@ use Rattle.merge_meaning.specs.Laws.{OutsideIsDeclared}
 use Rattle.merge_meaning.specs.Linked.{IsDefinition}
 use Rattle.merge_meaning.specs.Lives.{is_export}
 use Rattle.merge_meaning.specs.Merged.{declaration, merged}
-use Rattle.emit.specs.Emissions.{exported}
-use Rattle.emit.specs.Laws.{AreLinkable, EmissionIsClosed, EmissionIsReordering, EmissionIsSound, EmissionIsWhole, IsOutside, keeps_symbol}
+use Rattle.emit.specs.Emissions.{exported, settled}
+use Rattle.emit.specs.Joins.{IsJoin}
+use Rattle.emit.specs.Laws.{AreLinkable, EmissionIsClosed, EmissionIsReordering, EmissionIsSound, EmissionIsWhole, IsOutside, JoinIsEmission, keeps_symbol}
 use Rattle.link_meaning.specs.Laws.{CompiledRefines, ExportedIsDefined}
+use Rattle.ir_print.specs.Modules.{module_text}
+use Rattle.symbol_resolve.specs.Clashes.{given_text}
+use Rattle.symbol_resolve.specs.declared.clash.TargetLine.TheVariants.{Datalayout, Triple}
+use Rattle.lto_task.specs.Pieces.{IsPieceOf}
+use Rattle.lto_task.specs.declared.piece.Piece.{Piece}
 use Rattle.link_one.specs.Linked.{IsLinked}
+use Rattle.link_one.specs.LinkedLaws.{IsLinkedText}
 use Rattle.link_one.specs.Naming.{linked_names}
-use Rattle.link_one.proofs.Linkable.{MakingLaws, all, all_whole, by_parts, improved, lives, made, made_define, made_formed, made_homeless, made_known, made_once, made_sound, outs, same_made}
+use Rattle.link_one.proofs.Linkable.{Compilation, MakingLaws, all, all_whole, by_parts, improved, lives, made, made_define, made_formed, made_homeless, made_known, made_once, made_sound, outs, same_made}
 use Rattle.link_one.proofs.Members.{Stands, all_of, contained, either_part, image_stands, of_each}
 
 -- what is true of what is emitted
@@ -92,49 +100,96 @@ declared_outside : (g : GlobalValue) → (g ≡ declaration (codes "putchar")) �
 declared_outside g (inl e) = subst IsOutside (sym e) (refl, inr refl)
 declared_outside g (inr e) = subst IsOutside (sym e) (refl, inl refl)
 
-module _ (laws : MakingLaws) (emits : EmittingLaws) (exports : List (List ℕ)) (import_limit inline_limit : ℕ) (suffixes : List (List ℕ)) (ms : List Module) (l : Module) (verified : All IsVerified ms) (linked : IsLinked exports import_limit inline_limit suffixes ms l) where
+module _ (laws : MakingLaws) (emits : EmittingLaws) (exports : List (List ℕ)) (import_limit inline_limit : ℕ) (suffixes : List (List ℕ)) (ms : List Module) (verified : All IsVerified ms) (c : Compilation exports import_limit inline_limit suffixes ms) where
   abbrev live : List GlobalValue
-  live = lives laws exports import_limit inline_limit suffixes ms l verified linked
+  live = lives laws exports import_limit inline_limit suffixes ms verified c
 
   abbrev compiled : List GlobalValue
-  compiled = made laws exports import_limit inline_limit suffixes ms l verified linked
+  compiled = made laws exports import_limit inline_limit suffixes ms verified c
 
   abbrev hosts : List GlobalValue
-  hosts = outs laws exports import_limit inline_limit suffixes ms l verified linked
+  hosts = outs laws exports import_limit inline_limit suffixes ms verified c
 
   hosts_outside : All IsOutside hosts
   hosts_outside =
       all_of IsOutside hosts
-      (λ g s. declared_outside g (of_each (λ (x : GlobalValue). (x ≡ declaration (codes "putchar")) ⊎ (x ≡ declaration (codes "getchar"))) hosts g (emits.outside ms linked.index.symbols linked.live suffixes) s))
+      (λ g s. declared_outside g (of_each (λ (x : GlobalValue). (x ≡ declaration (codes "putchar")) ⊎ (x ≡ declaration (codes "getchar"))) hosts g (emits.outside ms c.index.symbols c.live suffixes) s))
 
   -- an exported name is defined by what is compiled
   exported_there : (name : List ℕ) → Contains exports name → Contains (symbols compiled) (shared name)
   exported_there name there =
-      let defines = (emits.exported ms exports import_limit linked.index linked.live linked.imports suffixes (all_whole ms verified) linked.thin linked.named name there).1 in
+      let defines = (emits.exported ms exports import_limit c.index c.live c.imports suffixes (all_whole ms verified) c.thin c.named name there).1 in
       let d = definer live 0 (shared name) defines in
-      let stands : Stands (all laws exports import_limit inline_limit suffixes ms l verified linked ++ hosts) d.value =
-      subst (λ (gs : List GlobalValue). Stands gs d.value) (by_parts laws exports import_limit inline_limit suffixes ms l verified linked) d.stands in
-      let own : Stands (all laws exports import_limit inline_limit suffixes ms l verified linked) d.value =
-      elim (either_part (all laws exports import_limit inline_limit suffixes ms l verified linked) hosts d.value stands) [
+      let stands : Stands (all laws exports import_limit inline_limit suffixes ms verified c ++ hosts) d.value =
+      subst (λ (gs : List GlobalValue). Stands gs d.value) (by_parts laws exports import_limit inline_limit suffixes ms verified c) d.stands in
+      let own : Stands (all laws exports import_limit inline_limit suffixes ms verified c) d.value =
+      elim (either_part (all laws exports import_limit inline_limit suffixes ms verified c) hosts d.value stands) [
         | inl s ↦ s
         | inr s ↦ absurd (d.definition (of_each IsOutside hosts d.value hosts_outside s).0)
       ] in
-      let symbol : Stands (symbols (all laws exports import_limit inline_limit suffixes ms l verified linked)) (global_symbol d.value) = image_stands global_symbol (all laws exports import_limit inline_limit suffixes ms l verified linked) d.value own in
+      let symbol : Stands (symbols (all laws exports import_limit inline_limit suffixes ms verified c)) (global_symbol d.value) = image_stands global_symbol (all laws exports import_limit inline_limit suffixes ms verified c) d.value own in
       contained (symbols compiled) (shared name)
-      (subst (λ (ss : List Symbol). Stands ss (shared name)) (sym (same_made laws exports import_limit inline_limit suffixes ms l verified linked))
-      (subst (λ (s : Symbol). Stands (symbols (all laws exports import_limit inline_limit suffixes ms l verified linked)) s) (same_symbol d.value ∙ d.symbol) symbol))
+      (subst (λ (ss : List Symbol). Stands ss (shared name)) (sym (same_made laws exports import_limit inline_limit suffixes ms verified c))
+      (subst (λ (s : Symbol). Stands (symbols (all laws exports import_limit inline_limit suffixes ms verified c)) s) (same_symbol d.value ∙ d.symbol) symbol))
 
   pub linkable : AreLinkable exports compiled hosts
   linkable = record {
-    definitions = made_define laws exports import_limit inline_limit suffixes ms l verified linked;
+    definitions = made_define laws exports import_limit inline_limit suffixes ms verified c;
     outside = hosts_outside;
-    once = made_once laws exports import_limit inline_limit suffixes ms l verified linked;
-    homeless = made_homeless laws exports import_limit inline_limit suffixes ms l verified linked;
-    known = made_known laws exports import_limit inline_limit suffixes ms l verified linked;
+    once = made_once laws exports import_limit inline_limit suffixes ms verified c;
+    homeless = made_homeless laws exports import_limit inline_limit suffixes ms verified c;
+    known = made_known laws exports import_limit inline_limit suffixes ms verified c;
     exported = exported_there;
   }
 
-  -- ---- refinement
+  -- ---- its text
+
+  pub linked_text : JoinIsEmission → (pieces : List Piece) (text : List ℕ) → AllZip (λ g. IsPieceOf (settled exports g)) compiled pieces
+      → IsJoin exports pieces (module_text (record { datalayout = given_text Datalayout ms; triple = given_text Triple ms; globals = [] })) text → IsLinkedText exports import_limit inline_limit suffixes ms text
+  linked_text emission pieces text printed join =
+      let made = emission exports compiled hosts pieces (record { datalayout = given_text Datalayout ms; triple = given_text Triple ms; globals = [] }) text linkable printed join in
+      record {
+        l = record { datalayout = given_text Datalayout ms; triple = given_text Triple ms; globals = made.0 };
+        linked = record {
+          index = c.index;
+          live = c.live;
+          imports = c.imports;
+          thin = c.thin;
+          named = c.named;
+          made = record { units = c.units; compiled = c.compiled; emitted = made.1 };
+          datalayout = refl;
+          triple = refl;
+        };
+        is = made.2;
+      }
+
+-- ---- refinement
+
+-- what a link had
+abbrev compilation : (exports : List (List ℕ)) (import_limit inline_limit : ℕ) (suffixes : List (List ℕ)) (ms : List Module) (l : Module) → IsLinked exports import_limit inline_limit suffixes ms l
+    → Compilation exports import_limit inline_limit suffixes ms
+compilation exports import_limit inline_limit suffixes ms l linked = record {
+  index = linked.index;
+  live = linked.live;
+  imports = linked.imports;
+  thin = linked.thin;
+  named = linked.named;
+  units = linked.made.units;
+  compiled = linked.made.compiled;
+}
+
+module _ (laws : MakingLaws) (emits : EmittingLaws) (exports : List (List ℕ)) (import_limit inline_limit : ℕ) (suffixes : List (List ℕ)) (ms : List Module) (l : Module) (verified : All IsVerified ms) (linked : IsLinked exports import_limit inline_limit suffixes ms l) where
+  abbrev before : Compilation exports import_limit inline_limit suffixes ms
+  before = compilation exports import_limit inline_limit suffixes ms l linked
+
+  abbrev definitions : List GlobalValue
+  definitions = compiled laws emits exports import_limit inline_limit suffixes ms verified before
+
+  abbrev outsiders : List GlobalValue
+  outsiders = hosts laws emits exports import_limit inline_limit suffixes ms verified before
+
+  can_link : AreLinkable exports definitions outsiders
+  can_link = linkable laws emits exports import_limit inline_limit suffixes ms verified before
 
   exported_kept : (s : Symbol) → IsTrue (is_export exports s) → keeps_symbol linked.made.emitted.keeps s ≡ true
   exported_kept s e =
@@ -143,16 +198,16 @@ module _ (laws : MakingLaws) (emits : EmittingLaws) (exports : List (List ℕ)) 
 
   pub linked_refines : RefinesUnder (linked_names exports import_limit inline_limit suffixes ms l linked) (program_of l.globals) (merged ms) (λ s. IsTrue (is_export exports s))
   linked_refines =
-      let better = improved laws exports import_limit inline_limit suffixes ms l verified linked in
+      let better = improved laws exports import_limit inline_limit suffixes ms verified before in
       emits.refines ms exports import_limit linked.index linked.live linked.imports suffixes (all_whole ms verified) linked.thin linked.named
-      (compiled ++ hosts) l.globals better.0 (keeps_symbol linked.made.emitted.keeps) better.1
-      (emits.closed exports compiled hosts l.globals linkable linked.made.emitted) exported_kept
-      (emits.reordered exports compiled hosts l.globals linkable linked.made.emitted)
+      (definitions ++ outsiders) l.globals better.0 (keeps_symbol linked.made.emitted.keeps) better.1
+      (emits.closed exports definitions outsiders l.globals can_link linked.made.emitted) exported_kept
+      (emits.reordered exports definitions outsiders l.globals can_link linked.made.emitted)
 
   -- ---- the linked module
 
   pub linked_verified : IsVerified l
   linked_verified = record {
-    whole = emits.whole exports compiled hosts l.globals linkable (made_formed laws exports import_limit inline_limit suffixes ms l verified linked) linked.made.emitted;
-    sound = emits.sound exports compiled l.globals (made_define laws exports import_limit inline_limit suffixes ms l verified linked) (made_sound laws exports import_limit inline_limit suffixes ms l verified linked) linked.made.emitted;
+    whole = emits.whole exports definitions outsiders l.globals can_link (made_formed laws exports import_limit inline_limit suffixes ms verified before) linked.made.emitted;
+    sound = emits.sound exports definitions l.globals (made_define laws exports import_limit inline_limit suffixes ms verified before) (made_sound laws exports import_limit inline_limit suffixes ms verified before) linked.made.emitted;
   }

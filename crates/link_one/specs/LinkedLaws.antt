@@ -1,13 +1,25 @@
 -- What is true of modules that are linked, and of those that aren't.
-use Rattle.std.specs.Prelude.{◌≡◌, ℕ, List, All, IsTrue}
+use Rattle.std.specs.Prelude.{◌≡◌, ℕ, Bool, List, [], All, IsTrue}
+use Rattle.std.specs.List.{AllZip}
 use Rattle.ir_tree.specs.Wholes.{IsVerified}
+use Rattle.ir_tree.specs.declared.module.GlobalValue.{GlobalValue}
 use Rattle.ir_tree.specs.declared.module.Module.{Module}
+use Rattle.ir_print.specs.Modules.{module_text}
 use Rattle.ir_meaning.specs.Refine.{RefinesUnder}
 use Rattle.ir_program.specs.Programs.{program_of}
 use Rattle.merge_meaning.specs.Lives.{is_export}
 use Rattle.merge_meaning.specs.Merged.{merged}
 use Rattle.lto_fault.specs.declared.refusal.Refusal.{Refusal}
-use Rattle.link_one.specs.Linked.{IsLinked}
+use Rattle.symbol_resolve.specs.Clashes.{given_text}
+use Rattle.symbol_resolve.specs.declared.clash.TargetLine.TheVariants.{Datalayout, Triple}
+use Rattle.combined_index.specs.Combined.{Combined}
+use Rattle.promote_rename.specs.Finals.{NoneTaken, final_names}
+use Rattle.lto_task.specs.Pieces.{IsPieceOf}
+use Rattle.lto_task.specs.declared.piece.Piece.{Piece}
+use Rattle.emit.specs.Emissions.{settled}
+use Rattle.emit.specs.Joins.{IsJoin}
+use Rattle.thin_link.specs.Linking.{IsThinLink}
+use Rattle.link_one.specs.Linked.{AreUnits, IsLinked, joined}
 use Rattle.link_one.specs.Naming.{linked_names}
 use Rattle.link_one.specs.Refusing.{CanBeLinked, IsUnlinked}
 
@@ -34,3 +46,20 @@ abbrev pub UnlinkedIsOne : Type 0
 UnlinkedIsOne =
     (files exports : List (List ℕ)) (limit : ℕ) (suffixes : List (List ℕ)) (ms : List Module) (why other : Refusal)
     → IsUnlinked files exports limit suffixes ms why → IsUnlinked files exports limit suffixes ms other → why ≡ other
+
+-- ---- its text
+
+-- the text of a linked module of the modules
+pub record IsLinkedText (exports : List (List ℕ)) (import_limit inline_limit : ℕ) (suffixes : List (List ℕ)) (ms : List Module) (text : List ℕ) : Type 0 where
+  pub l : Module
+  pub linked : IsLinked exports import_limit inline_limit suffixes ms l
+  pub is : text ≡ module_text l
+
+-- behind their target lines, what is joined of the pieces of what verified modules are compiled to
+abbrev pub JoinedIsLinked : Type 0
+JoinedIsLinked =
+    (exports : List (List ℕ)) (import_limit inline_limit : ℕ) (suffixes : List (List ℕ)) (ms : List Module) (index : Combined) (live : List Bool) (imports : List (List ℕ)) (units : List (List GlobalValue)) (pieces : List Piece) (text : List ℕ)
+    → All IsVerified ms → IsThinLink ms exports import_limit index live imports → NoneTaken (final_names suffixes index.symbols live)
+    → AreUnits inline_limit suffixes ms index.symbols live imports units → AllZip (λ g. IsPieceOf (settled exports g)) (joined units) pieces
+    → IsJoin exports pieces (module_text (record { datalayout = given_text Datalayout ms; triple = given_text Triple ms; globals = [] })) text
+    → IsLinkedText exports import_limit inline_limit suffixes ms text

@@ -5,10 +5,11 @@
 //! does the rest. By the index alone it is decided what is live, what it will be called and what each module imports
 //! (`thin_link`, `promote_rename`). Each module's part, its live definitions under final names (`merge_meaning`), is compiled by
 //! itself (`back_end`) on one of several threads, with the bodies of the part and those that the module imports, as they were
-//! read. What is reached from the exported names is kept (`emit`), and printed (`ir_print`). That is the definition of a link
-//! (`specs/Linked.antt`), and [`link`] keeps both promises of the linker: the text is that of the linked module of the modules
-//! that the files are read as and no other text is one, and each run of the linked program from an exported function is a run of
-//! the merged modules (`specs/Linking.antt`). No clause names threads: with however many, the text is the same. Why modules
+//! read, and kept as pieces, which are printed at once (`lto_task`, `ir_print`); the text is joined of the pieces that are reached
+//! from the exported names (`emit`). What a linked module is, is said of trees (`specs/Linked.antt`), and [`link`] keeps both
+//! promises of the linker: the text is that of the linked module of the modules that the files are read as and no other text is
+//! one, and each run of the linked program from an exported function is a run of the merged modules (`specs/Linking.antt`). No
+//! clause names threads: with however many, the text is the same. Why modules
 //! aren't linked stands in `specs/Refusing.antt`. The linked module is verified as those were ([`linked_is_verified`]).
 //!
 //! Below stand these crates, `link_meaning` for what a thin link decides of the merged program, `ir_program` and `ir_better`

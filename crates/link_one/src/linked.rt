@@ -1,16 +1,25 @@
-//! The linked module.
-ghost use Rattle.std.specs.Prelude.{◌≡◌, All, IfOk, length};
+//! The text of the linked module.
+ghost use Rattle.std.specs.Prelude.{◌≡◌, [], All, IfOk, length};
 ghost use Rattle.ir_tree.specs.Wholes.{IsVerified};
 ghost use Rattle.import_plan.specs.Views.{rows};
 ghost use Rattle.promote_rename.specs.Finals.{NoneTaken, final_names};
 ghost use Rattle.symbol_resolve.specs.Resolved.{symbols};
 ghost use Rattle.thin_link.specs.Linking.{IsThinLink};
-ghost use Rattle.link_one.specs.Linked.{AreLinkedGlobals, AreUnits, IsLinked};
+ghost use Rattle.ir_print.specs.Modules.{module_text};
+ghost use Rattle.merge_meaning.specs.Lives.{parts};
+ghost use Rattle.symbol_resolve.specs.Clashes.{given_text};
+ghost use Rattle.symbol_resolve.specs.declared.clash.TargetLine.TheVariants.{Datalayout, Triple};
+ghost use Rattle.link_one.specs.Linked.{joined};
+ghost use Rattle.link_one.specs.LinkedLaws.{IsLinkedText};
+ghost use Rattle.link_one.specs.Units.{ArePrinted};
 
+use crate::linked_laws::joined_is_linked;
 use crate::target::given_text;
 use crate::unit::units;
 use emit::emit;
-use ir_tree::{GlobalValue, Module, Rows, Text, Verified};
+use ir_print::print;
+use ir_tree::{Module, Rows, Text, Verified};
+use lto_task::Piece;
 use merge_meaning::{LiveSymbols, live_by_module, parts};
 use std::alloc::{AllocError, Global};
 use std::thread::Threads;
@@ -26,7 +35,7 @@ fn all_verified(modules: &[Verified])
     }
 }
 
-/// The modules' units: the part of each, compiled by itself. The parts are given up once that is done.
+/// The modules' units as pieces: the part of each, compiled by itself. The parts are given up once that is done.
 fn compiled<R: Threads + Sync>(
     rt: &R,
     alloc: Global,
@@ -34,11 +43,12 @@ fn compiled<R: Threads + Sync>(
     modules: &[Verified],
     decided: &ThinLink<'_>,
     suffixes: &[Text],
+    exports: &[Text],
     limit: u32,
-) -> Result<Vec<Rows<GlobalValue>>, AllocError>
+) -> Result<Vec<Rows<Piece>>, AllocError>
     requires resolved { decided.now.resolution ≡ symbols modules.now }
     requires marks { length decided.now.live ≡ length decided.now.index.symbols }
-    ensures { IfOk result (λ units. AreUnits limit suffixes.now modules.now decided.now.index.symbols decided.now.live (rows decided.now.imports.items) units.items) }
+    ensures { IfOk result (λ pieces. let ps = parts modules.now decided.now.index.symbols decided.now.live suffixes.now in ArePrinted exports.now limit (joined ps) decided.now.index.symbols suffixes.now (rows decided.now.imports.items) ps pieces.items) }
 {
     live_by_module();
     all_verified(modules);
@@ -53,30 +63,29 @@ fn compiled<R: Threads + Sync>(
         suffixes,
         &decided.imports,
         limit,
+        exports,
     )
 }
 
-/// The global values of the linked module.
-fn linked_globals<R: Threads + Sync>(
-    rt: &R,
-    alloc: Global,
-    jobs: u32,
-    modules: &[Verified],
-    decided: &ThinLink<'_>,
-    suffixes: &[Text],
-    exports: &[Text],
-    limit: u32,
-) -> Result<Rows<GlobalValue>, AllocError>
-    requires resolved { decided.now.resolution ≡ symbols modules.now }
-    requires marks { length decided.now.live ≡ length decided.now.index.symbols }
-    ensures { IfOk result (λ globals. AreLinkedGlobals exports.now limit suffixes.now modules.now decided.now.index.symbols decided.now.live (rows decided.now.imports.items) globals) }
+/// The target lines of the linked module: the text of a module without global values.
+fn header(alloc: Global, modules: &[Verified]) -> Result<Text, AllocError>
+    ensures { IfOk result (λ text. text ≡ module_text (record { datalayout = given_text Datalayout modules.now; triple = given_text Triple modules.now; globals = [] })) }
 {
-    let units = compiled(rt, alloc, jobs, modules, decided, suffixes, limit)?;
-    emit(alloc, &units, exports)
+    let datalayout = given_text(alloc, TargetLine::Datalayout, modules)?;
+    let triple = given_text(alloc, TargetLine::Triple, modules)?;
+    let globals = Rows::new(alloc);
+    print(
+        alloc,
+        &Module {
+            datalayout,
+            triple,
+            globals,
+        },
+    )
 }
 
-/// The linked module of these modules, of which this was decided, compiled on up to so many threads: no two live symbols have
-/// one final name.
+/// The text of the linked module of these modules, of which this was decided, compiled on up to so many threads: no two live
+/// symbols have one final name.
 pub(crate) fn linked<R: Threads + Sync>(
     rt: &R,
     alloc: Global,
@@ -87,15 +96,16 @@ pub(crate) fn linked<R: Threads + Sync>(
     exports: &[Text],
     import_limit: u32,
     inline_limit: u32,
-) -> Result<Module, AllocError>
+) -> Result<Text, AllocError>
     requires thin { IsThinLink modules.now exports.now import_limit decided.now.index decided.now.live (rows decided.now.imports.items) }
     requires resolved { decided.now.resolution ≡ symbols modules.now }
     requires named { NoneTaken (final_names suffixes.now decided.now.index.symbols decided.now.live) }
-    ensures { IfOk result (λ l. IsLinked exports.now import_limit inline_limit suffixes.now modules.now l) }
+    ensures { IfOk result (IsLinkedText exports.now import_limit inline_limit suffixes.now modules.now) }
 {
-    let datalayout = given_text(alloc, TargetLine::Datalayout, modules)?;
-    let triple = given_text(alloc, TargetLine::Triple, modules)?;
-    let globals = linked_globals(
+    joined_is_linked();
+    all_verified(modules);
+    let header = header(alloc, modules)?;
+    let pieces = compiled(
         rt,
         alloc,
         jobs,
@@ -105,9 +115,5 @@ pub(crate) fn linked<R: Threads + Sync>(
         exports,
         inline_limit,
     )?;
-    Ok(Module {
-        datalayout,
-        triple,
-        globals,
-    })
+    emit(alloc, &pieces, header.as_slice(), exports)
 }

@@ -1,8 +1,8 @@
 //! Laws of modules that are linked, and of those that aren't.
-ghost use Rattle.link_one.specs.LinkedLaws.{LinkedIsVerified, LinkedRefines, UnlinkedIsNotLinked, UnlinkedIsOne};
+ghost use Rattle.link_one.specs.LinkedLaws.{JoinedIsLinked, LinkedIsVerified, LinkedRefines, UnlinkedIsNotLinked, UnlinkedIsOne};
 
 use back_end::{made_has_interface, made_is_better, made_is_known};
-use emit::{emission_is_reordering, emission_is_whole};
+use emit::{emission_is_reordering, emission_is_whole, joined_is_emission};
 use link_meaning::{live_is_known, live_refines};
 use merge_meaning::live_by_module;
 use thin_link::one_answer;
@@ -33,6 +33,21 @@ pub fn linked_is_verified()
     live_refines();
     emission_is_reordering();
     emission_is_whole();
+}
+
+/// What is joined of the pieces of what verified modules are compiled to is the text of their linked module.
+pub(crate) fn joined_is_linked()
+    ensures { JoinedIsLinked }
+{
+    made_has_interface();
+    made_is_better();
+    made_is_known();
+    live_by_module();
+    live_is_known();
+    live_refines();
+    emission_is_reordering();
+    emission_is_whole();
+    joined_is_emission();
 }
 
 /// Modules that can be linked aren't refused, and those that are have one refusal.

@@ -11,7 +11,6 @@ use crate::laws::linked_is_one;
 use crate::linked::linked;
 use crate::linked_laws::linked_refines;
 use crate::naming::named;
-use ir_print::print;
 use ir_tree::{Text, Verified};
 use lto_fault::Refusal;
 use std::alloc::Global;
@@ -47,7 +46,7 @@ pub fn link<R: Threads + Sync>(
     linked_is_one();
     let decided = thin_link(alloc, files, modules, exports, import_limit)?;
     named(alloc, &decided, suffixes)?;
-    let Ok(l) = linked(
+    match linked(
         rt,
         alloc,
         jobs,
@@ -57,10 +56,7 @@ pub fn link<R: Threads + Sync>(
         exports,
         import_limit,
         inline_limit,
-    ) else {
-        return Err(Refusal::NoMemory);
-    };
-    match print(alloc, &l) {
+    ) {
         Ok(text) => Ok(text),
         Err(_) => Err(Refusal::NoMemory),
     }

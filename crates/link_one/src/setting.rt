@@ -6,6 +6,7 @@ ghost use Rattle.link_one.specs.Tables.{option_list, value_in, values};
 
 use crate::table::push_all;
 use back_end::Bodies;
+use emit::Exported;
 use ir_tree::{GlobalValue, Rows, Symbol, Text};
 use promote_rename::final_name;
 use std::alloc::{AllocError, Global};
@@ -35,7 +36,7 @@ fn symbol_at(symbols: &[Symbol], number: u32) -> Option<&Symbol>
     }
 }
 
-/// What each module is compiled from: the parts, and what the index decided.
+/// What each module is compiled from: the parts, what the index decided, and which names are exported.
 #[derive(Drop)]
 pub(crate) struct Setting<'a> {
     pub(crate) parts: &'a [Rows<GlobalValue>],
@@ -43,6 +44,7 @@ pub(crate) struct Setting<'a> {
     pub(crate) suffixes: &'a [Text],
     pub(crate) imports: &'a [Vec<u32>],
     pub(crate) limit: u32,
+    pub(crate) exported: Exported<'a>,
     pub(crate) table: HashMap<&'a [u8], &'a GlobalValue>,
     ghost finds: { (name : List ℕ) → value_in table name ≡ value_named (joined parts.now) name },
 }

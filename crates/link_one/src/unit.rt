@@ -1,17 +1,19 @@
-//! Each module compiled by itself: its part becomes its unit.
+//! Each module compiled by itself: its part becomes the pieces of its unit.
 ghost use Rattle.std.specs.Prelude.{◌≡◌, ◌<◌, [], All, IfOk, IfSome, Some, map, slice_index_or, vec_len};
 ghost use Rattle.std.specs.List.{AllZip};
 ghost use Rattle.ir_tree.specs.Wholes.{GlobalSound};
 ghost use Rattle.back_end.specs.Inlinable.{AreSound};
 ghost use Rattle.back_end.specs.Walking.{bodies_in};
 ghost use Rattle.import_plan.specs.Views.{rows};
-ghost use Rattle.link_one.specs.Linked.{AreCompiled, IsLinkedGlobal, joined};
-ghost use Rattle.link_one.specs.Units.{AreFilled, IsUnit};
+ghost use Rattle.link_one.specs.Linked.{IsLinkedGlobal, joined};
+ghost use Rattle.link_one.specs.Units.{AreFilled, ArePrinted, IsLinkedPiece, IsUnit};
 
 use crate::setting::Setting;
 use crate::table::table_of;
 use back_end::{Bodies, compile};
+use emit::Exported;
 use ir_tree::{Duplicate, GlobalValue, Rows, Symbol, Text};
+use lto_task::{Piece, piece_of};
 use std::alloc::{AllocError, Global};
 use std::thread::{Threads, for_each_mut};
 
@@ -37,18 +39,35 @@ fn linked_global(
     }
 }
 
-fn linked_globals(
+/// The piece of what a value is compiled to, printed at once.
+fn linked_piece(
     alloc: Global,
     bodies: &Bodies<'_>,
+    exported: &Exported<'_>,
+    global: &GlobalValue,
+) -> Result<Piece, AllocError>
+    requires sound { GlobalSound global.now }
+    requires bodies { AreSound (bodies_in bodies.now) }
+    ensures { IfOk result (IsLinkedPiece (bodies_in bodies.now) exported.now.exports.now global.now) }
+{
+    let mut linked = linked_global(alloc, bodies, global)?;
+    exported.settle(&mut linked);
+    piece_of(alloc, &linked)
+}
+
+fn linked_pieces(
+    alloc: Global,
+    bodies: &Bodies<'_>,
+    exported: &Exported<'_>,
     globals: &[GlobalValue],
-) -> Result<Rows<GlobalValue>, AllocError>
+) -> Result<Rows<Piece>, AllocError>
     requires sound { All GlobalSound globals.now }
     requires bodies { AreSound (bodies_in bodies.now) }
-    ensures { IfOk result (λ rows. AllZip (IsLinkedGlobal (bodies_in bodies.now)) globals.now rows) }
+    ensures { IfOk result (λ rows. AllZip (IsLinkedPiece (bodies_in bodies.now) exported.now.exports.now) globals.now rows) }
 {
     let mut rows = Rows::new(alloc);
     'each: for global in globals {
-        rows.push(linked_global(alloc, bodies, global)?)?;
+        rows.push(linked_piece(alloc, bodies, exported, global)?)?;
     }
     Ok(rows)
 }
@@ -74,21 +93,17 @@ fn imports_of(imports: &[Vec<u32>], number: usize) -> &[u32]
 }
 
 /// The unit of the module of this number.
-fn unit(
-    alloc: Global,
-    setting: &Setting<'_>,
-    number: usize,
-) -> Result<Rows<GlobalValue>, AllocError>
+fn unit(alloc: Global, setting: &Setting<'_>, number: usize) -> Result<Rows<Piece>, AllocError>
     requires { All GlobalSound (joined setting.now.parts.now) }
     ensures { IfOk result (λ unit. IsUnit setting.now number unit) }
 {
     let part = part_at(setting.parts, number);
     let bodies = setting.bodies(alloc, imports_of(setting.imports, number), part)?;
-    linked_globals(alloc, &bodies, part)
+    linked_pieces(alloc, &bodies, &setting.exported, part)
 }
 
 /// Puts the unit of the module of this number into its slot, or nothing where memory is lacking.
-fn fill(alloc: Global, setting: &Setting<'_>, number: usize, slot: &mut Option<Rows<GlobalValue>>)
+fn fill(alloc: Global, setting: &Setting<'_>, number: usize, slot: &mut Option<Rows<Piece>>)
     requires { All GlobalSound (joined setting.now.parts.now) }
     ensures { IfSome slot.new (IsUnit setting.now number) }
 {
@@ -96,7 +111,7 @@ fn fill(alloc: Global, setting: &Setting<'_>, number: usize, slot: &mut Option<R
 }
 
 /// So many slots with nothing in them.
-fn empty(alloc: Global, count: usize) -> Result<Vec<Option<Rows<GlobalValue>>>, AllocError>
+fn empty(alloc: Global, count: usize) -> Result<Vec<Option<Rows<Piece>>>, AllocError>
     ensures { IfOk result (λ slots. vec_len slots ≡ count) }
 {
     let mut slots = Vec::new(alloc);
@@ -107,10 +122,7 @@ fn empty(alloc: Global, count: usize) -> Result<Vec<Option<Rows<GlobalValue>>>, 
 }
 
 /// What is in the slots, in their order; a slot with nothing is want of memory.
-fn taken(
-    alloc: Global,
-    slots: Vec<Option<Rows<GlobalValue>>>,
-) -> Result<Vec<Rows<GlobalValue>>, AllocError>
+fn taken(alloc: Global, slots: Vec<Option<Rows<Piece>>>) -> Result<Vec<Rows<Piece>>, AllocError>
     ensures { IfOk result (λ units. slots.items ≡ map Some units.items) }
 {
     let mut units = Vec::new(alloc);
@@ -133,7 +145,7 @@ fn filled<R: Threads + Sync>(
     alloc: Global,
     jobs: u32,
     setting: &Setting<'_>,
-) -> Result<Vec<Option<Rows<GlobalValue>>>, AllocError>
+) -> Result<Vec<Option<Rows<Piece>>>, AllocError>
     requires { All GlobalSound (joined setting.now.parts.now) }
     ensures { IfOk result (λ slots. AreFilled setting.now slots.items) }
 {
@@ -142,7 +154,7 @@ fn filled<R: Threads + Sync>(
         rt,
         &mut slots,
         workers(jobs),
-        &|number: usize, slot: &mut Option<Rows<GlobalValue>>|
+        &|number: usize, slot: &mut Option<Rows<Piece>>|
             requires { All GlobalSound (joined setting.now.parts.now) }
             ensures { IfSome slot.exit.now (IsUnit setting.entry.now number) }
         { fill(alloc, setting, number, slot) },
@@ -150,8 +162,8 @@ fn filled<R: Threads + Sync>(
     Ok(slots)
 }
 
-/// The units of the modules, each compiled by itself, on up to so many threads. The parts are those of all modules, in command
-/// order.
+/// The units of the modules, as pieces, where these names are exported: each module is compiled and printed by itself, on up to so
+/// many threads. The parts are those of all modules, in command order.
 pub(crate) fn units<R: Threads + Sync>(
     rt: &R,
     alloc: Global,
@@ -161,17 +173,20 @@ pub(crate) fn units<R: Threads + Sync>(
     suffixes: &[Text],
     imports: &[Vec<u32>],
     limit: u32,
-) -> Result<Vec<Rows<GlobalValue>>, AllocError>
+    exports: &[Text],
+) -> Result<Vec<Rows<Piece>>, AllocError>
     requires { All GlobalSound (joined parts.now) }
-    ensures { IfOk result (λ units. AreCompiled limit (joined parts.now) symbols.now suffixes.now (rows imports.now) 0 parts.now units.items) }
+    ensures { IfOk result (λ units. ArePrinted exports.now limit (joined parts.now) symbols.now suffixes.now (rows imports.now) parts.now units.items) }
 {
     let table = table_of(alloc, parts)?;
+    let exported = Exported::of(alloc, exports)?;
     let setting = Setting {
         parts,
         symbols,
         suffixes,
         imports,
         limit,
+        exported,
         table,
     };
     let slots = filled(rt, alloc, jobs, &setting)?;

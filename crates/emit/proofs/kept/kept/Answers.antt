@@ -4,15 +4,15 @@ use Rattle.std.specs.Prelude.{IfOk}
 use Rattle.indexmap.specs.IndexSet.{IndexSet}
 use Rattle.liveness.specs.Rows.{AreBelow, row}
 use Rattle.liveness.specs.Walking.{IsReach}
-use Rattle.ir_tree.specs.declared.module.GlobalValue.{GlobalValue}
+use Rattle.lto_task.specs.declared.piece.Piece.{Piece}
 use Rattle.emit.specs.Graphs.{Edge, Linked, edges, edges_of, is_key, is_marked}
-use Rattle.emit.specs.Emissions.{IsKept}
+use Rattle.emit.specs.Joins.{IsUsed}
 use Rattle.emit.proofs.Keeping.{kept_so, rows_below, starts_below}
 use Rattle.emit.proofs.Listing.{flat_twice}
 use Rattle.emit.proofs.kept.kept.Goals as goal
 
 -- the references of all units are those of all values
-all_edges : (units : List (List GlobalValue)) (keys : List (Bor (List ℕ))) (rows : List (List ℕ)) → Linked (flat_map edges units) keys rows → Linked (edges (flat_map (λ u. u) units)) keys rows
+all_edges : (units : List (List Piece)) (keys : List (Bor (List ℕ))) (rows : List (List ℕ)) → Linked (flat_map edges units) keys rows → Linked (edges (flat_map (λ u. u) units)) keys rows
 all_edges units keys rows l = subst (λ (es : List Edge). Linked es keys rows) (flat_twice edges_of units) l
 
 pub reached-requires-clause-rows : goal.reached-requires-clause-rows
@@ -39,10 +39,10 @@ marked-requires c =
     ∙ sym (ap (λ (keys : List (Bor (List ℕ))). length keys) c.as_slice.ensures.keys)
 
 -- what the last call gives
-given : {S E : Type 0} (names keys : List (Bor (List ℕ))) (marks : List Bool) (exports : List (List ℕ)) (hs : List GlobalValue) (r : Result (IndexSet (Bor (List ℕ)) S) E)
+given : {S E : Type 0} (names keys : List (Bor (List ℕ))) (marks : List Bool) (exports : List (List ℕ)) (hs : List Piece) (r : Result (IndexSet (Bor (List ℕ)) S) E)
     → names ≡ keys
-    → ((name : List ℕ) → (is_marked keys marks name ≡ true) ↔ IsKept exports hs name) → IfOk r (λ kept. (name : List ℕ) → is_key kept.keys name ≡ is_marked names marks name)
-    → IfOk r (λ kept. (name : List ℕ) → (is_key kept.keys name ≡ true) ↔ IsKept exports hs name)
+    → ((name : List ℕ) → (is_marked keys marks name ≡ true) ↔ IsUsed exports hs name) → IfOk r (λ kept. (name : List ℕ) → is_key kept.keys name ≡ is_marked names marks name)
+    → IfOk r (λ kept. (name : List ℕ) → (is_key kept.keys name ≡ true) ↔ IsUsed exports hs name)
 given names keys marks exports hs (Ok kept) is all h = λ name.
     let same : is_key kept.keys name ≡ is_marked keys marks name = h name ∙ ap (λ (ks : List (Bor (List ℕ))). is_marked ks marks name) is in
     (λ t. (all name).0 (sym same ∙ t), λ k. same ∙ (all name).1 k)

@@ -6,7 +6,8 @@ use Rattle.ir_tree.specs.declared.operand.Symbol.{Symbol}
 use Rattle.ir_tree.specs.declared.module.Module.{Module}
 use Rattle.import_plan.specs.Views.{rows}
 use Rattle.merge_meaning.specs.Lives.{is_live, parts}
-use Rattle.link_one.specs.Linked.{AreCompiled, joined}
+use Rattle.link_one.specs.Linked.{joined}
+use Rattle.link_one.specs.Units.{ArePrinted}
 use Rattle.link_one.proofs.Linkable.{parts_sound_in}
 use Rattle.link_one.proofs.linked.compiled.Goals as goal
 
@@ -27,7 +28,7 @@ returns g c =
     let of_modules : c.deref.result.now ≡ parts ms symbols live suffixes =
     c.deref.ensures.value ∙ c.in_ok-parts.ensures symbols live (λ s. c.in_ok-live.ensures s ∙ ap (λ (ss : List Symbol). is_live ss live s) c.symbols.ensures.symbols) in
     IfOk-weaker c.units.result _ _
-    (λ made units. subst (λ (ps : List (List GlobalValue)). AreCompiled c.args.limit (joined ps) symbols suffixes imports 0 ps made.items) of_modules
-    (subst (λ (ss : List Symbol). AreCompiled c.args.limit (joined c.deref.result.now) ss suffixes imports 0 c.deref.result.now made.items) c.symbols-2.ensures.symbols
-    (subst (λ (is : List (List ℕ)). AreCompiled c.args.limit (joined c.deref.result.now) c.symbols-2.result.now suffixes is 0 c.deref.result.now made.items) (ap rows c.deref-2.ensures.value) units)))
+    (λ made units. subst (λ (ps : List (List GlobalValue)). ArePrinted c.args.exports.now c.args.limit (joined ps) symbols suffixes imports ps made.items) of_modules
+    (subst (λ (ss : List Symbol). ArePrinted c.args.exports.now c.args.limit (joined c.deref.result.now) ss suffixes imports c.deref.result.now made.items) c.symbols-2.ensures.symbols
+    (subst (λ (is : List (List ℕ)). ArePrinted c.args.exports.now c.args.limit (joined c.deref.result.now) c.symbols-2.result.now suffixes is c.deref.result.now made.items) (ap rows c.deref-2.ensures.value) units)))
     c.units.ensures

@@ -24,12 +24,12 @@ returns-in_err-named-clause-refused g c =
       taken = c.in_err-named.ensures.taken told;
     }))
 
-pub returns-in-Ok-print-clause-linked : goal.returns-in-Ok-print-clause-linked
-returns-in-Ok-print-clause-linked g c = λ bytes accepted same.
-    is_link c.linked_refines.ensures c.args.exports.now c.args.import_limit c.args.inline_limit c.args.suffixes.now c.args.modules.now c.in-Ok.l c.in-Ok.ensures bytes accepted same
-    c.in-Ok-print.text c.in-Ok-print.ensures
+pub returns-in-Ok-clause-linked : goal.returns-in-Ok-clause-linked
+returns-in-Ok-clause-linked g c = λ bytes accepted same.
+    is_link c.linked_refines.ensures c.args.exports.now c.args.import_limit c.args.inline_limit c.args.suffixes.now c.args.modules.now c.in-Ok.ensures.l c.in-Ok.ensures.linked bytes accepted same
+    c.in-Ok.text c.in-Ok.ensures.is
 
-pub returns-in-Ok-print-clause-only : goal.returns-in-Ok-print-clause-only
-returns-in-Ok-print-clause-only g c = λ bytes accepted same.
-    is_only_link c.linked_refines.ensures c.args.exports.now c.args.import_limit c.args.inline_limit c.args.suffixes.now c.args.modules.now c.in-Ok.l c.in-Ok.ensures c.linked_is_one.ensures
-    bytes accepted same c.in-Ok-print.text c.in-Ok-print.ensures
+pub returns-in-Ok-clause-only : goal.returns-in-Ok-clause-only
+returns-in-Ok-clause-only g c = λ bytes accepted same.
+    is_only_link c.linked_refines.ensures c.args.exports.now c.args.import_limit c.args.inline_limit c.args.suffixes.now c.args.modules.now c.in-Ok.ensures.l c.in-Ok.ensures.linked c.linked_is_one.ensures
+    bytes accepted same c.in-Ok.text c.in-Ok.ensures.is
