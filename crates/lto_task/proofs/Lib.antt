@@ -1,2 +1,7 @@
-pub mod Copies
-pub mod Rising
+mod Copies
+mod Rising
+mod Splitting
+mod Numbers
+mod Headings
+mod Apart
+mod Rises

@@ -5,12 +5,23 @@
 //! and no tree of a module lives longer than its compilation. The contract of [`piece_of`] says which piece a definition has
 //! (`specs/Pieces.antt`).
 //!
-//! Below stand `ir_tree`, for definitions, `ir_print`, for their text, and `ir_summary`, for what they refer to. A definition is
-//! walked once for its names, which are sorted, and once for its text.
+//! The pieces of a module are its unit, which has a text ([`unit_text`], `specs/Units.antt`), as a file can hold it. [`pieces`]
+//! takes any bytes apart: it gives the pieces of the unit whose text they are, and tells exactly where they are the text of none.
+//! Units with one text are one.
+//!
+//! Below stand `ir_tree`, for definitions, `ir_print`, for their text, `ir_summary`, for what they refer to, and `itoa` and
+//! `memchr`, for numbers and lines. A definition is walked once for its names, which are sorted, and once for its text. A unit's
+//! text is written and read in one pass; the text of a piece is copied whole and not looked into.
 #![tactic(auto)]
 
 mod making;
+mod order;
 mod piece;
+mod splits;
+mod taking_apart;
+mod writing;
 
 pub use making::piece_of;
 pub use piece::Piece;
+pub use taking_apart::{pieces, unit_text_is_one};
+pub use writing::unit_text;
