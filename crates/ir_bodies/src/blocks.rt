@@ -14,9 +14,8 @@ ghost use Rattle.ir_bodies.specs.Adding.{added_at};
 ghost use Rattle.ir_bodies.specs.BlocksAt.{BLOCK, label_at, maybe_label_at, lines_at, ended_at, block_behind_at, block_at, blocks_from_at, blocks_at};
 ghost use Rattle.ir_bodies.specs.LinesAt.{LINE};
 
-use crate::adding::push;
 use crate::lines::line_into;
-use ir_instructions::{Listing, terminator_at};
+use ir_instructions::{Listing, push, terminator_at};
 use ir_lex::{Head, Token};
 use ir_read::{Block, Line, Name, Tokens, named, refusal};
 use ir_tree::Rows;

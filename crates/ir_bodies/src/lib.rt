@@ -6,7 +6,6 @@
 //! at the first token at which no reading goes on. Reading is linear in the tokens.
 #![tactic(auto)]
 
-mod adding;
 mod blocks;
 mod calls;
 mod definitions;
@@ -14,7 +13,6 @@ mod laws;
 mod lines;
 mod opcodes;
 
-pub use adding::push;
 pub use definitions::{Defined, definition_at};
 pub use laws::definition_rule;
 pub use opcodes::{Begun, Opcode, Operation};

@@ -1,7 +1,9 @@
 mod Counts
+pub mod Additions
 pub mod AddressingRules
 pub mod Barred
 pub mod ExtentLaws
+pub mod Grouping
 pub mod InstructionRules
 pub mod LeafRules
 pub mod Levels

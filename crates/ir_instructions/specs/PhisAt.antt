@@ -53,6 +53,12 @@ entries_at r first = do
   more ← chain_at anywhere begins (further_at r) false
   done (fold keep (first ∷ []) more)
 
+-- the first entry, and those behind it
+abbrev pub all_entries_at : Reg → Reader Tok (List Incoming)
+all_entries_at r = do
+  first ← incoming_at r
+  entries_at r first
+
 unfoldable pub phi_of_at : Reg → Reader Tok Instr
 phi_of_at r = do
   first ← incoming_at r

@@ -1,9 +1,10 @@
 //! Reads `alloca` and `getelementptr` (LangRef, "alloca Instruction", "getelementptr Instruction").
 
-ghost use Rattle.std.specs.Prelude.{◌≡◌, ◌*◌, nat_le, true, OnOk};
+ghost use Rattle.std.specs.Prelude.{◌≡◌, ◌*◌, nat_le, true};
 ghost use Rattle.ir_lex.specs.Tok.{tok};
 ghost use Rattle.lto_forms.specs.Alphabet.{among};
 ghost use Rattle.lto_forms.specs.Readers.{Gives};
+ghost use Rattle.ir_instructions.specs.Adding.{gathered_at};
 ghost use Rattle.ir_instructions.specs.Addressing.{keep, slots_fit};
 ghost use Rattle.ir_instructions.specs.AddressingAt.{addressing_at, behind_comma_at, count_in_at, count_means, further_at, indices_at, many_slots_at, one_slot_at, reserving_at, slots_at, slots_behind_at, stepped_at, stepping_by_at};
 ghost use Rattle.ir_read.specs.Classes.{tokens};
@@ -13,6 +14,7 @@ ghost use Rattle.ir_instructions.specs.Listing.{put_at};
 ghost use Rattle.ir_instructions.specs.ShapeForms.{NUMBER};
 ghost use Rattle.ir_read.specs.Shapes.{parts_of};
 
+use crate::adding::push;
 use crate::instructions::{align_at, aligned_at};
 use crate::listing::Listing;
 use crate::shapes::{Measured, counted, memory_shape_at};
@@ -24,7 +26,7 @@ use ir_read::{
 };
 use ir_tree::{Reg, Rows};
 use lto_forms::{Fault, FaultKind, ReadError};
-use std::alloc::{AllocFailed, Global};
+use std::alloc::Global;
 
 /// How many of a shape an `alloca` takes, and their alignment in bytes, where it is written.
 #[derive(Clone, Copy)]
@@ -195,67 +197,42 @@ pub fn reserving_into<'a>(
     })
 }
 
-/// What a comma leads to: an index, or an attachment, behind which only attachments follow.
-#[derive(Drop)]
-struct Further<'a> {
-    index: Option<Argument<'a>>,
-    attached: bool,
-}
-
-/// Reads what follows a comma behind an index, or behind an attachment.
+/// Reads what follows a comma behind an index, or behind an attachment: an index, which is added, or an
+/// attachment, behind which only attachments follow. Gives whether it is an attachment.
 #[tactic(auto, unfolding(crate::specs::AddressingAt::attaching_at, crate::specs::AddressingAt::indexing_at))]
-fn behind_comma_at<'a>(
+fn behind_comma_into<'a>(
     alloc: Global,
     attached: bool,
+    indices: &mut Vec<Argument<'a>>,
     tokens: &mut Tokens<'_, 'a>,
-) -> Result<Further<'a>, ReadError>
-    ensures { Gives (λ x. ((x.index, x.attached), tokens.new)) result (behind_comma_at attached tokens.old) }
+) -> Result<bool, ReadError>
+    ensures { Gives (λ attached. ((indices.new.items, attached), tokens.new)) result (gathered_at keep indices.old.items (behind_comma_at attached) tokens.old) }
 {
     if attached {
         attached_at(alloc, tokens)?;
-        return Ok(Further {
-            index: None,
-            attached: true,
-        });
+        return Ok(true);
     }
     if tokens.comes_meta() {
         attached_at(alloc, tokens)?;
-        Ok(Further {
-            index: None,
-            attached: true,
-        })
+        Ok(true)
     } else {
         let index = argument_at(alloc, tokens)?;
-        Ok(Further {
-            index: Some(index),
-            attached: false,
-        })
+        push(indices, index)?;
+        Ok(false)
     }
 }
 
 #[tactic(auto, unfolding(crate::specs::AddressingAt::further_at))]
-fn further_at<'a>(
+fn further_into<'a>(
     alloc: Global,
     attached: bool,
+    indices: &mut Vec<Argument<'a>>,
     tokens: &mut Tokens<'_, 'a>,
-) -> Result<Further<'a>, ReadError>
-    ensures { Gives (λ x. ((x.index, x.attached), tokens.new)) result (further_at attached tokens.old) }
+) -> Result<bool, ReadError>
+    ensures { Gives (λ attached. ((indices.new.items, attached), tokens.new)) result (gathered_at keep indices.old.items (further_at attached) tokens.old) }
 {
     expect(Head::Comma, tokens)?;
-    behind_comma_at(alloc, attached, tokens)
-}
-
-/// Adds an index, where there is one.
-fn keep<'a>(
-    indices: &mut Vec<Argument<'a>>,
-    kept: Option<Argument<'a>>,
-) -> Result<(), AllocFailed<Argument<'a>>>
-    ensures { OnOk result (indices.new.items ≡ keep indices.old.items kept.entry) }
-{
-    match kept {
-        None => Ok(()),
-        Some(index) => indices.push(index),
-    }
+    behind_comma_into(alloc, attached, indices, tokens)
 }
 
 /// Reads the indices, and the attachments.
@@ -269,9 +246,7 @@ fn indices_at<'a>(
     let mut indices = Vec::new(alloc);
     let mut attached = false;
     'each: while tokens.comes(Head::Comma) {
-        let further = further_at(alloc, attached, tokens)?;
-        attached = further.attached;
-        keep(&mut indices, further.index)?;
+        attached = further_into(alloc, attached, &mut indices, tokens)?;
     }
     Ok(indices)
 }

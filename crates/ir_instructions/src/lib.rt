@@ -5,6 +5,7 @@
 //! definition, and a local may stand for nothing.
 #![tactic(auto)]
 
+mod adding;
 mod addressing;
 mod extents;
 mod instructions;
@@ -14,6 +15,7 @@ mod shapes;
 mod terminators;
 mod values;
 
+pub use adding::push;
 pub use addressing::{addressing_into, reserving_into};
 pub use extents::{Align, Extent, Room};
 pub use instructions::{

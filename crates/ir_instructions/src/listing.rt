@@ -4,6 +4,7 @@ ghost use Rattle.std.specs.Prelude.{◌≡◌, IfErr, OnOk};
 ghost use Rattle.lto_forms.specs.declared.fault.ReadError.TheVariants.{NoMemory};
 ghost use Rattle.ir_instructions.specs.Listing.{put};
 
+use crate::adding::push;
 use ir_read::{Instr, Line, Name};
 use lto_forms::ReadError;
 
@@ -26,7 +27,6 @@ impl<'a> Listing<'a> {
     {
         let name = self.name.take();
         let line = self.line;
-        self.lines.push(Line { name, instr, line })?;
-        Ok(())
+        push(&mut self.lines, Line { name, instr, line })
     }
 }

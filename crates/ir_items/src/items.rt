@@ -17,8 +17,9 @@ ghost use Rattle.ir_items.specs.Items.{declared, keep};
 ghost use Rattle.ir_items.specs.ItemsAt.{ITEM, NAMING, beginnings, kept_at, unnamed_at, attribute_behind_at, metadata_there_at, plainly_at, beside_at, attached_before_at, declaration_at, naming_at, named_within_at, there_at, items_at};
 ghost use Rattle.ir_items.specs.Putting.{behind_at, Puts};
 
-use ir_bodies::{Defined, definition_at, push};
+use ir_bodies::{Defined, definition_at};
 use ir_globals::{type_line_at, variable_line_at};
+use ir_instructions::push;
 use ir_lex::Head;
 use ir_read::{
     Before, Item, Position, Role, Tokens, attached_at, attribute_group_at, comdat_line_at, expect,

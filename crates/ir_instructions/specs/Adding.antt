@@ -1,0 +1,9 @@
+-- What is read, added to what was read before.
+use Rattle.ir_lex.specs.Tok.{Tok}
+use Rattle.lto_forms.specs.Readers.{Reader, ◌>>=◌, done}
+
+-- a piece that is read, gathered by step, beside the state behind it
+abbrev pub gathered_at : {A S B : Type 0} → (B → A → B) → B → Reader Tok (A × S) → Reader Tok (B × S)
+gathered_at step front f = do
+  x ← f
+  done (step front x.0, x.1)
