@@ -50,6 +50,11 @@ pub front_joined : {A : Type 0} (front : List A) (r : Result (List A × List Tok
 front_joined front (Ok x) = refl
 front_joined front (Err e) = refl
 
+-- behind nothing
+pub joined_alone : {A : Type 0} (r : Result (List A × List Tok) Fault) → follow {B = List A} r (λ more. done ([] ++ more)) ≡ r
+joined_alone (Ok x) = refl
+joined_alone (Err e) = refl
+
 -- ---- what may stand before something, and what stands there
 
 pub optional_then : {A B : Type 0} (begins : Tok → Bool) (f : Reader Tok A) (h : Option A → Reader Tok B) (ts : List Tok) → (optional_at begins f >>= h) ts ≡ pick begins (f >>= λ a. h (Some a)) (h None) ts

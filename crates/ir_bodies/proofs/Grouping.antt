@@ -1,5 +1,5 @@
 -- Blocks and definitions, read as calls read them.
-use Rattle.std.proofs.Common.{◌≡◌, ℕ, List, [], ◌∷◌, ◌++◌, Result, Ok, Err, refl, sym}
+use Rattle.std.proofs.Common.{◌≡◌, ℕ, List, [], ◌∷◌, ◌++◌, Result, Ok, Err, refl, sym, ap, append_assoc}
 use Rattle.ir_lex.specs.declared.head.Head.TheVariants as heads
 use Rattle.ir_lex.specs.Tok.{Tok}
 use Rattle.lto_forms.specs.Alphabet.{among}
@@ -26,14 +26,34 @@ block_is room ts = sym (optional_then (among tokens LABEL) label_at (block_behin
 abbrev pub behind_first : ℕ → List Block × ℕ → Reader Tok (List Block)
 behind_first further x = joined_at x.0 (further_blocks_at further x.1)
 
-pub blocks_is : (further instructions : ℕ) (ts : List Tok) → blocks_at further instructions ts ≡ follow (added_at [] (block_at instructions) ts) (behind_first further)
+pub blocks_is : (front : List Block) (further instructions : ℕ) (ts : List Tok) → joined_at front (blocks_at further instructions) ts ≡ follow (added_at front (block_at instructions) ts) (behind_first further)
 unfolding blocks_at blocks_behind_at
-blocks_is further instructions ts = by_read (block_at instructions ts)
+blocks_is front further instructions ts = by_first (block_at instructions ts)
   where
-    by_read : (r : Result ((Block × ℕ) × List Tok) Fault)
-        → follow r (λ first. further_blocks_at further first.1 >>= λ more. done (first.0 ∷ more)) ≡ follow {B = List Block} (follow {B = List Block × ℕ} r (λ x. done ([] ++ x.0 ∷ [], x.1))) (behind_first further)
-    by_read (Ok x) = refl
-    by_read (Err e) = refl
+    by_others : (b : Block) (r : Result (List Block × List Tok) Fault) → follow (follow r (λ more. done (b ∷ more))) (λ more. done (front ++ more)) ≡ follow r (λ more. done ((front ++ b ∷ []) ++ more))
+    by_others b (Ok x) = ap (λ (all : List Block). Ok (all, x.1)) (sym (append_assoc front (b ∷ []) x.0))
+    by_others b (Err e) = refl
+
+    by_first : (r : Result ((Block × ℕ) × List Tok) Fault)
+        → follow (follow r (λ first. further_blocks_at further first.1 >>= λ more. done (first.0 ∷ more))) (λ more. done (front ++ more)) ≡ follow {B = List Block} (follow {B = List Block × ℕ} r (λ x. done (front ++ x.0 ∷ [], x.1))) (behind_first further)
+    by_first (Ok x) = by_others x.0.0 (further_blocks_at further x.0.1 x.1)
+    by_first (Err e) = refl
+
+pub braced_is : (front : List Block) (ts : List Tok) → joined_at front braced_at ts ≡ follow (the_at heads.OpenBrace ts) (λ _. joined_at front (blocks_at FURTHER_BLOCKS INSTRUCTIONS) >>= λ bs. the_at heads.CloseBrace >>= λ _. done bs)
+braced_is front ts = by_open (the_at heads.OpenBrace ts)
+  where
+    by_close : (bs : List Block) (r : Result (Unit {0} × List Tok) Fault) → follow (follow r (λ _. done bs)) (λ bs. done (front ++ bs)) ≡ follow r (λ _. done (front ++ bs))
+    by_close bs (Ok x) = refl
+    by_close bs (Err e) = refl
+
+    by_blocks : (r : Result (List Block × List Tok) Fault) → follow (follow r (λ bs. the_at heads.CloseBrace >>= λ _. done bs)) (λ bs. done (front ++ bs)) ≡ follow (follow r (λ bs. done (front ++ bs))) (λ bs. the_at heads.CloseBrace >>= λ _. done bs)
+    by_blocks (Ok x) = by_close x.0 (the_at heads.CloseBrace x.1)
+    by_blocks (Err e) = refl
+
+    by_open : (r : Result (Unit {0} × List Tok) Fault)
+        → follow (follow r (λ _. blocks_at FURTHER_BLOCKS INSTRUCTIONS >>= λ bs. the_at heads.CloseBrace >>= λ _. done bs)) (λ bs. done (front ++ bs)) ≡ follow r (λ _. joined_at front (blocks_at FURTHER_BLOCKS INSTRUCTIONS) >>= λ bs. the_at heads.CloseBrace >>= λ _. done bs)
+    by_open (Ok x) = by_blocks (blocks_at FURTHER_BLOCKS INSTRUCTIONS x.1)
+    by_open (Err e) = refl
 
 abbrev pub defined_by : Head → Reader Tok Item
 defined_by h = braced_at >>= λ bs. done (Definition h bs)

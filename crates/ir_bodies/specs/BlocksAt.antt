@@ -44,6 +44,12 @@ lines_at room = do
   ls ← all_lines_at room
   done (fold keep [] ls, room - length ls)
 
+-- the lines that are kept, behind those before them, and how many more there may be
+abbrev pub lines_from_at : ℕ → List Line → Reader Tok (List Line × ℕ)
+lines_from_at room front = do
+  ls ← all_lines_at room
+  done (fold keep front ls, room - length ls)
+
 -- behind the lines
 abbrev pub ended_at : Option Tok → List Line → ℕ → Reader Tok (Block × ℕ)
 ended_at name lines left = do

@@ -10,8 +10,8 @@ ghost use Rattle.ir_read.specs.Classes.{tokens, refusal};
 ghost use Rattle.ir_read.specs.Operands.{named};
 ghost use Rattle.ir_instructions.specs.Terminators.{ENDS};
 ghost use Rattle.ir_bodies.specs.Blocks.{LABEL};
-ghost use Rattle.ir_bodies.specs.Adding.{added_at};
-ghost use Rattle.ir_bodies.specs.BlocksAt.{BLOCK, label_at, maybe_label_at, lines_at, ended_at, block_behind_at, block_at, blocks_from_at, blocks_at};
+ghost use Rattle.ir_bodies.specs.Adding.{added_at, joined_at};
+ghost use Rattle.ir_bodies.specs.BlocksAt.{BLOCK, label_at, maybe_label_at, lines_from_at, ended_at, block_behind_at, block_at, blocks_from_at, blocks_at};
 ghost use Rattle.ir_bodies.specs.LinesAt.{LINE};
 
 use crate::lines::line_into;
@@ -31,7 +31,8 @@ pub struct Blocks<'a> {
 }
 
 impl<'a> Blocks<'a> {
-    fn new(alloc: Global) -> Blocks<'a>
+    /// None yet.
+    pub fn new(alloc: Global) -> Blocks<'a>
         ensures { result.list.items ≡ [] }
     {
         Blocks {
@@ -56,13 +57,6 @@ fn no_lines<'a>(alloc: Global) -> Listing<'a>
         name: None,
         line: 0,
     }
-}
-
-/// The lines of a block, and how many instructions the function may still have.
-#[derive(Drop)]
-struct Lines<'a> {
-    lines: Vec<Line<'a>>,
-    left: usize,
 }
 
 #[tactic(auto, unfolding(lto_forms::specs::Rules::is_valued))]
@@ -169,16 +163,15 @@ fn comes_block(rest: &Tokens) -> bool
     }
 }
 
-/// Reads the lines of a block, of which there may be `room`.
-#[tactic(auto, unfolding(crate::specs::BlocksAt::lines_at))]
-fn lines_at<'a>(
+/// Adds the lines of a block, of which there may be `room`. Gives how many more there may be.
+fn lines_into<'a>(
     alloc: Global,
     room: usize,
+    list: &mut Listing<'a>,
     tokens: &mut Tokens<'_, 'a>,
-) -> Result<Lines<'a>, ReadError>
-    ensures { Gives (λ x. ((x.lines.items, x.left), tokens.new)) result (lines_at room tokens.old) }
+) -> Result<usize, ReadError>
+    ensures { Gives (λ left. ((list.new.lines.items, left), tokens.new)) result (lines_from_at room list.old.lines.items tokens.old) }
 {
-    let mut list = no_lines(alloc);
     let mut left = room;
     'each: while comes_line(tokens) {
         if left == 0 {
@@ -187,13 +180,10 @@ fn lines_at<'a>(
                 kind: FaultKind::Limit,
             }));
         }
-        line_into(alloc, &mut list, tokens)?;
+        line_into(alloc, list, tokens)?;
         left -= 1;
     }
-    Ok(Lines {
-        lines: list.lines,
-        left,
-    })
+    Ok(left)
 }
 
 /// Reads the terminator of a block behind its lines, and adds the block. Gives `left` back.
@@ -220,7 +210,7 @@ fn ended_into<'a>(
 
 /// Reads a block behind its label, and adds it. Gives how many instructions the function may still
 /// have.
-#[tactic(auto, unfolding(crate::specs::BlocksAt::block_behind_at))]
+#[tactic(auto, unfolding(crate::specs::BlocksAt::block_behind_at, crate::specs::BlocksAt::lines_at))]
 fn block_behind_into<'a>(
     alloc: Global,
     room: usize,
@@ -230,8 +220,9 @@ fn block_behind_into<'a>(
 ) -> Result<usize, ReadError>
     ensures { Gives (λ left. ((blocks.new.items, left), tokens.new)) result (added_at blocks.old.items (block_behind_at room label.entry) tokens.old) }
 {
-    let Lines { lines, left } = lines_at(alloc, room, tokens)?;
-    ended_into(alloc, label, lines, left, blocks, tokens)
+    let mut list = no_lines(alloc);
+    let left = lines_into(alloc, room, &mut list, tokens)?;
+    ended_into(alloc, label, list.lines, left, blocks, tokens)
 }
 
 /// Reads the label of a block, where it has one.
@@ -285,20 +276,19 @@ fn further_blocks_into<'a>(
     Ok(())
 }
 
-/// Reads blocks, at least one: behind the first so many `further` ones at most, and so many
-/// `instructions` in all of them, phis and dropped calls among them and terminators not.
+/// Reads blocks, at least one, and adds them: behind the first so many `further` ones at most, and so
+/// many `instructions` in all of them, phis and dropped calls among them and terminators not.
 ///
 /// The block too many is a fault at its first token, and the instruction too many at its own.
-pub fn blocks_at<'a>(
+pub fn blocks_into<'a>(
     alloc: Global,
     further: usize,
     instructions: usize,
+    blocks: &mut Vec<Block<'a>>,
     tokens: &mut Tokens<'_, 'a>,
-) -> Result<Blocks<'a>, ReadError>
-    ensures { Gives (λ x. (x.list.items, tokens.new)) result (blocks_at further instructions tokens.old) }
+) -> Result<(), ReadError>
+    ensures { Gives (λ _. (blocks.new.items, tokens.new)) result (joined_at blocks.old.items (blocks_at further instructions) tokens.old) }
 {
-    let mut blocks = Blocks::new(alloc);
-    let left = block_into(alloc, instructions, &mut blocks.list, tokens)?;
-    further_blocks_into(alloc, further, left, &mut blocks.list, tokens)?;
-    Ok(blocks)
+    let left = block_into(alloc, instructions, blocks, tokens)?;
+    further_blocks_into(alloc, further, left, blocks, tokens)
 }

@@ -3,10 +3,11 @@
 ghost use Rattle.std.specs.Prelude.{◌≡◌};
 ghost use Rattle.lto_forms.specs.Readers.{Gives};
 ghost use Rattle.ir_read.specs.declared.raw.Item.TheVariants.{Definition};
+ghost use Rattle.ir_bodies.specs.Adding.{joined_at};
 ghost use Rattle.ir_bodies.specs.Blocks.{FURTHER_BLOCKS, INSTRUCTIONS, with_kept};
 ghost use Rattle.ir_bodies.specs.BlocksAt.{heading_at, braced_at, definition_at};
 
-use crate::blocks::{Blocks, blocks_at};
+use crate::blocks::{Blocks, blocks_into};
 use ir_lex::Head;
 use ir_read::{Block, Kept, Role, Tokens, definition_attributes_at, expect, head_at};
 use ir_tree::Rows;
@@ -65,14 +66,18 @@ fn heading_at<'a>(
     Ok(with_kept(head, kept))
 }
 
-/// Reads the blocks of a function, in their braces.
-fn braced_at<'a>(alloc: Global, tokens: &mut Tokens<'_, 'a>) -> Result<Blocks<'a>, ReadError>
-    ensures { Gives (λ x. (x.list.items, tokens.new)) result (braced_at tokens.old) }
+/// Reads the blocks of a function, in their braces, and adds them.
+#[tactic(auto, using(crate::proofs::Grouping::braced_is))]
+fn braced_into<'a>(
+    alloc: Global,
+    blocks: &mut Vec<Block<'a>>,
+    tokens: &mut Tokens<'_, 'a>,
+) -> Result<(), ReadError>
+    ensures { Gives (λ _. (blocks.new.items, tokens.new)) result (joined_at blocks.old.items braced_at tokens.old) }
 {
     expect(Head::OpenBrace, tokens)?;
-    let blocks = blocks_at(alloc, further_blocks(), instructions(), tokens)?;
-    expect(Head::CloseBrace, tokens)?;
-    Ok(blocks)
+    blocks_into(alloc, further_blocks(), instructions(), blocks, tokens)?;
+    expect(Head::CloseBrace, tokens)
 }
 
 /// Reads a definition of a function, `define i32 @f(i32 %x) { .. }`. Behind the first parameter `room`
@@ -86,7 +91,8 @@ pub fn definition_at<'a>(
     ensures { Gives (λ x. (Definition x.head x.blocks, tokens.new)) result (definition_at room tokens.old) }
 {
     let head = heading_at(alloc, room, tokens)?;
-    let blocks = braced_at(alloc, tokens)?;
+    let mut blocks = Blocks::new(alloc);
+    braced_into(alloc, &mut blocks.list, tokens)?;
     Ok(Defined {
         head,
         blocks: blocks.rows(),
