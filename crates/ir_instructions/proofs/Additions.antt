@@ -1,5 +1,5 @@
 -- What is read, added to what was read before.
-use Rattle.std.proofs.Common.{◌≡◌, Bool, false, List, Result, Ok, Err, refl, sym, ap, ◌∙◌}
+use Rattle.std.proofs.Common.{◌≡◌, Bool, false, List, [], ◌∷◌, ◌++◌, Result, Ok, Err, refl, sym, ap, ◌∙◌}
 use Rattle.ir_lex.specs.Tok.{Tok}
 use Rattle.lto_forms.specs.Chained.{chain_at, stops_here}
 use Rattle.lto_forms.specs.declared.fault.Fault.{Fault}
@@ -7,6 +7,23 @@ use Rattle.lto_forms.specs.declared.fault.ReadError.{ReadError}
 use Rattle.lto_forms.specs.declared.fault.ReadError.TheVariants as errors
 use Rattle.lto_forms.specs.Readers.{Reader, Fails, done, follow, ◌>>=◌, folded}
 use Rattle.lto_forms.proofs.Composed.{reads_is}
+
+-- what fails first fails
+pub first_fails : {A B : Type 0} (e : ReadError) (r : Result (A × List Tok) Fault) (h : A → Reader Tok B) → Fails e r → Fails e (follow r h)
+first_fails errors.NoMemory r h p = tt
+first_fails (errors.Fault f) r h p = rw p refl
+
+-- where one more was added, it was read
+pub pushed_read : {A : Type 0} (front new : List A) (rest : List Tok) (r : Result (A × List Tok) Fault) → follow r (λ x. done (front ++ x ∷ [])) ≡ Ok (new, rest) → (x : A) × (r ≡ Ok (x, rest)) × (new ≡ front ++ x ∷ [])
+pushed_read front new rest (Ok y) e =
+    let p = reads_is (front ++ y.0 ∷ []) new y.1 rest e in
+    (y.0, ap (λ (us : List Tok). Ok (y.0, us)) p.1, sym p.0)
+pushed_read front new rest (Err d) e = absurd cc
+
+pub pushed_fails : {A : Type 0} (front : List A) (e : ReadError) (r : Result (A × List Tok) Fault) → Fails e (follow r (λ x. done (front ++ x ∷ []))) → Fails e r
+pushed_fails front errors.NoMemory r h = tt
+pushed_fails front (errors.Fault f) (Ok y) h = absurd cc
+pushed_fails front (errors.Fault f) (Err d) h = cc
 
 module _ {A S B : Type 0} (step : B → A → B) (front : B) where
   -- where a piece was gathered, it was read

@@ -10,7 +10,7 @@ use Rattle.lto_forms.proofs.Composed.{reads_is}
 use Rattle.lto_forms.proofs.Loops.{with_front}
 use Rattle.lto_forms.proofs.Stars.{behind}
 
-fold_behind : {A : Type 0} (front as' : List A) → fold behind front as' ≡ front ++ as'
+pub fold_behind : {A : Type 0} (front as' : List A) → fold behind front as' ≡ front ++ as'
 fold_behind front [] = sym (append-nil front)
 fold_behind front (a ∷ as') = fold_behind (front ++ a ∷ []) as' ∙ append_assoc front (a ∷ []) as'
 

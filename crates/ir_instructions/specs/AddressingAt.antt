@@ -111,6 +111,15 @@ stepping_by_at inbounds typed = do
   base ← operand_at Ptr
   stepped_at inbounds typed base
 
+-- the shape, and the address that is stepped from
+abbrev pub based_at : Reader Tok (Typed × Operand)
+based_at = do
+  typed ← memory_shape_at
+  _ ← the_at heads.Comma
+  _ ← pointer_at
+  base ← operand_at Ptr
+  done (typed, base)
+
 unfoldable pub addressing_at : Reader Tok Instr
 addressing_at = do
   inbounds ← stepping_at

@@ -42,13 +42,6 @@ target_at = do
   _ ← the_at heads.LabelType
   local_at
 
--- behind the condition and the first target
-abbrev pub other_branch_at : Operand → Tok → Reader Tok Terminator
-other_branch_at condition if_true = do
-  _ ← the_at heads.Comma
-  if_false ← target_at
-  done (terminators.Branch condition if_true if_false)
-
 -- behind the condition
 abbrev pub branches_at : Operand → Reader Tok Terminator
 branches_at condition = do
@@ -58,15 +51,19 @@ branches_at condition = do
   if_false ← target_at
   done (terminators.Branch condition if_true if_false)
 
+-- where two blocks may come next
+abbrev pub choosing_at : Reader Tok Terminator
+choosing_at = do
+  w ← bit_at
+  condition ← operand_at (Int w)
+  branches_at condition
+
 unfoldable pub branching_at : Reader Tok Terminator
 branching_at = pick (among tokens LABEL)
     (do
       to ← target_at
       done (terminators.Jump to))
-    (do
-      w ← bit_at
-      condition ← operand_at (Int w)
-      branches_at condition)
+    choosing_at
 
 abbrev pub constant_at : Reg → Reader Tok Matched
 constant_at r = token_at (is_valued tokens refusal (case_classes r) (matched_of r))

@@ -75,6 +75,13 @@ opening_at = do
 abbrev pub openings_at : Reader Tok (List Typed)
 openings_at = star_at (among tokens ADDRESS) opening_at
 
+-- the first, and those in it
+abbrev pub all_openings_at : Reader Tok (List Typed)
+all_openings_at = do
+  first ← opening_at
+  inner ← openings_at
+  done (first ∷ inner)
+
 abbrev pub global_at : Reader Tok Tok
 global_at = token_at (is_valued tokens refusal GLOBAL global_named)
 

@@ -6,7 +6,7 @@ ghost use Rattle.lto_forms.specs.Alphabet.{among};
 ghost use Rattle.lto_forms.specs.Readers.{Gives};
 ghost use Rattle.ir_instructions.specs.Adding.{gathered_at};
 ghost use Rattle.ir_instructions.specs.Addressing.{keep, slots_fit};
-ghost use Rattle.ir_instructions.specs.AddressingAt.{addressing_at, behind_comma_at, count_in_at, count_means, further_at, indices_at, many_slots_at, one_slot_at, reserving_at, slots_at, slots_behind_at, stepped_at, stepping_by_at};
+ghost use Rattle.ir_instructions.specs.AddressingAt.{addressing_at, based_at, behind_comma_at, count_in_at, count_means, further_at, indices_at, many_slots_at, one_slot_at, reserving_at, slots_at, slots_behind_at};
 ghost use Rattle.ir_read.specs.Classes.{tokens};
 ghost use Rattle.ir_instructions.specs.Extents.{all_nest_within, extent_of, nests_within};
 ghost use Rattle.ir_read.specs.Literals.{IsWidth};
@@ -18,11 +18,11 @@ use crate::adding::push;
 use crate::instructions::{align_at, aligned_at};
 use crate::listing::Listing;
 use crate::shapes::{Measured, counted, memory_shape_at};
-use crate::values::{argument_at, operand_at, pointer_at, stepping_at};
+use crate::values::{operand_at, pointer_at, stepping_at};
 use ir_lex::{Head, Token};
 use ir_read::{
     Argument, Instr, Operand, Shape, ShapeNode, Tokens, Typed, attached_at, expect, integer_at,
-    refusal,
+    refusal, reg_at,
 };
 use ir_tree::{Reg, Rows};
 use lto_forms::{Fault, FaultKind, ReadError};
@@ -199,7 +199,7 @@ pub fn reserving_into<'a>(
 
 /// Reads what follows a comma behind an index, or behind an attachment: an index, which is added, or an
 /// attachment, behind which only attachments follow. Gives whether it is an attachment.
-#[tactic(auto, unfolding(crate::specs::AddressingAt::attaching_at, crate::specs::AddressingAt::indexing_at))]
+#[tactic(auto, unfolding(crate::specs::AddressingAt::attaching_at, crate::specs::AddressingAt::indexing_at, crate::specs::ValuesAt::argument_at))]
 fn behind_comma_into<'a>(
     alloc: Global,
     attached: bool,
@@ -216,8 +216,9 @@ fn behind_comma_into<'a>(
         attached_at(alloc, tokens)?;
         Ok(true)
     } else {
-        let index = argument_at(alloc, tokens)?;
-        push(indices, index)?;
+        let reg = reg_at(tokens)?;
+        let operand = operand_at(alloc, reg, tokens)?;
+        push(indices, Argument { reg, operand })?;
         Ok(false)
     }
 }
@@ -251,44 +252,29 @@ fn indices_at<'a>(
     Ok(indices)
 }
 
-/// Reads the indices of a `getelementptr`.
-fn stepped_into<'a>(
-    alloc: Global,
-    inbounds: bool,
+/// The shape that a `getelementptr` steps through, and the address that it steps from.
+#[derive(Drop)]
+struct Based<'a> {
     typed: Typed<'a>,
     base: Operand<'a>,
-    list: &mut Listing<'a>,
-    tokens: &mut Tokens<'_, 'a>,
-) -> Result<(), ReadError>
-    ensures { Gives (λ _. (list.new.lines.items, tokens.new)) result (put_at list.old (stepped_at inbounds typed.entry base.entry) tokens.old) }
-{
-    let indices = Rows::of(indices_at(alloc, tokens)?);
-    list.put(Instr::Address {
-        inbounds,
-        typed,
-        base,
-        indices,
-    })
 }
 
-/// Reads what follows the shape of a `getelementptr`.
-fn stepping_by_into<'a>(
-    alloc: Global,
-    inbounds: bool,
-    typed: Typed<'a>,
-    list: &mut Listing<'a>,
-    tokens: &mut Tokens<'_, 'a>,
-) -> Result<(), ReadError>
-    ensures { Gives (λ _. (list.new.lines.items, tokens.new)) result (put_at list.old (stepping_by_at inbounds typed.entry) tokens.old) }
+/// Reads `shape , ptr operand`.
+fn based_at<'a>(alloc: Global, tokens: &mut Tokens<'_, 'a>) -> Result<Based<'a>, ReadError>
+    ensures { Gives (λ x. ((x.typed, x.base), tokens.new)) result (based_at tokens.old) }
 {
+    let shape = memory_shape_at(alloc, tokens)?;
     expect(Head::Comma, tokens)?;
     pointer_at(tokens)?;
     let base = operand_at(alloc, Reg::Ptr, tokens)?;
-    stepped_into(alloc, inbounds, typed, base, list, tokens)
+    Ok(Based {
+        typed: shape.typed,
+        base,
+    })
 }
 
 /// Reads what follows `getelementptr`.
-#[tactic(auto, unfolding(crate::specs::AddressingAt::addressing_at))]
+#[tactic(auto, using(crate::proofs::Grouping::addressing_is))]
 pub fn addressing_into<'a>(
     alloc: Global,
     list: &mut Listing<'a>,
@@ -297,6 +283,12 @@ pub fn addressing_into<'a>(
     ensures { Gives (λ _. (list.new.lines.items, tokens.new)) result (put_at list.old addressing_at tokens.old) }
 {
     let inbounds = stepping_at(tokens)?;
-    let shape = memory_shape_at(alloc, tokens)?;
-    stepping_by_into(alloc, inbounds, shape.typed, list, tokens)
+    let based = based_at(alloc, tokens)?;
+    let indices = indices_at(alloc, tokens)?;
+    list.put(Instr::Address {
+        inbounds,
+        typed: based.typed,
+        base: based.base,
+        indices: Rows::of(indices),
+    })
 }

@@ -12,11 +12,11 @@ ghost use Rattle.ir_instructions.specs.Listing.{put_at};
 ghost use Rattle.ir_instructions.specs.InstructionsAt.{wraps_at, on_two_at, wrapping_at, dividing_at, joining_at, comparing_at, casting_at, extending_at, narrowing_at, selecting_at, freezing_at, aligned_at, align_at, loading_at, storing_at};
 
 use crate::listing::Listing;
-use crate::values::{argument_at, operand_at, pointer_at};
+use crate::values::{operand_at, pointer_at};
 use ir_lex::{Head, Token};
 use ir_read::{
-    Instr, Tokens, alignment_at, attached_at, attachments_at, bit_at, expect, integer_at, maybe_at,
-    refusal, reg_at, scalar_at,
+    Argument, Instr, Tokens, alignment_at, attached_at, attachments_at, bit_at, expect, integer_at,
+    maybe_at, refusal, reg_at, scalar_at,
 };
 use ir_tree::{BinaryOp, CastOp, Flags, Predicate, Reg};
 use lto_forms::{Fault, FaultKind, ReadError};
@@ -264,7 +264,7 @@ pub fn narrowing_into<'a>(
 }
 
 /// Reads what follows `select`.
-#[tactic(auto, unfolding(crate::specs::InstructionsAt::selecting_at))]
+#[tactic(auto, unfolding(crate::specs::InstructionsAt::selecting_at, crate::specs::ValuesAt::argument_at))]
 pub fn selecting_into<'a>(
     alloc: Global,
     list: &mut Listing<'a>,
@@ -275,9 +275,13 @@ pub fn selecting_into<'a>(
     let width = bit_at(tokens)?;
     let condition = operand_at(alloc, Reg::Int(width), tokens)?;
     expect(Head::Comma, tokens)?;
-    let if_true = argument_at(alloc, tokens)?;
+    let reg = reg_at(tokens)?;
+    let operand = operand_at(alloc, reg, tokens)?;
+    let if_true = Argument { reg, operand };
     expect(Head::Comma, tokens)?;
-    let if_false = argument_at(alloc, tokens)?;
+    let reg = reg_at(tokens)?;
+    let operand = operand_at(alloc, reg, tokens)?;
+    let if_false = Argument { reg, operand };
     list.put(Instr::Select {
         condition,
         if_true,

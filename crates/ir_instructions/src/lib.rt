@@ -30,6 +30,4 @@ pub use shapes::{
     memory_shape_at,
 };
 pub use terminators::{End, Ended, Ending, Matched, constant_at, target_at, terminator_at};
-pub use values::{
-    address_at, argument_at, global_at, index_number_at, operand_at, pointer_at, stepping_at,
-};
+pub use values::{address_at, global_at, index_number_at, operand_at, pointer_at, stepping_at};

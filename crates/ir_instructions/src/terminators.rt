@@ -5,16 +5,15 @@ ghost use Rattle.ir_lex.specs.Tok.{tok};
 ghost use Rattle.lto_forms.specs.Readers.{Gives};
 ghost use Rattle.lto_forms.specs.Rules.{is_among, is_valued};
 ghost use Rattle.ir_read.specs.Classes.{tokens, refusal, one_of_at};
-ghost use Rattle.ir_read.specs.declared.raw.Terminator.TheVariants as terminators;
 ghost use Rattle.ir_read.specs.Operands.{IsReg};
 ghost use Rattle.ir_instructions.specs.Terminators.{case_classes, matched_of, number_matched, ENDS, ending_of};
-ghost use Rattle.ir_instructions.specs.TerminatorsAt.{returning_at, target_at, other_branch_at, branches_at, branching_at, constant_at, case_of_at, case_at, cases_at, end_of_cases_at, switching_at, behind_end_at, terminator_at};
+ghost use Rattle.ir_instructions.specs.TerminatorsAt.{returning_at, target_at, choosing_at, branching_at, constant_at, case_of_at, case_at, cases_at, end_of_cases_at, switching_at, behind_end_at, terminator_at};
 
 use crate::values::operand_at;
 use ir_lex::{Head, Token};
 use ir_read::{
-    Argument, Case, Name, Operand, Terminator, Tokens, attachments_at, bit_at, done, expect,
-    integer_at, literal, local_at, refusal, reg_at, result_at, type_refusal,
+    Argument, Case, Name, Terminator, Tokens, attachments_at, bit_at, expect, integer_at, literal,
+    local_at, refusal, reg_at, result_at, type_refusal,
 };
 use ir_tree::{Reg, Rows};
 use lto_forms::{Fault, FaultKind, ReadError};
@@ -50,16 +49,31 @@ pub struct Matched {
     pub bits: u64,
 }
 
+/// Puts a terminator in the place of what stood there.
+fn put<'a>(place: &mut Terminator<'a>, terminator: Terminator<'a>)
+    ensures { place.new ≡ terminator.entry }
+{
+    *place = terminator;
+}
+
 /// Reads what follows `ret`.
 #[tactic(auto, unfolding(crate::specs::TerminatorsAt::returning_at))]
-fn returning_at<'a>(alloc: Global, tokens: &mut Tokens<'_, 'a>) -> Result<Terminator<'a>, ReadError>
-    ensures { Gives (λ x. (x, tokens.new)) result (returning_at tokens.old) }
+fn returning_into<'a>(
+    alloc: Global,
+    place: &mut Terminator<'a>,
+    tokens: &mut Tokens<'_, 'a>,
+) -> Result<(), ReadError>
+    ensures { Gives (λ _. (place.new, tokens.new)) result (returning_at tokens.old) }
 {
     match result_at(tokens)? {
-        None => Ok(Terminator::Return(None)),
+        None => {
+            put(place, Terminator::Return(None));
+            Ok(())
+        }
         Some(reg) => {
             let operand = operand_at(alloc, reg, tokens)?;
-            Ok(Terminator::Return(Some(Argument { reg, operand })))
+            put(place, Terminator::Return(Some(Argument { reg, operand })));
+            Ok(())
         }
     }
 }
@@ -73,53 +87,46 @@ pub fn target_at<'a>(tokens: &mut Tokens<'_, 'a>) -> Result<Name<'a>, ReadError>
     local_at(tokens)
 }
 
-fn branch<'a>(condition: Operand<'a>, if_true: Name<'a>, if_false: Name<'a>) -> Terminator<'a>
-    ensures { result ≡ terminators.Branch condition.entry if_true.entry if_false.entry }
-{
-    Terminator::Branch {
-        condition,
-        if_true,
-        if_false,
-    }
-}
-
-/// Reads the second target behind a condition.
-fn other_branch_at<'a>(
-    condition: Operand<'a>,
-    if_true: Name<'a>,
+/// Reads `i1 operand , label Local , label Local`.
+fn choosing_into<'a>(
+    alloc: Global,
+    place: &mut Terminator<'a>,
     tokens: &mut Tokens<'_, 'a>,
-) -> Result<Terminator<'a>, ReadError>
-    ensures { Gives (λ x. (x, tokens.new)) result (other_branch_at condition.entry if_true.entry tokens.old) }
+) -> Result<(), ReadError>
+    ensures { Gives (λ _. (place.new, tokens.new)) result (choosing_at tokens.old) }
 {
-    expect(Head::Comma, tokens)?;
-    let if_false = target_at(tokens)?;
-    done(branch(condition, if_true, if_false))
-}
-
-/// Reads the targets behind a condition.
-fn branches_at<'a>(
-    condition: Operand<'a>,
-    tokens: &mut Tokens<'_, 'a>,
-) -> Result<Terminator<'a>, ReadError>
-    ensures { Gives (λ x. (x, tokens.new)) result (branches_at condition.entry tokens.old) }
-{
+    let width = bit_at(tokens)?;
+    let condition = operand_at(alloc, Reg::Int(width), tokens)?;
     expect(Head::Comma, tokens)?;
     let if_true = target_at(tokens)?;
-    other_branch_at(condition, if_true, tokens)
+    expect(Head::Comma, tokens)?;
+    let if_false = target_at(tokens)?;
+    put(
+        place,
+        Terminator::Branch {
+            condition,
+            if_true,
+            if_false,
+        },
+    );
+    Ok(())
 }
 
 /// Reads what follows `br`.
 #[tactic(auto, unfolding(crate::specs::TerminatorsAt::branching_at))]
-fn branching_at<'a>(alloc: Global, tokens: &mut Tokens<'_, 'a>) -> Result<Terminator<'a>, ReadError>
-    ensures { Gives (λ x. (x, tokens.new)) result (branching_at tokens.old) }
+fn branching_into<'a>(
+    alloc: Global,
+    place: &mut Terminator<'a>,
+    tokens: &mut Tokens<'_, 'a>,
+) -> Result<(), ReadError>
+    ensures { Gives (λ _. (place.new, tokens.new)) result (branching_at tokens.old) }
 {
     if tokens.comes(Head::LabelType) {
         let to = target_at(tokens)?;
-        done(Terminator::Jump(to))
+        put(place, Terminator::Jump(to));
+        Ok(())
     } else {
-        let width = bit_at(tokens)?;
-        let condition = operand_at(alloc, Reg::Int(width), tokens)?;
-        branches_at(condition, tokens)
+        choosing_into(alloc, place, tokens)
     }
 }
 
@@ -220,26 +227,14 @@ fn end_of_cases_at(tokens: &mut Tokens) -> Result<(), ReadError>
     }
 }
 
-fn switch<'a>(
-    width: u8,
-    value: Operand<'a>,
-    default: Name<'a>,
-    cases: Vec<Case<'a>>,
-) -> Terminator<'a>
-    ensures { result ≡ terminators.Switch width value.entry default.entry cases.entry.items }
-{
-    Terminator::Switch {
-        width,
-        value,
-        default,
-        cases: Rows::of(cases),
-    }
-}
-
 /// Reads what follows `switch`.
 #[tactic(auto, unfolding(crate::specs::TerminatorsAt::switching_at))]
-fn switching_at<'a>(alloc: Global, tokens: &mut Tokens<'_, 'a>) -> Result<Terminator<'a>, ReadError>
-    ensures { Gives (λ x. (x, tokens.new)) result (switching_at tokens.old) }
+fn switching_into<'a>(
+    alloc: Global,
+    place: &mut Terminator<'a>,
+    tokens: &mut Tokens<'_, 'a>,
+) -> Result<(), ReadError>
+    ensures { Gives (λ _. (place.new, tokens.new)) result (switching_at tokens.old) }
 {
     let width = integer_at(tokens)?;
     let value = operand_at(alloc, Reg::Int(width), tokens)?;
@@ -248,7 +243,16 @@ fn switching_at<'a>(alloc: Global, tokens: &mut Tokens<'_, 'a>) -> Result<Termin
     expect(Head::OpenBracket, tokens)?;
     let cases = cases_at(alloc, tokens)?;
     end_of_cases_at(tokens)?;
-    done(switch(width, value, default, cases))
+    put(
+        place,
+        Terminator::Switch {
+            width,
+            value,
+            default,
+            cases: Rows::of(cases),
+        },
+    );
+    Ok(())
 }
 
 #[tactic(auto, unfolding(lto_forms::specs::Rules::is_among))]
@@ -290,18 +294,22 @@ fn ending_at(tokens: &mut Tokens) -> Result<Ending, ReadError>
     }
 }
 
-fn behind_end_at<'a>(
+fn behind_end_into<'a>(
     alloc: Global,
     end: End,
+    place: &mut Terminator<'a>,
     tokens: &mut Tokens<'_, 'a>,
-) -> Result<Terminator<'a>, ReadError>
-    ensures { Gives (λ x. (x, tokens.new)) result (behind_end_at end tokens.old) }
+) -> Result<(), ReadError>
+    ensures { Gives (λ _. (place.new, tokens.new)) result (behind_end_at end tokens.old) }
 {
     match end {
-        End::Ret => returning_at(alloc, tokens),
-        End::Br => branching_at(alloc, tokens),
-        End::Switch => switching_at(alloc, tokens),
-        End::Unreachable => Ok(Terminator::Unreachable),
+        End::Ret => returning_into(alloc, place, tokens),
+        End::Br => branching_into(alloc, place, tokens),
+        End::Switch => switching_into(alloc, place, tokens),
+        End::Unreachable => {
+            put(place, Terminator::Unreachable);
+            Ok(())
+        }
     }
 }
 
@@ -311,7 +319,8 @@ pub fn terminator_at<'a>(alloc: Global, tokens: &mut Tokens<'_, 'a>) -> Result<E
     ensures { Gives (λ x. (x, tokens.new)) result (terminator_at tokens.old) }
 {
     let ending = ending_at(tokens)?;
-    let terminator = behind_end_at(alloc, ending.end, tokens)?;
+    let mut terminator = Terminator::Unreachable;
+    behind_end_into(alloc, ending.end, &mut terminator, tokens)?;
     attachments_at(alloc, tokens)?;
     Ok(Ended {
         terminator,

@@ -1,23 +1,25 @@
 //! Reads operands, with constant addresses among them (LangRef, "Constant Expressions"), which nest
 //! as deep as the text does: the levels that are open are kept in a list.
 
-ghost use Rattle.std.specs.Prelude.{◌≡◌, ◌∷◌, reverse};
+ghost use Rattle.std.specs.Prelude.{◌≡◌, reverse};
 ghost use Rattle.ir_lex.specs.Tok.{tok};
 ghost use Rattle.lto_forms.specs.Alphabet.{among};
-ghost use Rattle.lto_forms.specs.Readers.{Gives, done, follow};
+ghost use Rattle.lto_forms.specs.Readers.{Gives};
 ghost use Rattle.lto_forms.specs.Rules.{is_valued};
 ghost use Rattle.ir_read.specs.Ahead.{STEPPING};
 ghost use Rattle.ir_read.specs.Classes.{tokens, refusal, one_of_at};
 ghost use Rattle.ir_read.specs.Literals.{IsWidth};
 ghost use Rattle.ir_read.specs.Operands.{IsReg, global_named};
+ghost use Rattle.ir_instructions.specs.Adding.{pushed_at};
 ghost use Rattle.ir_instructions.specs.Values.{GLOBAL, NUMBER, index_of, is_inbounds, or_inbounds};
-ghost use Rattle.ir_instructions.specs.ValuesAt.{address_at, argument_at, closing_at, closing_one_at, global_at, index_at, index_number_at, indices_at, opened_at, opening_at, openings_at, operand_at, pointer_at, reached_at, stepping_at};
+ghost use Rattle.ir_instructions.specs.ValuesAt.{address_at, all_openings_at, closing_at, closing_one_at, global_at, index_at, index_number_at, indices_at, opening_at, operand_at, pointer_at, stepping_at};
 
+use crate::adding::push;
 use crate::shapes::memory_shape_at;
 use ir_lex::{Head, Token};
 use ir_read::{
-    Address, Argument, Index, Level, Name, Operand, Steps, Tokens, Typed, expect, global_named,
-    integer_at, literal, refusal, reg_at, simple_at, type_refusal,
+    Address, Index, Level, Name, Operand, Steps, Tokens, Typed, expect, global_named, integer_at,
+    literal, refusal, simple_at, type_refusal,
 };
 use ir_tree::{Reg, Rows};
 use lto_forms::{Fault, FaultKind, ReadError};
@@ -167,12 +169,11 @@ fn closing_one_at<'a>(
 /// first.
 fn closing_at<'a>(
     alloc: Global,
-    open_levels: Vec<Typed<'a>>,
+    outer: &mut Vec<Typed<'a>>,
     tokens: &mut Tokens<'_, 'a>,
 ) -> Result<Vec<Level<'a>>, ReadError>
-    ensures { Gives (λ x. (x.items, tokens.new)) result (closing_at (reverse open_levels.entry.items) tokens.old) }
+    ensures { Gives (λ x. (x.items, tokens.new)) result (closing_at (reverse outer.old.items) tokens.old) }
 {
-    let mut outer = open_levels;
     let mut levels = Vec::new(alloc);
     'each: while let Some(typed) = outer.pop() {
         let level = closing_one_at(alloc, typed, tokens)?;
@@ -181,41 +182,35 @@ fn closing_at<'a>(
     Ok(levels)
 }
 
-/// Reads the beginning of a level, behind its first word.
-#[tactic(auto, unfolding(crate::specs::ValuesAt::opened_at))]
-fn opened_at<'a>(alloc: Global, tokens: &mut Tokens<'_, 'a>) -> Result<Typed<'a>, ReadError>
-    ensures { Gives (λ x. (x, tokens.new)) result (opened_at tokens.old) }
+/// Reads the beginning of a level, and adds it.
+#[tactic(auto, unfolding(crate::specs::ValuesAt::opening_at, crate::specs::ValuesAt::opened_at))]
+fn opening_into<'a>(
+    alloc: Global,
+    levels: &mut Vec<Typed<'a>>,
+    tokens: &mut Tokens<'_, 'a>,
+) -> Result<(), ReadError>
+    ensures { Gives (λ _. (levels.new.items, tokens.new)) result (pushed_at levels.old.items opening_at tokens.old) }
 {
+    expect(Head::GetElementPtr, tokens)?;
     stepping_at(tokens)?;
     expect(Head::OpenParen, tokens)?;
     let shape = memory_shape_at(alloc, tokens)?;
     expect(Head::Comma, tokens)?;
     pointer_at(tokens)?;
-    Ok(shape.typed)
+    push(levels, shape.typed)
 }
 
-/// Reads the beginning of a level.
-#[tactic(auto, unfolding(crate::specs::ValuesAt::opening_at))]
-fn opening_at<'a>(alloc: Global, tokens: &mut Tokens<'_, 'a>) -> Result<Typed<'a>, ReadError>
-    ensures { Gives (λ x. (x, tokens.new)) result (opening_at tokens.old) }
-{
-    expect(Head::GetElementPtr, tokens)?;
-    opened_at(alloc, tokens)
-}
-
-/// Reads the beginnings of the levels in a first one, and adds that in front.
-fn openings_at<'a>(
+/// Reads the beginnings of levels, at least one.
+fn all_openings_at<'a>(
     alloc: Global,
-    first: Typed<'a>,
     tokens: &mut Tokens<'_, 'a>,
 ) -> Result<Vec<Typed<'a>>, ReadError>
-    ensures { Gives (λ x. (x.items, tokens.new)) result (follow (openings_at tokens.old) (λ inner. done (first.entry ∷ inner))) }
+    ensures { Gives (λ x. (x.items, tokens.new)) result (all_openings_at tokens.old) }
 {
     let mut levels = Vec::new(alloc);
-    levels.push(first)?;
+    opening_into(alloc, &mut levels, tokens)?;
     'each: while tokens.comes(Head::GetElementPtr) {
-        let level = opening_at(alloc, tokens)?;
-        levels.push(level)?;
+        opening_into(alloc, &mut levels, tokens)?;
     }
     Ok(levels)
 }
@@ -250,32 +245,19 @@ pub fn global_at<'a>(tokens: &mut Tokens<'_, 'a>) -> Result<Name<'a>, ReadError>
     }
 }
 
-/// Reads the name of a global in these levels, the outermost first, and what closes them.
-#[tactic(auto, unfolding(crate::specs::ValuesAt::reached_at))]
-fn reached_at<'a>(
-    alloc: Global,
-    outer: Vec<Typed<'a>>,
-    tokens: &mut Tokens<'_, 'a>,
-) -> Result<Operand<'a>, ReadError>
-    ensures { Gives (λ x. (x, tokens.new)) result (reached_at outer.entry.items tokens.old) }
+/// Reads a constant address.
+#[tactic(auto, unfolding(crate::specs::ValuesAt::reached_at), using(crate::proofs::Grouping::address_is))]
+pub fn address_at<'a>(alloc: Global, tokens: &mut Tokens<'_, 'a>) -> Result<Operand<'a>, ReadError>
+    ensures { Gives (λ x. (x, tokens.new)) result (address_at tokens.old) }
 {
+    let mut outer = all_openings_at(alloc, tokens)?;
     let name = global_at(tokens)?;
-    let levels = closing_at(alloc, outer, tokens)?;
+    let levels = closing_at(alloc, &mut outer, tokens)?;
     let steps = Steps {
         name,
         levels: Rows::of(levels),
     };
     Ok(Operand::Address(Address::of(alloc, steps)?))
-}
-
-/// Reads a constant address.
-#[tactic(auto, unfolding(crate::specs::ValuesAt::address_at, crate::specs::ValuesAt::address_behind_at))]
-pub fn address_at<'a>(alloc: Global, tokens: &mut Tokens<'_, 'a>) -> Result<Operand<'a>, ReadError>
-    ensures { Gives (λ x. (x, tokens.new)) result (address_at tokens.old) }
-{
-    let first = opening_at(alloc, tokens)?;
-    let outer = openings_at(alloc, first, tokens)?;
-    reached_at(alloc, outer, tokens)
 }
 
 /// Reads an operand of a type. A number is a literal of it; `true` and `false` are those of `i1`.
@@ -293,17 +275,4 @@ pub fn operand_at<'a>(
     } else {
         simple_at(reg, tokens)
     }
-}
-
-/// Reads a type and an operand of it.
-#[tactic(auto, unfolding(crate::specs::ValuesAt::argument_at))]
-pub fn argument_at<'a>(
-    alloc: Global,
-    tokens: &mut Tokens<'_, 'a>,
-) -> Result<Argument<'a>, ReadError>
-    ensures { Gives (λ x. (x, tokens.new)) result (argument_at tokens.old) }
-{
-    let reg = reg_at(tokens)?;
-    let operand = operand_at(alloc, reg, tokens)?;
-    Ok(Argument { reg, operand })
 }

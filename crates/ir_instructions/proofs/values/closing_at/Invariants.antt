@@ -4,7 +4,7 @@ use Rattle.ir_instructions.specs.ValuesAt.{closing_at}
 use Rattle.ir_instructions.proofs.values.closing_at.Given as goal
 
 abbrev pub invariant-each : goal.invariant-each
-invariant-each l = with_front l.levels.items (closing_at (reverse l.outer.items) l.tokens) ≡ closing_at (reverse l.fn.open_levels.items) l.fn.tokens
+invariant-each l = with_front l.levels.items (closing_at (reverse l.outer.items) l.tokens) ≡ closing_at (reverse l.fn.outer.items) l.fn.tokens
 
 abbrev pub decreases-each : goal.decreases-each
 decreases-each l = length l.outer.items
