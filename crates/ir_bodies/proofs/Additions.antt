@@ -1,12 +1,14 @@
 -- What is read, put behind what was read before.
-use Rattle.std.proofs.Common.{◌≡◌, Bool, true, false, cond, Option, Some, None, List, [], ◌∷◌, ◌++◌, Result, Ok, Err, refl, sym, ap}
+use Rattle.std.proofs.Common.{◌≡◌, Bool, true, false, cond, Option, Some, None, List, [], ◌∷◌, ◌++◌, Result, Ok, Err, refl, sym, ap, ◌∙◌, append_assoc}
 use Rattle.ir_lex.specs.Tok.{Tok}
 use Rattle.lto_forms.specs.declared.fault.Fault.{Fault}
 use Rattle.lto_forms.specs.declared.fault.ReadError.{ReadError}
 use Rattle.lto_forms.specs.declared.fault.ReadError.TheVariants as errors
-use Rattle.lto_forms.specs.Readers.{Reader, Fails, done, follow, ◌>>=◌, optional_at, pick}
+use Rattle.lto_forms.specs.Readers.{Reader, Fails, done, follow, ◌>>=◌, optional_at, pick, folded}
 use Rattle.lto_forms.proofs.Composed.{reads_is}
 use Rattle.lto_forms.proofs.Loops.{with_front}
+use Rattle.lto_forms.proofs.Stars.{behind}
+use Rattle.ir_instructions.proofs.Levels.{fold_behind}
 use Rattle.ir_bodies.specs.Blocks.{keep}
 
 -- ---- what is kept
@@ -49,6 +51,27 @@ first_fails (errors.Fault f) r h p = rw p refl
 pub front_joined : {A : Type 0} (front : List A) (r : Result (List A × List Tok) Fault) → with_front front r ≡ follow r (λ more. done (front ++ more))
 front_joined front (Ok x) = refl
 front_joined front (Err e) = refl
+
+abbrev pub joined_to : {A : Type 0} → List A → List A → Reader Tok (List A)
+joined_to front all = done (front ++ all)
+
+-- one more behind these, and others behind it
+pub front_one : {A : Type 0} (front : List A) (a : A) (r : Result (List A × List Tok) Fault) → with_front (front ++ a ∷ []) r ≡ follow (follow r (λ more. done (a ∷ more))) (joined_to front)
+front_one front a (Ok x) = ap (λ (all : List _). Ok (all, x.1)) (append_assoc front (a ∷ []) x.0)
+front_one front a (Err e) = refl
+
+pub folded_joined : {A : Type 0} (front : List A) (a : A) (r : Result (List A × List Tok) Fault) → folded behind (front ++ a ∷ []) r ≡ follow (follow r (λ more. done (a ∷ more))) (joined_to front)
+folded_joined front a (Ok x) = ap (λ (all : List _). Ok (all, x.1)) (fold_behind (front ++ a ∷ []) x.0 ∙ append_assoc front (a ∷ []) x.0)
+folded_joined front a (Err e) = refl
+
+-- what closes all that is read
+pub joined_closed : {A : Type 0} (front : List A) (close : Reader Tok (Unit {0})) (r : Result (List A × List Tok) Fault) → follow (follow r (λ all. close >>= λ _. done all)) (joined_to front) ≡ follow (follow r (joined_to front)) (λ all. close >>= λ _. done all)
+joined_closed {A} front close (Ok x) = by_close (close x.1)
+  where
+    by_close : (r : Result (Unit {0} × List Tok) Fault) → follow (follow r (λ _. done x.0)) (joined_to front) ≡ follow {B = List A} r (λ _. done (front ++ x.0))
+    by_close (Ok y) = refl
+    by_close (Err e) = refl
+joined_closed front close (Err e) = refl
 
 -- behind nothing
 pub joined_alone : {A : Type 0} (r : Result (List A × List Tok) Fault) → follow {B = List A} r (λ more. done ([] ++ more)) ≡ r

@@ -192,10 +192,10 @@ fn ended_into<'a>(
     label: Option<Name<'a>>,
     lines: Vec<Line<'a>>,
     left: usize,
-    blocks: &mut Vec<Block<'a>>,
+    blocks: &mut Blocks<'a>,
     tokens: &mut Tokens<'_, 'a>,
 ) -> Result<usize, ReadError>
-    ensures { Gives (λ left. ((blocks.new.items, left), tokens.new)) result (added_at blocks.old.items (ended_at label.entry lines.entry.items left) tokens.old) }
+    ensures { Gives (λ left. ((blocks.new.list.items, left), tokens.new)) result (added_at blocks.old.list.items (ended_at label.entry lines.entry.items left) tokens.old) }
 {
     let ended = terminator_at(alloc, tokens)?;
     let block = Block {
@@ -204,7 +204,7 @@ fn ended_into<'a>(
         end: ended.terminator,
         end_line: ended.line,
     };
-    push(blocks, block)?;
+    push(&mut blocks.list, block)?;
     Ok(left)
 }
 
@@ -215,10 +215,10 @@ fn block_behind_into<'a>(
     alloc: Global,
     room: usize,
     label: Option<Name<'a>>,
-    blocks: &mut Vec<Block<'a>>,
+    blocks: &mut Blocks<'a>,
     tokens: &mut Tokens<'_, 'a>,
 ) -> Result<usize, ReadError>
-    ensures { Gives (λ left. ((blocks.new.items, left), tokens.new)) result (added_at blocks.old.items (block_behind_at room label.entry) tokens.old) }
+    ensures { Gives (λ left. ((blocks.new.list.items, left), tokens.new)) result (added_at blocks.old.list.items (block_behind_at room label.entry) tokens.old) }
 {
     let mut list = no_lines(alloc);
     let left = lines_into(alloc, room, &mut list, tokens)?;
@@ -242,10 +242,10 @@ fn maybe_label_at<'a>(tokens: &mut Tokens<'_, 'a>) -> Result<Option<Name<'a>>, R
 fn block_into<'a>(
     alloc: Global,
     room: usize,
-    blocks: &mut Vec<Block<'a>>,
+    blocks: &mut Blocks<'a>,
     tokens: &mut Tokens<'_, 'a>,
 ) -> Result<usize, ReadError>
-    ensures { Gives (λ left. ((blocks.new.items, left), tokens.new)) result (added_at blocks.old.items (block_at room) tokens.old) }
+    ensures { Gives (λ left. ((blocks.new.list.items, left), tokens.new)) result (added_at blocks.old.list.items (block_at room) tokens.old) }
 {
     let label = maybe_label_at(tokens)?;
     block_behind_into(alloc, room, label, blocks, tokens)
@@ -256,10 +256,10 @@ fn further_blocks_into<'a>(
     alloc: Global,
     further: usize,
     instructions: usize,
-    blocks: &mut Vec<Block<'a>>,
+    blocks: &mut Blocks<'a>,
     tokens: &mut Tokens<'_, 'a>,
 ) -> Result<(), ReadError>
-    ensures { Gives (λ _. (blocks.new.items, tokens.new)) result (blocks_from_at further instructions blocks.old.items tokens.old) }
+    ensures { Gives (λ _. (blocks.new.list.items, tokens.new)) result (blocks_from_at further instructions blocks.old.list.items tokens.old) }
 {
     let mut room = further;
     let mut left = instructions;
@@ -284,10 +284,10 @@ pub fn blocks_into<'a>(
     alloc: Global,
     further: usize,
     instructions: usize,
-    blocks: &mut Vec<Block<'a>>,
+    blocks: &mut Blocks<'a>,
     tokens: &mut Tokens<'_, 'a>,
 ) -> Result<(), ReadError>
-    ensures { Gives (λ _. (blocks.new.items, tokens.new)) result (joined_at blocks.old.items (blocks_at further instructions) tokens.old) }
+    ensures { Gives (λ _. (blocks.new.list.items, tokens.new)) result (joined_at blocks.old.list.items (blocks_at further instructions) tokens.old) }
 {
     let left = block_into(alloc, instructions, blocks, tokens)?;
     further_blocks_into(alloc, further, left, blocks, tokens)

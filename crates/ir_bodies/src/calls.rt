@@ -1,6 +1,6 @@
 //! Reads calls (LangRef, "call Instruction").
 
-ghost use Rattle.std.specs.Prelude.{◌≡◌, ◌∷◌, IfErr, IfOk, OnOk};
+ghost use Rattle.std.specs.Prelude.{◌≡◌, IfErr, IfOk, OnOk};
 ghost use Rattle.ir_lex.specs.Tok.{tok};
 ghost use Rattle.lto_forms.specs.Alphabet.{among};
 ghost use Rattle.lto_forms.specs.declared.fault.ReadError.TheVariants.{NoMemory};
@@ -10,11 +10,13 @@ ghost use Rattle.ir_read.specs.Classes.{tokens, itself};
 ghost use Rattle.ir_read.specs.FunctionHeadsAt.{end_of_none_at};
 ghost use Rattle.ir_read.specs.Operands.{IsReg, REG, type_refusal, reg_of, classes_of, operand_of};
 ghost use Rattle.ir_tree.specs.declared.operand.Reg.TheVariants.{Ptr};
+ghost use Rattle.ir_instructions.specs.Adding.{pushed_at};
+ghost use Rattle.ir_bodies.specs.Adding.{joined_at};
 ghost use Rattle.ir_bodies.specs.Listed.{kept_in, listed_at};
 ghost use Rattle.ir_bodies.specs.Calls.{same_reg, is_type, marker_refusal, called};
-ghost use Rattle.ir_bodies.specs.CallsAt.{CONVENTIONS, convention_at, conventions_at, written_type_at, further_type_at, types_behind_at, some_types_at, listed_types_at, types_at, argument_behind_at, argument_at, further_argument_at, arguments_behind_at, some_arguments_at, any_arguments_at, type_again_at, argument_of_at, further_of_at, each_behind_at, some_of_at, arguments_of_at, arguments_at, called_value_at, marker_at, unmarked_at, unmarked_value_at, callee_at, maybe_types_at, called_at, calling_with_at, calling_of_at, calling_at, tail_calling_at};
+ghost use Rattle.ir_bodies.specs.CallsAt.{CONVENTIONS, convention_at, conventions_at, written_type_at, further_type_at, types_behind_at, some_types_at, listed_types_at, types_at, argument_behind_at, argument_at, further_argument_at, some_arguments_at, any_arguments_at, type_again_at, argument_of_at, further_of_at, some_of_at, arguments_of_at, arguments_at, called_value_at, marker_at, unmarked_at, unmarked_value_at, callee_at, maybe_types_at, called_at, calling_with_at, calling_of_at, calling_at, tail_calling_at};
 
-use ir_instructions::{Listing, address_at, operand_at};
+use ir_instructions::{Listing, address_at, operand_at, push};
 use ir_lex::{Head, Token};
 use ir_read::{
     Argument, Instr, Name, Operand, Tokens, attachments_at, call_attributes_at, expect,
@@ -166,85 +168,76 @@ fn types_at<'a>(alloc: Global, tokens: &mut Tokens<'_, 'a>) -> Result<Vec<Name<'
     listed_types_at(alloc, tokens)
 }
 
-/// Reads an argument behind its type.
+/// Reads an argument behind its type, and adds it.
 #[tactic(auto, unfolding(crate::specs::CallsAt::argument_behind_at))]
-fn argument_behind_at<'a>(
+fn argument_behind_into<'a>(
     alloc: Global,
     reg: Reg,
+    arguments: &mut Vec<Argument<'a>>,
     tokens: &mut Tokens<'_, 'a>,
-) -> Result<Argument<'a>, ReadError>
+) -> Result<(), ReadError>
     requires { IsReg reg }
-    ensures { Gives (λ x. (x, tokens.new)) result (argument_behind_at reg tokens.old) }
+    ensures { Gives (λ _. (arguments.new.items, tokens.new)) result (pushed_at arguments.old.items (argument_behind_at reg) tokens.old) }
 {
     parameter_attributes_at(alloc, tokens)?;
     let operand = operand_at(alloc, reg, tokens)?;
-    Ok(Argument { reg, operand })
+    push(arguments, Argument { reg, operand })
 }
 
-/// Reads an argument of any type: `ptr noundef %p`.
+/// Reads an argument of any type, `ptr noundef %p`, and adds it.
 #[tactic(auto, unfolding(crate::specs::CallsAt::argument_at))]
-fn argument_at<'a>(alloc: Global, tokens: &mut Tokens<'_, 'a>) -> Result<Argument<'a>, ReadError>
-    ensures { Gives (λ x. (x, tokens.new)) result (argument_at tokens.old) }
+fn argument_into<'a>(
+    alloc: Global,
+    arguments: &mut Vec<Argument<'a>>,
+    tokens: &mut Tokens<'_, 'a>,
+) -> Result<(), ReadError>
+    ensures { Gives (λ _. (arguments.new.items, tokens.new)) result (pushed_at arguments.old.items argument_at tokens.old) }
 {
     let reg = reg_at(tokens)?;
-    argument_behind_at(alloc, reg, tokens)
+    argument_behind_into(alloc, reg, arguments, tokens)
 }
 
 #[tactic(auto, unfolding(crate::specs::CallsAt::further_argument_at))]
-fn further_argument_at<'a>(
+fn further_argument_into<'a>(
     alloc: Global,
+    arguments: &mut Vec<Argument<'a>>,
     tokens: &mut Tokens<'_, 'a>,
-) -> Result<Argument<'a>, ReadError>
-    ensures { Gives (λ x. (x, tokens.new)) result (further_argument_at tokens.old) }
+) -> Result<(), ReadError>
+    ensures { Gives (λ _. (arguments.new.items, tokens.new)) result (pushed_at arguments.old.items further_argument_at tokens.old) }
 {
     expect(Head::Comma, tokens)?;
-    argument_at(alloc, tokens)
+    argument_into(alloc, arguments, tokens)
 }
 
-/// Reads the arguments behind a first one, and adds that in front.
-#[tactic(auto, unfolding(crate::specs::CallsAt::arguments_behind_at))]
-fn arguments_behind_at<'a>(
+/// Reads arguments of any types, at least one, and adds them.
+fn some_arguments_into<'a>(
     alloc: Global,
-    first: Argument<'a>,
+    arguments: &mut Vec<Argument<'a>>,
     tokens: &mut Tokens<'_, 'a>,
-) -> Result<Vec<Argument<'a>>, ReadError>
-    ensures { Gives (λ x. (x.items, tokens.new)) result (arguments_behind_at first.entry tokens.old) }
+) -> Result<(), ReadError>
+    ensures { Gives (λ _. (arguments.new.items, tokens.new)) result (joined_at arguments.old.items some_arguments_at tokens.old) }
 {
-    let mut arguments = Vec::new(alloc);
-    arguments.push(first)?;
+    argument_into(alloc, arguments, tokens)?;
     'each: while tokens.comes(Head::Comma) {
-        let further = further_argument_at(alloc, tokens)?;
-        arguments.push(further)?;
+        further_argument_into(alloc, arguments, tokens)?;
     }
-    Ok(arguments)
+    Ok(())
 }
 
-#[tactic(auto, unfolding(crate::specs::CallsAt::some_arguments_at))]
-fn some_arguments_at<'a>(
+/// Reads arguments of any types, and the `)` behind them, and adds the arguments.
+#[tactic(auto, unfolding(crate::specs::CallsAt::any_arguments_at), using(crate::proofs::Additions::joined_closed))]
+fn any_arguments_into<'a>(
     alloc: Global,
+    arguments: &mut Vec<Argument<'a>>,
     tokens: &mut Tokens<'_, 'a>,
-) -> Result<Vec<Argument<'a>>, ReadError>
-    ensures { Gives (λ x. (x.items, tokens.new)) result (some_arguments_at tokens.old) }
-{
-    let first = argument_at(alloc, tokens)?;
-    arguments_behind_at(alloc, first, tokens)
-}
-
-/// Reads arguments of any types, and the `)` behind them.
-#[tactic(auto, unfolding(crate::specs::CallsAt::any_arguments_at))]
-fn any_arguments_at<'a>(
-    alloc: Global,
-    tokens: &mut Tokens<'_, 'a>,
-) -> Result<Vec<Argument<'a>>, ReadError>
-    ensures { Gives (λ x. (x.items, tokens.new)) result (any_arguments_at tokens.old) }
+) -> Result<(), ReadError>
+    ensures { Gives (λ _. (arguments.new.items, tokens.new)) result (joined_at arguments.old.items any_arguments_at tokens.old) }
 {
     if tokens.comes_reg() {
-        let arguments = some_arguments_at(alloc, tokens)?;
-        expect(Head::CloseParen, tokens)?;
-        Ok(arguments)
+        some_arguments_into(alloc, arguments, tokens)?;
+        expect(Head::CloseParen, tokens)
     } else {
-        end_of_none_at(tokens)?;
-        Ok(Vec::new(alloc))
+        end_of_none_at(tokens)
     }
 }
 
@@ -296,95 +289,81 @@ fn type_again_at(written: &Name, tokens: &mut Tokens) -> Result<Reg, ReadError>
     }
 }
 
-/// Reads an argument of the type that is written.
+/// Reads an argument of the type that is written, and adds it.
 #[tactic(auto, unfolding(crate::specs::CallsAt::argument_of_at))]
-fn argument_of_at<'a>(
+fn argument_of_into<'a>(
     alloc: Global,
     written: &Name,
+    arguments: &mut Vec<Argument<'a>>,
     tokens: &mut Tokens<'_, 'a>,
-) -> Result<Argument<'a>, ReadError>
-    ensures { Gives (λ x. (x, tokens.new)) result (argument_of_at written.now tokens.old) }
+) -> Result<(), ReadError>
+    ensures { Gives (λ _. (arguments.new.items, tokens.new)) result (pushed_at arguments.old.items (argument_of_at written.now) tokens.old) }
 {
     let reg = type_again_at(written, tokens)?;
-    argument_behind_at(alloc, reg, tokens)
+    argument_behind_into(alloc, reg, arguments, tokens)
 }
 
 #[tactic(auto, unfolding(crate::specs::CallsAt::further_of_at))]
-fn further_of_at<'a>(
+fn further_of_into<'a>(
     alloc: Global,
     written: &Name,
+    arguments: &mut Vec<Argument<'a>>,
     tokens: &mut Tokens<'_, 'a>,
-) -> Result<Argument<'a>, ReadError>
-    ensures { Gives (λ x. (x, tokens.new)) result (further_of_at written.now tokens.old) }
+) -> Result<(), ReadError>
+    ensures { Gives (λ _. (arguments.new.items, tokens.new)) result (pushed_at arguments.old.items (further_of_at written.now) tokens.old) }
 {
     expect(Head::Comma, tokens)?;
-    argument_of_at(alloc, written, tokens)
+    argument_of_into(alloc, written, arguments, tokens)
 }
 
-/// Reads an argument of each of these types behind a first one, and adds that in front.
-#[tactic(auto, unfolding(crate::specs::CallsAt::each_behind_at))]
-fn each_behind_at<'a>(
+/// Reads an argument of each of these types, and adds them.
+fn some_of_into<'a>(
     alloc: Global,
-    types: &[Name],
-    first: Argument<'a>,
-    tokens: &mut Tokens<'_, 'a>,
-) -> Result<Vec<Argument<'a>>, ReadError>
-    ensures { Gives (λ x. (x.items, tokens.new)) result (each_behind_at types.now first.entry tokens.old) }
-{
-    let mut arguments = Vec::new(alloc);
-    arguments.push(first)?;
-    'each: for written in types {
-        let further = further_of_at(alloc, written, tokens)?;
-        arguments.push(further)?;
-    }
-    Ok(arguments)
-}
-
-#[tactic(auto, unfolding(crate::specs::CallsAt::some_of_at))]
-fn some_of_at<'a>(
-    alloc: Global,
-    written: &Name,
+    first: &Name,
     further: &[Name],
+    arguments: &mut Vec<Argument<'a>>,
     tokens: &mut Tokens<'_, 'a>,
-) -> Result<Vec<Argument<'a>>, ReadError>
-    ensures { Gives (λ x. (x.items, tokens.new)) result (some_of_at written.now further.now tokens.old) }
+) -> Result<(), ReadError>
+    ensures { Gives (λ _. (arguments.new.items, tokens.new)) result (joined_at arguments.old.items (some_of_at first.now further.now) tokens.old) }
 {
-    let first = argument_of_at(alloc, written, tokens)?;
-    each_behind_at(alloc, further, first, tokens)
+    argument_of_into(alloc, first, arguments, tokens)?;
+    'each: for written in further {
+        further_of_into(alloc, written, arguments, tokens)?;
+    }
+    Ok(())
 }
 
-/// Reads an argument of each of these types, and the `)` behind them.
-fn arguments_of_at<'a>(
+/// Reads an argument of each of these types, and the `)` behind them, and adds the arguments.
+#[tactic(auto, using(crate::proofs::Additions::joined_closed))]
+fn arguments_of_into<'a>(
     alloc: Global,
     types: &[Name],
+    arguments: &mut Vec<Argument<'a>>,
     tokens: &mut Tokens<'_, 'a>,
-) -> Result<Vec<Argument<'a>>, ReadError>
-    ensures { Gives (λ x. (x.items, tokens.new)) result (arguments_of_at types.now tokens.old) }
+) -> Result<(), ReadError>
+    ensures { Gives (λ _. (arguments.new.items, tokens.new)) result (joined_at arguments.old.items (arguments_of_at types.now) tokens.old) }
 {
     match types {
-        [] => {
-            expect(Head::CloseParen, tokens)?;
-            Ok(Vec::new(alloc))
-        }
+        [] => expect(Head::CloseParen, tokens),
         [first, further @ ..] => {
-            let arguments = some_of_at(alloc, first, further, tokens)?;
-            expect(Head::CloseParen, tokens)?;
-            Ok(arguments)
+            some_of_into(alloc, first, further, arguments, tokens)?;
+            expect(Head::CloseParen, tokens)
         }
     }
 }
 
-/// Reads the arguments of a call: of the types that are written, where they are.
-fn arguments_at<'a>(
+/// Reads the arguments of a call, of the types that are written, where they are, and adds them.
+fn arguments_into<'a>(
     alloc: Global,
     types: &Option<Rows<Name>>,
+    arguments: &mut Vec<Argument<'a>>,
     tokens: &mut Tokens<'_, 'a>,
-) -> Result<Vec<Argument<'a>>, ReadError>
-    ensures { Gives (λ x. (x.items, tokens.new)) result (arguments_at types.now tokens.old) }
+) -> Result<(), ReadError>
+    ensures { Gives (λ _. (arguments.new.items, tokens.new)) result (joined_at arguments.old.items (arguments_at types.now) tokens.old) }
 {
     match types {
-        None => any_arguments_at(alloc, tokens),
-        Some(written) => arguments_of_at(alloc, written.as_slice(), tokens),
+        None => any_arguments_into(alloc, arguments, tokens),
+        Some(written) => arguments_of_into(alloc, written.as_slice(), arguments, tokens),
     }
 }
 
@@ -478,6 +457,20 @@ fn maybe_types_at<'a>(
     } else {
         Ok(None)
     }
+}
+
+/// Reads the arguments of a call: of the types that are written, where they are.
+#[tactic(auto, using(crate::proofs::Additions::joined_alone))]
+fn arguments_at<'a>(
+    alloc: Global,
+    types: &Option<Rows<Name>>,
+    tokens: &mut Tokens<'_, 'a>,
+) -> Result<Vec<Argument<'a>>, ReadError>
+    ensures { Gives (λ x. (x.items, tokens.new)) result (arguments_at types.now tokens.old) }
+{
+    let mut arguments = Vec::new(alloc);
+    arguments_into(alloc, types, &mut arguments, tokens)?;
+    Ok(arguments)
 }
 
 /// Adds a call, unless it is dropped.

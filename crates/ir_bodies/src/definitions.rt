@@ -70,10 +70,10 @@ fn heading_at<'a>(
 #[tactic(auto, using(crate::proofs::Grouping::braced_is))]
 fn braced_into<'a>(
     alloc: Global,
-    blocks: &mut Vec<Block<'a>>,
+    blocks: &mut Blocks<'a>,
     tokens: &mut Tokens<'_, 'a>,
 ) -> Result<(), ReadError>
-    ensures { Gives (λ _. (blocks.new.items, tokens.new)) result (joined_at blocks.old.items braced_at tokens.old) }
+    ensures { Gives (λ _. (blocks.new.list.items, tokens.new)) result (joined_at blocks.old.list.items braced_at tokens.old) }
 {
     expect(Head::OpenBrace, tokens)?;
     blocks_into(alloc, further_blocks(), instructions(), blocks, tokens)?;
@@ -92,7 +92,7 @@ pub fn definition_at<'a>(
 {
     let head = heading_at(alloc, room, tokens)?;
     let mut blocks = Blocks::new(alloc);
-    braced_into(alloc, &mut blocks.list, tokens)?;
+    braced_into(alloc, &mut blocks, tokens)?;
     Ok(Defined {
         head,
         blocks: blocks.rows(),

@@ -10,11 +10,11 @@ use Rattle.ir_bodies.proofs.blocks.block_into.Goals as goal
 pub returns-in_err-label : goal.returns-in_err-label
 returns-in_err-label c =
     let r = first_fails _ _ (block_behind_at c.args.room) c.in_err-label.ensures in
-    let s = first_fails _ _ (added_to c.args.blocks.now.items) (subst (Fails c.in_err-label.field-0.0) (sym (block_is c.args.room c.args.tokens.now)) r) in
-    let f : Fails c.in_err-label.field-0.0 (added_at c.args.blocks.now.items (block_at c.args.room) c.args.tokens.now) = s in
+    let s = first_fails _ _ (added_to c.args.blocks.now.list.items) (subst (Fails c.in_err-label.field-0.0) (sym (block_is c.args.room c.args.tokens.now)) r) in
+    let f : Fails c.in_err-label.field-0.0 (added_at c.args.blocks.now.list.items (block_at c.args.room) c.args.tokens.now) = s in
     grind (arith, f)
 
 pub returns : goal.returns
 returns c =
     let e = block_is c.args.room c.args.tokens.now ∙ ap (λ r. follow r (block_behind_at c.args.room)) c.in_ok-label.ensures in
-    gives_as _ _ _ _ (sym (ap (λ r. follow r (added_to c.args.blocks.now.items)) e)) c.block_behind_into.ensures
+    gives_as _ _ _ _ (sym (ap (λ r. follow r (added_to c.args.blocks.now.list.items)) e)) c.block_behind_into.ensures

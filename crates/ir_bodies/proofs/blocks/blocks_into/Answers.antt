@@ -9,10 +9,10 @@ use Rattle.ir_bodies.proofs.blocks.blocks_into.Goals as goal
 
 pub returns-in_err-left : goal.returns-in_err-left
 returns-in_err-left c =
-    let f : Fails c.in_err-left.field-0.0 (joined_at c.args.blocks.now.items (blocks_at c.args.further c.args.instructions) c.args.tokens.now) =
-    subst (Fails c.in_err-left.field-0.0) (sym (blocks_is c.args.blocks.now.items c.args.further c.args.instructions c.args.tokens.now)) (first_fails _ _ (behind_first c.args.further) c.in_err-left.ensures) in
+    let f : Fails c.in_err-left.field-0.0 (joined_at c.args.blocks.now.list.items (blocks_at c.args.further c.args.instructions) c.args.tokens.now) =
+    subst (Fails c.in_err-left.field-0.0) (sym (blocks_is c.args.blocks.now.list.items c.args.further c.args.instructions c.args.tokens.now)) (first_fails _ _ (behind_first c.args.further) c.in_err-left.ensures) in
     grind (arith, f)
 
 pub returns : goal.returns
 returns c =
-    gives_as _ _ _ _ (sym (blocks_is c.args.blocks.now.items c.args.further c.args.instructions c.args.tokens.now ∙ ap (λ r. follow r (behind_first c.args.further)) c.in_ok-left.ensures)) c.further_blocks_into.ensures
+    gives_as _ _ _ _ (sym (blocks_is c.args.blocks.now.list.items c.args.further c.args.instructions c.args.tokens.now ∙ ap (λ r. follow r (behind_first c.args.further)) c.in_ok-left.ensures)) c.further_blocks_into.ensures
