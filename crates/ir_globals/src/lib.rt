@@ -16,5 +16,5 @@ mod variables;
 
 pub use constants::constant_at;
 pub use initialisers::{Aggregate, initialiser_at, scalar_of};
-pub use type_definitions::type_line_at;
-pub use variables::variable_line_at;
+pub use type_definitions::type_line_into;
+pub use variables::variable_line_into;

@@ -9,11 +9,12 @@ ghost use Rattle.lto_forms.specs.Rules.{is_valued};
 ghost use Rattle.ir_read.specs.Classes.{tokens, one_of_at};
 ghost use Rattle.ir_read.specs.FunctionHeads.{LINKAGES, linkage_word, name_refusal};
 ghost use Rattle.ir_read.specs.Operands.{IsReg, global_named};
+ghost use Rattle.ir_instructions.specs.Adding.{pushed_at};
 ghost use Rattle.ir_globals.specs.Variables.{KINDS, NAMES, is_constant, is_declared, with_align};
-ghost use Rattle.ir_globals.specs.VariablesAt.{variable_name_at, linkage_at, qualifiers_at, linked_at, value_at, comdat_name_at, in_comdat_at, aligned_at, marked_at, further_at, tail_at, behind_kind_at, variable_line_at};
+ghost use Rattle.ir_globals.specs.VariablesAt.{variable_name_at, linkage_at, qualifiers_at, linked_at, value_at, comdat_name_at, in_comdat_at, aligned_at, marked_at, further_at, tail_at, variable_line_at};
 
 use crate::initialisers::{initialiser_at, scalar_of, shape_at};
-use crate::pairs::beside;
+use ir_instructions::push;
 use ir_lex::{Head, Token};
 use ir_read::{
     Init, Item, Name, Tokens, Variable, alignment_at, attached_at, comes_qualifier, expect,
@@ -254,47 +255,36 @@ fn tail_at(alloc: Global, tokens: &mut Tokens) -> Result<Option<u64>, ReadError>
     Ok(align)
 }
 
-/// Reads a variable from its shape on.
-#[tactic(auto, unfolding(crate::specs::VariablesAt::behind_kind_at))]
-fn behind_kind_at<'a>(
-    alloc: Global,
-    name: Name<'a>,
-    linkage: Option<Linkage>,
-    constant: bool,
-    tokens: &mut Tokens<'_, 'a>,
-) -> Result<Item<'a>, ReadError>
-    ensures { Gives (λ x. (x, tokens.new)) result (behind_kind_at name.entry linkage constant tokens.old) }
-{
-    let typed = shape_at(alloc, tokens)?;
-    let init = value_at(alloc, is_declared(linkage), scalar_of(&typed.shape), tokens)?;
-    let align = tail_at(alloc, tokens);
-    let (init, align) = beside(init, align)?;
-    let line = name.line();
-    Ok(Item::Variable(Variable {
-        name,
-        linkage: with_linkage(Linkage::External, linkage),
-        constant,
-        typed,
-        init,
-        align,
-        line,
-    }))
-}
-
-/// Reads a variable: `@g = internal constant [2 x i8] c"a\00", align 1`.
+/// Reads a variable, `@g = internal constant [2 x i8] c"a\00", align 1`, and adds it.
 ///
 /// An initialiser stands exactly where `external` isn't written. Words of visibility, comdats and
 /// metadata are dropped, and of several alignments the last one stands.
-#[tactic(auto, unfolding(crate::specs::VariablesAt::variable_line_at))]
-pub fn variable_line_at<'a>(
+#[tactic(auto, unfolding(crate::specs::VariablesAt::variable_line_at, crate::specs::VariablesAt::behind_kind_at))]
+pub fn variable_line_into<'a>(
     alloc: Global,
+    items: &mut Vec<Item<'a>>,
     tokens: &mut Tokens<'_, 'a>,
-) -> Result<Item<'a>, ReadError>
-    ensures { Gives (λ x. (x, tokens.new)) result (variable_line_at tokens.old) }
+) -> Result<(), ReadError>
+    ensures { Gives (λ _. (items.new.items, tokens.new)) result (pushed_at items.old.items variable_line_at tokens.old) }
 {
     let name = variable_name_at(tokens)?;
     expect(Head::Equals, tokens)?;
     let linkage = linked_at(tokens)?;
     let constant = kind_at(tokens)?;
-    behind_kind_at(alloc, name, linkage, constant, tokens)
+    let typed = shape_at(alloc, tokens)?;
+    let init = value_at(alloc, is_declared(linkage), scalar_of(&typed.shape), tokens)?;
+    let align = tail_at(alloc, tokens)?;
+    let line = name.line();
+    push(
+        items,
+        Item::Variable(Variable {
+            name,
+            linkage: with_linkage(Linkage::External, linkage),
+            constant,
+            typed,
+            init,
+            align,
+            line,
+        }),
+    )
 }

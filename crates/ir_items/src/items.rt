@@ -18,7 +18,7 @@ ghost use Rattle.ir_items.specs.ItemsAt.{ITEM, NAMING, beginnings, kept_at, unna
 ghost use Rattle.ir_items.specs.Putting.{behind_at, Puts};
 
 use ir_bodies::{Defined, definition_at};
-use ir_globals::{type_line_at, variable_line_at};
+use ir_globals::{type_line_into, variable_line_into};
 use ir_instructions::push;
 use ir_lex::Head;
 use ir_read::{
@@ -83,6 +83,7 @@ fn target_into<'a>(
 }
 
 /// Reads the definition of a type, and adds it.
+#[tactic(auto, unfolding(crate::specs::Putting::behind_at, crate::specs::ItemsAt::kept_at))]
 fn type_into<'a>(
     alloc: Global,
     items: &mut Vec<Item<'a>>,
@@ -90,7 +91,8 @@ fn type_into<'a>(
 ) -> Result<Before, ReadError>
     ensures { Gives (λ b. ((items.new.items, b), tokens.new)) result (behind_at items.old.items (kept_at type_line_at) tokens.old) }
 {
-    put(items, type_line_at(alloc, tokens))
+    type_line_into(alloc, items, tokens)?;
+    Ok(Before::Item)
 }
 
 /// Reads a group of attributes, and adds it.
@@ -105,6 +107,7 @@ fn group_into<'a>(
 }
 
 /// Reads a variable, and adds it.
+#[tactic(auto, unfolding(crate::specs::Putting::behind_at, crate::specs::ItemsAt::kept_at))]
 fn variable_into<'a>(
     alloc: Global,
     items: &mut Vec<Item<'a>>,
@@ -112,7 +115,8 @@ fn variable_into<'a>(
 ) -> Result<Before, ReadError>
     ensures { Gives (λ b. ((items.new.items, b), tokens.new)) result (behind_at items.old.items (kept_at variable_line_at) tokens.old) }
 {
-    put(items, variable_line_at(alloc, tokens))
+    variable_line_into(alloc, items, tokens)?;
+    Ok(Before::Item)
 }
 
 /// Adds the definition of a function.
