@@ -14,7 +14,7 @@ use Rattle.ir_read.specs.MetadataAt.{COMMA}
 use Rattle.ir_instructions.specs.ShapeForms.{anywhere}
 use Rattle.ir_instructions.specs.ShapeFormsAt.{begins, further_at, more_members_at, shape_at}
 use Rattle.ir_read.specs.Shapes.{Written, parts_of}
-use Rattle.ir_instructions.proofs.ExtentLaws.{elements_fit, fits_most, one_member_more}
+use Rattle.ir_instructions.proofs.ExtentLaws.{elements_fit, fits_most, grown_fits, one_member_more, padded_fits}
 use Rattle.ir_instructions.proofs.Levels.{first_and_others, gives_as, then_closed}
 use Rattle.ir_instructions.proofs.ShapeRules.{member_rule}
 use Rattle.ir_instructions.proofs.shapes.+shapes.Goals as goal
@@ -24,6 +24,30 @@ shorter packed depth room s ts rest x e = takes tokens (among tokens COMMA) (mem
 
 pub array_at-repeated-requires : goal.array_at-repeated-requires
 array_at-repeated-requires t c = fits_most c.args.room (extent (c.in_ok-count.count * c.in_ok-element.element.extent.size) c.in_ok-element.element.extent.align) c.requires (elements_fit c.in_ok-count.count c.args.room c.in_ok-element.element.extent (subst (λ (r : Room). Fits r c.in_ok-element.element.extent) c.shared.ensures.exact c.in_ok-element.ensures.fits))
+
+pub array_at-returns-clause-fits : goal.array_at-returns-clause-fits
+array_at-returns-clause-fits t c = subst (Fits c.args.room) (sym c.repeated.ensures) (elements_fit c.in_ok-count.count c.args.room c.in_ok-element.element.extent (subst (λ (r : Room). Fits r c.in_ok-element.element.extent) c.shared.ensures.exact c.in_ok-element.ensures.fits))
+
+pub member_at-grown-requires-clause-size : goal.member_at-grown-requires-clause-size
+member_at-grown-requires-clause-size t c = fits_most c.args.room c.args.before c.requires.room c.requires.before
+
+pub member_at-grown-requires-clause-more : goal.member_at-grown-requires-clause-more
+member_at-grown-requires-clause-more t c = fits_most c.left.result c.in_ok-member.member.extent c.left.ensures.room c.in_ok-member.ensures.fits
+
+pub member_at-returns-clause-fits : goal.member_at-returns-clause-fits
+member_at-returns-clause-fits t c = subst (Fits c.args.room) (sym c.grown.ensures) (grown_fits c.args.packed c.args.room c.args.before c.in_ok-member.member.extent (subst (λ (r : Room). Fits r c.in_ok-member.member.extent) c.left.ensures.exact c.in_ok-member.ensures.fits))
+
+pub structure_at-padded-requires : goal.structure_at-padded-requires
+structure_at-padded-requires t c = fits_most c.args.room c.in_ok-members.members.extent c.requires c.in_ok-members.ensures.fits
+
+pub structure_at-returns-clause-fits : goal.structure_at-returns-clause-fits
+structure_at-returns-clause-fits t c = subst (Fits c.args.room) (sym c.padded.ensures) (padded_fits c.args.room c.in_ok-members.members.extent c.in_ok-members.ensures.fits)
+
+pub packed_at-padded-requires : goal.packed_at-padded-requires
+packed_at-padded-requires t c = fits_most c.args.room c.in_ok-members.members.extent c.requires c.in_ok-members.ensures.fits
+
+pub packed_at-returns-clause-fits : goal.packed_at-returns-clause-fits
+packed_at-returns-clause-fits t c = subst (Fits c.args.room) (sym c.padded.ensures) (padded_fits c.args.room c.in_ok-members.members.extent c.in_ok-members.ensures.fits)
 
 pub more_members_at-each-smaller : goal.more_members_at-each-smaller
 more_members_at-each-smaller t c = shorter c.args.packed c.args.depth c.args.room c.each.extent _ _ _ c.in_ok-member.ensures.exact
