@@ -63,7 +63,7 @@ written_label_rule = rules.valued_rule tokens refusal not_number not_limit LABEL
         record { writes = ap (contains NUMERALS) e; other = zero_label; means = zero_label; alike = sym e; has = zero_named; real = label_real }
 
 label_rule : Rule tokens label any_label label_at LABEL [] false
-label_rule = record { law = with_wide tokens written_label_rule.law (λ ts a s. any_name LABEL ts a s) (rules.any_broad tokens refusal LABEL named itself same_name) }
+label_rule = record { law = with_wide tokens written_label_rule.law (λ ts a s. any_name LABEL ts a s) (rules.any_broad tokens refusal LABEL named itself same_name refl) }
 
 -- ---- blocks
 

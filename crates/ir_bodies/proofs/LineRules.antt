@@ -69,7 +69,7 @@ pub same_name : (t u : Tok) → named t ≡ Some u → u ≡ itself t
 same_name t u q = sym (named_is t u q)
 
 any_local_rule : Rule tokens local any_local local_at LOCAL [] false
-any_local_rule = record { law = with_wide tokens local_rule.law (λ ts a s. any_name LOCAL ts a s) (rules.any_broad tokens refusal LOCAL named itself same_name) }
+any_local_rule = record { law = with_wide tokens local_rule.law (λ ts a s. any_name LOCAL ts a s) (rules.any_broad tokens refusal LOCAL named itself same_name refl) }
 
 -- ---- what follows the first word of an instruction
 

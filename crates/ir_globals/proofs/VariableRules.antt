@@ -56,7 +56,7 @@ any_name (t ∷ []) a s = by_test (among tokens NAMES t) s
 any_name (t ∷ u ∷ ts) a s = absurd s
 
 variable_name_rule : Rule tokens variable_name any_variable_name variable_name_at NAMES [] false
-variable_name_rule = record { law = with_wide tokens (named_rule NAMES refl).law any_name (rules.any_broad tokens name_refusal NAMES global_named itself (λ t u q. sym (global_is t.head t u q))) }
+variable_name_rule = record { law = with_wide tokens (named_rule NAMES refl).law any_name (rules.any_broad tokens name_refusal NAMES global_named itself (λ t u q. sym (global_is t.head t u q)) refl) }
 
 linkage_word_rule : Rule tokens (one_of LINKAGES linkage_word) (one_of LINKAGES linkage_word) (one_of_at LINKAGES linkage_word) LINKAGES [] false
 linkage_word_rule = one_rule LINKAGES linkage_word (word heads.External (codes "external")) refl external_real

@@ -162,10 +162,18 @@ module _ (fits : ℕ → Bool) (some : fits 1 ≡ true) where
       by_class true (Some n) p q d = ([], n, ap (λ (c : Bool). counted_if c (fitting_count (any_slots pointer) w t) (refusal (number t.head))) p ∙ ap (λ (o : Option ℕ). in_range (fitting (any_slots pointer) o)) q, tt)
       by_class false o p q d = absurd cc
 
+  -- what is too many is a literal
+  is_count_number : (w : ℕ) (t : Tok) → too_many fits w t ≡ true → among tokens NUMBER t ≡ true
+  is_count_number w t h = by_class (among tokens NUMBER t) (passes fits (count_of (max 1 w) t)) h
+    where
+      by_class : (b c : Bool) → b && c ≡ true → b ≡ true
+      by_class true c h = refl
+      by_class false c h = absurd cc
+
   barred_rule : (w : ℕ) → Rule tokens (count_in fits w) (count_in (any_slots pointer) w) (pick (too_many fits w) (fault_at Limit) (token_at (is_count fits w))) NUMBER [] false
   barred_rule w = record {
     law = widened tokens (among tokens NUMBER) (among tokens [])
-        (barred_here tokens (count_in fits w) (count_in fits w) (count_in (any_slots pointer) w) (token_at (is_count fits w)) (too_many fits w) (among tokens NUMBER) (among tokens []) (fitting_rule w).law (token_wide w) (count_or_many w) (without w) (opens w))
+        (barred_here tokens (count_in fits w) (count_in fits w) (count_in (any_slots pointer) w) (token_at (is_count fits w)) (too_many fits w) (among tokens NUMBER) (among tokens []) (fitting_rule w).law (token_wide w) (count_or_many w) (λ t u n m. inr (is_count_number w t)) (without w) (opens w))
         (λ t e. begins_count w t e) (λ t e. e);
   }
 

@@ -2,7 +2,7 @@
 use Rattle.std.proofs.Common.{◌≡◌, ℕ, Bool, true, false, ◌&&◌, ◌||◌, not, List, [], ◌∷◌, ◌++◌, Result, Ok, refl, sym, subst, ◌∙◌, ◌⊎◌, inl, inr}
 use Rattle.lto_forms.specs.declared.fault.Fault.{Fault}
 use Rattle.lto_forms.specs.declared.fault.FaultKind.TheVariants.{Limit}
-use Rattle.lto_forms.specs.Alphabet.{Alphabet, AllReal}
+use Rattle.lto_forms.specs.Alphabet.{Alphabet, AllReal, is_literal, is_number}
 use Rattle.lto_forms.specs.Forms.{Form}
 use Rattle.lto_forms.specs.Lawful.{Lawful, Stops, UpTo}
 use Rattle.lto_forms.specs.Readers.{Reader, fault_at, pick}
@@ -32,7 +32,7 @@ or_wider true c d e = or_right c d e
 or_wider false c d e = e
 
 module _ {T A : Type 0} (alphabet : Alphabet T) (g narrow wide : Form T A) (f : Reader T A) (begins first more : T → Bool) (law : Lawful alphabet g narrow f first more false) (over : (ts : List T) (a : A) → narrow ts a → wide ts a)
-    (under : (ts : List T) (a : A) → wide ts a → narrow ts a ⊎ Begun begins ts) (without : (t : T) (ts : List T) (a : A) → narrow (t ∷ ts) a → begins t ≡ false) (opens : (t : T) → begins t ≡ true → (more' : List T) × (a : A) × wide (t ∷ more') a × AllReal alphabet more') where
+    (under : (ts : List T) (a : A) → wide ts a → narrow ts a ⊎ Begun begins ts) (alike : (t u : T) → is_number alphabet t ≡ true → alphabet.class u ≡ alphabet.class t → (begins t ≡ begins u) ⊎ (begins t ≡ true → is_literal alphabet t ≡ true)) (without : (t : T) (ts : List T) (a : A) → narrow (t ∷ ts) a → begins t ≡ false) (opens : (t : T) → begins t ≡ true → (more' : List T) × (a : A) × wide (t ∷ more') a × AllReal alphabet more') where
   abbrev fewer : T → Bool
   fewer t = not (begins t) && first t
 
@@ -63,15 +63,15 @@ module _ {T A : Type 0} (alphabet : Alphabet T) (g narrow wide : Form T A) (f : 
   complete_here [] rest a s d = absurd (differ (law.nothing a s))
   complete_here (t ∷ front) rest a s d = here t (front ++ rest) (without t front a (law.contains (t ∷ front) a s)) ∙ law.complete (t ∷ front) rest a s d
 
-  reads_here : (front rest : List T) (a : A) → narrow front a ⊎ Begun begins front → Stops more rest → UpTo (pick begins (fault_at Limit) f (front ++ rest)) (Ok (a, rest))
+  reads_here : (front rest : List T) (a : A) → narrow front a ⊎ Begun begins front → Stops more rest → UpTo alphabet (front ++ rest) (pick begins (fault_at Limit) f (front ++ rest)) (Ok (a, rest))
   reads_here [] rest a (inl x) d = absurd (differ (law.broad.nothing a x))
   reads_here [] rest a (inr e) d = absurd e
-  reads_here (t ∷ front) rest a (inl x) d = subst (λ (y : Result (A × List T) Fault). UpTo y (Ok (a, rest))) (sym (here t (front ++ rest) (without t front a x))) (law.broad.reads (t ∷ front) rest a x d)
+  reads_here (t ∷ front) rest a (inl x) d = subst (λ (y : Result (A × List T) Fault). UpTo alphabet (t ∷ (front ++ rest)) y (Ok (a, rest))) (sym (here t (front ++ rest) (without t front a x))) (law.broad.reads (t ∷ front) rest a x d)
   reads_here (t ∷ front) rest a (inr e) d = limit_up t (front ++ rest) (pick begins (fault_at Limit) f (t ∷ (front ++ rest))) (Ok (a, rest)) (rw e refl)
 
   pub barred_here : Lawful alphabet g wide (pick begins (fault_at Limit) f) (λ t. first t || begins t) more false
   barred_here =
-      let b = barred_lawful alphabet g narrow wide f begins fewer more false narrowed over under (λ t u n m. inr refl) (λ t p. not_and (begins t) (first t) p) opens in
+      let b = barred_lawful alphabet g narrow wide f begins fewer more false narrowed over under (λ t u n m. elim (alike t u n m) [ inl e ↦ inl e | inr l ↦ inr (refl, l) ]) (λ t p. not_and (begins t) (first t) p) opens in
       record {
         sound = b.sound;
         complete = complete_here;

@@ -228,7 +228,7 @@ and_parts false b h = absurd cc
 barred_rule : (room : Room) → Rule tokens (leaf room) (leaf whole) (pick (too_large room) (fault_at Limit) (token_at (is_leaf room))) LEAF [] false
 barred_rule room = record {
   law = widened tokens (among tokens LEAF) (λ _. false)
-      (barred_here tokens (leaf room) (leaf room) (leaf whole) (token_at (is_leaf room)) (too_large room) (among tokens LEAF) (λ _. false) (fitting_lawful room) (token_whole room) (leaf_or_large room) without opens)
+      (barred_here tokens (leaf room) (leaf room) (leaf whole) (token_at (is_leaf room)) (too_large room) (among tokens LEAF) (λ _. false) (fitting_lawful room) (token_whole room) (leaf_or_large room) (λ t u n m. inr (λ h. absurd (apart_from NUMERALS SCALAR refl (number t.head) n (and_parts (among tokens SCALAR t) (not (has_room room t)) h)))) without opens)
       (λ t e. begins_leaf t e) (λ t e. e);
 }
   where

@@ -263,7 +263,7 @@ innermost_rule : (room : Room) → Rule tokens (leaf room) any_shape (innermost_
 unfolding innermost_at
 innermost_rule room = record {
   law = widened tokens (among tokens SHAPE) (among tokens [])
-      (barred_here tokens (leaf room) (leaf whole) any_shape (leaf_at room) (among tokens BRACKETS) (among tokens LEAF) (among tokens []) (leaf_rule room).law at_no_level leaf_or_bracket without brackets_open)
+      (barred_here tokens (leaf room) (leaf whole) any_shape (leaf_at room) (among tokens BRACKETS) (among tokens LEAF) (among tokens []) (leaf_rule room).law at_no_level leaf_or_bracket (λ t u n m. inl (ap (contains BRACKETS) (sym m))) without brackets_open)
       (λ t e. begins_shape t e) (λ t e. e);
 }
   where

@@ -176,7 +176,7 @@ full_rule : (room : ℕ) (before : Before) → disjoint (META ++ plain_beginning
 unfolding piece_at
 full_rule room before d = record {
   law = widened tokens (among tokens (NAMING ++ (META ++ plain_beginnings before))) (among tokens MORE)
-      (barred_here tokens (piece room before 0) (other any_shape before 0) (any_piece before 0) (other_at before 0) (among tokens NAMING) (among tokens (META ++ plain_beginnings before)) (among tokens MORE) (unnaming_rule room before).law (otherwise before) (unnaming_or_begun before) without
+      (barred_here tokens (piece room before 0) (other any_shape before 0) (any_piece before 0) (other_at before 0) (among tokens NAMING) (among tokens (META ++ plain_beginnings before)) (among tokens MORE) (unnaming_rule room before).law (otherwise before) (unnaming_or_begun before) (λ t u n m. inl (ap (contains NAMING) (sym m))) without
       (any_piece_opens before 0))
       (λ t e. contains-append NAMING (META ++ plain_beginnings before) (number t.head) (or_parts (among tokens (META ++ plain_beginnings before) t) (among tokens NAMING t) e)) (λ t e. e);
 }

@@ -91,7 +91,7 @@ number all (Err (errors.Fault f)) g = number_fits (toks all) (last_tokens all f.
 
 limit_fits : (ts rest : List Tok) (left : ℕ) (k : FaultKind) → FitsBound tokens any_module ts left k → FitsLimits ts left (kind_at k rest)
 limit_fits ts rest left Syntax h = h
-limit_fits ts rest left Number h = tt
+limit_fits ts rest left Number h = h
 limit_fits ts rest left Limit h = h
 limit_fits ts [] left Profile h = h
 limit_fits ts (t ∷ rest) left Profile h = by_test (among tokens STRING t)

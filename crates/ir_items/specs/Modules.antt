@@ -9,7 +9,7 @@ use Rattle.lto_forms.specs.declared.fault.FaultKind.{FaultKind}
 use Rattle.lto_forms.specs.declared.fault.FaultKind.TheVariants.{Syntax, Profile, Number, Limit}
 use Rattle.lto_forms.specs.declared.fault.ReadError.{ReadError}
 use Rattle.lto_forms.specs.declared.fault.ReadError.TheVariants as errors
-use Rattle.lto_forms.specs.Faults.{NumberGoesOn, NoNumberGoesOn, LimitGoesOn, NoneGoesOn}
+use Rattle.lto_forms.specs.Faults.{NumberGoesOn, NoLiteralGoesOn, NoNameGoesOn, NoNumberGoesOn, LimitGoesOn, NoneGoesOn}
 use Rattle.lto_forms.specs.Forms.{Form}
 use Rattle.lto_forms.specs.Readers.{whole_of, next_is}
 use Rattle.ir_read.specs.Classes.{tokens}
@@ -81,20 +81,20 @@ abbrev pub IfModuleFault : ModuleError → (ModuleFault → Type 0) → Type 0
 IfModuleFault module_errors.NoMemory P = Unit {0}
 IfModuleFault (module_errors.Fault f) P = P f
 
--- a number is out of range only where a token that writes another, of the same class, goes on; where one does, the fault is that or a
--- limit, as a count may pass
+-- a number is out of range only where a token that writes another, of the same class, goes on; where one does, the fault is that, or
+-- of a literal a limit, as a count may pass
 abbrev pub FitsNumber : List Tok → ℕ → ModuleFaultKind → Type 0
 FitsNumber ts left kinds.Number = NumberGoesOn tokens whole_module ts left
 FitsNumber ts left kinds.Syntax = NoNumberGoesOn tokens whole_module ts left
 FitsNumber ts left kinds.Profile = NoNumberGoesOn tokens whole_module ts left
-FitsNumber ts left kinds.Limit = Unit {0}
+FitsNumber ts left kinds.Limit = NoNameGoesOn tokens whole_module ts left
 FitsNumber ts left kinds.Layout = NoNumberGoesOn tokens whole_module ts left
 
--- a limit is passed only where a reading without the limits goes on with the token; where one goes on, the fault is that, or a number
--- out of range
+-- a limit is passed only where a reading without the limits goes on with the token; where one goes on, the fault is that, or a name's
+-- number is out of range
 abbrev pub FitsLimits : List Tok → ℕ → ModuleFaultKind → Type 0
 FitsLimits ts left kinds.Limit = LimitGoesOn tokens any_module ts left
-FitsLimits ts left kinds.Number = Unit {0}
+FitsLimits ts left kinds.Number = NoLiteralGoesOn tokens any_module ts left
 FitsLimits ts left kinds.Syntax = NoneGoesOn tokens any_module ts left
 FitsLimits ts left kinds.Profile = NoneGoesOn tokens any_module ts left
 FitsLimits ts left kinds.Layout = NoneGoesOn tokens any_module ts left

@@ -25,8 +25,12 @@ pub record IsReal (t : Tok) : Type 0 where
 abbrev pub NUMERALS : List ℕ
 NUMERALS = number heads.Number ∷ number heads.Local ∷ number heads.Label ∷ number heads.Group ∷ number heads.NumberedGlobal ∷ number heads.NumberedDefinition ∷ []
 
+-- and of these this one is no name
+abbrev pub LITERALS : List ℕ
+LITERALS = number heads.Number ∷ []
+
 abbrev pub tokens : Alphabet Tok
-tokens = record { class = λ t. number t.head; numerals = NUMERALS; Real = IsReal }
+tokens = record { class = λ t. number t.head; numerals = NUMERALS; literals = LITERALS; Real = IsReal }
 
 -- these stand for parts of the language that aren't read
 abbrev pub REFUSED : List ℕ

@@ -4,13 +4,13 @@ use Rattle.std.proofs.lemmas.List.{length-append}
 use Rattle.lto_forms.specs.declared.fault.Fault.{Fault}
 use Rattle.lto_forms.specs.declared.fault.FaultKind.{FaultKind}
 use Rattle.lto_forms.specs.declared.fault.FaultKind.TheVariants.{Syntax, Profile, Number, Limit}
-use Rattle.lto_forms.specs.Alphabet.{Alphabet, AllReal, is_number}
+use Rattle.lto_forms.specs.Alphabet.{Alphabet, AllReal, is_literal, is_number}
 use Rattle.lto_forms.specs.Chained.{Chain, stops_here, chain_within, chain_at}
 use Rattle.lto_forms.specs.Faults.{LimitGoesOn, NumberGoesOn}
 use Rattle.lto_forms.specs.Forms.{Form}
 use Rattle.lto_forms.specs.Lawful.{ends, Stops, Swapped, GoesOn, Lawful, UpTo}
 use Rattle.lto_forms.specs.Readers.{Reader, fault_at, done, follow, ◌>>=◌}
-use Rattle.lto_forms.proofs.Composed.{reads, reads_is, wrong, wrong_is, cut_is, cons_is, cons_not_nil, append_is_nil, all_real, local_mid}
+use Rattle.lto_forms.proofs.Composed.{reads, reads_is, wrong, wrong_is, cut_is, cons_is, cons_not_nil, append_is_nil, all_real, local_mid, bounded_behind, bounded_too}
 
 and_parts : (a b : Bool) → a && b ≡ true → (a ≡ true) × (b ≡ true)
 and_parts true b h = (refl, h)
@@ -38,12 +38,12 @@ module _ {T A : Type 0} (a : A) where
   without (Err e) (Ok v) us h = absurd cc
   without (Err e) (Err k) us h = (Err k, h, refl)
 
-  swapped_in_front : (o : Result (List A) FaultKind) (r : Result (List A × List T) Fault) (u : T) (rest : List T) → Swapped o r u rest → Swapped (joined a o) (in_front r) u rest
-  swapped_in_front (Ok m) r u rest s = ap in_front s
-  swapped_in_front (Err Number) r u rest s = tt
-  swapped_in_front (Err Syntax) r u rest s = (s.0, ap in_front s.1)
-  swapped_in_front (Err Profile) r u rest s = (s.0, ap in_front s.1)
-  swapped_in_front (Err Limit) r u rest s = tt
+  swapped_in_front : (o : Result (List A) FaultKind) (r : Result (List A × List T) Fault) (literal : Bool) (u : T) (rest : List T) → Swapped literal o r u rest → Swapped literal (joined a o) (in_front r) u rest
+  swapped_in_front (Ok m) r literal u rest s = ap in_front s
+  swapped_in_front (Err Number) r literal u rest s = tt
+  swapped_in_front (Err Syntax) r literal u rest s = (s.0, ap in_front s.1)
+  swapped_in_front (Err Profile) r literal u rest s = (s.0, ap in_front s.1)
+  swapped_in_front (Err Limit) r literal u rest s = λ n. let w = s n in (w.0, ap in_front w.1)
 
 module _ {T : Type 0} (alphabet : Alphabet T) where
   module _ {S A : Type 0} (final : S → Bool) (begins first more : S → T → Bool) (after : T → Bool) (g wide : S → Form T (A × S)) (f : S → Reader T (A × S)) (laws : (s : S) → Lawful alphabet (g s) (wide s) (f s) (first s) (more s) false)
@@ -164,24 +164,28 @@ module _ {T : Type 0} (alphabet : Alphabet T) where
         let two : at_most n next (back ++ rest) ≡ reads as' rest = complete_chain n next back rest as' less c d in
         ap (λ (y : List T). at_most (suc n) s y) regrouped ∙ stop_not n s (front ++ (back ++ rest)) (goes_then s front (back ++ rest) (a, next) ((laws s).contains front (a, next) p)) ∙ ap (λ (y : Result ((A × S) × List T) Fault). follow y (further n)) one ∙ ap (in_front a) two
 
-    reads_chain : (n : ℕ) (s : S) (front rest : List T) (as' : List A) → length (front ++ rest) < n → chain_wide s front as' → Stops after rest → UpTo (at_most n s (front ++ rest)) (reads as' rest)
+    reads_chain : (n : ℕ) (s : S) (front rest : List T) (as' : List A) → length (front ++ rest) < n → chain_wide s front as' → Stops after rest → UpTo alphabet (front ++ rest) (at_most n s (front ++ rest)) (reads as' rest)
     reads_chain n s front rest [] lt c d = inl (ap (λ (x : List T). at_most n s (x ++ rest)) c.1 ∙ stop_gives n s rest (stops_then s rest c.0 d))
     reads_chain zero s front rest (a ∷ as') lt c d = absurd (omega (arith, lt))
     reads_chain (suc n) s ts rest (a ∷ as') lt (front, back, next, e, p, c) d =
         let regrouped : ts ++ rest ≡ front ++ (back ++ rest) = ap (λ (y : List T). y ++ rest) e ∙ append_assoc front back rest in
         let one = (laws s).broad.reads front (back ++ rest) (a, next) p (stops_between s next front back rest a as' p c d) in
         let goes : at_most (suc n) s (ts ++ rest) ≡ follow (f s (front ++ (back ++ rest))) (further n) = ap (λ (y : List T). at_most (suc n) s y) regrouped ∙ stop_not n s (front ++ (back ++ rest)) (goes_then s front (back ++ rest) (a, next) p) in
-        subst (λ (y : Result (List A × List T) Fault). UpTo y (reads (a ∷ as') rest)) (sym goes) (by_piece one (λ less. reads_chain n next back rest as' less c d) (ap length regrouped))
+        subst (λ (y : List T). UpTo alphabet y (at_most (suc n) s (ts ++ rest)) (reads (a ∷ as') rest)) (sym regrouped) (subst (λ (y : Result (List A × List T) Fault). UpTo alphabet (front ++ (back ++ rest)) y (reads (a ∷ as') rest)) (sym goes) (by_piece one (λ less. reads_chain n next back rest as' less c d) (ap length regrouped)))
       where
-        in_front_up : (r : Result (List A × List T) Fault) → UpTo r (reads as' rest) → UpTo (in_front a r) (reads (a ∷ as') rest)
-        in_front_up r (inl e) = inl (ap (in_front a) e)
-        in_front_up r (inr (left, kind, b, e)) = inr (left, kind, b, ap (in_front a) e)
+        in_front_up : (us : List T) (r : Result (List A × List T) Fault) → UpTo alphabet us r (reads as' rest) → UpTo alphabet us (in_front a r) (reads (a ∷ as') rest)
+        in_front_up us r (inl e) = inl (ap (in_front a) e)
+        in_front_up us r (inr w) = inr (bounded_too (in_front a r) (λ x d. ap (in_front a) d) w)
 
-        by_piece : UpTo (f s (front ++ (back ++ rest))) (reads (a, next) (back ++ rest)) → (length (back ++ rest) < n → UpTo (at_most n next (back ++ rest)) (reads as' rest)) → length (ts ++ rest) ≡ length (front ++ (back ++ rest)) → UpTo (follow (f s (front ++ (back ++ rest))) (further n)) (reads (a ∷ as') rest)
+        behind_up : (r free : Result (List A × List T) Fault) → UpTo alphabet (back ++ rest) r free → UpTo alphabet (front ++ (back ++ rest)) r free
+        behind_up r free (inl e) = inl e
+        behind_up r free (inr w) = inr (bounded_behind front (back ++ rest) w)
+
+        by_piece : UpTo alphabet (front ++ (back ++ rest)) (f s (front ++ (back ++ rest))) (reads (a, next) (back ++ rest)) → (length (back ++ rest) < n → UpTo alphabet (back ++ rest) (at_most n next (back ++ rest)) (reads as' rest)) → length (ts ++ rest) ≡ length (front ++ (back ++ rest)) → UpTo alphabet (front ++ (back ++ rest)) (follow (f s (front ++ (back ++ rest))) (further n)) (reads (a ∷ as') rest)
         by_piece (inl i) again same =
             let less : length (back ++ rest) < n = omega (arith, lt, shorter s (front ++ (back ++ rest)) (back ++ rest) (a, next) i, same) in
-            subst (λ (y : Result (List A × List T) Fault). UpTo y (reads (a ∷ as') rest)) (sym (ap (λ (y : Result ((A × S) × List T) Fault). follow y (further n)) i)) (in_front_up (at_most n next (back ++ rest)) (again less))
-        by_piece (inr (left, kind, b, i)) again same = inr (left, kind, b, ap (λ (y : Result ((A × S) × List T) Fault). follow y (further n)) i)
+            subst (λ (y : Result (List A × List T) Fault). UpTo alphabet (front ++ (back ++ rest)) y (reads (a ∷ as') rest)) (sym (ap (λ (y : Result ((A × S) × List T) Fault). follow y (further n)) i)) (behind_up (in_front a (at_most n next (back ++ rest))) (reads (a ∷ as') rest) (in_front_up (back ++ rest) (at_most n next (back ++ rest)) (again less)))
+        by_piece (inr w) again same = inr (bounded_too (follow (f s (front ++ (back ++ rest))) (further n)) (λ x d. ap (λ (y : Result ((A × S) × List T) Fault). follow y (further n)) d) w)
 
     -- a reading either stops here, or goes on with a piece
     module _ (P : Type 0) where
@@ -390,43 +394,43 @@ module _ {T : Type 0} (alphabet : Alphabet T) where
     swap_mid s front [] t u rest rest' x n n' i = (laws s).swap front t u rest rest' (Ok x) n n' i
     swap_mid s front (v ∷ mid) t u rest rest' x n n' i = (laws s).local front v (mid ++ t ∷ rest) (mid ++ u ∷ rest') (Ok x) i
 
-    swap_err : (n : ℕ) (s : S) (k : FaultKind) (front : List T) (u : T) (rest' : List T) → Swapped {A = A × S} (Err k) (f s (front ++ u ∷ rest')) u rest' → Swapped {A = List A} (Err k) (follow (f s (front ++ u ∷ rest')) (further n)) u rest'
-    swap_err n s Number front u rest' w = tt
-    swap_err n s Syntax front u rest' w = (w.0, ap (λ (y : Result ((A × S) × List T) Fault). follow y (further n)) w.1)
-    swap_err n s Profile front u rest' w = (w.0, ap (λ (y : Result ((A × S) × List T) Fault). follow y (further n)) w.1)
-    swap_err n s Limit front u rest' w = tt
+    swap_err : (n : ℕ) (s : S) (k : FaultKind) (front : List T) (literal : Bool) (u : T) (rest' : List T) → Swapped {A = A × S} literal (Err k) (f s (front ++ u ∷ rest')) u rest' → Swapped {A = List A} literal (Err k) (follow (f s (front ++ u ∷ rest')) (further n)) u rest'
+    swap_err n s Number front literal u rest' w = tt
+    swap_err n s Syntax front literal u rest' w = (w.0, ap (λ (y : Result ((A × S) × List T) Fault). follow y (further n)) w.1)
+    swap_err n s Profile front literal u rest' w = (w.0, ap (λ (y : Result ((A × S) × List T) Fault). follow y (further n)) w.1)
+    swap_err n s Limit front literal u rest' w = λ m. let r = w m in (r.0, ap (λ (y : Result ((A × S) × List T) Fault). follow y (further n)) r.1)
 
     swapped_stop : (s : S) (front : List T) (t u : T) (rest rest' : List T) → is_number alphabet t ≡ true → alphabet.class u ≡ alphabet.class t → stop s (front ++ t ∷ rest) ≡ stop s (front ++ u ∷ rest')
     swapped_stop s [] t u rest rest' n n' = ap (λ (b : Bool). final s && not b) (alike s t u n n')
     swapped_stop s (v ∷ front) t u rest rest' n n' = refl
 
-    swap_chain : (n : ℕ) (s : S) (front : List T) (t u : T) (rest rest' : List T) (o : Result (List A) FaultKind) → length (front ++ t ∷ rest) < n → is_number alphabet t ≡ true → alphabet.class u ≡ alphabet.class t → at_most n s (front ++ t ∷ rest) ≡ ends o (t ∷ rest) → Swapped o (at_most n s (front ++ u ∷ rest')) u rest'
+    swap_chain : (n : ℕ) (s : S) (front : List T) (t u : T) (rest rest' : List T) (o : Result (List A) FaultKind) → length (front ++ t ∷ rest) < n → is_number alphabet t ≡ true → alphabet.class u ≡ alphabet.class t → at_most n s (front ++ t ∷ rest) ≡ ends o (t ∷ rest) → Swapped (is_literal alphabet t) o (at_most n s (front ++ u ∷ rest')) u rest'
     swap_chain zero s front t u rest rest' o lt m m' h = absurd (omega (arith, lt))
     swap_chain (suc n) s front t u rest rest' o lt m m' h =
-        by_stop (Swapped o (at_most (suc n) s (front ++ u ∷ rest')) u rest') n s (front ++ t ∷ rest) (ends o (t ∷ rest)) h (λ e d. stopped e d)
-        (λ e d. subst (λ (y : Result (List A × List T) Fault). Swapped o y u rest') (sym (stop_not n s (front ++ u ∷ rest') (sym (swapped_stop s front t u rest rest' m m') ∙ e))) (by_piece (λ next front' o' l i. swap_chain n next front' t u rest rest' o' l m m' i) (f s (front ++ t ∷ rest)) refl d))
+        by_stop (Swapped (is_literal alphabet t) o (at_most (suc n) s (front ++ u ∷ rest')) u rest') n s (front ++ t ∷ rest) (ends o (t ∷ rest)) h (λ e d. stopped e d)
+        (λ e d. subst (λ (y : Result (List A × List T) Fault). Swapped (is_literal alphabet t) o y u rest') (sym (stop_not n s (front ++ u ∷ rest') (sym (swapped_stop s front t u rest rest' m m') ∙ e))) (by_piece (λ next front' o' l i. swap_chain n next front' t u rest rest' o' l m m' i) (f s (front ++ t ∷ rest)) refl d))
       where
-        stopped : stop s (front ++ t ∷ rest) ≡ true → reads [] (front ++ t ∷ rest) ≡ ends o (t ∷ rest) → Swapped o (at_most (suc n) s (front ++ u ∷ rest')) u rest'
+        stopped : stop s (front ++ t ∷ rest) ≡ true → reads [] (front ++ t ∷ rest) ≡ ends o (t ∷ rest) → Swapped (is_literal alphabet t) o (at_most (suc n) s (front ++ u ∷ rest')) u rest'
         stopped e d =
             let z = nothing_read front t rest rest' o d in
             let there : at_most (suc n) s (front ++ u ∷ rest') ≡ reads [] (u ∷ rest') = stop_gives (suc n) s (front ++ u ∷ rest') (sym (swapped_stop s front t u rest rest' m m') ∙ e) ∙ ap (λ (x : List T). reads [] (x ++ u ∷ rest')) z.0 in
-            subst (λ (y : Result (List A) FaultKind). Swapped y (at_most (suc n) s (front ++ u ∷ rest')) u rest') (sym z.1) there
+            subst (λ (y : Result (List A) FaultKind). Swapped (is_literal alphabet t) y (at_most (suc n) s (front ++ u ∷ rest')) u rest') (sym z.1) there
 
-        by_piece : ((next : S) (front' : List T) (o' : Result (List A) FaultKind) → length (front' ++ t ∷ rest) < n → at_most n next (front' ++ t ∷ rest) ≡ ends o' (t ∷ rest) → Swapped o' (at_most n next (front' ++ u ∷ rest')) u rest') → (r : Result ((A × S) × List T) Fault) → f s (front ++ t ∷ rest) ≡ r → follow r (further n) ≡ ends o (t ∷ rest)
-            → Swapped o (follow (f s (front ++ u ∷ rest')) (further n)) u rest'
+        by_piece : ((next : S) (front' : List T) (o' : Result (List A) FaultKind) → length (front' ++ t ∷ rest) < n → at_most n next (front' ++ t ∷ rest) ≡ ends o' (t ∷ rest) → Swapped (is_literal alphabet t) o' (at_most n next (front' ++ u ∷ rest')) u rest') → (r : Result ((A × S) × List T) Fault) → f s (front ++ t ∷ rest) ≡ r → follow r (further n) ≡ ends o (t ∷ rest)
+            → Swapped (is_literal alphabet t) o (follow (f s (front ++ u ∷ rest')) (further n)) u rest'
         by_piece again (Err k) i d =
             let w = err_ends k o (t ∷ rest) d in
-            subst (λ (y : Result (List A) FaultKind). Swapped y (follow (f s (front ++ u ∷ rest')) (further n)) u rest') (sym w.1) (swap_err n s w.0 front u rest' ((laws s).swap front t u rest rest' (Err w.0) m m' (i ∙ ap wrong w.2)))
+            subst (λ (y : Result (List A) FaultKind). Swapped (is_literal alphabet t) y (follow (f s (front ++ u ∷ rest')) (further n)) u rest') (sym w.1) (swap_err n s w.0 front (is_literal alphabet t) u rest' ((laws s).swap front t u rest rest' (Err w.0) m m' (i ∙ ap wrong w.2)))
         by_piece again (Ok x) i d =
             let w = without x.0.0 (at_most n x.0.1 x.1) o (t ∷ rest) d in
             let less : length x.1 < n = omega (arith, lt, shorter s (front ++ t ∷ rest) x.1 x.0 i) in
             let c = cut_at n s front t rest x.0 x.1 w.0 less i w.1 in
             let one : f s (c.here ++ (c.there ++ u ∷ rest')) ≡ reads x.0 (c.there ++ u ∷ rest') = swap_mid s c.here c.there t u rest rest' x.0 m m' c.piece in
-            let two : Swapped w.0 (at_most n x.0.1 (c.there ++ u ∷ rest')) u rest' = again x.0.1 c.there w.0 (subst (λ (y : List T). length y < n) c.mid_is less) (ap (at_most n x.0.1) (sym c.mid_is) ∙ w.1) in
+            let two : Swapped (is_literal alphabet t) w.0 (at_most n x.0.1 (c.there ++ u ∷ rest')) u rest' = again x.0.1 c.there w.0 (subst (λ (y : List T). length y < n) c.mid_is less) (ap (at_most n x.0.1) (sym c.mid_is) ∙ w.1) in
             let before : front ++ u ∷ rest' ≡ c.here ++ (c.there ++ u ∷ rest') = ap (λ (y : List T). y ++ u ∷ rest') c.front_is ∙ append_assoc c.here c.there (u ∷ rest') in
             let whole : follow (f s (front ++ u ∷ rest')) (further n) ≡ in_front x.0.0 (at_most n x.0.1 (c.there ++ u ∷ rest')) = ap (λ (y : List T). follow (f s y) (further n)) before ∙ ap (λ (y : Result ((A × S) × List T) Fault). follow y (further n)) one in
-            let three : Swapped (joined x.0.0 w.0) (follow (f s (front ++ u ∷ rest')) (further n)) u rest' = subst (λ (y : Result (List A × List T) Fault). Swapped (joined x.0.0 w.0) y u rest') (sym whole) (swapped_in_front x.0.0 w.0 (at_most n x.0.1 (c.there ++ u ∷ rest')) u rest' two) in
-            subst (λ (y : Result (List A) FaultKind). Swapped y (follow (f s (front ++ u ∷ rest')) (further n)) u rest') (sym w.2) three
+            let three : Swapped (is_literal alphabet t) (joined x.0.0 w.0) (follow (f s (front ++ u ∷ rest')) (further n)) u rest' = subst (λ (y : Result (List A × List T) Fault). Swapped (is_literal alphabet t) (joined x.0.0 w.0) y u rest') (sym whole) (swapped_in_front x.0.0 w.0 (at_most n x.0.1 (c.there ++ u ∷ rest')) (is_literal alphabet t) u rest' two) in
+            subst (λ (y : Result (List A) FaultKind). Swapped (is_literal alphabet t) y (follow (f s (front ++ u ∷ rest')) (further n)) u rest') (sym w.2) three
 
     -- with room enough it doesn't matter how much there is
     pub roomy : (n m : ℕ) (s : S) (ts : List T) → length ts < n → length ts < m → at_most n s ts ≡ at_most m s ts
@@ -471,9 +475,9 @@ module _ {T : Type 0} (alphabet : Alphabet T) where
             let one : at_most n s (front ++ t ∷ rest) ≡ ends o (t ∷ rest) = roomy n (suc (length (front ++ t ∷ rest))) s (front ++ t ∷ rest) (omega arith) (omega arith) ∙ h in
             roomy (suc (length (front ++ t ∷ rest'))) n s (front ++ t ∷ rest') (omega arith) (omega arith) ∙ local_chain n s front t rest rest' o (omega arith) one
 
-        swap_here : (front : List T) (t u : T) (rest rest' : List T) (o : Result (List A) FaultKind) → is_number alphabet t ≡ true → alphabet.class u ≡ alphabet.class t → here_is s (front ++ t ∷ rest) ≡ ends o (t ∷ rest) → Swapped o (here_is s (front ++ u ∷ rest')) u rest'
+        swap_here : (front : List T) (t u : T) (rest rest' : List T) (o : Result (List A) FaultKind) → is_number alphabet t ≡ true → alphabet.class u ≡ alphabet.class t → here_is s (front ++ t ∷ rest) ≡ ends o (t ∷ rest) → Swapped (is_literal alphabet t) o (here_is s (front ++ u ∷ rest')) u rest'
         swap_here front t u rest rest' o m m' h =
             let n : ℕ = suc (length (front ++ t ∷ rest) + length (front ++ u ∷ rest')) in
             let one : at_most n s (front ++ t ∷ rest) ≡ ends o (t ∷ rest) = roomy n (suc (length (front ++ t ∷ rest))) s (front ++ t ∷ rest) (omega arith) (omega arith) ∙ h in
             let two = swap_chain n s front t u rest rest' o (omega arith) m m' one in
-            subst (λ (y : Result (List A × List T) Fault). Swapped o y u rest') (sym (roomy (suc (length (front ++ u ∷ rest'))) n s (front ++ u ∷ rest') (omega arith) (omega arith))) two
+            subst (λ (y : Result (List A × List T) Fault). Swapped (is_literal alphabet t) o y u rest') (sym (roomy (suc (length (front ++ u ∷ rest'))) n s (front ++ u ∷ rest') (omega arith) (omega arith))) two

@@ -4,7 +4,7 @@ use Rattle.std.proofs.lemmas.List.{length-append}
 use Rattle.lto_forms.specs.declared.fault.Fault.{Fault}
 use Rattle.lto_forms.specs.declared.fault.FaultKind.{FaultKind}
 use Rattle.lto_forms.specs.declared.fault.FaultKind.TheVariants.{Syntax, Number, Limit}
-use Rattle.lto_forms.specs.Alphabet.{Alphabet, AllReal, is_number}
+use Rattle.lto_forms.specs.Alphabet.{Alphabet, AllReal, is_literal, is_number}
 use Rattle.lto_forms.specs.Balanced.{Brackets, Move, moved, Closing, closing_at, HaveClosers, none_open}
 use Rattle.lto_forms.specs.Lawful.{Lawful, GoesOn, Swapped, ends}
 use Rattle.lto_forms.specs.Readers.{fault_at}
@@ -92,7 +92,7 @@ module _ {T B : Type 0} (alphabet : Alphabet T) (brackets : Brackets T B) (have 
           too_long (Err k) h = omega (arith, ap (λ (x : Fault). x.left) (wrong_is (record { left = length (v ∷ (front ++ t ∷ rest)); kind = Syntax }) (record { left = length (t ∷ rest); kind = k }) h), length-append front (t ∷ rest))
       by_move (Some stack) again h = again stack h
 
-  swap_closing : (bs : List B) (front : List T) (t u : T) (rest rest' : List T) (o : Result (Unit {0}) FaultKind) → is_number alphabet t ≡ true → alphabet.class u ≡ alphabet.class t → closing_at brackets bs (front ++ t ∷ rest) ≡ ends o (t ∷ rest) → Swapped o (closing_at brackets bs (front ++ u ∷ rest')) u rest'
+  swap_closing : (bs : List B) (front : List T) (t u : T) (rest rest' : List T) (o : Result (Unit {0}) FaultKind) → is_number alphabet t ≡ true → alphabet.class u ≡ alphabet.class t → closing_at brackets bs (front ++ t ∷ rest) ≡ ends o (t ∷ rest) → Swapped (is_literal alphabet t) o (closing_at brackets bs (front ++ u ∷ rest')) u rest'
   swap_closing [] front t u rest rest' (Ok x) n m h =
       let c = cut_is front (t ∷ rest) [] (t ∷ rest) (reads_is tt x (front ++ t ∷ rest) (t ∷ rest) h).1 refl in
       ap (λ (y : List T). reads tt (y ++ u ∷ rest')) c.0
@@ -104,8 +104,8 @@ module _ {T B : Type 0} (alphabet : Alphabet T) (brackets : Brackets T B) (have 
       never (Err k) h = let v = viable_closing (b ∷ bs) rest (record { left = length (t ∷ rest); kind = k }) h in omega (arith, ap length v.whole, v.here, length-append v.front v.rest)
   swap_closing (b ∷ bs) (v ∷ front) t u rest rest' o n m h = by_move (moved brackets (brackets.move v) b bs) (λ stack. swap_closing stack front t u rest rest' o n m) h
     where
-      by_move : (p : Option (List B)) → ((stack : List B) → closing_at brackets stack (front ++ t ∷ rest) ≡ ends o (t ∷ rest) → Swapped o (closing_at brackets stack (front ++ u ∷ rest')) u rest')
-          → elim p as (λ x. Result (Unit {0} × List T) Fault) [ None ↦ fault_at Syntax (v ∷ (front ++ t ∷ rest)) | Some stack ↦ closing_at brackets stack (front ++ t ∷ rest) ] ≡ ends o (t ∷ rest) → Swapped o (elim p as (λ x. Result (Unit {0} × List T) Fault) [ None ↦ fault_at Syntax (v ∷ (front ++ u ∷ rest')) | Some stack ↦ closing_at brackets stack (front ++ u ∷ rest') ]) u rest'
+      by_move : (p : Option (List B)) → ((stack : List B) → closing_at brackets stack (front ++ t ∷ rest) ≡ ends o (t ∷ rest) → Swapped (is_literal alphabet t) o (closing_at brackets stack (front ++ u ∷ rest')) u rest')
+          → elim p as (λ x. Result (Unit {0} × List T) Fault) [ None ↦ fault_at Syntax (v ∷ (front ++ t ∷ rest)) | Some stack ↦ closing_at brackets stack (front ++ t ∷ rest) ] ≡ ends o (t ∷ rest) → Swapped (is_literal alphabet t) o (elim p as (λ x. Result (Unit {0} × List T) Fault) [ None ↦ fault_at Syntax (v ∷ (front ++ u ∷ rest')) | Some stack ↦ closing_at brackets stack (front ++ u ∷ rest') ]) u rest'
       by_move None again h = absurd (too_long o h)
         where
           too_long : (o : Result (Unit {0}) FaultKind) → fault_at Syntax (v ∷ (front ++ t ∷ rest)) ≡ ends o (t ∷ rest) → ⊥

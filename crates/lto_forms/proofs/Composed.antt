@@ -4,11 +4,11 @@ use Rattle.std.proofs.lemmas.List.{append-nil, length-append}
 use Rattle.lto_forms.specs.declared.fault.Fault.{Fault}
 use Rattle.lto_forms.specs.declared.fault.FaultKind.{FaultKind}
 use Rattle.lto_forms.specs.declared.fault.FaultKind.TheVariants.{Syntax, Profile, Number, Limit}
-use Rattle.lto_forms.specs.Alphabet.{Alphabet, AllReal, is_number}
+use Rattle.lto_forms.specs.Alphabet.{Alphabet, AllReal, is_literal, is_number}
 use Rattle.lto_forms.specs.Faults.{LimitGoesOn, NumberGoesOn}
 use Rattle.lto_forms.specs.Forms as form
 use Rattle.lto_forms.specs.Forms.{Form, Many, Star}
-use Rattle.lto_forms.specs.Lawful.{Broad, ends, Stops, Swapped, SameRefusal, GoesOn, IsRanged, Lawful, UpTo}
+use Rattle.lto_forms.specs.Lawful.{Bounded, Broad, ends, Stops, Swapped, SameRefusal, GoesOn, IsRanged, Lawful, UpTo}
 use Rattle.lto_forms.specs.Readers.{Reader, fault_at, done, follow, ◌>>=◌, token_means, token_at, pick, many_at, star_at}
 
 -- ---- lists
@@ -65,15 +65,27 @@ reads_is {T} {A} a b x y h =
 reads_not_wrong : {T A : Type 0} (a : A) (x : List T) (e : Fault) → reads a x ≡ wrong e → ⊥
 reads_not_wrong a x e h = cc
 
--- a reading that a range or a limit may end, and what follows it
-pub follow_up : {T A B : Type 0} (h : A → Reader T B) (r : Result (A × List T) Fault) (a : A) (mid : List T) (free : Result (B × List T) Fault) → UpTo r (reads a mid) → UpTo (h a mid) free → UpTo (follow r h) free
-follow_up {T} {A} h r a mid free (inl e) (inl d) = inl (ap (λ (y : Result (A × List T) Fault). follow y h) e ∙ d)
-follow_up {T} {A} h r a mid free (inl e) (inr (left, kind, b, d)) = inr (left, kind, b, ap (λ (y : Result (A × List T) Fault). follow y h) e ∙ d)
-follow_up {T} {A} h r a mid free (inr (left, kind, b, e)) q = inr (left, kind, b, ap (λ (y : Result (A × List T) Fault). follow y h) e)
+limit_is_no_number : Limit ≡ Number → ⊥
+limit_is_no_number e = cc
 
--- a limit at the first token
-pub limit_up : {T A : Type 0} (t : T) (ts : List T) (r free : Result (A × List T) Fault) → r ≡ fault_at Limit (t ∷ ts) → UpTo r free
-limit_up t ts r free e = inr (length (t ∷ ts), Limit, tt, e)
+module _ {T : Type 0} {alphabet : Alphabet T} where
+  -- the same fault of another reading
+  pub bounded_too : {X Y : Type 0} {ts : List T} {r : Result X Fault} (r' : Result Y Fault) → ((e : Fault) → r ≡ Err e → r' ≡ Err e) → Bounded alphabet ts r → Bounded alphabet ts r'
+  bounded_too r' same w = record { front = w.front; bad = w.bad; rest = w.rest; kind = w.kind; whole = w.whole; bound = w.bound; named = w.named; ends = same (record { left = length (w.bad ∷ w.rest); kind = w.kind }) w.ends }
+
+  -- behind other tokens
+  pub bounded_behind : {X : Type 0} (one mid : List T) {r : Result X Fault} → Bounded alphabet mid r → Bounded alphabet (one ++ mid) r
+  bounded_behind one mid w = record { front = one ++ w.front; bad = w.bad; rest = w.rest; kind = w.kind; whole = ap (λ (y : List T). one ++ y) w.whole ∙ sym (append_assoc one w.front (w.bad ∷ w.rest)); bound = w.bound; named = w.named; ends = w.ends }
+
+  -- a reading that a limit may end, and what follows it
+  pub follow_up : {A B : Type 0} (h : A → Reader T B) (one mid : List T) (r : Result (A × List T) Fault) (a : A) (free : Result (B × List T) Fault) → UpTo alphabet (one ++ mid) r (reads a mid) → UpTo alphabet mid (h a mid) free → UpTo alphabet (one ++ mid) (follow r h) free
+  follow_up {A} h one mid r a free (inl e) (inl d) = inl (ap (λ (y : Result (A × List T) Fault). follow y h) e ∙ d)
+  follow_up {A} h one mid r a free (inl e) (inr w) = inr (bounded_too (follow r h) (λ x d. ap (λ (y : Result (A × List T) Fault). follow y h) e ∙ d) (bounded_behind one mid w))
+  follow_up {A} h one mid r a free (inr w) q = inr (bounded_too (follow r h) (λ x d. ap (λ (y : Result (A × List T) Fault). follow y h) d) w)
+
+  -- a limit at the first token
+  pub limit_up : {A : Type 0} (t : T) (ts : List T) (r free : Result (A × List T) Fault) → r ≡ fault_at Limit (t ∷ ts) → UpTo alphabet (t ∷ ts) r free
+  limit_up t ts r free e = inr (record { front = []; bad = t; rest = ts; kind = Limit; whole = refl; bound = tt; named = λ d. absurd (limit_is_no_number d); ends = e })
 
 -- the first of these tokens begins one
 abbrev pub Begun : {T : Type 0} → (T → Bool) → List T → Type 0
@@ -101,14 +113,14 @@ module _ {T : Type 0} (alphabet : Alphabet T) where
         rw (q.0, p.0) refl
     local_gives front t rest rest' (Err k) h = absurd cc
 
-    swap_gives : (front : List T) (t u : T) (rest rest' : List T) (o : Result A FaultKind) → is_number alphabet t ≡ true → alphabet.class u ≡ alphabet.class t → reads a (front ++ t ∷ rest) ≡ ends o (t ∷ rest) → Swapped o (reads a (front ++ u ∷ rest')) u rest'
+    swap_gives : (front : List T) (t u : T) (rest rest' : List T) (o : Result A FaultKind) → is_number alphabet t ≡ true → alphabet.class u ≡ alphabet.class t → reads a (front ++ t ∷ rest) ≡ ends o (t ∷ rest) → Swapped (is_literal alphabet t) o (reads a (front ++ u ∷ rest')) u rest'
     swap_gives front t u rest rest' (Ok b) n n' h =
         let p = reads_is a b (front ++ t ∷ rest) (t ∷ rest) h in
         let q = cut_is front (t ∷ rest) [] (t ∷ rest) p.1 refl in
         rw (q.0, p.0) refl
     swap_gives front t u rest rest' (Err k) n n' h = absurd cc
 
-    gives_broad : Broad {T = T} (form.gives a) (done a) (λ _. false) (λ _. false) true
+    gives_broad : Broad alphabet (form.gives a) (done a) (λ _. false) (λ _. false) true
     gives_broad = record {
       starts = λ t ts b g. absurd (cons_not_nil t ts g.0);
       nothing = λ b g. refl;
@@ -215,16 +227,16 @@ module _ {T : Type 0} (alphabet : Alphabet T) where
         by_means (Ok b) d h = cc
         by_means (Err k) d h = ranged.never t (d ∙ ap (λ (x : FaultKind). Err x) (ap (λ (x : Fault). x.kind) (wrong_is (record { left = length (t ∷ ts); kind = k }) (record { left = left; kind = Limit }) h)))
 
-    swap_here : (t u : T) (rest rest' : List T) (o m m' : Result A FaultKind) → SameRefusal m m' → token_means t rest m ≡ ends o (t ∷ rest) → Swapped o (token_means u rest' m') u rest'
-    swap_here t u rest rest' (Ok a) (Ok b) m' s h = absurd (omega (arith, ap length (reads_is b a rest (t ∷ rest) h).1))
-    swap_here t u rest rest' (Ok a) (Err k) m' s h = absurd cc
-    swap_here t u rest rest' (Err k) (Ok b) m' s h = absurd cc
-    swap_here t u rest rest' (Err Number) (Err l) m' s h = tt
-    swap_here t u rest rest' (Err Syntax) (Err l) m' s h = refused l Syntax (ap (λ (x : Fault). x.kind) (wrong_is (record { left = length (t ∷ rest); kind = l }) (record { left = length (t ∷ rest); kind = Syntax }) h)) m' s (λ e. cc) (λ e. cc) u rest'
-    swap_here t u rest rest' (Err Profile) (Err l) m' s h = refused l Profile (ap (λ (x : Fault). x.kind) (wrong_is (record { left = length (t ∷ rest); kind = l }) (record { left = length (t ∷ rest); kind = Profile }) h)) m' s (λ e. cc) (λ e. cc) u rest'
-    swap_here t u rest rest' (Err Limit) (Err l) m' s h = tt
+    swap_here : (literal : Bool) (t u : T) (rest rest' : List T) (o m m' : Result A FaultKind) → SameRefusal m m' → (m ≡ Err Limit → ⊥) → token_means t rest m ≡ ends o (t ∷ rest) → Swapped literal o (token_means u rest' m') u rest'
+    swap_here literal t u rest rest' (Ok a) (Ok b) m' s n h = absurd (omega (arith, ap length (reads_is b a rest (t ∷ rest) h).1))
+    swap_here literal t u rest rest' (Ok a) (Err k) m' s n h = absurd cc
+    swap_here literal t u rest rest' (Err k) (Ok b) m' s n h = absurd cc
+    swap_here literal t u rest rest' (Err Number) (Err l) m' s n h = tt
+    swap_here literal t u rest rest' (Err Syntax) (Err l) m' s n h = refused l Syntax (ap (λ (x : Fault). x.kind) (wrong_is (record { left = length (t ∷ rest); kind = l }) (record { left = length (t ∷ rest); kind = Syntax }) h)) m' s (λ e. cc) (λ e. cc) u rest'
+    swap_here literal t u rest rest' (Err Profile) (Err l) m' s n h = refused l Profile (ap (λ (x : Fault). x.kind) (wrong_is (record { left = length (t ∷ rest); kind = l }) (record { left = length (t ∷ rest); kind = Profile }) h)) m' s (λ e. cc) (λ e. cc) u rest'
+    swap_here literal t u rest rest' (Err Limit) (Err l) m' s n h = absurd (n (ap (λ (x : Fault). Err x.kind) (wrong_is (record { left = length (t ∷ rest); kind = l }) (record { left = length (t ∷ rest); kind = Limit }) h)))
 
-    swap_means : (t u v : T) (front rest rest' : List T) (o m : Result A FaultKind) → token_means v (front ++ t ∷ rest) m ≡ ends o (t ∷ rest) → Swapped o (token_means v (front ++ u ∷ rest') m) u rest'
+    swap_means : (t u v : T) (front rest rest' : List T) (o m : Result A FaultKind) → token_means v (front ++ t ∷ rest) m ≡ ends o (t ∷ rest) → Swapped (is_literal alphabet t) o (token_means v (front ++ u ∷ rest') m) u rest'
     swap_means t u v front rest rest' (Ok a) (Ok b) h =
         let p = reads_is b a (front ++ t ∷ rest) (t ∷ rest) h in
         let q = cut_is front (t ∷ rest) [] (t ∷ rest) p.1 refl in
@@ -235,11 +247,11 @@ module _ {T : Type 0} (alphabet : Alphabet T) where
         let e = ap (λ (x : Fault). x.left) (wrong_is (record { left = length (v ∷ (front ++ t ∷ rest)); kind = l }) (record { left = length (t ∷ rest); kind = k }) h) in
         absurd (omega (arith, e, length-append front (t ∷ rest)))
 
-    swap_token : IsRanged alphabet meaning → (front : List T) (t u : T) (rest rest' : List T) (o : Result A FaultKind) → is_number alphabet t ≡ true → alphabet.class u ≡ alphabet.class t → token_at meaning (front ++ t ∷ rest) ≡ ends o (t ∷ rest) → Swapped o (token_at meaning (front ++ u ∷ rest')) u rest'
-    swap_token ranged [] t u rest rest' o n n' h = swap_here t u rest rest' o (meaning t) (meaning u) (ranged.alike t u n n') h
+    swap_token : IsRanged alphabet meaning → (front : List T) (t u : T) (rest rest' : List T) (o : Result A FaultKind) → is_number alphabet t ≡ true → alphabet.class u ≡ alphabet.class t → token_at meaning (front ++ t ∷ rest) ≡ ends o (t ∷ rest) → Swapped (is_literal alphabet t) o (token_at meaning (front ++ u ∷ rest')) u rest'
+    swap_token ranged [] t u rest rest' o n n' h = swap_here (is_literal alphabet t) t u rest rest' o (meaning t) (meaning u) (ranged.alike t u n n') (λ e. ranged.never t e) h
     swap_token ranged (v ∷ front) t u rest rest' o n n' h = swap_means t u v front rest rest' o (meaning v) h
 
-    token_broad : ((t : T) (a : A) → meaning t ≡ Ok a → first t ≡ true) → Broad (form.token meaning) (token_at meaning) first (λ _. false) false
+    token_broad : ((t : T) (a : A) → meaning t ≡ Ok a → first t ≡ true) → Broad alphabet (form.token meaning) (token_at meaning) first (λ _. false) false
     token_broad begins = record {
       starts = starts_token begins;
       nothing = λ a g. absurd g;
@@ -448,20 +460,20 @@ module _ {T : Type 0} (alphabet : Alphabet T) where
           real = all_real v.more s.0 v.real s.3;
         }
 
-    swap_err : (k : FaultKind) (front : List T) (t u : T) (rest rest' : List T) → Swapped {A = A} (Err k) (f (front ++ u ∷ rest')) u rest' → Swapped {A = B} (Err k) ((f >>= h) (front ++ u ∷ rest')) u rest'
+    swap_err : (k : FaultKind) (front : List T) (t u : T) (rest rest' : List T) → Swapped {A = A} (is_literal alphabet t) (Err k) (f (front ++ u ∷ rest')) u rest' → Swapped {A = B} (is_literal alphabet t) (Err k) ((f >>= h) (front ++ u ∷ rest')) u rest'
     swap_err Number front t u rest rest' s = tt
     swap_err Syntax front t u rest rest' s = (s.0, ap (λ (y : Result (A × List T) Fault). follow y h) s.1)
     swap_err Profile front t u rest rest' s = (s.0, ap (λ (y : Result (A × List T) Fault). follow y h) s.1)
-    swap_err Limit front t u rest rest' s = tt
+    swap_err Limit front t u rest rest' s = λ n. let r = s n in (r.0, ap (λ (y : Result (A × List T) Fault). follow y h) r.1)
 
     swap_mid : (front mid : List T) (t u : T) (rest rest' : List T) (a : A) → is_number alphabet t ≡ true → alphabet.class u ≡ alphabet.class t → f (front ++ (mid ++ t ∷ rest)) ≡ reads a (mid ++ t ∷ rest) → f (front ++ (mid ++ u ∷ rest')) ≡ reads a (mid ++ u ∷ rest')
     swap_mid front [] t u rest rest' a n n' i = law.swap front t u rest rest' (Ok a) n n' i
     swap_mid front (v ∷ mid) t u rest rest' a n n' i = law.local front v (mid ++ t ∷ rest) (mid ++ u ∷ rest') (Ok a) i
 
-    swap_both : (front : List T) (t u : T) (rest rest' : List T) (o : Result B FaultKind) (r : Result (A × List T) Fault) → is_number alphabet t ≡ true → alphabet.class u ≡ alphabet.class t → f (front ++ t ∷ rest) ≡ r → follow r h ≡ ends o (t ∷ rest) → Swapped o ((f >>= h) (front ++ u ∷ rest')) u rest'
+    swap_both : (front : List T) (t u : T) (rest rest' : List T) (o : Result B FaultKind) (r : Result (A × List T) Fault) → is_number alphabet t ≡ true → alphabet.class u ≡ alphabet.class t → f (front ++ t ∷ rest) ≡ r → follow r h ≡ ends o (t ∷ rest) → Swapped (is_literal alphabet t) o ((f >>= h) (front ++ u ∷ rest')) u rest'
     swap_both front t u rest rest' o (Err e) n n' i d =
         let w = err_ends e o (t ∷ rest) d in
-        subst (λ (x : Result B FaultKind). Swapped x ((f >>= h) (front ++ u ∷ rest')) u rest') (sym w.1) (swap_err w.0 front t u rest rest' (law.swap front t u rest rest' (Err w.0) n n' (i ∙ ap wrong w.2)))
+        subst (λ (x : Result B FaultKind). Swapped (is_literal alphabet t) x ((f >>= h) (front ++ u ∷ rest')) u rest') (sym w.1) (swap_err w.0 front t u rest rest' (law.swap front t u rest rest' (Err w.0) n n' (i ∙ ap wrong w.2)))
     swap_both front t u rest rest' o (Ok x) n n' i d =
         let p = law.sound (front ++ t ∷ rest) x.1 x.0 i in
         let q = behind (laws x.0) x.1 (t ∷ rest) o d in
@@ -472,17 +484,17 @@ module _ {T : Type 0} (alphabet : Alphabet T) where
         let one : f (p.0 ++ (q.0 ++ u ∷ rest')) ≡ reads x.0 (q.0 ++ u ∷ rest') = swap_mid p.0 q.0 t u rest rest' x.0 n n' (ap f (sym (before (t ∷ rest))) ∙ i ∙ ap (reads x.0) mid) in
         let two = (laws x.0).swap q.0 t u rest rest' o n n' (ap (h x.0) (sym mid) ∙ d) in
         let whole : h x.0 (q.0 ++ u ∷ rest') ≡ (f >>= h) (front ++ u ∷ rest') = sym (ap (λ (y : List T). follow (f y) h) (before (u ∷ rest')) ∙ ap (λ (y : Result (A × List T) Fault). follow y h) one) in
-        subst (λ (y : Result (B × List T) Fault). Swapped o y u rest') whole two
+        subst (λ (y : Result (B × List T) Fault). Swapped (is_literal alphabet t) o y u rest') whole two
 
-    reads_both : (ts rest : List T) (b : B) → form.◌>>=◌ wide wide' ts b → Stops (λ t. more' t || (empty' && more t)) rest → UpTo ((f >>= h) (ts ++ rest)) (reads b rest)
+    reads_both : (ts rest : List T) (b : B) → form.◌>>=◌ wide wide' ts b → Stops (λ t. more' t || (empty' && more t)) rest → UpTo alphabet (ts ++ rest) ((f >>= h) (ts ++ rest)) (reads b rest)
     unfolding form.◌>>=◌
     reads_both ts rest b (front, back, a, whole, s, d) stops =
         let one = law.broad.reads front (back ++ rest) a s (stops_between back rest a b d stops) in
         let two = (laws a).broad.reads back rest b d (stops_after rest stops) in
         let regrouped : front ++ (back ++ rest) ≡ ts ++ rest = sym (ap (λ (y : List T). y ++ rest) whole ∙ append_assoc front back rest) in
-        subst (λ (y : List T). UpTo ((f >>= h) y) (reads b rest)) regrouped (follow_up h (f (front ++ (back ++ rest))) a (back ++ rest) (reads b rest) one two)
+        subst (λ (y : List T). UpTo alphabet y ((f >>= h) y) (reads b rest)) regrouped (follow_up h front (back ++ rest) (f (front ++ (back ++ rest))) a (reads b rest) one two)
 
-    broad_both : Broad (form.◌>>=◌ wide wide') (f >>= h) (λ t. first t || (empty && first' t)) (λ t. more' t || (empty' && more t)) (empty && empty')
+    broad_both : Broad alphabet (form.◌>>=◌ wide wide') (f >>= h) (λ t. first t || (empty && first' t)) (λ t. more' t || (empty' && more t)) (empty && empty')
     unfolding form.◌>>=◌
     broad_both = record {
       starts = λ t ts b s. starts_both t ts b s.0 s.1 s.2 s.3 s.4 s.5;
@@ -541,7 +553,7 @@ module _ {T : Type 0} (alphabet : Alphabet T) where
   }
 
   -- the same form, and another one without the limits
-  pub with_wide : {A : Type 0} {g wide wide' : Form T A} {f : Reader T A} {first more : T → Bool} {empty : Bool} → Lawful alphabet g wide f first more empty → ((ts : List T) (a : A) → wide ts a → wide' ts a) → Broad wide' f first more empty → Lawful alphabet g wide' f first more empty
+  pub with_wide : {A : Type 0} {g wide wide' : Form T A} {f : Reader T A} {first more : T → Bool} {empty : Bool} → Lawful alphabet g wide f first more empty → ((ts : List T) (a : A) → wide ts a → wide' ts a) → Broad alphabet wide' f first more empty → Lawful alphabet g wide' f first more empty
   with_wide law over broad = record {
     sound = law.sound;
     complete = law.complete;
@@ -684,33 +696,33 @@ module _ {T : Type 0} (alphabet : Alphabet T) where
         by_test true d = limit_one (t ∷ ts) left (law.limit (t ∷ ts) left d)
         by_test false d = limit_other (t ∷ ts) left (law'.limit (t ∷ ts) left d)
 
-    swap_pick : (front : List T) (t u : T) (rest rest' : List T) (o : Result A FaultKind) → is_number alphabet t ≡ true → alphabet.class u ≡ alphabet.class t → pick begins f f' (front ++ t ∷ rest) ≡ ends o (t ∷ rest) → Swapped o (pick begins f f' (front ++ u ∷ rest')) u rest'
+    swap_pick : (front : List T) (t u : T) (rest rest' : List T) (o : Result A FaultKind) → is_number alphabet t ≡ true → alphabet.class u ≡ alphabet.class t → pick begins f f' (front ++ t ∷ rest) ≡ ends o (t ∷ rest) → Swapped (is_literal alphabet t) o (pick begins f f' (front ++ u ∷ rest')) u rest'
     swap_pick [] t u rest rest' o n n' d = by_test (begins t) (begins u) (alike t u n n') d
       where
-        by_test : (b b' : Bool) → b ≡ b' → cond b (f (t ∷ rest)) (f' (t ∷ rest)) ≡ ends o (t ∷ rest) → Swapped o (cond b' (f (u ∷ rest')) (f' (u ∷ rest'))) u rest'
+        by_test : (b b' : Bool) → b ≡ b' → cond b (f (t ∷ rest)) (f' (t ∷ rest)) ≡ ends o (t ∷ rest) → Swapped (is_literal alphabet t) o (cond b' (f (u ∷ rest')) (f' (u ∷ rest'))) u rest'
         by_test true true e d = law.swap [] t u rest rest' o n n' d
         by_test false false e d = law'.swap [] t u rest rest' o n n' d
         by_test true false e d = absurd cc
         by_test false true e d = absurd cc
     swap_pick (v ∷ front) t u rest rest' o n n' d = by_test (begins v) d
       where
-        by_test : (b : Bool) → cond b (f (v ∷ (front ++ t ∷ rest))) (f' (v ∷ (front ++ t ∷ rest))) ≡ ends o (t ∷ rest) → Swapped o (cond b (f (v ∷ (front ++ u ∷ rest'))) (f' (v ∷ (front ++ u ∷ rest')))) u rest'
+        by_test : (b : Bool) → cond b (f (v ∷ (front ++ t ∷ rest))) (f' (v ∷ (front ++ t ∷ rest))) ≡ ends o (t ∷ rest) → Swapped (is_literal alphabet t) o (cond b (f (v ∷ (front ++ u ∷ rest'))) (f' (v ∷ (front ++ u ∷ rest')))) u rest'
         by_test true d = law.swap (v ∷ front) t u rest rest' o n n' d
         by_test false d = law'.swap (v ∷ front) t u rest rest' o n n' d
 
     pick_never : false ≡ true → ⊥
     pick_never e = cc
 
-    reads_one : (front rest : List T) (a : A) → wide front a → Stops after rest → UpTo (pick begins f f' (front ++ rest)) (reads a rest)
+    reads_one : (front rest : List T) (a : A) → wide front a → Stops after rest → UpTo alphabet (front ++ rest) (pick begins f f' (front ++ rest)) (reads a rest)
     reads_one [] rest a s d = absurd (pick_never (law.broad.nothing a s))
-    reads_one (t ∷ front) rest a s d = subst (λ (y : Result (A × List T) Fault). UpTo y (reads a rest)) (sym (pick_yes t (front ++ rest) (within t (law.broad.starts t front a s)))) (law.broad.reads (t ∷ front) rest a s (stops_one rest d))
+    reads_one (t ∷ front) rest a s d = subst (λ (y : Result (A × List T) Fault). UpTo alphabet (t ∷ (front ++ rest)) y (reads a rest)) (sym (pick_yes t (front ++ rest) (within t (law.broad.starts t front a s)))) (law.broad.reads (t ∷ front) rest a s (stops_one rest d))
 
-    reads_other : (front rest : List T) (a : A) → wide' front a → Stops after rest → UpTo (pick begins f f' (front ++ rest)) (reads a rest)
+    reads_other : (front rest : List T) (a : A) → wide' front a → Stops after rest → UpTo alphabet (front ++ rest) (pick begins f f' (front ++ rest)) (reads a rest)
     reads_other [] [] a s d = law'.broad.reads [] [] a s tt
-    reads_other [] (t ∷ rest) a s d = subst (λ (y : Result (A × List T) Fault). UpTo y (reads a (t ∷ rest))) (sym (pick_no t rest (sym (ap (λ (x : Bool). x && begins t) (law'.broad.nothing a s)) ∙ (after_is t d).2))) (law'.broad.reads [] (t ∷ rest) a s (stops_other (t ∷ rest) d))
-    reads_other (t ∷ front) rest a s d = subst (λ (y : Result (A × List T) Fault). UpTo y (reads a rest)) (sym (pick_no t (front ++ rest) (without t (law'.broad.starts t front a s)))) (law'.broad.reads (t ∷ front) rest a s (stops_other rest d))
+    reads_other [] (t ∷ rest) a s d = subst (λ (y : Result (A × List T) Fault). UpTo alphabet (t ∷ rest) y (reads a (t ∷ rest))) (sym (pick_no t rest (sym (ap (λ (x : Bool). x && begins t) (law'.broad.nothing a s)) ∙ (after_is t d).2))) (law'.broad.reads [] (t ∷ rest) a s (stops_other (t ∷ rest) d))
+    reads_other (t ∷ front) rest a s d = subst (λ (y : Result (A × List T) Fault). UpTo alphabet (t ∷ (front ++ rest)) y (reads a rest)) (sym (pick_no t (front ++ rest) (without t (law'.broad.starts t front a s)))) (law'.broad.reads (t ∷ front) rest a s (stops_other rest d))
 
-    broad_pick : Broad (form.either wide wide') (pick begins f f') (λ t. first t || first' t) after empty'
+    broad_pick : Broad alphabet (form.either wide wide') (pick begins f f') (λ t. first t || first' t) after empty'
     unfolding form.either
     broad_pick = record {
       starts = λ t ts a s. elim s [ inl x ↦ or_true _ _ (inl (law.broad.starts t ts a x)) | inr x ↦ or_true _ _ (inr (law'.broad.starts t ts a x)) ];
@@ -795,16 +807,16 @@ module _ {T : Type 0} (alphabet : Alphabet T) where
         by_test true d = limit (ap (λ (x : Fault). x.kind) (wrong_is (record { left = length (t ∷ ts); kind = Limit }) (record { left = left; kind = Number }) d))
         by_test false d = cc
 
-    swap_zero : (front : List T) (t u : T) (rest rest' : List T) (o : Result (List A) FaultKind) → is_number alphabet t ≡ true → alphabet.class u ≡ alphabet.class t → many_at begins f zero (front ++ t ∷ rest) ≡ ends o (t ∷ rest) → Swapped o (many_at begins f zero (front ++ u ∷ rest')) u rest'
+    swap_zero : (front : List T) (t u : T) (rest rest' : List T) (o : Result (List A) FaultKind) → is_number alphabet t ≡ true → alphabet.class u ≡ alphabet.class t → many_at begins f zero (front ++ t ∷ rest) ≡ ends o (t ∷ rest) → Swapped (is_literal alphabet t) o (many_at begins f zero (front ++ u ∷ rest')) u rest'
     swap_zero [] t u rest rest' o n n' d = by_test (begins t) (begins u) (alike t u n n') o d
       where
-        refuses : (k : FaultKind) → Swapped {A = List A} (Err k) (fault_at Limit (u ∷ rest')) u rest'
+        refuses : (k : FaultKind) → Swapped {A = List A} (is_literal alphabet t) (Err k) (fault_at Limit (u ∷ rest')) u rest'
         refuses Number = tt
         refuses Syntax = (Limit, refl)
         refuses Profile = (Limit, refl)
-        refuses Limit = tt
+        refuses Limit = λ _. (Limit, refl)
 
-        by_test : (b b' : Bool) → b ≡ b' → (o : Result (List A) FaultKind) → cond b (fault_at Limit (t ∷ rest)) (reads {A = List A} [] (t ∷ rest)) ≡ ends o (t ∷ rest) → Swapped o (cond b' (fault_at Limit (u ∷ rest')) (reads {A = List A} [] (u ∷ rest'))) u rest'
+        by_test : (b b' : Bool) → b ≡ b' → (o : Result (List A) FaultKind) → cond b (fault_at Limit (t ∷ rest)) (reads {A = List A} [] (t ∷ rest)) ≡ ends o (t ∷ rest) → Swapped (is_literal alphabet t) o (cond b' (fault_at Limit (u ∷ rest')) (reads {A = List A} [] (u ∷ rest'))) u rest'
         by_test true false e o d = absurd cc
         by_test false true e o d = absurd cc
         by_test true true e (Ok a) d = absurd cc
@@ -854,7 +866,7 @@ module _ {T : Type 0} (alphabet : Alphabet T) where
         by_front [] e s = absurd (star_never (law.broad.nothing a s))
         by_front (u ∷ p) e s = ap first (cons_is t u ts (p ++ q) e).0 ∙ law.broad.starts u p a s
 
-    reads_zero : (front rest : List T) (as' : List A) → Star wide front as' → Stops after_many rest → UpTo (many_at begins f zero (front ++ rest)) (reads as' rest)
+    reads_zero : (front rest : List T) (as' : List A) → Star wide front as' → Stops after_many rest → UpTo alphabet (front ++ rest) (many_at begins f zero (front ++ rest)) (reads as' rest)
     reads_zero front rest [] s d = inl (complete_zero front rest [] (s, refl) d)
     reads_zero [] rest (a ∷ as') (p, q, e, s, s') d = absurd (star_never (law.broad.nothing a (subst (λ (y : List T). wide y a) (append_is_nil p q (sym e)).0 s)))
     reads_zero (t ∷ front) rest (a ∷ as') s d = limit_up t (front ++ rest) (many_at begins f zero (t ∷ (front ++ rest))) (reads (a ∷ as') rest) (rw (within t (star_starts t front (a ∷ as') s)) refl)
@@ -1008,16 +1020,16 @@ module _ {T : Type 0} (alphabet : Alphabet T) where
             let two = (laws_at n).local front t rest rest' o one in
             roomy (length (front ++ t ∷ rest')) n (front ++ t ∷ rest') (omega arith) (omega arith) ∙ two
 
-        swap_star : (front : List T) (t u : T) (rest rest' : List T) (o : Result (List A) FaultKind) → is_number alphabet t ≡ true → alphabet.class u ≡ alphabet.class t → star_at begins f (front ++ t ∷ rest) ≡ ends o (t ∷ rest) → Swapped o (star_at begins f (front ++ u ∷ rest')) u rest'
+        swap_star : (front : List T) (t u : T) (rest rest' : List T) (o : Result (List A) FaultKind) → is_number alphabet t ≡ true → alphabet.class u ≡ alphabet.class t → star_at begins f (front ++ t ∷ rest) ≡ ends o (t ∷ rest) → Swapped (is_literal alphabet t) o (star_at begins f (front ++ u ∷ rest')) u rest'
         swap_star front t u rest rest' o n n' d =
             let m : ℕ = length (front ++ t ∷ rest) + length (front ++ u ∷ rest') in
             let one : many_at begins f m (front ++ t ∷ rest) ≡ ends o (t ∷ rest) = roomy m (length (front ++ t ∷ rest)) (front ++ t ∷ rest) (omega arith) (omega arith) ∙ d in
             let two = (laws_at m).swap front t u rest rest' o n n' one in
-            subst (λ (y : Result (List A × List T) Fault). Swapped o y u rest') (sym (roomy (length (front ++ u ∷ rest')) m (front ++ u ∷ rest') (omega arith) (omega arith))) two
+            subst (λ (y : Result (List A × List T) Fault). Swapped (is_literal alphabet t) o y u rest') (sym (roomy (length (front ++ u ∷ rest')) m (front ++ u ∷ rest') (omega arith) (omega arith))) two
 
   -- ---- a reading that is barred here by a limit
 
-  module _ {A : Type 0} (g narrow wide : Form T A) (f : Reader T A) (begins first more : T → Bool) (empty : Bool) (law : Lawful alphabet g narrow f first more empty) (over : (ts : List T) (a : A) → narrow ts a → wide ts a) (under : (ts : List T) (a : A) → wide ts a → narrow ts a ⊎ Begun begins ts) (alike : (t u : T) → is_number alphabet t ≡ true → alphabet.class u ≡ alphabet.class t → (begins t ≡ begins u) ⊎ (empty ≡ false)) (without : (t : T) → first t ≡ true → begins t ≡ false) (opens : (t : T) → begins t ≡ true → (more' : List T) × (a : A) × wide (t ∷ more') a × AllReal alphabet more') where
+  module _ {A : Type 0} (g narrow wide : Form T A) (f : Reader T A) (begins first more : T → Bool) (empty : Bool) (law : Lawful alphabet g narrow f first more empty) (over : (ts : List T) (a : A) → narrow ts a → wide ts a) (under : (ts : List T) (a : A) → wide ts a → narrow ts a ⊎ Begun begins ts) (alike : (t u : T) → is_number alphabet t ≡ true → alphabet.class u ≡ alphabet.class t → (begins t ≡ begins u) ⊎ ((empty ≡ false) × (begins t ≡ true → is_literal alphabet t ≡ true))) (without : (t : T) → first t ≡ true → begins t ≡ false) (opens : (t : T) → begins t ≡ true → (more' : List T) × (a : A) × wide (t ∷ more') a × AllReal alphabet more') where
     abbrev barred : Reader T A
     barred = pick begins (fault_at Limit) f
 
@@ -1090,35 +1102,42 @@ module _ {T : Type 0} (alphabet : Alphabet T) where
             record { front = []; bad = t; rest = ts; whole = refl; here = ap (λ (x : Fault). x.left) (wrong_is (record { left = length (t ∷ ts); kind = Limit }) (record { left = left; kind = Limit }) d); more = o.0; value = o.1; spelled = o.2; real = o.3 }
         by_test false e d = widely (t ∷ ts) left (law.limit (t ∷ ts) left d)
 
-    swap_barred : (front : List T) (t u : T) (rest rest' : List T) (o : Result A FaultKind) → is_number alphabet t ≡ true → alphabet.class u ≡ alphabet.class t → barred (front ++ t ∷ rest) ≡ ends o (t ∷ rest) → Swapped o (barred (front ++ u ∷ rest')) u rest'
+    swap_barred : (front : List T) (t u : T) (rest rest' : List T) (o : Result A FaultKind) → is_number alphabet t ≡ true → alphabet.class u ≡ alphabet.class t → barred (front ++ t ∷ rest) ≡ ends o (t ∷ rest) → Swapped (is_literal alphabet t) o (barred (front ++ u ∷ rest')) u rest'
     swap_barred [] t u rest rest' o n n' d = by_test (begins t) (begins u) (alike t u n n') o d
       where
-        refuses : (k : FaultKind) → Swapped {A = A} (Err k) (fault_at Limit (u ∷ rest')) u rest'
+        refuses : (k : FaultKind) → Swapped {A = A} (is_literal alphabet t) (Err k) (fault_at Limit (u ∷ rest')) u rest'
         refuses Number = tt
         refuses Syntax = (Limit, refl)
         refuses Profile = (Limit, refl)
-        refuses Limit = tt
-
-        bounded : (k : FaultKind) (r : Result (A × List T) Fault) → Limit ≡ k → Swapped {A = A} (Err k) r u rest'
-        bounded k r e = subst (λ (x : FaultKind). Swapped {A = A} (Err x) r u rest') e tt
-
-        same_or : (b b' : Bool) → (b ≡ b') ⊎ (empty ≡ false) → b ≡ false → b' ≡ true → empty ≡ false
-        same_or true b' e p q = absurd cc
-        same_or false true (inl e) p q = absurd cc
-        same_or false true (inr e) p q = e
-        same_or false false e p q = absurd cc
+        refuses Limit = λ _. (Limit, refl)
 
         both : true ≡ false → ⊥
         both e = cc
+
+        -- only a literal may be past a limit where others of its class aren't
+        bounded : (k : FaultKind) (r : Result (A × List T) Fault) → Limit ≡ k → is_literal alphabet t ≡ true → Swapped {A = A} (is_literal alphabet t) (Err k) r u rest'
+        bounded k r e l = subst (λ (x : FaultKind). Swapped {A = A} (is_literal alphabet t) (Err x) r u rest') e (λ n. absurd (both (sym l ∙ n)))
+
+        literal_or : (b b' : Bool) → (b ≡ b') ⊎ ((empty ≡ false) × (b ≡ true → is_literal alphabet t ≡ true)) → b ≡ true → b' ≡ false → is_literal alphabet t ≡ true
+        literal_or true true e p q = absurd cc
+        literal_or true false (inl e) p q = absurd cc
+        literal_or true false (inr e) p q = e.1 refl
+        literal_or false b' e p q = absurd cc
+
+        same_or : (b b' : Bool) → (b ≡ b') ⊎ ((empty ≡ false) × (b ≡ true → is_literal alphabet t ≡ true)) → b ≡ false → b' ≡ true → empty ≡ false
+        same_or true b' e p q = absurd cc
+        same_or false true (inl e) p q = absurd cc
+        same_or false true (inr e) p q = e.0
+        same_or false false e p q = absurd cc
 
         -- nothing isn't read, so the token is
         taken : (a : A) (front : List T) → t ∷ rest ≡ front ++ t ∷ rest → g front a → empty ≡ false → ⊥
         taken a [] e s p = both (sym (law.nothing a s) ∙ p)
         taken a (v ∷ front) e s p = omega (arith, ap length e, length-append front (t ∷ rest))
 
-        by_test : (b b' : Bool) → (b ≡ b') ⊎ (empty ≡ false) → (o : Result A FaultKind) → cond b (fault_at Limit (t ∷ rest)) (f (t ∷ rest)) ≡ ends o (t ∷ rest) → Swapped o (cond b' (fault_at Limit (u ∷ rest')) (f (u ∷ rest'))) u rest'
+        by_test : (b b' : Bool) → (b ≡ b') ⊎ ((empty ≡ false) × (b ≡ true → is_literal alphabet t ≡ true)) → (o : Result A FaultKind) → cond b (fault_at Limit (t ∷ rest)) (f (t ∷ rest)) ≡ ends o (t ∷ rest) → Swapped (is_literal alphabet t) o (cond b' (fault_at Limit (u ∷ rest')) (f (u ∷ rest'))) u rest'
         by_test true false e (Ok a) d = absurd cc
-        by_test true false e (Err k) d = bounded k (f (u ∷ rest')) (ap (λ (x : Fault). x.kind) (wrong_is (record { left = length (t ∷ rest); kind = Limit }) (record { left = length (t ∷ rest); kind = k }) d))
+        by_test true false e (Err k) d = bounded k (f (u ∷ rest')) (ap (λ (x : Fault). x.kind) (wrong_is (record { left = length (t ∷ rest); kind = Limit }) (record { left = length (t ∷ rest); kind = k }) d)) (literal_or true false e refl refl)
         by_test false true e (Ok a) d = let s = law.sound (t ∷ rest) (t ∷ rest) a d in absurd (taken a s.0 s.1 s.2 (same_or false true e refl refl))
         by_test false true e (Err k) d = refuses k
         by_test true true e (Ok a) d = absurd cc
@@ -1126,7 +1145,7 @@ module _ {T : Type 0} (alphabet : Alphabet T) where
         by_test false false e o d = law.swap [] t u rest rest' o n n' d
     swap_barred (v ∷ front) t u rest rest' o n n' d = by_test (begins v) d
       where
-        by_test : (b : Bool) → cond b (fault_at Limit (v ∷ (front ++ t ∷ rest))) (f (v ∷ (front ++ t ∷ rest))) ≡ ends o (t ∷ rest) → Swapped o (cond b (fault_at Limit (v ∷ (front ++ u ∷ rest'))) (f (v ∷ (front ++ u ∷ rest')))) u rest'
+        by_test : (b : Bool) → cond b (fault_at Limit (v ∷ (front ++ t ∷ rest))) (f (v ∷ (front ++ t ∷ rest))) ≡ ends o (t ∷ rest) → Swapped (is_literal alphabet t) o (cond b (fault_at Limit (v ∷ (front ++ u ∷ rest'))) (f (v ∷ (front ++ u ∷ rest')))) u rest'
         by_test true d = absurd (apart_ends o v front t rest d)
         by_test false d = law.swap (v ∷ front) t u rest rest' o n n' d
 
@@ -1136,12 +1155,12 @@ module _ {T : Type 0} (alphabet : Alphabet T) where
     nothing_barred : (a : A) → wide [] a → empty ≡ true
     nothing_barred a s = elim (under [] a s) [ inl x ↦ law.broad.nothing a x | inr e ↦ absurd e ]
 
-    reads_narrow : (front rest : List T) (a : A) → narrow front a → Stops (λ t. more t || begins t) rest → UpTo (barred (front ++ rest)) (reads a rest)
+    reads_narrow : (front rest : List T) (a : A) → narrow front a → Stops (λ t. more t || begins t) rest → UpTo alphabet (front ++ rest) (barred (front ++ rest)) (reads a rest)
     reads_narrow [] [] a s d = law.broad.reads [] [] a s tt
-    reads_narrow [] (t ∷ rest) a s d = subst (λ (y : Result (A × List T) Fault). UpTo y (reads a (t ∷ rest))) (sym (free t rest (or_false (more t) (begins t) d).1)) (law.broad.reads [] (t ∷ rest) a s (stops_more (t ∷ rest) d))
-    reads_narrow (t ∷ front) rest a s d = subst (λ (y : Result (A × List T) Fault). UpTo y (reads a rest)) (sym (free t (front ++ rest) (without t (law.broad.starts t front a s)))) (law.broad.reads (t ∷ front) rest a s (stops_more rest d))
+    reads_narrow [] (t ∷ rest) a s d = subst (λ (y : Result (A × List T) Fault). UpTo alphabet (t ∷ rest) y (reads a (t ∷ rest))) (sym (free t rest (or_false (more t) (begins t) d).1)) (law.broad.reads [] (t ∷ rest) a s (stops_more (t ∷ rest) d))
+    reads_narrow (t ∷ front) rest a s d = subst (λ (y : Result (A × List T) Fault). UpTo alphabet (t ∷ (front ++ rest)) y (reads a rest)) (sym (free t (front ++ rest) (without t (law.broad.starts t front a s)))) (law.broad.reads (t ∷ front) rest a s (stops_more rest d))
 
-    reads_begun : (front rest : List T) (a : A) → Begun begins front → UpTo (barred (front ++ rest)) (reads a rest)
+    reads_begun : (front rest : List T) (a : A) → Begun begins front → UpTo alphabet (front ++ rest) (barred (front ++ rest)) (reads a rest)
     reads_begun [] rest a e = absurd e
     reads_begun (t ∷ front) rest a e = limit_up t (front ++ rest) (barred (t ∷ (front ++ rest))) (reads a rest) (rw e refl)
 

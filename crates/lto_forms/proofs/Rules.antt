@@ -4,7 +4,7 @@ use Rattle.std.proofs.lemmas.List.{length-append}
 use Rattle.lto_forms.specs.declared.fault.Fault.{Fault}
 use Rattle.lto_forms.specs.declared.fault.FaultKind.{FaultKind}
 use Rattle.lto_forms.specs.declared.fault.FaultKind.TheVariants.{Syntax, Profile, Number, Limit}
-use Rattle.lto_forms.specs.Alphabet.{Alphabet, AllReal, among, contains, is_number}
+use Rattle.lto_forms.specs.Alphabet.{Alphabet, AllReal, among, contains, is_literal, is_number}
 use Rattle.lto_forms.specs.Forms as form
 use Rattle.lto_forms.specs.Forms.{Form, Many, upto, optional}
 use Rattle.lto_forms.specs.Lawful.{Broad, IsRanged, SameRefusal, UpTo}
@@ -32,6 +32,10 @@ not_true false h e = cc
 
 same : (n m : ℕ) → nat_eq n m ≡ true → n ≡ m
 same n m h = grind arith
+
+is_false : (b : Bool) → (b ≡ true → ⊥) → b ≡ false
+is_false true never = absurd (never refl)
+is_false false never = refl
 
 pub apart_from : (xs ys : List ℕ) → disjoint xs ys ≡ true → (n : ℕ) → contains xs n ≡ true → contains ys n ≡ true → ⊥
 apart_from [] ys h n p q = cc
@@ -265,10 +269,6 @@ module _ {T : Type 0} (alphabet : Alphabet T) where
         sample (value sample) (both_true (among alphabet wanted sample) (test sample) (value sample) (refusal (alphabet.class sample)) s q) rl;
   }
     where
-      is_false : (b : Bool) → (b ≡ true → ⊥) → b ≡ false
-      is_false true never = absurd (never refl)
-      is_false false never = refl
-
       both_true : (b c : Bool) (a : A) (k : FaultKind) → b ≡ true → c ≡ true → cond (b && c) (Ok a) (Err k) ≡ Ok a
       both_true true true a k p q = refl
       both_true true false a k p q = absurd cc
@@ -332,10 +332,10 @@ module _ {T : Type 0} (alphabet : Alphabet T) where
   abbrev good : {A : Type 0} → A → Result A FaultKind
   good x = Ok x
 
-  -- a token of several classes, whatever number it writes
-  pub any_broad : {A : Type 0} (refusal : ℕ → FaultKind) (wanted : List ℕ) (value : T → Option A) (any : T → A) → ((t : T) (a : A) → value t ≡ Some a → a ≡ any t) → Broad (form.token (is_among alphabet refusal wanted any)) (token_at (is_valued alphabet refusal wanted value)) (among alphabet wanted) (among alphabet []) false
+  -- a name of several classes, whatever number it writes
+  pub any_broad : {A : Type 0} (refusal : ℕ → FaultKind) (wanted : List ℕ) (value : T → Option A) (any : T → A) → ((t : T) (a : A) → value t ≡ Some a → a ≡ any t) → disjoint wanted alphabet.literals ≡ true → Broad alphabet (form.token (is_among alphabet refusal wanted any)) (token_at (is_valued alphabet refusal wanted value)) (among alphabet wanted) (among alphabet []) false
   unfolding is_among is_valued
-  any_broad {A} refusal wanted value any same' = record { starts = starts; nothing = λ a s. absurd s; reads = λ front rest a s d. reads front rest a s }
+  any_broad {A} refusal wanted value any same' names = record { starts = starts; nothing = λ a s. absurd s; reads = λ front rest a s d. reads front rest a s }
     where
       same_right : (x y : A) → good x ≡ good y → x ≡ y
       same_right x y e = cc
@@ -344,17 +344,20 @@ module _ {T : Type 0} (alphabet : Alphabet T) where
       starts t [] a s = test_ok (among alphabet wanted t) (any t) a (refusal (alphabet.class t)) s
       starts t (u ∷ ts) a s = absurd s
 
-      by_value : (t : T) (rest : List T) (a : A) (o : Option A) → value t ≡ o → any t ≡ a → UpTo (token_means t rest (in_range o)) (Ok (a, rest))
-      by_value t rest a None q e = inr (length (t ∷ rest), Number, tt, refl)
-      by_value t rest a (Some b) q e = inl (ap (λ (x : A). Ok (x, rest)) (same' t b q ∙ e))
+      is_name : (t : T) → among alphabet wanted t ≡ true → is_literal alphabet t ≡ false
+      is_name t p = is_false (is_literal alphabet t) (λ q. apart_from wanted alphabet.literals names (alphabet.class t) p q)
 
-      by_test : (t : T) (rest : List T) (a : A) (c : Bool) → cond c (Ok (any t)) (Err (refusal (alphabet.class t))) ≡ Ok a → UpTo (token_means t rest (cond c (in_range (value t)) (Err (refusal (alphabet.class t))))) (Ok (a, rest))
-      by_test t rest a true h = by_value t rest a (value t) refl (same_right (any t) a h)
-      by_test t rest a false h = absurd cc
+      by_value : (t : T) (rest : List T) (a : A) (o : Option A) → among alphabet wanted t ≡ true → value t ≡ o → any t ≡ a → UpTo alphabet (t ∷ rest) (token_means t rest (in_range o)) (Ok (a, rest))
+      by_value t rest a None p q e = inr (record { front = []; bad = t; rest = rest; kind = Number; whole = refl; bound = tt; named = λ d. is_name t p; ends = refl })
+      by_value t rest a (Some b) p q e = inl (ap (λ (x : A). Ok (x, rest)) (same' t b q ∙ e))
 
-      reads : (front rest : List T) (a : A) → form.token (is_among alphabet refusal wanted any) front a → UpTo (token_at (is_valued alphabet refusal wanted value) (front ++ rest)) (Ok (a, rest))
+      by_test : (t : T) (rest : List T) (a : A) (c : Bool) → among alphabet wanted t ≡ c → cond c (Ok (any t)) (Err (refusal (alphabet.class t))) ≡ Ok a → UpTo alphabet (t ∷ rest) (token_means t rest (cond c (in_range (value t)) (Err (refusal (alphabet.class t))))) (Ok (a, rest))
+      by_test t rest a true p h = by_value t rest a (value t) p refl (same_right (any t) a h)
+      by_test t rest a false p h = absurd cc
+
+      reads : (front rest : List T) (a : A) → form.token (is_among alphabet refusal wanted any) front a → UpTo alphabet (front ++ rest) (token_at (is_valued alphabet refusal wanted value) (front ++ rest)) (Ok (a, rest))
       reads [] rest a s = absurd s
-      reads (t ∷ []) rest a s = by_test t rest a (among alphabet wanted t) s
+      reads (t ∷ []) rest a s = by_test t rest a (among alphabet wanted t) refl s
       reads (t ∷ u ∷ front) rest a s = absurd s
 
   -- ---- tokens that begin something of a form

@@ -4,7 +4,7 @@ use Rattle.std.proofs.lemmas.List.{length-append}
 use Rattle.lto_forms.specs.declared.fault.Fault.{Fault}
 use Rattle.lto_forms.specs.declared.fault.FaultKind.{FaultKind}
 use Rattle.lto_forms.specs.declared.fault.FaultKind.TheVariants.{Syntax, Number, Limit}
-use Rattle.lto_forms.specs.Alphabet.{Alphabet, is_number}
+use Rattle.lto_forms.specs.Alphabet.{Alphabet, is_literal, is_number}
 use Rattle.lto_forms.specs.Lawful.{Lawful, GoesOn, Swapped, ends}
 use Rattle.lto_forms.specs.Readers.{fault_at}
 use Rattle.lto_forms.specs.Runs.{Step, bad, last, onward, Run, run_at, HaveEnds}
@@ -91,24 +91,24 @@ module _ {T S : Type 0} (alphabet : Alphabet T) (step : S → T → Step S) (hav
       by_step last again h = local_last front t rest rest' o h
       by_step (onward next) again h = again next h
 
-  swap_last : (front : List T) (t u : T) (rest rest' : List T) (o : Result (Unit {0}) FaultKind) → reads tt (front ++ t ∷ rest) ≡ ends o (t ∷ rest) → Swapped o (reads tt (front ++ u ∷ rest')) u rest'
+  swap_last : (front : List T) (t u : T) (rest rest' : List T) (o : Result (Unit {0}) FaultKind) → reads tt (front ++ t ∷ rest) ≡ ends o (t ∷ rest) → Swapped (is_literal alphabet t) o (reads tt (front ++ u ∷ rest')) u rest'
   swap_last front t u rest rest' (Ok x) h =
       let c = cut_is front (t ∷ rest) [] (t ∷ rest) (reads_is tt x (front ++ t ∷ rest) (t ∷ rest) h).1 refl in
       ap (λ (y : List T). reads tt (y ++ u ∷ rest')) c.0
   swap_last front t u rest rest' (Err k) h = absurd cc
 
-  swap_run : (s : S) (front : List T) (t u : T) (rest rest' : List T) (o : Result (Unit {0}) FaultKind) → is_number alphabet t ≡ true → alphabet.class u ≡ alphabet.class t → run_at step s (front ++ t ∷ rest) ≡ ends o (t ∷ rest) → Swapped o (run_at step s (front ++ u ∷ rest')) u rest'
+  swap_run : (s : S) (front : List T) (t u : T) (rest rest' : List T) (o : Result (Unit {0}) FaultKind) → is_number alphabet t ≡ true → alphabet.class u ≡ alphabet.class t → run_at step s (front ++ t ∷ rest) ≡ ends o (t ∷ rest) → Swapped (is_literal alphabet t) o (run_at step s (front ++ u ∷ rest')) u rest'
   swap_run s [] t u rest rest' o n n' h = by_step (step s t) refl o h
     where
-      by_step : (p : Step S) → step s t ≡ p → (o : Result (Unit {0}) FaultKind) → read p t rest ≡ ends o (t ∷ rest) → Swapped o (run_at step s (u ∷ rest')) u rest'
+      by_step : (p : Step S) → step s t ≡ p → (o : Result (Unit {0}) FaultKind) → read p t rest ≡ ends o (t ∷ rest) → Swapped (is_literal alphabet t) o (run_at step s (u ∷ rest')) u rest'
       by_step bad d o h = absurd (have.number_fits s t n d)
       by_step last d (Ok x) h = absurd (omega (arith, ap length (reads_is tt x rest (t ∷ rest) h).1))
       by_step last d (Err k) h = absurd cc
       by_step (onward next) d o h = absurd (not_here next rest t o h)
   swap_run s (v ∷ front) t u rest rest' o n n' h = by_step (step s v) (λ next. swap_run next front t u rest rest' o n n') h
     where
-      by_step : (p : Step S) → ((next : S) → run_at step next (front ++ t ∷ rest) ≡ ends o (t ∷ rest) → Swapped o (run_at step next (front ++ u ∷ rest')) u rest')
-          → read p v (front ++ t ∷ rest) ≡ ends o (t ∷ rest) → Swapped o (read p v (front ++ u ∷ rest')) u rest'
+      by_step : (p : Step S) → ((next : S) → run_at step next (front ++ t ∷ rest) ≡ ends o (t ∷ rest) → Swapped (is_literal alphabet t) o (run_at step next (front ++ u ∷ rest')) u rest')
+          → read p v (front ++ t ∷ rest) ≡ ends o (t ∷ rest) → Swapped (is_literal alphabet t) o (read p v (front ++ u ∷ rest')) u rest'
       by_step bad again h = absurd (not_so_long o front v t rest h)
       by_step last again h = swap_last front t u rest rest' o h
       by_step (onward next) again h = again next h

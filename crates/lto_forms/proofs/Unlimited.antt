@@ -3,7 +3,7 @@ use Rattle.std.proofs.Common.{◌≡◌, ℕ, zero, suc, ◌+◌, ◌≤◌, Boo
 use Rattle.std.proofs.lemmas.List.{append-nil, length-append}
 use Rattle.lto_forms.specs.declared.fault.Fault.{Fault}
 use Rattle.lto_forms.specs.declared.fault.FaultKind.{FaultKind}
-use Rattle.lto_forms.specs.Alphabet.{Alphabet, is_number}
+use Rattle.lto_forms.specs.Alphabet.{Alphabet, is_literal, is_number}
 use Rattle.lto_forms.specs.Forms as form
 use Rattle.lto_forms.specs.Forms.{Form, Many, Star}
 use Rattle.lto_forms.specs.Faults.{LimitGoesOn}
@@ -140,7 +140,7 @@ module _ {T : Type 0} (alphabet : Alphabet T) {A : Type 0} (g wide : Form T A) (
     broad = record {
       starts = λ t ts as' s. (first_lawful (length (t ∷ ts))).broad.starts t ts as' (from_star wide some_wide (length (t ∷ ts)) (t ∷ ts) as' (omega arith) s);
       nothing = λ as' s. refl;
-      reads = λ front rest as' s d. subst (λ (y : Result (List A × List T) Fault). UpTo y (Ok (as', rest))) (are_first (length (front ++ rest)) (front ++ rest) (omega arith)) ((first_lawful (length (front ++ rest))).broad.reads front rest as' (from_star wide some_wide (length (front ++ rest)) front as' (omega (arith, length-append front rest)) s) d);
+      reads = λ front rest as' s d. subst (λ (y : Result (List A × List T) Fault). UpTo alphabet (front ++ rest) y (Ok (as', rest))) (are_first (length (front ++ rest)) (front ++ rest) (omega arith)) ((first_lawful (length (front ++ rest))).broad.reads front rest as' (from_star wide some_wide (length (front ++ rest)) front as' (omega (arith, length-append front rest)) s) d);
     };
   }
     where
@@ -150,8 +150,8 @@ module _ {T : Type 0} (alphabet : Alphabet T) {A : Type 0} (g wide : Form T A) (
           let one = (first_lawful n).local front t rest rest' o (are_first n (front ++ t ∷ rest) (omega arith) ∙ d) in
           sym (are_first n (front ++ t ∷ rest') (omega arith)) ∙ one
 
-      swap_all : (front : List T) (t u : T) (rest rest' : List T) (o : Result (List A) FaultKind) → is_number alphabet t ≡ true → alphabet.class u ≡ alphabet.class t → star_at begins f (front ++ t ∷ rest) ≡ ends o (t ∷ rest) → Swapped o (star_at begins f (front ++ u ∷ rest')) u rest'
+      swap_all : (front : List T) (t u : T) (rest rest' : List T) (o : Result (List A) FaultKind) → is_number alphabet t ≡ true → alphabet.class u ≡ alphabet.class t → star_at begins f (front ++ t ∷ rest) ≡ ends o (t ∷ rest) → Swapped (is_literal alphabet t) o (star_at begins f (front ++ u ∷ rest')) u rest'
       swap_all front t u rest rest' o n n' d =
           let m : ℕ = length (front ++ t ∷ rest) + length (front ++ u ∷ rest') in
           let one = (first_lawful m).swap front t u rest rest' o n n' (are_first m (front ++ t ∷ rest) (omega arith) ∙ d) in
-          subst (λ (y : Result (List A × List T) Fault). Swapped o y u rest') (are_first m (front ++ u ∷ rest') (omega arith)) one
+          subst (λ (y : Result (List A × List T) Fault). Swapped (is_literal alphabet t) o y u rest') (are_first m (front ++ u ∷ rest') (omega arith)) one

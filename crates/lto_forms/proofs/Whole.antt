@@ -1,5 +1,5 @@
 -- What reading all tokens says of the form, and where a reading stops.
-use Rattle.std.proofs.Common.{◌≡◌, ℕ, Bool, List, [], ◌∷◌, ◌++◌, length, Result, Ok, Err, refl, sym, ap, subst, ◌∙◌, append_assoc}
+use Rattle.std.proofs.Common.{◌≡◌, ℕ, Bool, false, List, [], ◌∷◌, ◌++◌, length, Result, Ok, Err, refl, sym, ap, subst, ◌∙◌, append_assoc}
 use Rattle.std.specs.Prelude.{IfOk, IfErr}
 use Rattle.std.proofs.lemmas.List.{append-nil}
 use Rattle.lto_forms.specs.declared.fault.Fault.{Fault}
@@ -7,8 +7,8 @@ use Rattle.lto_forms.specs.declared.fault.FaultKind.{FaultKind}
 use Rattle.lto_forms.specs.declared.fault.FaultKind.TheVariants.{Syntax, Profile, Number, Limit}
 use Rattle.lto_forms.specs.declared.fault.ReadError.{ReadError}
 use Rattle.lto_forms.specs.declared.fault.ReadError.TheVariants as errors
-use Rattle.lto_forms.specs.Alphabet.{Alphabet}
-use Rattle.lto_forms.specs.Faults.{Extends, NoNumberGoesOn, FitsKind, Dead, StopsAt, IfFault}
+use Rattle.lto_forms.specs.Alphabet.{Alphabet, is_literal}
+use Rattle.lto_forms.specs.Faults.{Extends, NoNameGoesOn, NoNumberGoesOn, FitsKind, Dead, StopsAt, IfFault}
 use Rattle.lto_forms.specs.Forms.{Form}
 use Rattle.lto_forms.specs.Lawful.{ends, Swapped, Lawful}
 use Rattle.lto_forms.specs.Readers.{Reader, fault_at, Gives, ended, whole_of}
@@ -121,15 +121,19 @@ module _ {T : Type 0} (alphabet : Alphabet T) where
         apart a us (Ok b) e = never us (reads_is a b [] (u ∷ us) e).1
         apart a us (Err k) e = cc
 
-    of_swapped : (k : FaultKind) (r : Result (A × List T) Fault) (u : T) (rest : List T) → (k ≡ Number → ⊥) → (k ≡ Limit → ⊥) → Swapped {A = A} (Err k) r u rest → (o : Result A FaultKind) × (r ≡ ends o (u ∷ rest))
-    of_swapped Number r u rest never bounded s = absurd (never refl)
-    of_swapped Syntax r u rest never bounded s = (Err s.0, s.1)
-    of_swapped Profile r u rest never bounded s = (Err s.0, s.1)
-    of_swapped Limit r u rest never bounded s = absurd (bounded refl)
+    of_swapped : (literal : Bool) (k : FaultKind) (r : Result (A × List T) Fault) (u : T) (rest : List T) → (k ≡ Number → ⊥) → (k ≡ Limit → literal ≡ false) → Swapped {A = A} literal (Err k) r u rest → (o : Result A FaultKind) × (r ≡ ends o (u ∷ rest))
+    of_swapped literal Number r u rest never named s = absurd (never refl)
+    of_swapped literal Syntax r u rest never named s = (Err s.0, s.1)
+    of_swapped literal Profile r u rest never named s = (Err s.0, s.1)
+    of_swapped literal Limit r u rest never named s = let w = s (named refl) in (Err w.0, w.1)
 
     no_number_err : (ts : List T) (left : ℕ) (k : FaultKind) → (k ≡ Number → ⊥) → (k ≡ Limit → ⊥) → f ts ≡ wrong (record { left = left; kind = k }) → NoNumberGoesOn alphabet g ts left
     no_number_err ts left k never bounded h front t rest whole here n u m =
-        swapped_dead front u (λ rest'. of_swapped k (f (front ++ u ∷ rest')) u rest' never bounded (law.swap front t u rest rest' (Err k) n m (ap f (sym whole) ∙ h ∙ ap (λ (l : ℕ). wrong (record { left = l; kind = k })) (sym here))))
+        swapped_dead front u (λ rest'. of_swapped (is_literal alphabet t) k (f (front ++ u ∷ rest')) u rest' never (λ e. absurd (bounded e)) (law.swap front t u rest rest' (Err k) n m (ap f (sym whole) ∙ h ∙ ap (λ (l : ℕ). wrong (record { left = l; kind = k })) (sym here))))
+
+    no_name_err : (ts : List T) (left : ℕ) → f ts ≡ wrong (record { left = left; kind = Limit }) → NoNameGoesOn alphabet g ts left
+    no_name_err ts left h front t rest whole here n l u m =
+        swapped_dead front u (λ rest'. of_swapped (is_literal alphabet t) Limit (f (front ++ u ∷ rest')) u rest' (λ e. cc) (λ e. l) (law.swap front t u rest rest' (Err Limit) n m (ap f (sym whole) ∙ h ∙ ap (λ (l : ℕ). wrong (record { left = l; kind = Limit })) (sym here))))
 
     no_number_ok : (ts : List T) (v : T) (vs : List T) (a : A) → f ts ≡ reads a (v ∷ vs) → NoNumberGoesOn alphabet g ts (length (v ∷ vs))
     no_number_ok ts v vs a h front t rest whole here n u m =
@@ -144,7 +148,7 @@ module _ {T : Type 0} (alphabet : Alphabet T) where
         by_kind Number d = law.number ts e.left (h ∙ ap (λ (k : FaultKind). wrong (record { left = e.left; kind = k })) d)
         by_kind Syntax d = no_number_err ts e.left Syntax (λ x. cc) (λ x. cc) (h ∙ ap (λ (k : FaultKind). wrong (record { left = e.left; kind = k })) d)
         by_kind Profile d = no_number_err ts e.left Profile (λ x. cc) (λ x. cc) (h ∙ ap (λ (k : FaultKind). wrong (record { left = e.left; kind = k })) d)
-        by_kind Limit d = tt
+        by_kind Limit d = no_name_err ts e.left (h ∙ ap (λ (k : FaultKind). wrong (record { left = e.left; kind = k })) d)
 
     kind_ended : (ts rest : List T) (a : A) (e : Fault) → f ts ≡ reads a rest → ended extra a rest ≡ wrong e → FitsKind alphabet g ts e.left e.kind
     kind_ended ts [] a e h d = absurd cc
@@ -155,7 +159,7 @@ module _ {T : Type 0} (alphabet : Alphabet T) where
         by_kind Number never = absurd (never refl)
         by_kind Syntax never = no_number_ok ts t rest a h
         by_kind Profile never = no_number_ok ts t rest a h
-        by_kind Limit never = tt
+        by_kind Limit never = λ front t' rest' whole here n l. no_number_ok ts t rest a h front t' rest' whole here n
 
     kind_result : (ts : List T) (e : Fault) (r : Result (A × List T) Fault) → f ts ≡ r → whole_of extra r ≡ wrong e → FitsKind alphabet g ts e.left e.kind
     kind_result ts e (Ok x) h d = kind_ended ts x.1 x.0 e h d

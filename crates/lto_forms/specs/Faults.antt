@@ -1,11 +1,11 @@
 -- The first token at which no reading goes on, and the kind of a fault there.
-use Rattle.std.specs.Prelude.{◌≡◌, ℕ, true, List, [], ◌∷◌, ◌++◌, length}
+use Rattle.std.specs.Prelude.{◌≡◌, ℕ, true, false, List, [], ◌∷◌, ◌++◌, length}
 use Rattle.lto_forms.specs.declared.fault.Fault.{Fault}
 use Rattle.lto_forms.specs.declared.fault.FaultKind.{FaultKind}
 use Rattle.lto_forms.specs.declared.fault.FaultKind.TheVariants.{Syntax, Profile, Number, Limit}
 use Rattle.lto_forms.specs.declared.fault.ReadError.{ReadError}
 use Rattle.lto_forms.specs.declared.fault.ReadError.TheVariants as errors
-use Rattle.lto_forms.specs.Alphabet.{Alphabet, AllReal, is_number}
+use Rattle.lto_forms.specs.Alphabet.{Alphabet, AllReal, is_literal, is_number}
 use Rattle.lto_forms.specs.Forms.{Form}
 
 -- some continuation of these tokens is of the form
@@ -50,13 +50,18 @@ module _ {T : Type 0} (alphabet : Alphabet T) where
   abbrev pub NoNumberGoesOn : {A : Type 0} → Form T A → List T → ℕ → Type 0
   NoNumberGoesOn g ts left = (front : List T) (t : T) (rest : List T) → ts ≡ front ++ t ∷ rest → length (t ∷ rest) ≡ left → is_number alphabet t ≡ true → (u : T) → alphabet.class u ≡ alphabet.class t → Extends g (front ++ u ∷ []) → ⊥
 
+  -- the same where it is no literal
+  abbrev pub NoNameGoesOn : {A : Type 0} → Form T A → List T → ℕ → Type 0
+  NoNameGoesOn g ts left =
+      (front : List T) (t : T) (rest : List T) → ts ≡ front ++ t ∷ rest → length (t ∷ rest) ≡ left → is_number alphabet t ≡ true → is_literal alphabet t ≡ false → (u : T) → alphabet.class u ≡ alphabet.class t → Extends g (front ++ u ∷ []) → ⊥
+
   -- a fault is a number out of range only where a token that writes another, of the same class, goes on there; where one does, it is
-  -- that or a limit
+  -- that, or of a literal a limit
   abbrev pub FitsKind : {A : Type 0} → Form T A → List T → ℕ → FaultKind → Type 0
   FitsKind g ts left Number = NumberGoesOn g ts left
   FitsKind g ts left Syntax = NoNumberGoesOn g ts left
   FitsKind g ts left Profile = NoNumberGoesOn g ts left
-  FitsKind g ts left Limit = Unit {0}
+  FitsKind g ts left Limit = NoNameGoesOn g ts left
 
   -- without the limits the first of the last tokens, so many, goes on
   pub record LimitGoesOn {A : Type 0} (wide : Form T A) (ts : List T) (left : ℕ) : Type 0 where
@@ -74,10 +79,15 @@ module _ {T : Type 0} (alphabet : Alphabet T) where
   abbrev pub NoneGoesOn : {A : Type 0} → Form T A → List T → ℕ → Type 0
   NoneGoesOn wide ts left = (front : List T) (t : T) (rest : List T) → ts ≡ front ++ t ∷ rest → length (t ∷ rest) ≡ left → Extends wide (front ++ t ∷ []) → ⊥
 
-  -- without the limits none goes on with the token, unless the fault is of a limit, or of a number that is out of range
+  -- the same where it is a literal
+  abbrev pub NoLiteralGoesOn : {A : Type 0} → Form T A → List T → ℕ → Type 0
+  NoLiteralGoesOn wide ts left =
+      (front : List T) (t : T) (rest : List T) → ts ≡ front ++ t ∷ rest → length (t ∷ rest) ≡ left → is_literal alphabet t ≡ true → Extends wide (front ++ t ∷ []) → ⊥
+
+  -- without the limits none goes on with the token, unless the fault is of a limit, or of a name whose number is out of range
   abbrev pub FitsBound : {A : Type 0} → Form T A → List T → ℕ → FaultKind → Type 0
   FitsBound wide ts left Limit = LimitGoesOn wide ts left
-  FitsBound wide ts left Number = Unit {0}
+  FitsBound wide ts left Number = NoLiteralGoesOn wide ts left
   FitsBound wide ts left Syntax = NoneGoesOn wide ts left
   FitsBound wide ts left Profile = NoneGoesOn wide ts left
 

@@ -15,7 +15,7 @@ class_of (closes n) = 1
 class_of plain = 2
 
 abbrev pub marks : Alphabet Mark
-marks = record { class = class_of; numerals = 2 ∷ []; Real = λ t. Unit {0} }
+marks = record { class = class_of; numerals = 2 ∷ []; literals = 2 ∷ []; Real = λ t. Unit {0} }
 
 abbrev pub move_of : Mark → Move ℕ
 move_of (opens n) = balanced.opens n

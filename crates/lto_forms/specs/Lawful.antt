@@ -3,7 +3,7 @@ use Rattle.std.specs.Prelude.{◌≡◌, ◌⊎◌, ℕ, Bool, true, false, List
 use Rattle.lto_forms.specs.declared.fault.Fault.{Fault}
 use Rattle.lto_forms.specs.declared.fault.FaultKind.{FaultKind}
 use Rattle.lto_forms.specs.declared.fault.FaultKind.TheVariants.{Syntax, Profile, Number, Limit}
-use Rattle.lto_forms.specs.Alphabet.{Alphabet, AllReal, is_number}
+use Rattle.lto_forms.specs.Alphabet.{Alphabet, AllReal, is_literal, is_number}
 use Rattle.lto_forms.specs.Faults.{NumberGoesOn, LimitGoesOn}
 use Rattle.lto_forms.specs.Forms.{Form}
 use Rattle.lto_forms.specs.Readers.{Reader, fault_at}
@@ -19,13 +19,13 @@ Stops more [] = Unit {0}
 Stops more (t ∷ ts) = more t ≡ false
 
 -- what reading gives where a token that writes another number stands in the place of the next one, which writes one: of a number
--- that is out of range, or past a limit, nothing is said
-abbrev pub Swapped : {T A : Type 0} → Result A FaultKind → Result (A × List T) Fault → T → List T → Type 0
-Swapped (Ok a) r u rest = r ≡ Ok (a, u ∷ rest)
-Swapped (Err Number) r u rest = Unit {0}
-Swapped (Err Syntax) r u rest = (k : FaultKind) × (r ≡ fault_at k (u ∷ rest))
-Swapped (Err Profile) r u rest = (k : FaultKind) × (r ≡ fault_at k (u ∷ rest))
-Swapped (Err Limit) r u rest = Unit {0}
+-- that is out of range, or of a literal past a limit, nothing is said
+abbrev pub Swapped : {T A : Type 0} → Bool → Result A FaultKind → Result (A × List T) Fault → T → List T → Type 0
+Swapped literal (Ok a) r u rest = r ≡ Ok (a, u ∷ rest)
+Swapped literal (Err Number) r u rest = Unit {0}
+Swapped literal (Err Syntax) r u rest = (k : FaultKind) × (r ≡ fault_at k (u ∷ rest))
+Swapped literal (Err Profile) r u rest = (k : FaultKind) × (r ≡ fault_at k (u ∷ rest))
+Swapped literal (Err Limit) r u rest = literal ≡ false → (k : FaultKind) × (r ≡ fault_at k (u ∷ rest))
 
 -- a refusal of a token that writes a number, but for its range or a limit, is a refusal of each of its class
 abbrev pub SameRefusal : {A : Type 0} → Result A FaultKind → Result A FaultKind → Type 0
@@ -42,17 +42,28 @@ IsBound Limit = Unit {0}
 IsBound Syntax = ⊥
 IsBound Profile = ⊥
 
--- the first is past a range or a limit, or they are one
-abbrev pub UpTo : {X : Type 0} → Result X Fault → Result X Fault → Type 0
-UpTo r free = (r ≡ free) ⊎ ((left : ℕ) × (kind : FaultKind) × IsBound kind × (r ≡ Err (record { left = left; kind = kind })))
-
--- What is spelled so without the limits begins with a token of first, or is empty, and f reads it up to a range or a limit.
-pub record Broad {T A : Type 0} (wide : Form T A) (f : Reader T A) (first more : T → Bool) (empty : Bool) : Type 0 where
-  pub starts : (t : T) (ts : List T) (a : A) → wide (t ∷ ts) a → first t ≡ true
-  pub nothing : (a : A) → wide [] a → empty ≡ true
-  pub reads : (front rest : List T) (a : A) → wide front a → Stops more rest → UpTo (f (front ++ rest)) (Ok (a, rest))
-
 module _ {T : Type 0} (alphabet : Alphabet T) where
+  -- a reading of these tokens is past a limit, or at a name whose number is out of range
+  pub record Bounded {X : Type 0} (ts : List T) (r : Result X Fault) : Type 0 where
+    pub front : List T
+    pub bad : T
+    pub rest : List T
+    pub kind : FaultKind
+    pub whole : ts ≡ front ++ bad ∷ rest
+    pub bound : IsBound kind
+    pub named : kind ≡ Number → is_literal alphabet bad ≡ false
+    pub ends : r ≡ Err (record { left = length (bad ∷ rest); kind = kind })
+
+  -- the first is so, or they are one
+  abbrev pub UpTo : {X : Type 0} → List T → Result X Fault → Result X Fault → Type 0
+  UpTo ts r free = (r ≡ free) ⊎ Bounded ts r
+
+  -- What is spelled so without the limits begins with a token of first, or is empty, and f reads it up to such a fault.
+  pub record Broad {A : Type 0} (wide : Form T A) (f : Reader T A) (first more : T → Bool) (empty : Bool) : Type 0 where
+    pub starts : (t : T) (ts : List T) (a : A) → wide (t ∷ ts) a → first t ≡ true
+    pub nothing : (a : A) → wide [] a → empty ≡ true
+    pub reads : (front rest : List T) (a : A) → wide front a → Stops more rest → UpTo (front ++ rest) (f (front ++ rest)) (Ok (a, rest))
+
   -- what stands before the last tokens, so many, goes on somehow to what the form has
   pub record GoesOn {A : Type 0} (g : Form T A) (ts : List T) (left : ℕ) : Type 0 where
     pub front : List T
@@ -88,11 +99,11 @@ module _ {T : Type 0} (alphabet : Alphabet T) where
     pub local : (front : List T) (t : T) (rest rest' : List T) (o : Result A FaultKind) → f (front ++ t ∷ rest) ≡ ends o (t ∷ rest) → f (front ++ t ∷ rest') ≡ ends o (t ∷ rest')
     -- where a number is out of range, another one goes on
     pub number : (ts : List T) (left : ℕ) → f ts ≡ Err (record { left = left; kind = Number }) → NumberGoesOn alphabet g ts left
-    -- a fault but of a range or a limit at a token that writes a number comes for each of its class there
-    pub swap : (front : List T) (t u : T) (rest rest' : List T) (o : Result A FaultKind) → is_number alphabet t ≡ true → alphabet.class u ≡ alphabet.class t → f (front ++ t ∷ rest) ≡ ends o (t ∷ rest) → Swapped o (f (front ++ u ∷ rest')) u rest'
+    -- a fault but of a range, or of a literal's limit, at a token that writes a number comes for each of its class there
+    pub swap : (front : List T) (t u : T) (rest rest' : List T) (o : Result A FaultKind) → is_number alphabet t ≡ true → alphabet.class u ≡ alphabet.class t → f (front ++ t ∷ rest) ≡ ends o (t ∷ rest) → Swapped (is_literal alphabet t) o (f (front ++ u ∷ rest')) u rest'
     -- what is spelled so is spelled so without the limits
     pub contains : (ts : List T) (a : A) → g ts a → wide ts a
     -- a fault of a limit stands where a reading without the limits goes on
     pub limit : (ts : List T) (left : ℕ) → f ts ≡ Err (record { left = left; kind = Limit }) → LimitGoesOn alphabet wide ts left
-    -- a reading without the limits is one of f, up to a range or a limit
+    -- a reading without the limits is one of f, up to a limit, or the number of a name
     pub broad : Broad wide f first more empty

@@ -24,7 +24,7 @@ class_of comma = 2
 class_of (numeral n) = 3
 
 abbrev pub signs : Alphabet Sign
-signs = record { class = class_of; numerals = 3 ∷ []; Real = λ t. Unit {0} }
+signs = record { class = class_of; numerals = 3 ∷ []; literals = 3 ∷ []; Real = λ t. Unit {0} }
 
 abbrev pub not_here : ℕ → FaultKind
 not_here n = Syntax

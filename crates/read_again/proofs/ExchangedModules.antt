@@ -265,17 +265,17 @@ module_exchanged front t rest k d e = by_result (all_at (front ++ t ∷ rest)) r
 
 -- ---- where a reading is stuck, none goes on without the limits
 
-module_broad : Broad any_module (items_at FURTHER_PARAMETERS GLOBAL_NAMES) (among tokens ITEM) (among tokens ANY) true
+module_broad : Broad tokens any_module (items_at FURTHER_PARAMETERS GLOBAL_NAMES) (among tokens ITEM) (among tokens ANY) true
 unfolding any_module
 module_broad = (items_rule FURTHER_PARAMETERS GLOBAL_NAMES).law.broad
 
 module_read : (ts : List Tok) (is : List Item) → any_module ts is → (module_of ts ≡ Ok is) ⊎ ((left : ℕ) × (k : FaultKind) × IsBound k × (module_of ts ≡ Err (record { left = left; kind = k })))
 unfolding module_of
-module_read ts is s = by_up (subst (λ (us : List Tok). UpTo (items_at FURTHER_PARAMETERS GLOBAL_NAMES us) (reads is [])) (append-nil ts) (module_broad.reads ts [] is s tt))
+module_read ts is s = by_up (subst (λ (us : List Tok). UpTo tokens us (items_at FURTHER_PARAMETERS GLOBAL_NAMES us) (reads is [])) (append-nil ts) (module_broad.reads ts [] is s tt))
   where
-    by_up : UpTo (items_at FURTHER_PARAMETERS GLOBAL_NAMES ts) (reads is []) → (whole_of item_refusal (items_at FURTHER_PARAMETERS GLOBAL_NAMES ts) ≡ Ok is) ⊎ ((left : ℕ) × (k : FaultKind) × IsBound k × (whole_of item_refusal (items_at FURTHER_PARAMETERS GLOBAL_NAMES ts) ≡ Err (record { left = left; kind = k })))
+    by_up : UpTo tokens ts (items_at FURTHER_PARAMETERS GLOBAL_NAMES ts) (reads is []) → (whole_of item_refusal (items_at FURTHER_PARAMETERS GLOBAL_NAMES ts) ≡ Ok is) ⊎ ((left : ℕ) × (k : FaultKind) × IsBound k × (whole_of item_refusal (items_at FURTHER_PARAMETERS GLOBAL_NAMES ts) ≡ Err (record { left = left; kind = k })))
     by_up (inl e) = inl (ap (whole_of item_refusal) e)
-    by_up (inr (left, k, b, e)) = inr (left, k, b, ap (whole_of item_refusal) e)
+    by_up (inr w) = inr (length (w.bad ∷ w.rest), w.kind, w.bound, ap (whole_of item_refusal) w.ends)
 
 -- behind these tokens a module is refused at this one
 abbrev Refused : List Tok → Tok → Type 0

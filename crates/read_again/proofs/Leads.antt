@@ -1,4 +1,5 @@
--- Tokens behind which each reading refuses a lifetime marker against the syntax, unless it ends at a range or a limit before.
+-- Tokens behind which each reading refuses a lifetime marker against the syntax, unless it ends at a limit, or the number of a name,
+-- before.
 use Rattle.std.proofs.Common.{◌≡◌, ℕ, zero, suc, ◌<◌, Bool, true, false, ◌&&◌, not, List, [], ◌∷◌, ◌++◌, length, Result, Ok, refl, sym, ap, subst, append_assoc, arith, inl, inr}
 use Rattle.std.proofs.lemmas.List.{length-append}
 use Rattle.ir_lex.specs.Tok.{Tok}
@@ -10,6 +11,7 @@ use Rattle.lto_forms.specs.Readers.{Reader, done, fault_at, follow, ◌>>=◌, m
 use Rattle.lto_forms.specs.Rules.{Rule, disjoint, subset}
 use Rattle.lto_forms.specs.declared.fault.Fault.{Fault}
 use Rattle.lto_forms.specs.declared.fault.FaultKind.TheVariants.{Syntax, Limit}
+use Rattle.lto_forms.proofs.Composed.{bounded_too, follow_up, limit_up}
 use Rattle.lto_forms.proofs.Rules.{apart_from, within_of}
 use Rattle.ir_read.specs.Classes.{tokens}
 use Rattle.ir_bodies.specs.CallsAt.{MARKER}
@@ -17,7 +19,7 @@ use Rattle.ir_bodies.specs.Successive.{successive_at}
 
 -- a reading of these tokens, and a marker behind them, ends at it against the syntax
 pub record Leads {A : Type 0} (f : Reader Tok A) (front : List Tok) : Type 0 where
-  pub ends : (t : Tok) (rest : List Tok) → among tokens MARKER t ≡ true → UpTo (f (front ++ t ∷ rest)) (fault_at Syntax (t ∷ rest))
+  pub ends : (t : Tok) (rest : List Tok) → among tokens MARKER t ≡ true → UpTo tokens (front ++ t ∷ rest) (f (front ++ t ∷ rest)) (fault_at Syntax (t ∷ rest))
 
 -- these tokens, or the marker, begin with one of these classes
 abbrev pub Opening : List ℕ → List Tok → Type 0
@@ -36,9 +38,9 @@ stops_nothing : (ts : List Tok) → Stops (among tokens []) ts
 stops_nothing [] = tt
 stops_nothing (t ∷ ts) = refl
 
--- f reads what is spelled so, up to a range or a limit: it begins with one of the classes first, and goes on at one of more
+-- f reads what is spelled so, up to a limit, or the number of a name: it begins with one of the classes first, and goes on at one of more
 pub record Reading {A : Type 0} (wide : Form Tok A) (f : Reader Tok A) (first more : List ℕ) (empty : Bool) : Type 0 where
-  pub broad : Broad wide f (among tokens first) (among tokens more) empty
+  pub broad : Broad tokens wide f (among tokens first) (among tokens more) empty
 
 pub reading : {A : Type 0} {g wide : Form Tok A} {f : Reader Tok A} {xs ms : List ℕ} {empty : Bool} → Rule tokens g wide f xs ms empty → Reading wide f xs ms empty
 reading rule = record { broad = rule.law.broad }
@@ -48,17 +50,13 @@ reading rule = record { broad = rule.law.broad }
 pub first_leads : {A B : Type 0} (f : Reader Tok A) (h : A → Reader Tok B) (front : List Tok) → Leads f front → Leads (f >>= h) front
 first_leads {A} f h front leads = record { ends = λ t rest m. by_result t rest (f (front ++ t ∷ rest)) (leads.ends t rest m) }
   where
-    by_result : (t : Tok) (rest : List Tok) (r : Result (A × List Tok) Fault) → UpTo r (fault_at Syntax (t ∷ rest)) → UpTo (follow r h) (fault_at Syntax (t ∷ rest))
+    by_result : (t : Tok) (rest : List Tok) (r : Result (A × List Tok) Fault) → UpTo tokens (front ++ t ∷ rest) r (fault_at Syntax (t ∷ rest)) → UpTo tokens (front ++ t ∷ rest) (follow r h) (fault_at Syntax (t ∷ rest))
     by_result t rest r (inl e) = inl (ap (λ (x : Result (A × List Tok) Fault). follow x h) e)
-    by_result t rest r (inr (left, k, b, e)) = inr (left, k, b, ap (λ (x : Result (A × List Tok) Fault). follow x h) e)
+    by_result t rest r (inr w) = inr (bounded_too (follow r h) (λ x d. ap (λ (y : Result (A × List Tok) Fault). follow y h) d) w)
 
 module _ {A B : Type 0} {wide : Form Tok A} {f : Reader Tok A} {xs ms : List ℕ} {empty : Bool} (h : A → Reader Tok B) (law : Reading wide f xs ms empty) (one two : List Tok) (a : A) (s : wide one a) (leads : Leads (h a) two) where
   second_leads : ((t : Tok) (rest : List Tok) → among tokens MARKER t ≡ true → Stops (among tokens ms) (two ++ t ∷ rest)) → Leads (f >>= h) (one ++ two)
-  second_leads stop = record { ends = λ t rest m. subst (λ (ts : List Tok). UpTo ((f >>= h) ts) (fault_at Syntax (t ∷ rest))) (sym (append_assoc one two (t ∷ rest))) (by_result t rest m (f (one ++ (two ++ t ∷ rest))) (law.broad.reads one (two ++ t ∷ rest) a s (stop t rest m))) }
-    where
-      by_result : (t : Tok) (rest : List Tok) → among tokens MARKER t ≡ true → (r : Result (A × List Tok) Fault) → UpTo r (Ok (a, two ++ t ∷ rest)) → UpTo (follow r h) (fault_at Syntax (t ∷ rest))
-      by_result t rest m r (inl e) = subst (λ (x : Result (A × List Tok) Fault). UpTo (follow x h) (fault_at Syntax (t ∷ rest))) (sym e) (leads.ends t rest m)
-      by_result t rest m r (inr (left, k, b, e)) = inr (left, k, b, ap (λ (x : Result (A × List Tok) Fault). follow x h) e)
+  second_leads stop = record { ends = λ t rest m. subst (λ (ts : List Tok). UpTo tokens ts ((f >>= h) ts) (fault_at Syntax (t ∷ rest))) (sym (append_assoc one two (t ∷ rest))) (follow_up h one (two ++ t ∷ rest) (f (one ++ (two ++ t ∷ rest))) a (fault_at Syntax (t ∷ rest)) (law.broad.reads one (two ++ t ∷ rest) a s (stop t rest m)) (leads.ends t rest m)) }
 
   -- behind what may go on, but not with what comes
   pub leads_behind : (bs : List ℕ) → disjoint ms bs ≡ true → Opening bs two → Leads (f >>= h) (one ++ two)
@@ -73,14 +71,14 @@ leads_after h law one two a s leads = second_leads h law one two a s leads (λ t
 pub leads_one : {A : Type 0} (bs : List ℕ) (f g : Reader Tok A) (front : List Tok) → Opening bs front → Leads f front → Leads (pick (among tokens bs) f g) front
 leads_one bs f g front opening leads = record { ends = λ t rest m. by_tokens t rest (front ++ t ∷ rest) (opening t rest m) (leads.ends t rest m) }
   where
-    by_tokens : (t : Tok) (rest ts : List Tok) → next_is (among tokens bs) ts ≡ true → UpTo (f ts) (fault_at Syntax (t ∷ rest)) → UpTo (pick (among tokens bs) f g ts) (fault_at Syntax (t ∷ rest))
+    by_tokens : (t : Tok) (rest ts : List Tok) → next_is (among tokens bs) ts ≡ true → UpTo tokens ts (f ts) (fault_at Syntax (t ∷ rest)) → UpTo tokens ts (pick (among tokens bs) f g ts) (fault_at Syntax (t ∷ rest))
     by_tokens t rest [] h u = absurd cc
     by_tokens t rest (v ∷ vs) h u = rw h u
 
 pub leads_other : {A : Type 0} (bs xs : List ℕ) → disjoint bs xs ≡ true → (f g : Reader Tok A) (front : List Tok) → Opening xs front → Leads g front → Leads (pick (among tokens bs) f g) front
 leads_other bs xs d f g front opening leads = record { ends = λ t rest m. by_tokens t rest (front ++ t ∷ rest) (opening t rest m) (leads.ends t rest m) }
   where
-    by_tokens : (t : Tok) (rest ts : List Tok) → next_is (among tokens xs) ts ≡ true → UpTo (g ts) (fault_at Syntax (t ∷ rest)) → UpTo (pick (among tokens bs) f g ts) (fault_at Syntax (t ∷ rest))
+    by_tokens : (t : Tok) (rest ts : List Tok) → next_is (among tokens xs) ts ≡ true → UpTo tokens ts (g ts) (fault_at Syntax (t ∷ rest)) → UpTo tokens ts (pick (among tokens bs) f g ts) (fault_at Syntax (t ∷ rest))
     by_tokens t rest [] h u = absurd cc
     by_tokens t rest (v ∷ vs) h u = rw (is_false (among tokens bs v) (λ q. apart_from bs xs d (tokens.class v) q h)) u
 
@@ -109,9 +107,9 @@ opening_either {xs = xs} law bs i (v ∷ one) two a s opening t rest m = within_
 -- ---- as many as there are
 
 -- one too many is past a limit
-no_room : {A : Type 0} (bs : List ℕ) (ts : List Tok) → next_is (among tokens bs) ts ≡ true → (free : Result (List A × List Tok) Fault) → UpTo (pick (among tokens bs) (fault_at Limit) (done []) ts) free
+no_room : {A : Type 0} (bs : List ℕ) (ts : List Tok) → next_is (among tokens bs) ts ≡ true → (free : Result (List A × List Tok) Fault) → UpTo tokens ts (pick (among tokens bs) (fault_at Limit) (done []) ts) free
 no_room bs [] h free = absurd cc
-no_room bs (t ∷ ts) h free = rw h (inr (length (t ∷ ts), Limit, tt, refl))
+no_room {A} bs (t ∷ ts) h free = rw h (limit_up t ts (fault_at Limit (t ∷ ts)) free refl)
 
 module _ {A : Type 0} {wide : Form Tok A} {f : Reader Tok A} {xs ms : List ℕ} (bs : List ℕ) (law : Reading wide f xs ms false) (within : subset xs bs ≡ true) (apart : disjoint ms bs ≡ true) where
   pub star_opening : (as' : List A) (one two : List Tok) → Star wide one as' → Opening bs two → Opening bs (one ++ two)
@@ -162,7 +160,7 @@ module _ {S A : Type 0} {wide : S → Form Tok (A × S)} {f : S → Reader Tok (
       not_stopped true false h = absurd cc
       not_stopped false c h = refl
 
-      by_tokens : (t : Tok) (rest ts : List Tok) → next_is (among tokens (bs s)) ts ≡ true → UpTo ((f s >>= λ x. at_most n x.1 >>= λ more. done (x.0 ∷ more)) ts) (fault_at Syntax (t ∷ rest)) → UpTo (at_most (suc n) s ts) (fault_at Syntax (t ∷ rest))
+      by_tokens : (t : Tok) (rest ts : List Tok) → next_is (among tokens (bs s)) ts ≡ true → UpTo tokens ts ((f s >>= λ x. at_most n x.1 >>= λ more. done (x.0 ∷ more)) ts) (fault_at Syntax (t ∷ rest)) → UpTo tokens ts (at_most (suc n) s ts) (fault_at Syntax (t ∷ rest))
       by_tokens t rest ts h u = rw (not_stopped (final s) (next_is (among tokens (bs s)) ts) h) u
 
   shorter : (s : S) (p q : List Tok) (x : A × S) → wide s p x → length q < length (p ++ q)

@@ -9,7 +9,7 @@ use Rattle.ir_lex.specs.declared.head.Head.TheVariants as heads
 use Rattle.ir_lex.specs.declared.token.Kind.TheVariants as kinds
 use Rattle.ir_lex.specs.declared.head.Head.{Head}
 use Rattle.ir_tree.specs.declared.operand.Reg.TheVariants.{Ptr}
-use Rattle.lto_forms.proofs.Composed.{with_wide, wrong, wrong_is}
+use Rattle.lto_forms.proofs.Composed.{limit_up, with_wide, wrong, wrong_is}
 use Rattle.lto_forms.proofs.Rules as rules
 use Rattle.lto_forms.specs.Alphabet.{among, contains}
 use Rattle.lto_forms.specs.Chained.{chain_at, chain_within}
@@ -203,7 +203,7 @@ instruction_leads name front (one, two, _, e, inr n, (p, q, _, e', s, v)) =
     (leads_after (λ o. behind_at true o >>= λ i. done (lined (Some name) name.line i)) opcodes_reading p q opcodes.Call (opcode_read heads.Call opcodes.Call refl call_opcode p s) (first_leads (calling_at true) (λ i. done (lined (Some name) name.line i)) q (calling_leads q v)))
 
 local_reading : Reading any_local local_at LOCAL [] false
-local_reading = record { broad = rules.any_broad tokens refusal LOCAL named itself same_name }
+local_reading = record { broad = rules.any_broad tokens refusal LOCAL named itself same_name refl }
 
 named_line_leads : (front : List Tok) → before_named_callee front tt → Leads named_line_at front
 unfolding before_named_callee form.◌>>=◌ named_line_at line_behind_at
@@ -240,7 +240,7 @@ unfolding block_behind_at
 block_behind_leads room name front v = first_leads (lines_at room) _ front (lines_leads room front v)
 
 label_reading : Reading any_label label_at LABEL [] false
-label_reading = record { broad = rules.any_broad tokens refusal LABEL named itself same_name }
+label_reading = record { broad = rules.any_broad tokens refusal LABEL named itself same_name refl }
 
 block_leads : (room : ℕ) (front : List Tok) → in_block front tt → Leads (block_at room) front
 unfolding in_block form.◌>>=◌ form.either block_at
@@ -319,9 +319,14 @@ naming_leads room front v =
     let opens = definition_opens front v in
     leads_other NAMES DEFINE refl (kept_at variable_line_at) _ front opens (leads_other DECLARE DEFINE refl (declaration_at room) (kept_at (definition_at room)) front opens kept_one)
 
+-- a limit is past before
+limit_leads : (front : List Tok) → Leads {A = Option Item × Position} (fault_at Limit) front
+limit_leads [] = record { ends = λ t rest m. limit_up t rest (fault_at Limit (t ∷ rest)) (fault_at Syntax (t ∷ rest)) refl }
+limit_leads (v ∷ front) = record { ends = λ t rest m. limit_up v (front ++ t ∷ rest) (fault_at Limit (v ∷ (front ++ t ∷ rest))) (fault_at Syntax (t ∷ rest)) refl }
+
 named_within_leads : (room names : ℕ) (front : List Tok) → in_definition front tt → (b : Bool) → Leads (cond b (fault_at Limit) (named_at room names)) front
 unfolding named_at
-named_within_leads room names front v true = record { ends = λ t rest m. inr (length (front ++ t ∷ rest), Limit, tt, refl) }
+named_within_leads room names front v true = limit_leads front
 named_within_leads room names front v false = first_leads (naming_at room) _ front (naming_leads room front v)
 
 there_leads : (room : ℕ) (front : List Tok) → in_definition front tt → (at : Position) → Leads (there_at room at) front
@@ -355,6 +360,6 @@ never_left_out front t rest v m e = by_result (items_at FURTHER_PARAMETERS GLOBA
     differ : Syntax ≡ Profile → ⊥
     differ e = cc
 
-    by_result : (r : Result (List Item × List Tok) Fault) → UpTo r (fault_at Syntax (t ∷ rest)) → whole_of item_refusal r ≡ wrong (record { left = length (t ∷ rest); kind = Profile }) → ⊥
+    by_result : (r : Result (List Item × List Tok) Fault) → UpTo tokens (front ++ t ∷ rest) r (fault_at Syntax (t ∷ rest)) → whole_of item_refusal r ≡ wrong (record { left = length (t ∷ rest); kind = Profile }) → ⊥
     by_result r (inl q) e = differ (ap (λ (x : Fault). x.kind) (wrong_is {X = List Item} (record { left = length (t ∷ rest); kind = Syntax }) (record { left = length (t ∷ rest); kind = Profile }) (sym (ap (whole_of item_refusal) q) ∙ e)))
-    by_result r (inr (left, k, b, q)) e = subst IsBound (ap (λ (x : Fault). x.kind) (wrong_is {X = List Item} (record { left = left; kind = k }) (record { left = length (t ∷ rest); kind = Profile }) (sym (ap (whole_of item_refusal) q) ∙ e))) b
+    by_result r (inr w) e = subst IsBound (ap (λ (x : Fault). x.kind) (wrong_is {X = List Item} (record { left = length (w.bad ∷ w.rest); kind = w.kind }) (record { left = length (t ∷ rest); kind = Profile }) (sym (ap (whole_of item_refusal) w.ends) ∙ e))) w.bound
