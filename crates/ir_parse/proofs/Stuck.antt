@@ -19,11 +19,11 @@ use Rattle.ir_items.specs.ItemsAt.{ITEM, items_at}
 use Rattle.ir_items.specs.Modules.{FURTHER_PARAMETERS, GLOBAL_NAMES, any_module, item_refusal, last_tokens, module_of, whole_module}
 use Rattle.ir_items.proofs.ItemRules.{ANY, items_rule}
 use Rattle.ir_parse.specs.Answers.{IsStopped, stopped_kind}
-use Rattle.ir_parse.specs.FirstFault.{IsStuck, Stuck, end_kind, kind_of, line_of}
-use Rattle.ir_parse.specs.Kinds.{kind_told}
+use Rattle.ir_parse.specs.FirstFault.{IsStuck, IsTold, Stuck, end_kind, line_of}
 use Rattle.ir_parse.specs.declared.fault.FaultKind as told
 use Rattle.ir_parse.specs.declared.fault.ReadFault.{ReadFault}
 use Rattle.ir_parse.specs.declared.fault.FaultKind.TheVariants as kinds
+use Rattle.ir_parse.proofs.StuckTold.{one_kind, refused_for}
 
 -- ---- what is read
 
@@ -64,9 +64,9 @@ is_stuck front (t ∷ rest) b d = d
 is_stuck front [] true d = d
 is_stuck front [] false d = tt
 
-told_so : (front rest : List Tok) (b : Bool) (f : Fault) → module_of (front ++ rest) ≡ Err f → stopped_kind rest b f.kind ≡ kind_of front rest b
-told_so front [] b f e = refl
-told_so front (t ∷ rest) b f e = ap (kind_told t) (sym e)
+told_so : (front rest : List Tok) (b : Bool) (f : Fault) → module_of (front ++ rest) ≡ Err f → length rest ≡ f.left → IsTold front rest b (stopped_kind rest b f.kind)
+told_so front [] b f e l = refl
+told_so front (t ∷ rest) b f e l = refused_for front t rest f.kind (e ∙ ap (λ (n : ℕ). Err (record { left = n; kind = f.kind })) (sym l))
 
 drop_front : (front rest : List Tok) → drop (length front) (front ++ rest) ≡ rest
 drop_front [] rest = refl
@@ -91,7 +91,7 @@ stuck_at ts b end f left e l =
       before = s.before;
       stuck = is_stuck s.front s.rest b s.dead;
       place = ap (λ us. line_of us end) same;
-      told = ap (λ us. stopped_kind us b f.kind) same ∙ told_so s.front s.rest b f (ap module_of (sym s.whole) ∙ e);
+      told = subst (λ (us : List Tok). IsTold s.front s.rest b (stopped_kind us b f.kind)) (sym same) (told_so s.front s.rest b f (ap module_of (sym s.whole) ∙ e) s.here);
     }
 
 -- behind tokens that are a module bytes follow that are no token
@@ -159,6 +159,10 @@ compared (suc m) (suc n) = raised (compared m n)
     raised (inr (inl l)) = inr (inl (omega (arith, l)))
     raised (inr (inr e)) = inr (inr (ap suc e))
 
+one_told : (front rest : List Tok) (b : Bool) (kind other : told.FaultKind) → IsTold front rest b kind → IsTold front rest b other → kind ≡ other
+one_told front [] b kind other k o = k ∙ sym o
+one_told front (t ∷ rest) b kind other k o = one_kind front t kind other k o
+
 pub one_place : (ts : List Tok) (b : Bool) (end line here : ℕ) (kind other : told.FaultKind) → Stuck ts b end line kind → Stuck ts b end here other → (line ≡ here) × (kind ≡ other)
 one_place ts b end line here kind other s r = by (compared (length s.rest) (length r.rest))
   where
@@ -166,7 +170,7 @@ one_place ts b end line here kind other s r = by (compared (length s.rest) (leng
     by_length l =
         let c = cut_is s.front s.rest r.front r.rest (sym s.parts ∙ r.parts) l in (
           s.place ∙ ap (λ us. line_of us end) c.1 ∙ sym r.place,
-          s.told ∙ ap (λ us. kind_of us s.rest b) c.0 ∙ ap (λ us. kind_of r.front us b) c.1 ∙ sym r.told,
+          one_told r.front r.rest b kind other (subst (λ (z : List Tok × List Tok). IsTold z.0 z.1 b kind) (λ i. (c.0 i, c.1 i)) s.told) r.told,
         )
 
     by : (length s.rest < length r.rest) ⊎ ((length r.rest < length s.rest) ⊎ (length s.rest ≡ length r.rest)) → (line ≡ here) × (kind ≡ other)

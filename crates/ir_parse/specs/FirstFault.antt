@@ -9,7 +9,8 @@ use Rattle.ir_read.specs.declared.raw.Item.{Item}
 use Rattle.ir_items.specs.Modules.{whole_module}
 use Rattle.ir_parse.specs.declared.fault.FaultKind.{FaultKind}
 use Rattle.ir_parse.specs.declared.fault.FaultKind.TheVariants as kinds
-use Rattle.ir_parse.specs.Kinds.{kind_between, name_fault}
+use Rattle.ir_parse.specs.Kinds.{name_fault}
+use Rattle.ir_parse.specs.Refusals.{IsRefusedFor}
 use Rattle.ir_parse.specs.Stages.{module_in}
 
 -- ---- the grammar
@@ -29,9 +30,10 @@ abbrev pub end_kind : Bool → FaultKind
 end_kind true = kinds.Syntax
 end_kind false = kinds.Lex
 
-abbrev pub kind_of : List Tok → List Tok → Bool → FaultKind
-kind_of front (t ∷ rest) whole = kind_between front t rest
-kind_of front [] whole = end_kind whole
+-- what is told of the next token, or of the end
+abbrev pub IsTold : List Tok → List Tok → Bool → FaultKind → Type 0
+IsTold front (t ∷ rest) whole kind = IsRefusedFor front t kind
+IsTold front [] whole kind = kind ≡ end_kind whole
 
 -- of these tokens the first so many go on to a module, and with the next one none does
 pub record Stuck (written : List Tok) (whole : Bool) (end line : ℕ) (kind : FaultKind) : Type 0 where
@@ -41,7 +43,7 @@ pub record Stuck (written : List Tok) (whole : Bool) (end line : ℕ) (kind : Fa
   pub before : Viable tokens whole_module front
   pub stuck : IsStuck front rest whole
   pub place : line ≡ line_of rest end
-  pub told : kind ≡ kind_of front rest whole
+  pub told : IsTold front rest whole kind
 
 -- the first place at which no reading goes on, and why. The tokens of the text are those up to its end, or to the first bytes that
 -- are none

@@ -2,6 +2,8 @@ pub mod Targets
 pub mod Values
 pub mod Stages
 pub mod Kinds
+pub mod NamedCalls
+pub mod Refusals
 pub mod Reading
 pub mod FirstFault
 pub mod Answers

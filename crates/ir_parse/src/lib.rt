@@ -2,7 +2,8 @@
 //!
 //! `parse` cuts the text into tokens, reads these as items, resolves names, shapes and numbers in stages over the whole
 //! text, and gives the module with the lines of its parts. The first place at which no reading goes on is a statement of the
-//! grammar alone; behind it the first stage that finds a fault tells it (`specs/FirstFault.antt`).
+//! grammar alone, and so is why the token there is refused (`specs/Refusals.antt`); behind it the first stage that finds a
+//! fault tells it (`specs/FirstFault.antt`).
 //!
 //! Below stand tokens (`ir_lex`), items (`ir_items`), the stages with functions and variables (`ir_stages`), and names
 //! (`ir_names`). Beside the reader stand laws: what resolves is formed (`resolved`), and what that asks of a text holds of all

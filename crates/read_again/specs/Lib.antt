@@ -1,8 +1,6 @@
 pub mod Known
 pub mod Within
 pub mod Typed
-pub mod NamedCalls
-pub mod Refusals
 pub mod Numbered
 pub mod Anew
 pub mod Laws

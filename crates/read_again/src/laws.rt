@@ -1,7 +1,6 @@
 //! Laws of modules that are printed, of those that were read, and of those that were verified, as functions whose contracts
 //! state them.
 
-ghost use Rattle.read_again.specs.Refusals.{StuckFits};
 ghost use Rattle.read_again.specs.Laws.{NumberedAnewIsRead, ReadIsKnown, ReadIsNumbered, ReadIsReadAgain, ReadIsTyped, ReadIsWithin, ReadableIsRead, TextOrderIsNumbered, VerifiedIsRead};
 
 use ir_edit::{text_order_counts, text_order_is_sound};
@@ -9,12 +8,6 @@ use ir_parse::{
     items_are_written, read_is_parsed, shapes_are_within, tokens_are_sized, types_are_written,
 };
 use printed_modules::{contents_are_bytes, items_are_within, modules_are_read, tokens_are_cut};
-
-/// The kind of a fault fits the token at which the grammar stops: which tokens are told to be left out of the language, where a
-/// number is out of range, and that a limit is told only where it is one (LangRef, "Identifiers", "Type System").
-pub fn kinds_fit_tokens()
-    ensures { StuckFits }
-{}
 
 /// The text that is printed of a module that is readable, and whose names are known, is read as that
 /// module (LangRef, "Module Structure").

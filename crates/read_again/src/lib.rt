@@ -12,10 +12,6 @@
 //! However the locals of a verified module are numbered, it is printed under new numbers as a text that is read as that
 //! ([`modules_numbered_anew_are_read`]).
 //!
-//! [`kinds_fit_tokens`] is of bytes that are read as no module: what the kind of a fault of the grammar says of the token
-//! at which it stands, in which places a type, `target`, an integer, a name that is a number, a lifetime marker or a number
-//! behind `<` is told to be left out, and that a passed limit is told as one (`specs/Refusals.antt`).
-//!
 //! [`read_twice`] does so with the real calls: it reads, prints and reads again, and its promise is that the second
 //! reading gives the module of the first and refuses nothing.
 //!
@@ -27,9 +23,8 @@ mod laws;
 mod trip;
 
 pub use laws::{
-    kinds_fit_tokens, modules_numbered_anew_are_read, read_modules_are_known,
-    read_modules_are_numbered, read_modules_are_read, read_modules_are_typed,
-    read_modules_are_within, readable_modules_are_read, text_order_is_numbered,
-    verified_modules_are_read,
+    modules_numbered_anew_are_read, read_modules_are_known, read_modules_are_numbered,
+    read_modules_are_read, read_modules_are_typed, read_modules_are_within,
+    readable_modules_are_read, text_order_is_numbered, verified_modules_are_read,
 };
 pub use trip::{Trip, TripError, read_twice};

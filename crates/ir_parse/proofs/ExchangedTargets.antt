@@ -1,0 +1,175 @@
+-- The readers of lines that name the target, the source or a comdat tell a token that is left out in some places against the syntax.
+use Rattle.std.proofs.Common.{◌≡◌, ℕ, nat_eq, Bool, true, false, cond, ◌||◌, List, [], ◌∷◌, Result, Ok, Err, refl, sym, ap, subst, ◌∙◌, inl}
+use Rattle.std.specs.Prelude.{codes}
+use Rattle.ir_lex.specs.Bytes.{has}
+use Rattle.ir_lex.specs.Heads.{number, head_of, word_head, listed_head, words_3, words_6, words_10, words_15}
+use Rattle.ir_lex.specs.Lexing.{is_bad}
+use Rattle.ir_lex.specs.Quotes.{content, unescaped, is_zero_name}
+use Rattle.ir_lex.specs.Rows.{best_fit, rest_fit, label_len, number_len, word_len, name_len, meta_len, dots_len, other_len, string_len}
+use Rattle.ir_lex.specs.Tok.{Tok}
+use Rattle.ir_lex.specs.declared.head.Head.TheVariants as heads
+use Rattle.ir_lex.specs.declared.head.Head.{Head}
+use Rattle.ir_lex.specs.declared.token.Kind.TheVariants as kinds
+use Rattle.lto_forms.specs.Alphabet.{among, contains}
+use Rattle.lto_forms.specs.Forms as form
+use Rattle.lto_forms.specs.Lawful.{IsBound}
+use Rattle.lto_forms.specs.Readers.{token_at}
+use Rattle.lto_forms.specs.Rules.{is_class, disjoint}
+use Rattle.lto_forms.specs.declared.fault.FaultKind.TheVariants.{Profile}
+use Rattle.lto_forms.specs.declared.fault.FaultKind.{FaultKind}
+use Rattle.ir_read.specs.Classes.{tokens, IsReal, refusal, the, the_at, one_of, one_of_at, itself}
+use Rattle.ir_read.specs.Operands.{REG}
+use Rattle.ir_read.specs.Targets.{STRING, fits_item, has_64_bits, fits_layout, is_layout, layout_line, triple_line, target_line, source_line, comdat_line}
+use Rattle.ir_read.specs.TargetsAt.{LAYOUT, layout_line_at, triple_line_at, target_line_at, source_line_at, comdat_line_at}
+use Rattle.ir_read.specs.declared.raw.Item.TheVariants.{Datalayout, Triple}
+use Rattle.ir_read.proofs.Singles.{sample, word, the_rule, string_real}
+use Rattle.ir_instructions.specs.ShapeForms.{OPEN_ANGLE}
+use Rattle.ir_parse.specs.Refusals.{MEMORY}
+use Rattle.ir_parse.proofs.Exchanged.{Exchanges, Says, alt, nothing, seq, single, apart}
+use Rattle.ir_parse.proofs.ExchangedTokens.{elsewhere, i8_real, one_sample, plain_class, not_bound}
+use Rattle.ir_parse.proofs.ExchangedWords.{equals_exchanged, string_exchanged}
+
+any_word_real : IsReal (word heads.Any (codes "any"))
+unfolding best_fit rest_fit label_len number_len word_len name_len meta_len dots_len other_len string_len has is_bad is_zero_name head_of word_head listed_head words_3
+any_word_real = record { behind = []; some = refl; fits = refl; good = refl; class = refl }
+
+comdat_name_real : IsReal (sample kinds.Comdat heads.ComdatName (codes "$a"))
+unfolding best_fit rest_fit label_len number_len word_len name_len meta_len dots_len other_len string_len has is_bad is_zero_name head_of
+comdat_name_real = record { behind = []; some = refl; fits = refl; good = refl; class = refl }
+
+comdat_word_real : IsReal (word heads.Comdat (codes "comdat"))
+unfolding best_fit rest_fit label_len number_len word_len name_len meta_len dots_len other_len string_len has is_bad is_zero_name head_of word_head listed_head words_6
+comdat_word_real = record { behind = []; some = refl; fits = refl; good = refl; class = refl }
+
+layout_word_real : IsReal (word heads.Datalayout (codes "datalayout"))
+unfolding best_fit rest_fit label_len number_len word_len name_len meta_len dots_len other_len string_len has is_bad is_zero_name head_of word_head listed_head words_10
+layout_word_real = record { behind = []; some = refl; fits = refl; good = refl; class = refl }
+
+source_word_real : IsReal (word heads.SourceFilename (codes "source_filename"))
+unfolding best_fit rest_fit label_len number_len word_len name_len meta_len dots_len other_len string_len has is_bad is_zero_name head_of word_head listed_head words_15
+source_word_real = record { behind = []; some = refl; fits = refl; good = refl; class = refl }
+
+target_real : IsReal (word heads.Target (codes "target"))
+unfolding best_fit rest_fit label_len number_len word_len name_len meta_len dots_len other_len string_len has is_bad is_zero_name head_of word_head listed_head words_6
+target_real = record { behind = []; some = refl; fits = refl; good = refl; class = refl }
+
+triple_word_real : IsReal (word heads.Triple (codes "triple"))
+unfolding best_fit rest_fit label_len number_len word_len name_len meta_len dots_len other_len string_len has is_bad is_zero_name head_of word_head listed_head words_6
+triple_word_real = record { behind = []; some = refl; fits = refl; good = refl; class = refl }
+
+pub target_exchanged : Exchanges (the heads.Target) (the_at heads.Target)
+unfolding is_class
+target_exchanged = plain_class heads.Target (the_rule heads.Target (word heads.Target (codes "target")) refl target_real) refl
+
+pub layout_word_exchanged : Exchanges (the heads.Datalayout) (the_at heads.Datalayout)
+unfolding is_class
+layout_word_exchanged = plain_class heads.Datalayout (the_rule heads.Datalayout (word heads.Datalayout (codes "datalayout")) refl layout_word_real) refl
+
+pub triple_word_exchanged : Exchanges (the heads.Triple) (the_at heads.Triple)
+unfolding is_class
+triple_word_exchanged = plain_class heads.Triple (the_rule heads.Triple (word heads.Triple (codes "triple")) refl triple_word_real) refl
+
+pub source_word_exchanged : Exchanges (the heads.SourceFilename) (the_at heads.SourceFilename)
+unfolding is_class
+source_word_exchanged = plain_class heads.SourceFilename (the_rule heads.SourceFilename (word heads.SourceFilename (codes "source_filename")) refl source_word_real) refl
+
+pub comdat_word_exchanged : Exchanges (the heads.Comdat) (the_at heads.Comdat)
+unfolding is_class
+comdat_word_exchanged = plain_class heads.Comdat (the_rule heads.Comdat (word heads.Comdat (codes "comdat")) refl comdat_word_real) refl
+
+pub any_word_exchanged : Exchanges (the heads.Any) (the_at heads.Any)
+unfolding is_class
+any_word_exchanged = plain_class heads.Any (the_rule heads.Any (word heads.Any (codes "any")) refl any_word_real) refl
+
+pub comdat_name_exchanged : Exchanges (the heads.ComdatName) (the_at heads.ComdatName)
+unfolding is_class
+comdat_name_exchanged = plain_class heads.ComdatName (the_rule heads.ComdatName (sample kinds.Comdat heads.ComdatName (codes "$a")) refl comdat_name_real) refl
+
+abbrev failed : FaultKind → Result Tok FaultKind
+failed k = Err k
+
+empty_string : Tok
+empty_string = sample kinds.Str heads.Str (codes "\"\"")
+
+empty_fits : is_layout empty_string ≡ Ok empty_string
+unfolding is_layout fits_layout fits_item has_64_bits content unescaped empty_string
+empty_fits = refl
+
+empty_real : IsReal empty_string
+unfolding empty_string
+empty_real = string_real
+
+layout_stuck : (u : Tok) → among tokens STRING u ≡ false → (k : FaultKind) × (IsBound k → ⊥) × (is_layout u ≡ Err k)
+unfolding is_layout
+layout_stuck u e = (refusal (number u.head), not_bound (number u.head), by_class (nat_eq (number u.head) (number heads.Str)) e)
+  where
+    by_class : (b : Bool) → b || false ≡ false → cond b (cond (fits_layout (content u.kind u.text)) (Ok u) (Err Profile)) (failed (refusal (number u.head))) ≡ failed (refusal (number u.head))
+    by_class true e = absurd cc
+    by_class false e = refl
+
+layout_no_angle : (t a : Tok) → among tokens OPEN_ANGLE t ≡ true → is_layout t ≡ Ok a → ⊥
+layout_no_angle t a i e = let s = layout_stuck t (apart OPEN_ANGLE STRING refl (number t.head) i) in refused s.0 (sym s.2 ∙ e)
+  where
+    refused : (k : FaultKind) → failed k ≡ Ok a → ⊥
+    refused k e = cc
+
+no_string : (bs : List ℕ) → disjoint bs STRING ≡ true → (u : Tok) → among tokens bs u ≡ true → (k : FaultKind) × (IsBound k → ⊥) × (is_layout u ≡ Err k)
+no_string bs d u i = layout_stuck u (apart bs STRING d (number u.head) i)
+
+-- where no string stands
+layout_class : (h : Head) → contains STRING (number h) ≡ false → Says (form.token is_layout) is_layout h (refusal (number h))
+layout_class heads.RefusedType n = no_string REG refl
+layout_class heads.Target n = inl (no_string REG refl)
+layout_class heads.RegisterInteger n = (word heads.MemoryInteger (codes "i8"), refl, i8_real, no_string MEMORY refl (word heads.MemoryInteger (codes "i8")) refl)
+layout_class heads.NumberedGlobal n = no_string (number heads.Global ∷ []) refl
+layout_class heads.NumberedDefinition n = no_string (number heads.Global ∷ []) refl
+layout_class heads.LifetimeMarker n = tt
+layout_class heads.Str n = absurd cc
+layout_class h n = elsewhere (form.token is_layout) is_layout h (refusal (number h)) (λ q. cc)
+
+-- where one does that isn't supported, the empty one goes on
+layout_told : (h : Head) → nat_eq (number h) (number heads.Str) ≡ true → Says (form.token is_layout) is_layout h Profile
+unfolding empty_string
+layout_told heads.Str e = (empty_string, refl, ([], empty_string, empty_fits, (empty_real, tt)))
+layout_told h e = absurd cc
+
+layout_says : (t : Tok) (k : FaultKind) → is_layout t ≡ Err k → Says (form.token is_layout) is_layout t.head k
+unfolding is_layout
+layout_says t k d = by_class (nat_eq (number t.head) (number heads.Str)) refl d
+  where
+    err_is : (k l : FaultKind) → failed k ≡ failed l → k ≡ l
+    err_is k l e = cc
+
+    by_fit : (b : Bool) → cond b (Ok t) (failed Profile) ≡ failed k → Profile ≡ k
+    by_fit true e = absurd cc
+    by_fit false e = err_is Profile k e
+
+    by_class : (b : Bool) → nat_eq (number t.head) (number heads.Str) ≡ b → cond b (cond (fits_layout (content t.kind t.text)) (Ok t) (failed Profile)) (failed (refusal (number t.head))) ≡ failed k → Says (form.token is_layout) is_layout t.head k
+    by_class true p d = subst (λ (x : FaultKind). Says (form.token is_layout) is_layout t.head x) (by_fit (fits_layout (content t.kind t.text)) d) (layout_told t.head p)
+    by_class false p d = subst (λ (x : FaultKind). Says (form.token is_layout) is_layout t.head x) (err_is (refusal (number t.head)) k d) (layout_class t.head (ap (λ (b : Bool). b || false) p))
+
+pub layout_exchanged : Exchanges (form.token is_layout) (token_at is_layout)
+layout_exchanged = single (form.token is_layout) is_layout layout_no_angle (λ t a e. e) (empty_string ∷ [], empty_string, empty_fits, (empty_real, tt)) layout_says
+
+pub string_name_exchanged : Exchanges (one_of STRING itself) (one_of_at STRING itself)
+string_name_exchanged = one_sample STRING itself (sample kinds.Str heads.Str (codes "\"\"")) refl string_real refl
+
+pub layout_line_exchanged : Exchanges layout_line layout_line_at
+unfolding layout_line layout_line_at
+layout_line_exchanged = seq layout_word_exchanged (λ _. seq equals_exchanged (λ _. seq layout_exchanged (λ layout. nothing (Datalayout layout))))
+
+pub triple_line_exchanged : Exchanges triple_line triple_line_at
+unfolding triple_line triple_line_at
+triple_line_exchanged = seq triple_word_exchanged (λ _. seq equals_exchanged (λ _. seq string_name_exchanged (λ triple. nothing (Triple triple))))
+
+pub target_line_exchanged : Exchanges target_line target_line_at
+unfolding target_line target_line_at
+target_line_exchanged = seq target_exchanged (λ _. alt LAYOUT refl layout_line_exchanged triple_line_exchanged)
+
+pub source_line_exchanged : Exchanges source_line source_line_at
+unfolding source_line source_line_at
+source_line_exchanged = seq source_word_exchanged (λ _. seq equals_exchanged (λ _. string_exchanged))
+
+pub comdat_line_exchanged : Exchanges comdat_line comdat_line_at
+unfolding comdat_line comdat_line_at
+comdat_line_exchanged = seq comdat_name_exchanged (λ _. seq equals_exchanged (λ _. seq comdat_word_exchanged (λ _. any_word_exchanged)))

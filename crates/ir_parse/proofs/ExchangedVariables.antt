@@ -1,0 +1,138 @@
+-- The readers of variables tell a token that is left out in some places where one that it stands for goes on.
+use Rattle.std.proofs.Common.{◌≡◌, Bool, true, false, cond, Option, Some, None, List, [], ◌∷◌, Result, Ok, Err, refl, ap, ◌∙◌}
+use Rattle.std.specs.Prelude.{codes}
+use Rattle.ir_lex.specs.Bytes.{has}
+use Rattle.ir_lex.specs.Heads.{number, head_of, word_head, listed_head, words_6}
+use Rattle.ir_lex.specs.Lexing.{is_bad}
+use Rattle.ir_lex.specs.Quotes.{is_zero_name}
+use Rattle.ir_lex.specs.Rows.{best_fit, rest_fit, label_len, number_len, word_len, name_len, meta_len, dots_len, other_len, string_len}
+use Rattle.ir_lex.specs.Tok.{Tok}
+use Rattle.ir_lex.specs.declared.head.Head.TheVariants as heads
+use Rattle.ir_lex.specs.declared.token.Kind.TheVariants as kinds
+use Rattle.ir_tree.specs.declared.function.Linkage.{Linkage}
+use Rattle.ir_tree.specs.declared.operand.Reg.{Reg}
+use Rattle.lto_forms.specs.Alphabet.{among}
+use Rattle.lto_forms.specs.Forms as form
+use Rattle.lto_forms.specs.Readers as reader
+use Rattle.lto_forms.specs.Readers.{pick}
+use Rattle.lto_forms.specs.Rules.{in_range, is_among, is_class, is_valued}
+use Rattle.lto_forms.specs.declared.fault.FaultKind.{FaultKind}
+use Rattle.ir_read.specs.Classes.{tokens, IsReal, the, the_at, one_of, one_of_at}
+use Rattle.ir_read.specs.FunctionHeads.{LINKAGES, linkage_word, QUALIFIERS, nothing_of, name_refusal}
+use Rattle.ir_instructions.specs.InstructionsAt.{ALIGN}
+use Rattle.ir_read.specs.MetadataAt.{COMMA, PAREN}
+use Rattle.ir_read.specs.Operands.{global_named}
+use Rattle.ir_instructions.specs.ShapeForms.{any_shape}
+use Rattle.ir_read.proofs.FunctionHeadRules.{external_real, named_rule, global_real}
+use Rattle.ir_read.proofs.OperandRules.{global_is}
+use Rattle.ir_read.proofs.Singles.{sample, word, the_rule}
+use Rattle.ir_globals.specs.Initialisers.{scalar_of}
+use Rattle.ir_globals.specs.Variables.{NAMES, any_variable_name, qualifiers, linked, KINDS, is_constant, is_declared, value, comdat_name, in_comdat, aligned, marked, further, tail, behind_kind, variable_line, variable_name}
+use Rattle.ir_globals.specs.VariablesAt.{variable_name_at, qualifiers_at, linked_at, value_at, comdat_name_at, in_comdat_at, aligned_at, marked_at, COMDAT, further_at, tail_at, behind_kind_at, variable_line_at}
+use Rattle.ir_globals.proofs.VariableRules.{further_rule, qualifier_word_rule}
+use Rattle.ir_parse.proofs.Exchanged.{Exchanges, alt, maybe, nothing, recast, seq, star, taken}
+use Rattle.ir_parse.proofs.ExchangedAttributes.{alignment_exchanged}
+use Rattle.ir_parse.proofs.ExchangedInitialisers.{initialiser_exchanged}
+use Rattle.ir_parse.proofs.ExchangedNodes.{attached_exchanged}
+use Rattle.ir_parse.proofs.ExchangedShapes.{memory_shape_exchanged}
+use Rattle.ir_parse.proofs.ExchangedTokens.{name_valued, one_sample, plain_class, plain_one}
+use Rattle.ir_parse.proofs.ExchangedWords.{align_exchanged, close_paren_exchanged, comma_exchanged, equals_exchanged, open_paren_exchanged}
+
+comdat_real : IsReal (word heads.Comdat (codes "comdat"))
+unfolding best_fit rest_fit label_len number_len word_len name_len meta_len dots_len other_len string_len has is_bad is_zero_name head_of word_head listed_head words_6
+comdat_real = record { behind = []; some = refl; fits = refl; good = refl; class = refl }
+
+constant_real : IsReal (word heads.GlobalVariable (codes "global"))
+unfolding best_fit rest_fit label_len number_len word_len name_len meta_len dots_len other_len string_len has is_bad is_zero_name head_of word_head listed_head words_6
+constant_real = record { behind = []; some = refl; fits = refl; good = refl; class = refl }
+
+named_comdat_real : IsReal (sample kinds.Comdat heads.ComdatName (codes "$a"))
+unfolding best_fit rest_fit label_len number_len word_len name_len meta_len dots_len other_len string_len has is_bad is_zero_name head_of
+named_comdat_real = record { behind = []; some = refl; fits = refl; good = refl; class = refl }
+
+abbrev good : Tok → Result Tok FaultKind
+good x = Ok x
+
+any_name : (ts : List Tok) (a : Tok) → variable_name ts a → any_variable_name ts a
+unfolding is_valued is_among
+any_name [] a s = absurd s
+any_name (t ∷ []) a s = by_test (among tokens NAMES t) s
+  where
+    by_name : (o : Option Tok) → global_named t ≡ o → in_range o ≡ good a → good t ≡ good a
+    by_name None q e = absurd cc
+    by_name (Some u) q e = ap good (global_is t.head t u q) ∙ e
+
+    by_test : (b : Bool) → cond b (in_range (global_named t)) (Err (name_refusal (number t.head))) ≡ good a → cond b (good t) (Err (name_refusal (number t.head))) ≡ good a
+    by_test true e = by_name (global_named t) refl e
+    by_test false e = absurd cc
+any_name (t ∷ u ∷ ts) a s = absurd s
+
+abbrev a_global : Tok
+a_global = sample kinds.Global heads.Global (codes "@a")
+
+pub variable_name_exchanged : Exchanges any_variable_name variable_name_at
+variable_name_exchanged = recast any_name (name_valued NAMES global_named (named_rule NAMES refl) refl a_global a_global refl refl refl global_real)
+
+pub linkage_word_exchanged : Exchanges (one_of LINKAGES linkage_word) (one_of_at LINKAGES linkage_word)
+linkage_word_exchanged = one_sample LINKAGES linkage_word (word heads.External (codes "external")) refl external_real refl
+
+pub qualifier_word_exchanged : Exchanges (one_of QUALIFIERS nothing_of) (one_of_at QUALIFIERS nothing_of)
+qualifier_word_exchanged = plain_one QUALIFIERS nothing_of qualifier_word_rule refl
+
+pub qualifiers_exchanged : Exchanges qualifiers qualifiers_at
+unfolding qualifiers qualifiers_at
+qualifiers_exchanged = seq (star QUALIFIERS refl qualifier_word_exchanged (taken qualifier_word_rule)) (λ _. nothing tt)
+
+pub linked_exchanged : Exchanges linked linked_at
+unfolding linked linked_at
+linked_exchanged = seq (maybe LINKAGES refl linkage_word_exchanged) (λ l. seq qualifiers_exchanged (λ _. nothing l))
+
+pub kind_exchanged : Exchanges (one_of KINDS is_constant) (one_of_at KINDS is_constant)
+kind_exchanged = one_sample KINDS is_constant (word heads.GlobalVariable (codes "global")) refl constant_real refl
+
+pub value_exchanged : (declared : Bool) (scalar : Option Reg) → Exchanges (value any_shape declared scalar) (value_at declared scalar)
+value_exchanged true scalar = nothing None
+value_exchanged false scalar = seq (initialiser_exchanged scalar) (λ _. nothing _)
+
+pub comdat_exchanged : Exchanges (the heads.Comdat) (the_at heads.Comdat)
+unfolding is_class
+comdat_exchanged = plain_class heads.Comdat (the_rule heads.Comdat (word heads.Comdat (codes "comdat")) refl comdat_real) refl
+
+pub named_comdat_exchanged : Exchanges (the heads.ComdatName) (the_at heads.ComdatName)
+unfolding is_class
+named_comdat_exchanged = plain_class heads.ComdatName (the_rule heads.ComdatName (sample kinds.Comdat heads.ComdatName (codes "$a")) refl named_comdat_real) refl
+
+pub comdat_name_exchanged : Exchanges comdat_name comdat_name_at
+unfolding comdat_name comdat_name_at
+comdat_name_exchanged = seq open_paren_exchanged (λ _. seq named_comdat_exchanged (λ _. close_paren_exchanged))
+
+pub in_comdat_exchanged : Exchanges in_comdat in_comdat_at
+unfolding in_comdat in_comdat_at
+in_comdat_exchanged = seq comdat_exchanged (λ _. seq (maybe PAREN refl comdat_name_exchanged) (λ _. nothing _))
+
+pub aligned_exchanged : Exchanges aligned aligned_at
+unfolding aligned aligned_at
+aligned_exchanged = seq align_exchanged (λ _. seq alignment_exchanged (λ _. nothing _))
+
+pub marked_exchanged : Exchanges marked marked_at
+unfolding marked marked_at
+marked_exchanged = seq attached_exchanged (λ _. nothing _)
+
+pub further_choice_exchanged : Exchanges (form.either in_comdat (form.either aligned marked)) (reader.pick (among tokens COMDAT) in_comdat_at (reader.pick (among tokens ALIGN) aligned_at marked_at))
+further_choice_exchanged = alt COMDAT refl in_comdat_exchanged (alt ALIGN refl aligned_exchanged marked_exchanged)
+
+pub further_exchanged : Exchanges further further_at
+unfolding further further_at
+further_exchanged = seq comma_exchanged (λ _. further_choice_exchanged)
+
+pub tail_exchanged : Exchanges tail tail_at
+unfolding tail tail_at
+tail_exchanged = seq (star COMMA refl further_exchanged (taken further_rule)) (λ _. nothing _)
+
+pub behind_kind_exchanged : (name : Tok) (l : Option Linkage) (constant : Bool) → Exchanges (behind_kind any_shape name l constant) (behind_kind_at name l constant)
+unfolding behind_kind behind_kind_at
+behind_kind_exchanged name l constant = seq memory_shape_exchanged (λ typed. seq (value_exchanged (is_declared l) (scalar_of typed.shape)) (λ _. seq tail_exchanged (λ _. nothing _)))
+
+pub variable_line_exchanged : Exchanges (variable_line any_variable_name any_shape) variable_line_at
+unfolding variable_line variable_line_at
+variable_line_exchanged = seq variable_name_exchanged (λ name. seq equals_exchanged (λ _. seq linked_exchanged (λ l. seq kind_exchanged (λ constant. behind_kind_exchanged name l constant))))
