@@ -1,5 +1,5 @@
--- Global values may cross threads, and be shared among them: they own memory of the heap alone.
-use denote.Param.Send.{IsSend, IsSync, sendable}
+-- Global values may be shared among threads: they own memory of the heap alone.
+use denote.Param.Send.{IsSync, sendable}
 use Rattle.std.proofs.Crossing.{crosses}
 use Rattle.ir_tree.proofs.shape.Shape.TheLaws.TheKnot as shapes
 use Rattle.ir_tree.specs.contracts.block.Block as block
@@ -15,43 +15,6 @@ use Rattle.ir_tree.specs.contracts.operand.Reg as reg
 use Rattle.ir_tree.specs.contracts.rows.Rows as rows
 
 -- `search` finds a type that stands in a field by the row of its field, and one that stands in a list by its own
-
--- ---- may cross
-
-pub reg_send : IsSend reg.the_row
-reg_send = search (sendable, crosses) depth 60 fits 20000
-
-pub argument_send : IsSend argument.the_row
-argument_send = search (sendable, crosses) depth 60 fits 20000
-
-pub arguments_send : IsSend (rows.the_row argument.the_row)
-arguments_send = search (argument_send, sendable, crosses) depth 60 fits 20000
-
-pub incoming_send : IsSend incoming.the_row
-incoming_send = search (sendable, crosses) depth 60 fits 20000
-
-pub instr_send : IsSend (instr.the_field).row
-instr_send = search (reg_send, arguments_send, incoming_send, sendable, crosses, shapes.crosses) depth 60 fits 20000
-
-pub line_send : IsSend line.the_row
-line_send = search (instr_send, sendable, crosses) depth 60 fits 20000
-
-pub phi_send : IsSend phi.the_row
-phi_send = search (sendable, crosses) depth 60 fits 20000
-
-pub block_send : IsSend block.the_row
-block_send = search (line_send, phi_send, sendable, crosses) depth 60 fits 20000
-
-pub function_send : IsSend (function.the_field).row
-function_send = search (block_send, sendable, crosses) depth 60 fits 20000
-
-pub variable_send : IsSend (variable.the_field).row
-variable_send = search (sendable, crosses, shapes.crosses) depth 60 fits 20000
-
-pub global_send : IsSend global.the_row
-global_send = search (variable_send, function_send, sendable, crosses) depth 60 fits 20000
-
--- ---- may be shared
 
 pub reg_sync : IsSync reg.the_row
 reg_sync = search (sendable, crosses) depth 60 fits 20000
