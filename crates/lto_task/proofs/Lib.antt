@@ -1,4 +1,3 @@
-mod Copies
 mod Rising
 mod Splitting
 mod Numbers

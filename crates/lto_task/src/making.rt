@@ -39,7 +39,7 @@ fn sort_names(names: &mut Vec<&[u8]>)
     names.dedup();
 }
 
-#[tactic(auto, using(crate::proofs::Copies::text_more))]
+#[tactic(auto, using(ir_summary::proofs::Onces::text_more))]
 fn copies(alloc: Global, names: &[&[u8]]) -> Result<Rows<Text>, AllocError>
     ensures { IfOk result (λ rows. rows ≡ texts names.now) }
 {
