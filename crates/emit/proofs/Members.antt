@@ -8,7 +8,7 @@ use Rattle.ir_tree.specs.Wholes.{global_symbol, symbols}
 use Rattle.ir_tree.specs.declared.module.GlobalValue.{GlobalValue}
 use Rattle.ir_tree.specs.declared.module.GlobalValue.TheVariants as global
 use Rattle.ir_tree.specs.declared.operand.Symbol.{Symbol}
-use Rattle.ir_program.specs.Programs.{symbol_of}
+use Rattle.ir_better.specs.Programs.{symbol_of}
 use Rattle.merge_meaning.proofs.Standing.{alone, filter_from, first, first_or_later, in_filter, in_map, later, map_from, nothing}
 use Rattle.emit.specs.Emissions.{IsEmission, IsInOrder, getchar, in_use, is_named, is_variable, outside_in_use, putchar, settled}
 use Rattle.emit.specs.Laws.{EmissionComesFrom}

@@ -5,7 +5,7 @@ use Rattle.std.proofs.lemmas.List.Elements.{filter_agree}
 use Rattle.std.proofs.lemmas.List.Sorted.{ranks_by}
 use Rattle.std.specs.Ordering.{is_lt}
 use Rattle.ir_tree.specs.declared.module.GlobalValue.{GlobalValue}
-use Rattle.ir_program.specs.Programs.{symbol_of}
+use Rattle.ir_better.specs.Programs.{symbol_of}
 use Rattle.emit.specs.Emissions.{IsEmission, IsInOrder, getchar, in_use, is_named, is_variable, name_cmp, outside_in_use, putchar, settled}
 use Rattle.emit.specs.Laws.{EmissionIsOne}
 use Rattle.emit.proofs.Ordered.{same_sorted}

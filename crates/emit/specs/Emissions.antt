@@ -14,7 +14,7 @@ use Rattle.ir_tree.specs.declared.module.GlobalValue.{GlobalValue}
 use Rattle.ir_tree.specs.declared.module.GlobalValue.TheVariants as global
 use Rattle.ir_tree.specs.declared.operand.Reg.TheVariants.{Int}
 use Rattle.ir_summary.specs.References.{global_names}
-use Rattle.ir_program.specs.Programs.{shared, symbol_of}
+use Rattle.ir_better.specs.Programs.{shared, symbol_of}
 
 -- ---- what is kept
 

@@ -13,3 +13,9 @@ pub mod Counting
 pub mod Entries
 pub mod Everywhere
 pub mod Exits
+pub mod Counted
+pub mod Numbered
+pub mod Inside
+pub mod Sized
+mod Parts
+pub mod Verified

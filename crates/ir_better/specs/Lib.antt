@@ -11,3 +11,7 @@ pub mod Renumber
 pub mod Table
 pub mod Counted
 pub mod EdgeCounts
+pub mod Constants
+pub mod Programs
+pub mod Runnable
+pub mod ProgramLaws

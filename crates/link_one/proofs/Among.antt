@@ -12,7 +12,7 @@ use Rattle.ir_tree.specs.declared.module.GlobalValue.{GlobalValue}
 use Rattle.ir_tree.specs.declared.module.GlobalValue.TheVariants as global
 use Rattle.ir_tree.specs.declared.operand.Symbol.{Symbol}
 use Rattle.back_end.specs.Inlinable.{AreSound}
-use Rattle.import_plan.specs.Views.{rows}
+use Rattle.thin_link.specs.Views.{rows}
 use Rattle.link_one.specs.Linked.{AreCompiled, IsLinkedGlobal, bodies_for, joined}
 use Rattle.link_one.specs.Units.{AreFilled, ArePrinted, IsLinkedPiece, IsSettledPiece}
 use Rattle.link_one.specs.declared.setting.Setting.{Setting}

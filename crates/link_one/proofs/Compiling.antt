@@ -7,7 +7,7 @@ use Rattle.ir_tree.specs.declared.function.Function.{Function}
 use Rattle.ir_tree.specs.declared.module.GlobalValue.{GlobalValue}
 use Rattle.ir_tree.specs.declared.module.GlobalValue.TheVariants as global
 use Rattle.ir_tree.specs.declared.operand.Symbol.{Symbol}
-use Rattle.ir_program.specs.Programs.{symbol_of}
+use Rattle.ir_better.specs.Programs.{symbol_of}
 use Rattle.promote_rename.specs.Finals.{final_name}
 use Rattle.back_end.specs.Inlinable.{may_inline}
 use Rattle.back_end.proofs.Offered.{IsAmong, among}

@@ -1,3 +1,13 @@
+mod Places
+mod Summed
+mod Indexed
+mod References
+mod Lives
+mod Finals
+mod LiveRefining
+mod Compiled
+mod Known
+mod LiveLinkable
 pub mod Apart
 pub mod Refusals
 pub mod Own

@@ -6,12 +6,12 @@ use Rattle.ir_tree.specs.Wholes.{GlobalFormed, GlobalKnown, GlobalSound, IsVerif
 use Rattle.ir_tree.specs.declared.module.GlobalValue.{GlobalValue}
 use Rattle.ir_tree.specs.declared.module.Module.{Module}
 use Rattle.ir_tree.specs.declared.operand.Symbol.{Symbol}
-use Rattle.ir_program.specs.Programs.{program_of}
+use Rattle.ir_better.specs.Programs.{program_of}
 use Rattle.merge_meaning.specs.Laws.{AllWhole, LiveByModule, PartsAreSound, PartsDefine}
 use Rattle.merge_meaning.specs.Linked.{Improves, IsDefinition}
 use Rattle.merge_meaning.specs.Lives.{live_globals, live_outside, parts}
 use Rattle.back_end.specs.Laws.{MadeHasInterface, MadeIsBetter, MadeIsKnown, MadeIsSound}
-use Rattle.link_meaning.specs.Laws.{AreLinkable as AreTogether, LiveIsKnown}
+use Rattle.link_one.specs.MeaningLaws.{AreLinkable as AreTogether, LiveIsKnown}
 use Rattle.combined_index.specs.Combined.{Combined}
 use Rattle.promote_rename.specs.Finals.{NoneTaken, final_names}
 use Rattle.thin_link.specs.Linking.{IsThinLink}

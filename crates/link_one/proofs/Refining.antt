@@ -11,7 +11,7 @@ use Rattle.ir_tree.specs.declared.module.GlobalValue.TheVariants as global
 use Rattle.ir_tree.specs.declared.module.Module.{Module}
 use Rattle.ir_tree.specs.declared.operand.Symbol.{Symbol}
 use Rattle.ir_meaning.specs.Refine.{RefinesUnder}
-use Rattle.ir_program.specs.Programs.{Definition, behind, defined, defined_init, definition_from, or_else, program_of, shared, storage_of, symbol_of}
+use Rattle.ir_better.specs.Programs.{Definition, behind, defined, defined_init, definition_from, or_else, program_of, shared, storage_of, symbol_of}
 use Rattle.merge_meaning.specs.Laws.{OutsideIsDeclared}
 use Rattle.merge_meaning.specs.Linked.{IsDefinition}
 use Rattle.merge_meaning.specs.Lives.{is_export}
@@ -19,7 +19,7 @@ use Rattle.merge_meaning.specs.Merged.{declaration, merged}
 use Rattle.emit.specs.Emissions.{exported, settled}
 use Rattle.emit.specs.Joins.{IsJoin}
 use Rattle.emit.specs.Laws.{AreLinkable, EmissionIsClosed, EmissionIsReordering, EmissionIsSound, EmissionIsWhole, IsOutside, JoinIsEmission, keeps_symbol}
-use Rattle.link_meaning.specs.Laws.{CompiledRefines, ExportedIsDefined}
+use Rattle.link_one.specs.MeaningLaws.{CompiledRefines, ExportedIsDefined}
 use Rattle.ir_print.specs.Modules.{module_text}
 use Rattle.symbol_resolve.specs.Clashes.{given_text}
 use Rattle.symbol_resolve.specs.declared.clash.TargetLine.TheVariants.{Datalayout, Triple}

@@ -1,3 +1,4 @@
+pub mod MeaningLaws
 pub mod Linked
 pub mod Accepted
 pub mod Naming

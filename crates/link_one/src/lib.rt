@@ -9,11 +9,13 @@
 //! from the exported names (`emit`). What a linked module is, is said of trees (`specs/Linked.antt`), and [`link`] keeps both
 //! promises of the linker: the text is that of the linked module of the modules that the files are read as and no other text is
 //! one, and each run of the linked program from an exported function is a run of the merged modules (`specs/Linking.antt`). No
-//! clause names threads: with however many, the text is the same. Why modules
-//! aren't linked stands in `specs/Refusing.antt`. The linked module is verified as those were ([`linked_is_verified`]).
+//! clause names threads: with however many, the text is the same. Why modules aren't linked stands in `specs/Refusing.antt`. The linked module is verified as those were ([`linked_is_verified`]).
 //!
-//! Below stand these crates, `link_meaning` for what a thin link decides of the merged program, `ir_program` and `ir_better`
-//! for what is proved, and `lto_fault`, whose refusals are told. The cost is that of the stages: each definition is copied once
+//! That what a thin link decides by summaries is right of the program that the modules mean together is said by laws
+//! (`specs/MeaningLaws.antt`): the index finds and names what the program has, what it calls live is closed in the program, and
+//! the live definitions under their final names refine it, as better ones in their places do.
+//!
+//! Below stand these crates, `ir_better` for what is proved, and `lto_fault`, whose refusals are told. The cost is that of the stages: each definition is copied once
 //! under its final name, and imported bodies are found by name in one table. Each thread compiles a run of neighbouring modules,
 //! of equal number and not of equal length. That threads save time isn't shown: `bench/link` measures it.
 #![tactic(auto)]
@@ -24,6 +26,7 @@ mod laws;
 mod linked;
 mod linked_laws;
 mod linking;
+mod meaning_laws;
 mod naming;
 mod setting;
 mod table;
@@ -34,3 +37,4 @@ pub use accepting::{LinkError, accepted};
 pub use laws::{accepted_is_not_refused, linked_is_one, refused_is_one};
 pub use linked_laws::{linked_is_verified, linked_refines, unlinked_is_one};
 pub use linking::link;
+pub use meaning_laws::{index_names_references, live_is_emitted, live_is_known, live_refines};

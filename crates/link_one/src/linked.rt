@@ -1,7 +1,7 @@
 //! The text of the linked module.
 ghost use Rattle.std.specs.Prelude.{◌≡◌, [], All, IfOk, length};
 ghost use Rattle.ir_tree.specs.Wholes.{IsVerified};
-ghost use Rattle.import_plan.specs.Views.{rows};
+ghost use Rattle.thin_link.specs.Views.{rows};
 ghost use Rattle.promote_rename.specs.Finals.{NoneTaken, final_names};
 ghost use Rattle.symbol_resolve.specs.Resolved.{symbols};
 ghost use Rattle.thin_link.specs.Linking.{IsThinLink};

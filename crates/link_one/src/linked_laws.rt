@@ -1,9 +1,9 @@
 //! Laws of modules that are linked, and of those that aren't.
 ghost use Rattle.link_one.specs.LinkedLaws.{JoinedIsLinked, LinkedIsVerified, LinkedRefines, UnlinkedIsNotLinked, UnlinkedIsOne};
 
+use crate::{live_is_known, live_refines};
 use back_end::{made_has_interface, made_is_better, made_is_known};
 use emit::{emission_is_reordering, emission_is_whole, joined_is_emission};
-use link_meaning::{live_is_known, live_refines};
 use merge_meaning::live_by_module;
 use thin_link::one_answer;
 

@@ -4,7 +4,7 @@ ghost use Rattle.std.specs.List.{AllZip};
 ghost use Rattle.ir_tree.specs.Wholes.{GlobalSound};
 ghost use Rattle.back_end.specs.Inlinable.{AreSound};
 ghost use Rattle.back_end.specs.Walking.{bodies_in};
-ghost use Rattle.import_plan.specs.Views.{rows};
+ghost use Rattle.thin_link.specs.Views.{rows};
 ghost use Rattle.link_one.specs.Linked.{IsLinkedGlobal, joined};
 ghost use Rattle.link_one.specs.Units.{AreFilled, ArePrinted, IsLinkedPiece, IsUnit};
 

@@ -2,7 +2,7 @@
 //! tenths with each call, and in other shapes.
 use crate::files::{answered, linked, texts};
 use combined_index::Index;
-use import_plan::plan;
+use thin_link::plan;
 use ir_tree::Text;
 use liveness::live;
 use std::alloc::{AllocError, Global};

@@ -28,8 +28,8 @@ use Rattle.ir_machine.specs.Origins.{Holds, HoldsNone, HoldsNoMore}
 use Rattle.ir_machine.specs.declared.bytes.Bytes.{Bytes}
 use Rattle.ir_machine.specs.declared.scalar.Scalar.{Scalar}
 use Rattle.ir_machine.specs.declared.scalar.Scalar.TheVariants as scalar
-use Rattle.ir_program.specs.Constants.{initial_bytes, scalar_bytes, zero_bytes}
-use Rattle.ir_program.proofs.Sized.{initial_size}
+use Rattle.ir_better.specs.Constants.{initial_bytes, scalar_bytes, zero_bytes}
+use Rattle.ir_better.proofs.Sized.{initial_size}
 use Rattle.machine_code.specs.MemoryAddresses.{HoldsFrom, IsBaseIn, IsFrom, KeepsFrom, value_in}
 use Rattle.machine_code.specs.Images.{IsWritten, TakesAll, Wrote, head_bytes, open_behind, opened_by, padding, part_bytes, parts_bytes}
 use Rattle.machine_code.specs.declared.bases.Bases.{Bases}

@@ -15,7 +15,7 @@ use Rattle.ir_tree.specs.Symbols.{symbol_eq}
 use Rattle.ir_better.specs.Rename.{block_under}
 use Rattle.ir_better.proofs.Names.Moved.{both}
 use Rattle.ir_tree.proofs.Symbols.{symbol_same, symbol_true}
-use Rattle.ir_program.specs.Programs.{Body, Definition, Storage, behind, body_of, defined, definition_from, is_declared, or_else, storage_of, symbol_of}
+use Rattle.ir_better.specs.Programs.{Body, Definition, Storage, behind, body_of, defined, definition_from, is_declared, or_else, storage_of, symbol_of}
 use Rattle.merge_meaning.specs.Globals.{function_under, global_under, initial_under, named_by, variable_under}
 use Rattle.merge_meaning.specs.Laws.{EmissionIsEmitted}
 use Rattle.merge_meaning.specs.Linked.{AreFinal, IsUnder, emission}

@@ -18,7 +18,7 @@ use Rattle.ir_tree.specs.declared.module.GlobalValue.TheVariants as globals
 use Rattle.ir_tree.specs.declared.module.Module.{Module}
 use Rattle.ir_tree.specs.declared.operand.Operand.{Operand}
 use Rattle.ir_tree.specs.declared.operand.Operand.TheVariants as operand
-use Rattle.printed_modules.specs.Bodies.{instructions, phi_as_line}
+use Rattle.read_again.specs.Bodies.{instructions, phi_as_line}
 use Rattle.read_again.specs.Anew.{numbered_anew, value_anew}
 use Rattle.read_again.specs.Laws.{NumberedAnewIsRead, TextOrderIsNumbered, VerifiedIsRead}
 use Rattle.read_again.specs.Numbered.{LocalsNumbered, StringsAreBytes}

@@ -35,13 +35,13 @@ use Rattle.read_again.proofs.Names.{names_of}
 use Rattle.read_again.proofs.Operands.{Marks, alone, operand_inner, typed_inner, uses_none}
 use Rattle.read_again.proofs.Passing.{Inner}
 use Rattle.read_again.proofs.Walk.{BlockHas, blocks_have}
-use Rattle.printed_modules.specs.Bodies.{phi_as_line, stated}
-use Rattle.printed_modules.specs.Printed.{IsInstruction, IsLine, IsContent, IsLabelled, AreBlocks}
-use Rattle.printed_modules.specs.Readable.{InstructionReadable, LineReadable, BlockReadable}
-use Rattle.printed_modules.proofs.Binds.{bound}
-use Rattle.printed_modules.proofs.Shapes.{shape_again}
-use Rattle.printed_modules.specs.PartsPrinted.{Paired, written_shape, IsOperand, IsArgument, IsIncoming, IsTerminator}
-use Rattle.printed_modules.specs.PartsReadable.{OperandReadable, ArgumentReadable, IncomingReadable, EntriesReadable, ShapeReadable, TerminatorReadable}
+use Rattle.read_again.specs.Bodies.{phi_as_line, stated}
+use Rattle.read_again.specs.Printed.{IsInstruction, IsLine, IsContent, IsLabelled, AreBlocks}
+use Rattle.read_again.specs.Readable.{InstructionReadable, LineReadable, BlockReadable}
+use Rattle.read_again.proofs.Binds.{bound}
+use Rattle.read_again.proofs.Shapes.{shape_again}
+use Rattle.read_again.specs.PartsPrinted.{Paired, written_shape, IsOperand, IsArgument, IsIncoming, IsTerminator}
+use Rattle.read_again.specs.PartsReadable.{OperandReadable, ArgumentReadable, IncomingReadable, EntriesReadable, ShapeReadable, TerminatorReadable}
 
 module _ (known : List Symbol) where
   -- ---- names that are used

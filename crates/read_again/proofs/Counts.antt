@@ -11,9 +11,9 @@ use Rattle.ir_read.specs.Shapes.{Written, WrittenParts}
 use Rattle.ir_read.specs.declared.shape.Typed.{Typed}
 use Rattle.ir_tree.specs.Forms.{Form, int, array, structure, forms_of}
 use Rattle.ir_tree.specs.Layout.{size}
-use Rattle.printed_modules.specs.Spelled.{AllCounted, Counted, TypeCounted}
+use Rattle.read_again.specs.Spelled.{AllCounted, Counted, TypeCounted}
 use Rattle.read_again.proofs.Stages.{one, took}
-use Rattle.printed_modules.specs.PartsReadable.{CountsReadable, AllCountsReadable}
+use Rattle.read_again.specs.PartsReadable.{CountsReadable, AllCountsReadable}
 
 abbrev pub TypesCounted : Types → Type 0
 TypesCounted types = Each (λ d. TypeCounted d.1) types

@@ -2,7 +2,7 @@
 use Rattle.std.proofs.Common.{List, [], ◌∷◌, ◌++◌}
 use Rattle.std.specs.List.{AllByRecursion as Each}
 use Rattle.ir_names.specs.Marks.{Mark, all}
-use Rattle.printed_modules.specs.PartsPrinted.{Paired}
+use Rattle.read_again.specs.PartsPrinted.{Paired}
 
 pub front : {A : Type 0} (P : A → Type 0) (xs ys : List A) → Each P (xs ++ ys) → Each P xs
 front P [] ys h = tt

@@ -27,14 +27,14 @@ use Rattle.read_again.proofs.Small.{BlockSmall, ResultSmall, block_small, given_
 use Rattle.read_again.proofs.Walk.{BlockHas, blocks_have}
 use Rattle.read_again.specs.Typed.{FunctionTyped}
 use Rattle.read_again.specs.Within.{FunctionWithin, HasEntry, InstrWithin, ItemWithin, NameWithin, OffsetFits}
-use Rattle.printed_modules.specs.Bodies.{phi_as_line, stated}
-use Rattle.printed_modules.specs.ModulesReadable.{FunctionReadable}
-use Rattle.printed_modules.specs.Readable.{InstructionReadable, ResultReadable, LineReadable, BlockReadable, BodyReadable}
-use Rattle.printed_modules.specs.Sorts.{IsNumbered}
-use Rattle.printed_modules.proofs.PartsSound.{arguments_readable, item_typed, typed_readable}
-use Rattle.printed_modules.specs.PartsReadable.{ArgumentReadable, HeadReadable, IsSmall, ParamReadable, SymbolReadable, TerminatorReadable}
-use Rattle.printed_modules.specs.Typed.{ItemTyped}
-use Rattle.printed_modules.specs.Writable.{EntriesWritable, InstrWritable, ItemReadable, ItemWritable, KindWritable, OperandWritable}
+use Rattle.read_again.specs.Bodies.{phi_as_line, stated}
+use Rattle.read_again.specs.ModulesReadable.{FunctionReadable}
+use Rattle.read_again.specs.Readable.{InstructionReadable, ResultReadable, LineReadable, BlockReadable, BodyReadable}
+use Rattle.read_again.specs.Sorts.{IsNumbered}
+use Rattle.read_again.proofs.PartsSound.{arguments_readable, item_typed, typed_readable}
+use Rattle.read_again.specs.PartsReadable.{ArgumentReadable, HeadReadable, IsSmall, ParamReadable, SymbolReadable, TerminatorReadable}
+use Rattle.read_again.specs.PrintedTyped.{ItemTyped}
+use Rattle.read_again.specs.Writable.{EntriesWritable, InstrWritable, ItemReadable, ItemWritable, KindWritable, OperandWritable}
 
 module _ (known : List Symbol) (names : (s : Symbol) → Contains known s → NameWithin s) (f : Function) (w : FunctionWithin f) (n : IsNumbered f) where
   -- ---- operands

@@ -32,16 +32,16 @@ use Rattle.read_again.proofs.Initialisers.{init_inner}
 use Rattle.read_again.proofs.Names.{names_of, is_spelled, printed_name}
 use Rattle.read_again.proofs.Operands.{Marks, typed_inner}
 use Rattle.read_again.proofs.Passing.{Right, Inner, names_in, names_append, all_right, no_names}
-use Rattle.printed_modules.specs.Modules.{global_value, IsFunctionOf, IsGlobalItem, IsItem}
-use Rattle.printed_modules.specs.ModulesReadable.{FunctionReadable, GlobalReadable}
-use Rattle.printed_modules.specs.Readable.{BlockReadable, BodyReadable}
-use Rattle.printed_modules.proofs.Binds.{bound}
-use Rattle.printed_modules.proofs.Functions.{declaration_again, definition_again}
-use Rattle.printed_modules.proofs.ResolvedVariables.{variable_again}
-use Rattle.printed_modules.specs.Known.{FunctionKnown}
-use Rattle.printed_modules.specs.PartsPrinted.{Paired, IsGlobal, IsDeclared}
-use Rattle.printed_modules.specs.PartsReadable.{HeadReadable}
-use Rattle.printed_modules.specs.Printable.{IsName}
+use Rattle.read_again.specs.Modules.{global_value, IsFunctionOf, IsGlobalItem, IsItem}
+use Rattle.read_again.specs.ModulesReadable.{FunctionReadable, GlobalReadable}
+use Rattle.read_again.specs.Readable.{BlockReadable, BodyReadable}
+use Rattle.read_again.proofs.Binds.{bound}
+use Rattle.read_again.proofs.PrintedFunctions.{declaration_again, definition_again}
+use Rattle.read_again.proofs.ResolvedVariables.{variable_again}
+use Rattle.read_again.specs.PrintedKnown.{FunctionKnown}
+use Rattle.read_again.specs.PartsPrinted.{Paired, IsGlobal, IsDeclared}
+use Rattle.read_again.specs.PartsReadable.{HeadReadable}
+use Rattle.read_again.specs.Printable.{IsName}
 
 body_readable : (bs : List Block) → BodyReadable bs → Each BlockReadable bs
 body_readable [] h = absurd h

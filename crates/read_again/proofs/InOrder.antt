@@ -11,8 +11,8 @@ use Rattle.ir_tree.specs.declared.function.Function.{Function}
 use Rattle.ir_tree.specs.declared.function.Param.{Param}
 use Rattle.ir_tree.specs.declared.instr.Line.{Line}
 use Rattle.ir_tree.specs.declared.instr.Phi.{Phi}
-use Rattle.printed_modules.specs.Bodies.{phi_as_line, stated}
-use Rattle.printed_modules.specs.Sorts.{BlocksFollow, IsNumbered, LinesFollow, ParamsFollow, past, past_lines, past_params}
+use Rattle.read_again.specs.Bodies.{phi_as_line, stated}
+use Rattle.read_again.specs.Sorts.{BlocksFollow, IsNumbered, LinesFollow, ParamsFollow, past, past_lines, past_params}
 
 -- ---- the numbers of a function under other numbers
 

@@ -24,10 +24,10 @@ use Rattle.read_again.proofs.Each.{front, back, joined, all_marks}
 use Rattle.read_again.proofs.Names.{names_of}
 use Rattle.read_again.proofs.Operands.{Marks, operand_inner, typed_inner}
 use Rattle.read_again.proofs.Passing.{Inner}
-use Rattle.printed_modules.specs.Variables.{IsInitHead, IsInitPart, IsInit, IsInitOf}
-use Rattle.printed_modules.specs.VariablesReadable.{ConstantReadable, InitialReadable, InitialsReadable, InitReadable}
-use Rattle.printed_modules.specs.PartsPrinted.{written_shape}
-use Rattle.printed_modules.specs.PartsReadable.{OperandReadable, ShapeReadable}
+use Rattle.read_again.specs.Variables.{IsInitHead, IsInitPart, IsInit, IsInitOf}
+use Rattle.read_again.specs.VariablesReadable.{ConstantReadable, InitialReadable, InitialsReadable, InitReadable}
+use Rattle.read_again.specs.PartsPrinted.{written_shape}
+use Rattle.read_again.specs.PartsReadable.{OperandReadable, ShapeReadable}
 
 as_operand : (reg : Reg) (x : Operand) → ConstantReadable reg x → OperandReadable reg x
 as_operand reg (Local n) h = absurd h

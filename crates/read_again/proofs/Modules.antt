@@ -24,11 +24,11 @@ use Rattle.read_again.specs.Laws.{ReadableIsRead}
 use Rattle.read_again.proofs.Globals.{AllStand, after_layout, after_triple, globals_stand}
 use Rattle.read_again.proofs.Names.{fresh, names_differ, names_of}
 use Rattle.read_again.proofs.Passing.{Fresh, Right, globals_pass, no_types, within_pass}
-use Rattle.printed_modules.specs.Modules.{layout, triple, global_value, target, IsItem, AreItems}
-use Rattle.printed_modules.specs.ModulesReadable.{LayoutReadable, ModuleReadable}
-use Rattle.printed_modules.proofs.Binds.{bound}
-use Rattle.printed_modules.specs.PartsPrinted.{Paired, IsString}
-use Rattle.printed_modules.proofs.Quoted.{string_content}
+use Rattle.read_again.specs.Modules.{layout, triple, global_value, target, IsItem, AreItems}
+use Rattle.read_again.specs.ModulesReadable.{LayoutReadable, ModuleReadable}
+use Rattle.read_again.proofs.Binds.{bound}
+use Rattle.read_again.specs.PartsPrinted.{Paired, IsString}
+use Rattle.read_again.proofs.Quoted.{string_content}
 
 -- ---- target lines
 

@@ -14,10 +14,10 @@ use Rattle.ir_names.specs.Symbols.{symbol_name}
 use Rattle.ir_tree.specs.Formed.{Distinct}
 use Rattle.ir_tree.specs.declared.operand.Symbol.{Symbol}
 use Rattle.read_again.proofs.Passing.{Fresh}
-use Rattle.printed_modules.proofs.Symbols.{symbol_again}
-use Rattle.printed_modules.specs.PartsPrinted.{IsGlobal}
-use Rattle.printed_modules.specs.Printable.{IsName}
-use Rattle.printed_modules.proofs.Quoted.{name_text}
+use Rattle.read_again.proofs.Symbols.{symbol_again}
+use Rattle.read_again.specs.PartsPrinted.{IsGlobal}
+use Rattle.read_again.specs.Printable.{IsName}
+use Rattle.read_again.proofs.Quoted.{name_text}
 
 -- ---- places in lists
 

@@ -30,10 +30,10 @@ use Rattle.ir_tree.specs.declared.module.GlobalValue.{GlobalValue}
 use Rattle.ir_tree.specs.declared.module.GlobalValue.TheVariants as globals
 use Rattle.ir_tree.specs.declared.module.Module.{Module}
 use Rattle.read_again.specs.Numbered.{LocalsNumbered}
-use Rattle.printed_modules.specs.Bodies.{stated}
-use Rattle.printed_modules.specs.Known.{FirstIsNoPhi}
+use Rattle.read_again.specs.Bodies.{stated}
+use Rattle.read_again.specs.PrintedKnown.{FirstIsNoPhi}
 use Rattle.read_again.proofs.Stages.{IfThere, one, parted, put_each, read_function, staged, took}
-use Rattle.printed_modules.specs.Sorts.{ParamsFollow, ResultFollows, LinesFollow, BlocksFollow, past, past_lines, past_params, IsNumbered}
+use Rattle.read_again.specs.Sorts.{ParamsFollow, ResultFollows, LinesFollow, BlocksFollow, past, past_lines, past_params, IsNumbered}
 
 -- ---- parameters
 

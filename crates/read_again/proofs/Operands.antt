@@ -22,10 +22,10 @@ use Rattle.ir_tree.specs.declared.operand.Reg.{Reg}
 use Rattle.ir_tree.specs.declared.operand.Symbol as tree_symbol
 use Rattle.read_again.proofs.Names.{names_of, is_there, printed_name}
 use Rattle.read_again.proofs.Passing.{Inner}
-use Rattle.printed_modules.proofs.Binds.{bound}
-use Rattle.printed_modules.proofs.Shapes.{offset_again, shape_again}
-use Rattle.printed_modules.specs.PartsPrinted.{written_shape, written_parts, IsGlobal, IsDisplaced, IsOperand}
-use Rattle.printed_modules.specs.PartsReadable.{SymbolReadable, OperandReadable, ShapeReadable}
+use Rattle.read_again.proofs.Binds.{bound}
+use Rattle.read_again.proofs.Shapes.{offset_again, shape_again}
+use Rattle.read_again.specs.PartsPrinted.{written_shape, written_parts, IsGlobal, IsDisplaced, IsOperand}
+use Rattle.read_again.specs.PartsReadable.{SymbolReadable, OperandReadable, ShapeReadable}
 
 -- ---- shapes
 

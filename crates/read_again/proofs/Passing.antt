@@ -11,7 +11,7 @@ use Rattle.ir_names.specs.Stages.{mark_within, marks_within, global_names, all_n
 use Rattle.ir_names.specs.Symbols.{symbol_name}
 use Rattle.ir_names.specs.TypeNames.{typed_by, all_typed, first_types, type_names}
 use Rattle.ir_names.specs.Types.{Types}
-use Rattle.printed_modules.proofs.Binds.{bound}
+use Rattle.read_again.proofs.Binds.{bound}
 
 -- ---- one mark
 

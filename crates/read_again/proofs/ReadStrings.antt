@@ -38,11 +38,11 @@ use Rattle.ir_tree.specs.declared.module.GlobalValue.{GlobalValue}
 use Rattle.ir_tree.specs.declared.module.GlobalValue.TheVariants as globals
 use Rattle.ir_tree.specs.declared.module.Module.{Module}
 use Rattle.read_again.proofs.Stages.{IfThere, one, put_each, read_variable, staged, took}
-use Rattle.printed_modules.proofs.Contents.{content_bytes}
-use Rattle.printed_modules.proofs.Cut.{tokens_cut}
-use Rattle.printed_modules.proofs.WithinItems.{module_spelled}
-use Rattle.printed_modules.specs.Spelled.{BeginningSpelled, InitSpelled, ItemSpelled, PartSpelled}
-use Rattle.printed_modules.specs.Tokens.{OfBytes}
+use Rattle.read_again.proofs.Contents.{content_bytes}
+use Rattle.read_again.proofs.Cut.{tokens_cut}
+use Rattle.read_again.proofs.WithinItems.{module_spelled}
+use Rattle.read_again.specs.Spelled.{BeginningSpelled, InitSpelled, ItemSpelled, PartSpelled}
+use Rattle.read_again.specs.Tokens.{OfBytes}
 use Rattle.read_again.specs.Numbered.{InitialBytes, InitialsBytes, InitBytes, StringsAreBytes}
 
 -- ---- the parts of an initialiser

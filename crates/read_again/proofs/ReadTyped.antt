@@ -48,14 +48,14 @@ use Rattle.ir_tree.specs.declared.module.GlobalValue.{GlobalValue}
 use Rattle.ir_tree.specs.declared.module.GlobalValue.TheVariants as globals
 use Rattle.ir_tree.specs.declared.operand.Operand.{Operand}
 use Rattle.ir_tree.specs.declared.operand.Operand.TheVariants as to
-use Rattle.printed_modules.specs.PartsReadable.{ShapeReadable}
-use Rattle.printed_modules.specs.Typed.{ItemTyped, NumberTyped, OperandTyped}
+use Rattle.read_again.specs.PartsReadable.{ShapeReadable}
+use Rattle.read_again.specs.PrintedTyped.{ItemTyped, NumberTyped, OperandTyped}
 use Rattle.ir_parse.specs.Resolved.{ShapesAreWithin}
 use Rattle.ir_parse.specs.Written.{ShapeWritten, TypesWritten}
 use Rattle.ir_parse.specs.Items.{InitShaped, ItemWritten, PartShaped}
 use Rattle.ir_parse.specs.Spelled.{ItemsAreWritten, TokensAreSized, TypesAreWritten}
-use Rattle.printed_modules.specs.Laws.{ItemsAreWithin, TokensAreCut}
-use Rattle.printed_modules.specs.Spelled.{BeginningSpelled, BlockSpelled, ConstantSpelled, Counted, InitSpelled, ItemSpelled, PartSpelled}
+use Rattle.read_again.specs.PrintedLaws.{ItemsAreWithin, TokensAreCut}
+use Rattle.read_again.specs.Spelled.{BeginningSpelled, BlockSpelled, ConstantSpelled, Counted, InitSpelled, ItemSpelled, PartSpelled}
 use Rattle.read_again.specs.Laws.{ReadIsTyped}
 use Rattle.read_again.specs.Typed.{FunctionTyped, InitialTyped, InitialsTyped, InitTyped, ValueTyped}
 use Rattle.read_again.proofs.Counts.{TypesCounted, expanded_counts}

@@ -50,11 +50,11 @@ use Rattle.ir_tree.specs.declared.module.GlobalValue.{GlobalValue}
 use Rattle.ir_tree.specs.declared.module.GlobalValue.TheVariants as globals
 use Rattle.ir_tree.specs.declared.operand.Operand.{Operand}
 use Rattle.ir_tree.specs.declared.operand.Operand.TheVariants as to
-use Rattle.printed_modules.specs.Bodies.{instructions, stated}
-use Rattle.printed_modules.specs.ModulesReadable.{LayoutReadable}
-use Rattle.printed_modules.specs.Laws.{ContentsAreBytes, ItemsAreWithin, TokensAreCut}
-use Rattle.printed_modules.specs.Spelled.{BodySpelled, Counted, FewParams, HeadSpelled, ItemSpelled, LayoutSpelled, NameSpelled, count_in, count_of, lines_in as raw_lines}
-use Rattle.printed_modules.proofs.Means.{joined}
+use Rattle.read_again.specs.Bodies.{instructions, stated}
+use Rattle.read_again.specs.ModulesReadable.{LayoutReadable}
+use Rattle.read_again.specs.PrintedLaws.{ContentsAreBytes, ItemsAreWithin, TokensAreCut}
+use Rattle.read_again.specs.Spelled.{BodySpelled, Counted, FewParams, HeadSpelled, ItemSpelled, LayoutSpelled, NameSpelled, count_in, count_of, lines_in as raw_lines}
+use Rattle.read_again.proofs.Means.{joined}
 use Rattle.read_again.specs.Laws.{ReadIsWithin}
 use Rattle.read_again.specs.Within.{FunctionWithin, NameWithin, OffsetFits, ValueWithin, VariableWithin}
 use Rattle.read_again.proofs.Counts.{TypesCounted, expanded_counts}

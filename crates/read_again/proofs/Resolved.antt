@@ -24,10 +24,10 @@ use Rattle.ir_tree.specs.declared.operand.Reg.{Reg}
 use Rattle.ir_tree.specs.declared.operand.Symbol as tree_symbol
 use Rattle.read_again.proofs.Each.{front, back}
 use Rattle.read_again.proofs.Walk.{BlockHas, blocks_have}
-use Rattle.printed_modules.specs.Bodies.{phi_as_line}
-use Rattle.printed_modules.proofs.Places.{local_defined, block_defined}
-use Rattle.printed_modules.specs.Known.{IsDefinedAs, OperandKnown, ArgumentKnown, LineKnown, EndKnown, FirstIsNoPhi, BlockKnown, FunctionKnown}
-use Rattle.printed_modules.specs.Sorts.{sorts, IsNumbered}
+use Rattle.read_again.specs.Bodies.{phi_as_line}
+use Rattle.read_again.proofs.Places.{local_defined, block_defined}
+use Rattle.read_again.specs.PrintedKnown.{IsDefinedAs, OperandKnown, ArgumentKnown, LineKnown, EndKnown, FirstIsNoPhi, BlockKnown, FunctionKnown}
+use Rattle.read_again.specs.Sorts.{sorts, IsNumbered}
 
 module _ (known : List tree_symbol.Symbol) (at_home : (s : tree_symbol.Symbol) → Contains known s → s.home ≡ None) (f : Function) (n : IsNumbered f) where
   -- ---- operands

@@ -44,11 +44,11 @@ use Rattle.ir_tree.specs.declared.operand.Operand.{Operand}
 use Rattle.ir_tree.specs.declared.operand.Operand.TheVariants as to
 use Rattle.ir_tree.specs.declared.operand.Reg.{Reg}
 use Rattle.ir_tree.specs.declared.operand.Reg.TheVariants.{Int, Ptr}
-use Rattle.printed_modules.specs.Bodies.{phi_as_line}
-use Rattle.printed_modules.specs.PartsReadable.{CountsReadable}
-use Rattle.printed_modules.specs.Typed.{ArgumentTyped, CaseTyped, EndTyped, ItemTyped, OperandTyped}
-use Rattle.printed_modules.specs.Spelled.{ArgumentSpelled, BlockSpelled, CaseSpelled, Counted, EndSpelled, HasIncoming, IncomingSpelled, InstrSpelled, OperandSpelled}
-use Rattle.printed_modules.proofs.Means.{joined}
+use Rattle.read_again.specs.Bodies.{phi_as_line}
+use Rattle.read_again.specs.PartsReadable.{CountsReadable}
+use Rattle.read_again.specs.PrintedTyped.{ArgumentTyped, CaseTyped, EndTyped, ItemTyped, OperandTyped}
+use Rattle.read_again.specs.Spelled.{ArgumentSpelled, BlockSpelled, CaseSpelled, Counted, EndSpelled, HasIncoming, IncomingSpelled, InstrSpelled, OperandSpelled}
+use Rattle.read_again.proofs.Means.{joined}
 use Rattle.read_again.specs.Within.{HasEntry, InstrWithin, ItemWithin, OffsetFits}
 use Rattle.read_again.proofs.Counts.{TypesCounted, expanded_counts, expand_counts, within_counts}
 use Rattle.read_again.proofs.Stages.{one, parted, took}

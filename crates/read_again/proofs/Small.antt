@@ -12,10 +12,10 @@ use Rattle.ir_tree.specs.declared.function.Param.{Param}
 use Rattle.ir_tree.specs.declared.instr.Line.{Line}
 use Rattle.read_again.proofs.Names.{at_place}
 use Rattle.read_again.specs.Within.{FunctionWithin}
-use Rattle.printed_modules.specs.Bodies.{instructions, stated}
-use Rattle.printed_modules.proofs.Places.{block_defined, local_defined}
-use Rattle.printed_modules.specs.Sorts.{params_sorts, result_sort, lines_sorts, blocks_sorts, sorts, ParamsFollow, ResultFollows, LinesFollow, BlocksFollow, past, past_lines, past_params, IsNumbered}
-use Rattle.printed_modules.specs.PartsReadable.{IsSmall}
+use Rattle.read_again.specs.Bodies.{instructions, stated}
+use Rattle.read_again.proofs.Places.{block_defined, local_defined}
+use Rattle.read_again.specs.Sorts.{params_sorts, result_sort, lines_sorts, blocks_sorts, sorts, ParamsFollow, ResultFollows, LinesFollow, BlocksFollow, past, past_lines, past_params, IsNumbered}
+use Rattle.read_again.specs.PartsReadable.{IsSmall}
 
 -- ---- how many definitions there are
 

@@ -28,7 +28,7 @@ use Rattle.ir_tree.specs.declared.instr.Line.{Line}
 use Rattle.ir_tree.specs.declared.instr.Phi.{Phi}
 use Rattle.ir_tree.specs.declared.module.GlobalValue.{GlobalValue}
 use Rattle.ir_tree.specs.declared.module.Module.{Module}
-use Rattle.printed_modules.specs.Bodies.{phi_as_line}
+use Rattle.read_again.specs.Bodies.{phi_as_line}
 
 -- ---- results
 

@@ -26,8 +26,8 @@ use Rattle.ir_read.specs.declared.raw.Operand.TheVariants as ro
 use Rattle.ir_read.specs.declared.raw.Terminator.{Terminator}
 use Rattle.ir_read.specs.declared.raw.Terminator.TheVariants as re
 use Rattle.ir_read.specs.declared.shape.Typed.{Typed}
-use Rattle.printed_modules.specs.Spelled.{ItemSpelled, TypeCounted}
-use Rattle.printed_modules.proofs.Means.{joined}
+use Rattle.read_again.specs.Spelled.{ItemSpelled, TypeCounted}
+use Rattle.read_again.proofs.Means.{joined}
 use Rattle.read_again.proofs.Counts.{TypesCounted}
 use Rattle.read_again.proofs.Stages.{one, took}
 

@@ -18,12 +18,12 @@ use Rattle.ir_tree.specs.declared.operand.Reg.{Reg}
 use Rattle.ir_tree.specs.declared.operand.Reg.TheVariants.{Int}
 use Rattle.ir_tree.specs.declared.operand.Symbol.{Symbol}
 use Rattle.read_again.proofs.Each.{front, back}
-use Rattle.printed_modules.proofs.ResolvedVariables.{type_again}
+use Rattle.read_again.proofs.ResolvedVariables.{type_again}
 use Rattle.read_again.specs.Typed.{InitialTyped, InitialsTyped, InitTyped}
 use Rattle.read_again.specs.Within.{NameWithin, OffsetFits, VariableWithin}
-use Rattle.printed_modules.specs.VariablesReadable.{ConstantReadable, InitialReadable, InitialsReadable, InitReadable, VariableReadable}
-use Rattle.printed_modules.specs.PartsReadable.{AllCountsReadable, ShapeReadable}
-use Rattle.printed_modules.specs.Typed.{OperandTyped}
+use Rattle.read_again.specs.VariablesReadable.{ConstantReadable, InitialReadable, InitialsReadable, InitReadable, VariableReadable}
+use Rattle.read_again.specs.PartsReadable.{AllCountsReadable, ShapeReadable}
+use Rattle.read_again.specs.PrintedTyped.{OperandTyped}
 
 -- ---- shapes of parts
 

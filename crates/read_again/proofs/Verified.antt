@@ -14,9 +14,9 @@ use Rattle.ir_tree.specs.declared.operand.Symbol.{Symbol}
 use Rattle.read_again.specs.Known.{ModuleKnown, ValueKnown}
 use Rattle.read_again.specs.Numbered.{InitialBytes, InitialsBytes, InitBytes, LocalsNumbered, ModuleNumbered, StringsAreBytes}
 use Rattle.read_again.proofs.Each.{front, back}
-use Rattle.printed_modules.proofs.Sound.{function_known}
-use Rattle.printed_modules.specs.Homeless.{IsHomeless}
-use Rattle.printed_modules.specs.Known.{InitialKnown, InitialsKnown, InitKnown, OperandKnown}
+use Rattle.read_again.proofs.Sound.{function_known}
+use Rattle.read_again.specs.Homeless.{IsHomeless}
+use Rattle.read_again.specs.PrintedKnown.{InitialKnown, InitialsKnown, InitKnown, OperandKnown}
 
 module _ (known : List Symbol) (homeless : All (λ (s : Symbol). s.home ≡ None) known) where
   pub at_home : (s : Symbol) → Contains known s → s.home ≡ None

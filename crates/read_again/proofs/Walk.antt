@@ -7,7 +7,7 @@ use Rattle.ir_tree.specs.declared.block.Terminator.{Terminator}
 use Rattle.ir_tree.specs.declared.instr.Line.{Line}
 use Rattle.ir_tree.specs.declared.instr.Phi.{Phi}
 use Rattle.read_again.proofs.Each.{front, back}
-use Rattle.printed_modules.specs.Bodies.{phi_as_line, stated}
+use Rattle.read_again.specs.Bodies.{phi_as_line, stated}
 
 -- of each line, phis among them, and of the terminator
 pub record BlockHas (L : Line → Type 0) (E : Terminator → Type 0) (b : Block) : Type 0 where

@@ -15,7 +15,7 @@ use Rattle.read_again.specs.Typed.{ModuleTyped, ValueTyped}
 use Rattle.read_again.specs.Within.{ModuleWithin, NameWithin, ValueWithin}
 use Rattle.read_again.proofs.Functions.{function_readable, sound_typed}
 use Rattle.read_again.proofs.Variables.{fitting_typed, variable_readable}
-use Rattle.printed_modules.specs.ModulesReadable.{GlobalReadable, ModuleReadable}
+use Rattle.read_again.specs.ModulesReadable.{GlobalReadable, ModuleReadable}
 
 module _ (known : List Symbol) (names : (s : Symbol) → Contains known s → NameWithin s) where
   value_readable : (g : GlobalValue) → GlobalFormed g → ValueTyped g → GlobalKnown known g → LocalsNumbered g → NameWithin (global_symbol g) → ValueWithin g → GlobalReadable FURTHER_PARAMETERS g

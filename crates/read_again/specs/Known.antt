@@ -6,7 +6,7 @@ use Rattle.ir_tree.specs.Wholes.{Whole}
 use Rattle.ir_tree.specs.declared.module.GlobalValue.{GlobalValue}
 use Rattle.ir_tree.specs.declared.module.GlobalValue.TheVariants as globals
 use Rattle.ir_tree.specs.declared.module.Module.{Module}
-use Rattle.printed_modules.specs.Known.{FunctionKnown, VariableKnown}
+use Rattle.read_again.specs.PrintedKnown.{FunctionKnown, VariableKnown}
 
 abbrev pub ValueKnown : GlobalValue → Type 0
 ValueKnown (globals.Variable v) = VariableKnown v

@@ -8,8 +8,8 @@ use Rattle.ir_tree.specs.Names.{AllBytes}
 use Rattle.ir_tree.specs.Wholes.{IsVerified}
 use Rattle.ir_tree.specs.declared.function.Function.{Function}
 use Rattle.ir_tree.specs.declared.module.Module.{Module}
-use Rattle.printed_modules.specs.ModulesReadable.{ModuleReadable}
-use Rattle.printed_modules.specs.Sorts.{IsNumbered}
+use Rattle.read_again.specs.ModulesReadable.{ModuleReadable}
+use Rattle.read_again.specs.Sorts.{IsNumbered}
 use Rattle.read_again.specs.Known.{ModuleKnown}
 use Rattle.std.specs.List.{AllByRecursion as Each}
 use Rattle.read_again.specs.Anew.{numbered_anew}

@@ -7,7 +7,7 @@ use Rattle.ir_tree.specs.Names.{AllBytes}
 use Rattle.ir_tree.specs.declared.module.GlobalValue.{GlobalValue}
 use Rattle.ir_tree.specs.declared.module.GlobalValue.TheVariants as globals
 use Rattle.ir_tree.specs.declared.module.Module.{Module}
-use Rattle.printed_modules.specs.Sorts.{IsNumbered}
+use Rattle.read_again.specs.Sorts.{IsNumbered}
 
 -- ---- strings
 

@@ -10,8 +10,8 @@ use Rattle.ir_tree.specs.declared.function.Function.{Function}
 use Rattle.ir_tree.specs.declared.module.GlobalValue.{GlobalValue}
 use Rattle.ir_tree.specs.declared.module.GlobalValue.TheVariants as globals
 use Rattle.ir_tree.specs.declared.module.Module.{Module}
-use Rattle.printed_modules.specs.PartsReadable.{ShapeReadable}
-use Rattle.printed_modules.specs.Typed.{ItemTyped, OperandTyped}
+use Rattle.read_again.specs.PartsReadable.{ShapeReadable}
+use Rattle.read_again.specs.PrintedTyped.{ItemTyped, OperandTyped}
 
 abbrev pub FunctionTyped : Function → Type 0
 FunctionTyped f = All ItemTyped (items f)

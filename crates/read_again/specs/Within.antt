@@ -17,10 +17,10 @@ use Rattle.ir_tree.specs.declared.module.Module.{Module}
 use Rattle.ir_tree.specs.declared.operand.Operand.{Operand}
 use Rattle.ir_tree.specs.declared.operand.Operand.TheVariants.{Symbol as symbol_at}
 use Rattle.ir_tree.specs.declared.operand.Symbol.{Symbol}
-use Rattle.printed_modules.specs.Bodies.{instructions}
-use Rattle.printed_modules.specs.ModulesReadable.{LayoutReadable}
-use Rattle.printed_modules.specs.PartsReadable.{CountsReadable}
-use Rattle.printed_modules.specs.Tokens.{IsWritable}
+use Rattle.read_again.specs.Bodies.{instructions}
+use Rattle.read_again.specs.ModulesReadable.{LayoutReadable}
+use Rattle.read_again.specs.PartsReadable.{CountsReadable}
+use Rattle.read_again.specs.Tokens.{IsWritable}
 
 -- ---- items
 

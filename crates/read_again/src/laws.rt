@@ -3,11 +3,11 @@
 
 ghost use Rattle.read_again.specs.Laws.{NumberedAnewIsRead, ReadIsKnown, ReadIsNumbered, ReadIsReadAgain, ReadIsTyped, ReadIsWithin, ReadableIsRead, TextOrderIsNumbered, VerifiedIsRead};
 
+use crate::{contents_are_bytes, items_are_within, modules_are_read, tokens_are_cut};
 use ir_edit::{text_order_counts, text_order_is_sound};
 use ir_parse::{
     items_are_written, read_is_parsed, shapes_are_within, tokens_are_sized, types_are_written,
 };
-use printed_modules::{contents_are_bytes, items_are_within, modules_are_read, tokens_are_cut};
 
 /// The text that is printed of a module that is readable, and whose names are known, is read as that
 /// module (LangRef, "Module Structure").

@@ -1,7 +1,7 @@
 //! The printed text of a module is read again as that module.
 //!
 //! Laws over the calls of reading (`ir_parse`) and printing (`ir_print`), as functions whose contracts state them.
-//! [`readable_modules_are_read`]: the items that are read of a printed module (`printed_modules`) pass each stage of
+//! [`readable_modules_are_read`]: the items that are read of a printed module pass each stage of
 //! reading and stand for the module that was printed; meant are modules that are readable and whose names are known
 //! (`specs/Known.antt`). [`read_modules_are_within`], [`read_modules_are_typed`]: what is read of bytes is within the
 //! limits of the grammar (`specs/Within.antt`), and its constants are of the types before them (`specs/Typed.antt`). So
@@ -12,6 +12,12 @@
 //! However the locals of a verified module are numbered, it is printed under new numbers as a text that is read as that
 //! ([`modules_numbered_anew_are_read`]).
 //!
+//! Below these stand laws that tie the printed form to tokens, grammar and resolution: a printed text is cut into the tokens
+//! that it was put together from (`cutting`); types, operands, instructions and heads are read (`parts`), and so are lines,
+//! definitions, variables and whole modules (`printing_laws`), as the raw items that were printed, in which each local and
+//! block is named by its number; what is read of a function or a variable resolves to it where its locals are numbered along
+//! its text (`resolution`); and what the grammar spells of a text of bytes is within its limits (`limits`).
+//!
 //! [`read_twice`] does so with the real calls: it reads, prints and reads again, and its promise is that the second
 //! reading gives the module of the first and refuses nothing.
 //!
@@ -19,12 +25,29 @@
 //! limits, which inlining may pass.
 #![tactic(auto)]
 
+mod cutting;
 mod laws;
+mod limits;
+mod parts;
+mod printing_laws;
+mod resolution;
 mod trip;
 
+pub use cutting::{
+    text_is_cut_into_its_tokens, tokens_are_of_their_classes, tokens_stand_for_what_is_printed,
+};
 pub use laws::{
     modules_numbered_anew_are_read, read_modules_are_known, read_modules_are_numbered,
     read_modules_are_read, read_modules_are_typed, read_modules_are_within,
     readable_modules_are_read, text_order_is_numbered, verified_modules_are_read,
 };
+pub use limits::{contents_are_bytes, items_are_within, tokens_are_cut};
+pub use parts::{
+    heads_are_read, instructions_are_read, names_are_read, operands_are_read, shapes_are_read,
+    sound_items_are_read, target_lines_are_read, terminators_are_read, types_are_read,
+};
+pub use printing_laws::{
+    calls_are_read, definitions_are_read, lines_are_read, modules_are_read, variables_are_read,
+};
+pub use resolution::{functions_resolve, numbered_functions_are_known, variables_resolve};
 pub use trip::{Trip, TripError, read_twice};

@@ -17,7 +17,7 @@ use crate::literals::number_said;
 use ir_interp::Place;
 use ir_machine::Scalar;
 use ir_meaning::{Cause, Value, bits_of};
-use ir_program::symbol_of;
+use ir_better::symbol_of;
 use ir_tree::{GlobalValue, Reg, Text};
 use lto_fault::{Refusal, Returned};
 use lto_words::FileName;

@@ -1,3 +1,9 @@
+mod Lists
+mod Growing
+mod Chained
+mod Noting
+mod Planned
+mod Rising
 pub mod Counted
 pub mod Determined
 pub mod Indices

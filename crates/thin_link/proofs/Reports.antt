@@ -7,7 +7,7 @@ use Rattle.std.specs.Cmp.{IsTotalOrder}
 use Rattle.std.specs.Ordering.{is_lt}
 use Rattle.combined_index.specs.Combined.{Combined}
 use Rattle.liveness.specs.Liveness.{AreLive}
-use Rattle.import_plan.specs.Plans.{IsPlan}
+use Rattle.thin_link.specs.Plans.{IsPlan}
 use Rattle.thin_link.specs.Lines.{definition_line, import_line, module_line, text_of}
 use Rattle.thin_link.specs.Listed.{IsInOrder, Listed, listed_cmp}
 use Rattle.thin_link.specs.Reports.{AreLines, IsReport}

@@ -1,3 +1,7 @@
+pub mod Chains
+pub mod Plans
+pub mod Walking
+pub mod Views
 pub mod Linking
 pub mod Refusing
 pub mod Laws

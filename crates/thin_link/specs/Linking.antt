@@ -8,7 +8,7 @@ use Rattle.symbol_resolve.specs.Resolved.{symbols}
 use Rattle.combined_index.specs.Combined.{Combined}
 use Rattle.combined_index.specs.Indexed.{IsCombined}
 use Rattle.liveness.specs.Liveness.{AllExported, AreLive, NoneUndefined}
-use Rattle.import_plan.specs.Plans.{IsPlan}
+use Rattle.thin_link.specs.Plans.{IsPlan}
 use Rattle.thin_link.specs.Reports.{IsReport}
 
 -- the combined index of the modules: their summaries, with the definitions that prevail

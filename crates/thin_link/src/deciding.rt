@@ -2,16 +2,16 @@
 ghost use Rattle.std.specs.Prelude.{◌≡◌, ◌≢◌, length, IfOk, IfErr};
 ghost use Rattle.symbol_resolve.specs.Clashes.{NoClash};
 ghost use Rattle.symbol_resolve.specs.Resolved.{symbols};
-ghost use Rattle.import_plan.specs.Views.{rows};
+ghost use Rattle.thin_link.specs.Views.{rows};
 ghost use Rattle.liveness.specs.Liveness.{AllExported, AreLive, NoneUndefined};
 ghost use Rattle.lto_fault.specs.declared.refusal.Refusal.TheVariants.{NoMemory};
 ghost use Rattle.thin_link.specs.Linking.{IsIndex, IsThinLink};
 ghost use Rattle.thin_link.specs.Refusing.{IsClash, IsLack, IsRefused};
 
+use crate::plan;
 use crate::refusing::{clash_refusal, lack_refusal};
 use crate::summing::indexed;
 use combined_index::{Index, Live};
-use import_plan::plan;
 use ir_tree::{Text, Verified};
 use liveness::{LiveError, live};
 use lto_fault::Refusal;

@@ -9,8 +9,8 @@ use Rattle.ir_tree.specs.declared.module.GlobalValue.TheVariants as global
 use Rattle.ir_meaning.specs.Refine.{Naming}
 use Rattle.ir_better.specs.Rename.{block_under, line_under, phi_under}
 use Rattle.merge_meaning.specs.Globals.{global_under, initial_under, initials_under}
-use Rattle.printed_modules.specs.Bodies.{phi_as_line, stated}
-use Rattle.printed_modules.specs.Sorts.{BlocksFollow, LinesFollow, ResultFollows, past, past_lines, past_params}
+use Rattle.read_again.specs.Bodies.{phi_as_line, stated}
+use Rattle.read_again.specs.Sorts.{BlocksFollow, LinesFollow, ResultFollows, past, past_lines, past_params}
 use Rattle.read_again.specs.Numbered.{InitBytes, InitialBytes, InitialsBytes, LocalsNumbered, StringsAreBytes}
 
 -- ---- numbers

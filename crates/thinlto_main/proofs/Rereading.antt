@@ -4,7 +4,7 @@ use Rattle.std.specs.List.{AllByRecursion as Each, AllZip}
 use Rattle.std.specs.Prelude.{◌&&◌, filter}
 use Rattle.std.proofs.lemmas.List.Elements.{All-head, All-tail}
 use Rattle.ir_parse.specs.Reading.{Reads}
-use Rattle.ir_program.specs.Programs.{symbol_of}
+use Rattle.ir_better.specs.Programs.{symbol_of}
 use Rattle.ir_tree.specs.Names.{AllBytes}
 use Rattle.ir_tree.specs.Wholes.{GlobalSound, IsVerified}
 use Rattle.ir_tree.specs.declared.function.Function.{Function}
@@ -32,7 +32,7 @@ use Rattle.link_one.proofs.Bettering.{among_sound}
 use Rattle.link_one.proofs.Compiling.{AreAmong, pairs}
 use Rattle.link_one.proofs.Members.{Stands, all_joined, at_first, contained, either_part, filtered_from, further, mapped_from, of_each, standing, zip_back}
 use Rattle.link_one.proofs.Texts.{all_verified}
-use Rattle.printed_modules.specs.Sorts.{IsNumbered}
+use Rattle.read_again.specs.Sorts.{IsNumbered}
 use Rattle.promote_rename.specs.Suffixes.{suffix_of}
 use Rattle.read_again.specs.Laws.{ReadIsNumbered, TextOrderIsNumbered, VerifiedIsRead}
 use Rattle.read_again.specs.Numbered.{LocalsNumbered, ModuleNumbered, StringsAreBytes}

@@ -4,7 +4,7 @@ use Rattle.ir_tree.specs.Wholes.{GlobalSound}
 use Rattle.ir_tree.specs.declared.module.GlobalValue.{GlobalValue}
 use Rattle.ir_tree.specs.declared.operand.Symbol.{Symbol}
 use Rattle.ir_tree.specs.declared.module.Module.{Module}
-use Rattle.import_plan.specs.Views.{rows}
+use Rattle.thin_link.specs.Views.{rows}
 use Rattle.merge_meaning.specs.Lives.{is_live, parts}
 use Rattle.link_one.specs.Linked.{joined}
 use Rattle.link_one.specs.Units.{ArePrinted}

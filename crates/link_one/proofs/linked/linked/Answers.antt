@@ -1,7 +1,7 @@
 use Rattle.std.proofs.Common.{◌∙◌, ℕ, List, subst}
 use Rattle.std.specs.List.{flat_map}
 use Rattle.std.proofs.lemmas.Result.{IfOk-weaker}
-use Rattle.import_plan.specs.Views.{rows}
+use Rattle.thin_link.specs.Views.{rows}
 use Rattle.lto_task.specs.declared.piece.Piece.{Piece}
 use Rattle.emit.specs.Joins.{IsJoin}
 use Rattle.link_one.proofs.linked.linked.Goals as goal

@@ -6,7 +6,7 @@ use Rattle.ir_tree.specs.declared.function.Function.{Function}
 use Rattle.ir_tree.specs.declared.module.GlobalValue.{GlobalValue}
 use Rattle.back_end.specs.Inlinable.{AreSound}
 use Rattle.back_end.specs.Walking.{bodies_in}
-use Rattle.import_plan.specs.Views.{rows}
+use Rattle.thin_link.specs.Views.{rows}
 use Rattle.link_one.specs.Linked.{bodies_for, joined}
 use Rattle.link_one.specs.Units.{IsLinkedPiece, bodies_at, part_at}
 use Rattle.link_one.proofs.Among.{bodies_sound, part_sound}

@@ -1,6 +1,6 @@
 use Rattle.std.proofs.Common.{ℕ, List, subst}
 use Rattle.std.specs.Prelude.{IfOk}
-use Rattle.import_plan.specs.Views.{rows}
+use Rattle.thin_link.specs.Views.{rows}
 use Rattle.link_one.specs.Linked.{joined}
 use Rattle.link_one.specs.Units.{ArePrinted}
 use Rattle.link_one.proofs.Among.{all_compiled}

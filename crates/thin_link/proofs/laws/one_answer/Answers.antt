@@ -1,7 +1,7 @@
 use Rattle.std.proofs.Common.{◌≡◌, ◌∙◌, inl, inr, ℕ, Bool, List, map, sym, ap, subst}
 use Rattle.ir_tree.specs.declared.module.Module.{Module}
 use Rattle.combined_index.specs.Combined.{Combined}
-use Rattle.import_plan.specs.Plans.{IsPlan}
+use Rattle.thin_link.specs.Plans.{IsPlan}
 use Rattle.thin_link.specs.Reports.{IsReport}
 use Rattle.liveness.specs.Liveness.{AreLive, Refuses}
 use Rattle.thin_link.specs.Laws.{DecisionsAreOne, RefusalIsOne, ReportIsOne, ReportedIsNotRefused}

@@ -1,6 +1,6 @@
 use Rattle.std.proofs.Common.{◌∙◌, List, Vec, Global, ℕ, length, sym, ap, subst}
 use Rattle.std.proofs.lemmas.List.{length-map}
-use Rattle.import_plan.specs.Views.{rows}
+use Rattle.thin_link.specs.Views.{rows}
 use Rattle.thin_link.specs.Reports.{IsReport}
 use Rattle.thin_link.proofs.Counted.{modules_counted}
 use Rattle.thin_link.proofs.reporting.index.Goals as goal

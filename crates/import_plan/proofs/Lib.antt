@@ -1,6 +1,0 @@
-mod Lists
-mod Growing
-mod Chained
-mod Noting
-mod Planned
-mod Rising

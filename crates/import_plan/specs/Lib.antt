@@ -1,4 +1,0 @@
-pub mod Chains
-pub mod Plans
-pub mod Walking
-pub mod Views

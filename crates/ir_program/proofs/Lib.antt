@@ -1,6 +1,0 @@
-pub mod Counted
-pub mod Numbered
-pub mod Inside
-pub mod Sized
-mod Parts
-pub mod Verified

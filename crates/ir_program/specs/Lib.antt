@@ -1,4 +1,0 @@
-pub mod Constants
-pub mod Programs
-pub mod Runnable
-pub mod Laws

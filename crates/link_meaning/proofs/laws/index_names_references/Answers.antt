@@ -1,8 +1,0 @@
-use Rattle.link_meaning.proofs.References.{index_finds, index_names}
-use Rattle.link_meaning.proofs.laws.index_names_references.Goals as goal
-
-pub returns-clause-finds : goal.returns-clause-finds
-returns-clause-finds c = index_finds
-
-pub returns-clause-names : goal.returns-clause-names
-returns-clause-names c = index_names

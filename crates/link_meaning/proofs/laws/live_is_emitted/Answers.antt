@@ -1,9 +1,0 @@
-use Rattle.link_meaning.proofs.Finals.{live_emitted}
-use Rattle.link_meaning.proofs.Lives.{live_closed}
-use Rattle.link_meaning.proofs.laws.live_is_emitted.Goals as goal
-
-pub returns-clause-closed : goal.returns-clause-closed
-returns-clause-closed c = live_closed
-
-pub returns-clause-emitted : goal.returns-clause-emitted
-returns-clause-emitted c = live_emitted

@@ -1,9 +1,0 @@
-use Rattle.printed_modules.proofs.Blocks.{blocks_read}
-use Rattle.printed_modules.proofs.Definitions.{definition_read}
-use Rattle.printed_modules.proofs.laws.definitions_are_read.Goals as goal
-
-pub returns-clause-blocks : goal.returns-clause-blocks
-returns-clause-blocks c = blocks_read
-
-pub returns-clause-definition : goal.returns-clause-definition
-returns-clause-definition c = definition_read

@@ -1,0 +1,57 @@
+-- The label of a block is read as its number (LangRef, "Identifiers").
+use Rattle.std.proofs.Common.{◌≡◌, ℕ, suc, ◌-◌, true, Some, List, [], ◌∷◌, ◌++◌, length, take, decimal, refl, ap, ◌∙◌, arith}
+use Rattle.ir_lex.specs.Heads.{number, head_of}
+use Rattle.ir_lex.specs.Quotes.{stripped}
+use Rattle.ir_lex.specs.Tok.{Tok}
+use Rattle.ir_lex.specs.declared.head.Head.TheVariants as heads
+use Rattle.ir_lex.specs.declared.token.Kind.TheVariants as kinds
+use Rattle.ir_print.specs.Tokens.{next_line, label_line}
+use Rattle.ir_read.specs.Classes.{tokens, refusal}
+use Rattle.ir_read.specs.Operands.{named, named_by}
+use Rattle.lto_forms.specs.Alphabet.{contains}
+use Rattle.lto_forms.specs.Forms.{token}
+use Rattle.lto_forms.specs.Rules.{is_valued}
+use Rattle.read_again.specs.PartsPrinted.{IsLabel}
+use Rattle.read_again.specs.PartsReadable.{IsSmall}
+use Rattle.read_again.specs.Reads.{Reads}
+use Rattle.read_again.proofs.PrintedNames.{small_named}
+use Rattle.read_again.proofs.Numerals.{decimal_again, decimal_nonempty}
+use Rattle.read_again.proofs.Tokens.{IsToken, class_of, NonEmpty, piece_read, by_value}
+
+abbrev LABEL : List ℕ
+LABEL = number heads.Label ∷ []
+
+abbrev label_text : ℕ → List ℕ
+label_text n = decimal n ++ 58 ∷ []
+
+label_nonempty : (n : ℕ) → NonEmpty (label_text n)
+label_nonempty n = let s = decimal_nonempty n in record { first = s.first; others = s.others ++ 58 ∷ []; whole = ap (λ (ds : List ℕ). ds ++ 58 ∷ []) s.whole }
+
+label_class : (text : List ℕ) → contains LABEL (class_of kinds.Label text) ≡ true
+unfolding head_of
+label_class text = refl
+
+-- without its colon
+without_colon : (ds : List ℕ) → take (length (ds ++ 58 ∷ []) - 1) (ds ++ 58 ∷ []) ≡ ds
+without_colon ds = ap (λ (n : ℕ). take (n - 1) (ds ++ 58 ∷ [])) (one_more ds) ∙ ap (λ (n : ℕ). take n (ds ++ 58 ∷ [])) (less (length ds)) ∙ front ds
+  where
+    one_more : (ds : List ℕ) → length (ds ++ 58 ∷ []) ≡ suc (length ds)
+    one_more [] = refl
+    one_more (d ∷ ds) = ap suc (one_more ds)
+
+    less : (n : ℕ) → suc n - 1 ≡ n
+    less n = omega arith
+
+    front : (ds : List ℕ) → take (length ds) (ds ++ 58 ∷ []) ≡ ds
+    front [] = refl
+    front (d ∷ ds) = ap (λ (more : List ℕ). d ∷ more) (front ds)
+
+bare : (n : ℕ) (t : Tok) → IsToken kinds.Label (label_text n) t → stripped t.kind t.text ≡ decimal n
+bare n t i = ap (λ k. stripped k t.text) i.kind ∙ ap (λ (text : List ℕ). take (length text - 1) text) i.text ∙ without_colon (decimal n)
+
+label_named : (n : ℕ) → IsSmall n → (t : Tok) → IsToken kinds.Label (label_text n) t → named t ≡ Some t
+unfolding named
+label_named n h t i = ap (named_by t) (bare n t i) ∙ small_named t (decimal n) n (decimal_again n (omega (arith, h))) h
+
+pub label_read : (n : ℕ) → IsSmall n → Reads (token (is_valued tokens refusal LABEL named)) (IsLabel n) (label_line n)
+label_read n h = piece_read next_line kinds.Label (label_text n) (label_nonempty n) (by_value refusal LABEL named kinds.Label (label_text n) (label_class (label_text n)) (λ t i. (t, label_named n h t i, record { kind = i.kind; text = i.text })))
