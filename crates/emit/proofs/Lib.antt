@@ -4,12 +4,14 @@ mod Keeping
 mod Sorting
 mod Ordered
 mod One
-mod Members
+pub mod Members
 mod Distinctions
-mod References
+pub mod References
 mod Reordering
 mod Closing
 mod Settled
 mod Wholes
 mod Printed
 mod Joined
+mod Stripping
+mod Chosen

@@ -17,7 +17,7 @@ use Rattle.merge_meaning.proofs.Standing.{alone, first, in_joined, joined_from, 
 pub all_from : {X : Type 0} (P : X → Type 0) (xs : List X) → ((x : X) → Contains xs x → P x) → All P xs
 all_from P xs h = All-weaker (Contains xs) P h xs (All-contains_itself xs)
 
-named_from : (args : List Argument) (name : List ℕ) → Contains (all_named args) name → (a : Argument) × Contains args a × Contains (named a.operand) name
+pub named_from : (args : List Argument) (name : List ℕ) → Contains (all_named args) name → (a : Argument) × Contains args a × Contains (named a.operand) name
 named_from [] name h = absurd (nothing name h)
 named_from (a ∷ args) name h = by (Contains-append_cases (named a.operand) (all_named args) name h) (λ rest. named_from args name rest)
   where

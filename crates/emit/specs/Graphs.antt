@@ -35,6 +35,11 @@ pub record Linked (es : List Edge) (keys : List (Bor (List ℕ))) (rows : List (
   pub sound : (n m : ℕ) → Contains (row rows n) m → (from to : List ℕ) × IsNumber keys from n × IsNumber keys to m × Contains es (from, to)
   pub complete : (from to : List ℕ) → Contains es (from, to) → (n m : ℕ) × IsNumber keys from n × IsNumber keys to m × Contains (row rows n) m
 
+-- the graph of some pieces
+pub record IsGraph (keys : List (Bor (List ℕ))) (rows : List (List ℕ)) : Type 0 where
+  pub pieces : List Piece
+  pub linked : Linked (edges pieces) keys rows
+
 -- the numbers of the exported names
 pub record AreStarts (keys : List (Bor (List ℕ))) (exports : List (List ℕ)) (starts : List ℕ) : Type 0 where
   pub sound : (n : ℕ) → Contains starts n → (name : List ℕ) × Contains exports name × IsNumber keys name n

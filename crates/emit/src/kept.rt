@@ -1,7 +1,8 @@
 //! The names that a link keeps.
 ghost use Rattle.std.specs.Prelude.{◌≡◌, ◌↔◌, ℕ, List, true, length, flat_map, IfOk};
 ghost use Rattle.emit.specs.Joins.{IsUsed};
-ghost use Rattle.emit.specs.Graphs.{Linked, edges, is_key, is_marked};
+ghost use Rattle.lto_task.specs.declared.piece.Piece.{Piece};
+ghost use Rattle.emit.specs.Graphs.{IsGraph, Linked, edges, is_key, is_marked};
 
 use crate::graph::Graph;
 use indexmap::IndexSet;
@@ -42,6 +43,21 @@ fn marked<'a>(
     Ok(kept)
 }
 
+/// The names that are reached from these by the references of a graph.
+fn reached_from<'a>(
+    alloc: Global,
+    graph: Graph<'a>,
+    starts: &'a [Text],
+) -> Result<IndexSet<&'a [u8]>, AllocError>
+    requires linked { IsGraph graph.names.keys graph.rows.items }
+    ensures { IfOk result (λ kept. (pieces : List Piece) → Linked (edges pieces) graph.entry.names.keys graph.entry.rows.items → (name : List ℕ) → (is_key kept.keys name ≡ true) ↔ IsUsed starts.entry.now pieces name) }
+{
+    let mut graph = graph;
+    let starts = graph.numbers_of(alloc, starts)?;
+    let marks = reached(alloc, &graph.rows, &starts)?;
+    marked(alloc, graph.names.as_slice(), &marks)
+}
+
 /// The names that are reached from the exported ones by what pieces refer to.
 pub(crate) fn kept<'a>(
     alloc: Global,
@@ -50,8 +66,19 @@ pub(crate) fn kept<'a>(
 ) -> Result<IndexSet<&'a [u8]>, AllocError>
     ensures { IfOk result (λ kept. (name : List ℕ) → (is_key kept.keys name ≡ true) ↔ IsUsed exports.entry.now (flat_map (λ u. u) units.entry.now) name) }
 {
-    let mut graph = graph_of(alloc, units)?;
-    let starts = graph.numbers_of(alloc, exports)?;
-    let marks = reached(alloc, &graph.rows, &starts)?;
-    marked(alloc, graph.names.as_slice(), &marks)
+    let graph = graph_of(alloc, units)?;
+    reached_from(alloc, graph, exports)
+}
+
+/// The names that are reached from these by what the pieces of one unit refer to.
+pub(crate) fn kept_of<'a>(
+    alloc: Global,
+    pieces: &'a [Piece],
+    offers: &'a [Text],
+) -> Result<IndexSet<&'a [u8]>, AllocError>
+    ensures { IfOk result (λ kept. (name : List ℕ) → (is_key kept.keys name ≡ true) ↔ IsUsed offers.entry.now pieces.entry.now name) }
+{
+    let mut graph = Graph::new(alloc);
+    graph.link_pieces(alloc, pieces)?;
+    reached_from(alloc, graph, offers)
 }

@@ -1,5 +1,6 @@
 //! The laws, as functions whose contracts state them.
 ghost use Rattle.emit.specs.Laws.{EmissionComesFrom, EmissionIsClosed, EmissionIsOne, EmissionIsReordering, EmissionIsSound, EmissionIsWhole, ExportsAreKept, JoinIsEmission};
+ghost use Rattle.emit.specs.Strips.{StrippedIsJoin};
 
 /// Values have one linked module, and each of its values is one of them, settled, or declares a function of the outside.
 pub fn emission_is_one()
@@ -23,4 +24,9 @@ pub fn emission_is_whole()
 /// A text that is joined of the pieces of definitions is the text of their linked module.
 pub fn joined_is_emission()
     ensures { JoinIsEmission }
+{}
+
+/// What is joined of the pieces that units keep is joined of all their pieces, where units offer what is exported or referred to.
+pub fn stripped_is_join()
+    ensures { StrippedIsJoin }
 {}

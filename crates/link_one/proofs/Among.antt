@@ -3,7 +3,7 @@ use Rattle.std.proofs.Common.{◌≡◌, ◌∙◌, ◌+◌, ℕ, zero, suc, Lis
 use Rattle.std.proofs.lemmas.List.{length-map}
 use Rattle.std.proofs.lemmas.Option.{slice_get-map}
 use Rattle.std.proofs.lemmas.Result.{IfOk-weaker}
-use Rattle.std.specs.Prelude.{IfOk, Result, Vec, flat_map, slice_get, slice_index_or}
+use Rattle.std.specs.Prelude.{IfOk, Result, Vec, slice_get, slice_index_or}
 use Rattle.std.specs.List.{AllZip}
 use Rattle.ir_tree.specs.Wholes.{GlobalSound}
 use Rattle.ir_tree.specs.declared.function.Function.{Function}
@@ -14,10 +14,11 @@ use Rattle.ir_tree.specs.declared.operand.Symbol.{Symbol}
 use Rattle.back_end.specs.Inlinable.{AreSound}
 use Rattle.thin_link.specs.Views.{rows}
 use Rattle.link_one.specs.Linked.{AreCompiled, IsLinkedGlobal, bodies_for, joined}
-use Rattle.link_one.specs.Units.{AreFilled, ArePrinted, IsLinkedPiece, IsSettledPiece}
+use Rattle.emit.specs.Strips.{IsStripped, ModulePieces}
+use Rattle.link_one.specs.Units.{AreAllPrinted, AreFilled, ArePrinted, IsLinkedPiece, IsSettledPiece, offers}
 use Rattle.link_one.specs.declared.setting.Setting.{Setting}
 use Rattle.link_one.proofs.Compiling.{bodies_among}
-use Rattle.link_one.proofs.Members.{Stands, all_of, behind, in_front, of_each, zip_append}
+use Rattle.link_one.proofs.Members.{Stands, all_of, behind, in_front, of_each}
 
 part_within : (parts : List (List GlobalValue)) (n : ℕ) (g : GlobalValue) → Stands (slice_index_or parts n []) g → Stands (joined parts) g
 part_within [] n g (i, here) = absurd (cc here)
@@ -32,10 +33,16 @@ pub bodies_sound : (limit : ℕ) (parts : List (List GlobalValue)) (symbols : Li
 bodies_sound limit parts symbols suffixes numbers n all name c e =
     of_each GlobalSound (joined parts) (global.Function c) all (bodies_among limit (joined parts) symbols suffixes numbers (slice_index_or parts n []) (part_within parts n) name c e).0
 
--- what is compiled, and its pieces, place by place
-module _ (exports : List (List ℕ)) (limit : ℕ) (all : List GlobalValue) (symbols : List Symbol) (suffixes : List (List ℕ)) (imports : List (List ℕ)) where
+-- what is compiled, and what is kept of its pieces, place by place
+module _ (exports : List (List ℕ)) (limit : ℕ) (all : List GlobalValue) (symbols : List Symbol) (suffixes : List (List ℕ)) (imports promoted : List (List ℕ)) where
+  abbrev bodies_at : ℕ → List GlobalValue → List ℕ → Option Function
+  bodies_at k part = bodies_for limit all symbols suffixes (slice_index_or imports k []) part
+
+  abbrev offers_at : ℕ → List GlobalValue → List (List ℕ)
+  offers_at k part = offers symbols suffixes (slice_index_or promoted k []) part
+
   abbrev IsCompiled : ℕ → List GlobalValue → List Piece → Type 0
-  IsCompiled k part pieces = AllZip (IsLinkedPiece (bodies_for limit all symbols suffixes (slice_index_or imports k []) part) exports) part pieces
+  IsCompiled k part kept = (pieces : List Piece) × AllZip (IsLinkedPiece (bodies_at k part) exports) part pieces × IsStripped (record { offers = offers_at k part; pieces = pieces }) kept
 
   -- what each piece is of
   one : (bodies : List ℕ → Option Function) (part : List GlobalValue) (pieces : List Piece) → AllZip (IsLinkedPiece bodies exports) part pieces
@@ -48,24 +55,26 @@ module _ (exports : List (List ℕ)) (limit : ℕ) (all : List GlobalValue) (sym
       (z.0.value ∷ rest.0, (z.0.made, rest.1), (z.0.piece, rest.2))
 
   abbrev Printed : ℕ → List (List GlobalValue) → List (List Piece) → Type 0
-  Printed k parts units = (made : List (List GlobalValue)) × AreCompiled limit all symbols suffixes imports k parts made × AllZip (IsSettledPiece exports) (joined made) (flat_map (λ ps. ps) units)
+  Printed k parts kept =
+      (units : List (List GlobalValue)) × (us : List ModulePieces) × AreCompiled limit all symbols suffixes imports k parts units × AreAllPrinted exports symbols suffixes promoted k parts units us × AllZip IsStripped us kept
 
-  placed : (k : ℕ) (parts : List (List GlobalValue)) (units : List (List Piece)) → length units ≡ length parts
-      → ((i j : ℕ) (part : List GlobalValue) (unit : List Piece) → j ≡ i + k → slice_get parts i ≡ Some part → slice_get units i ≡ Some unit → IsCompiled j part unit)
-      → Printed k parts units
-  placed k [] [] same each = ([], tt, tt)
-  placed k [] (unit ∷ units) same each = absurd (omega (arith, same))
+  placed : (k : ℕ) (parts : List (List GlobalValue)) (kept : List (List Piece)) → length kept ≡ length parts
+      → ((i j : ℕ) (part : List GlobalValue) (unit : List Piece) → j ≡ i + k → slice_get parts i ≡ Some part → slice_get kept i ≡ Some unit → IsCompiled j part unit)
+      → Printed k parts kept
+  placed k [] [] same each = ([], [], tt, tt, tt)
+  placed k [] (unit ∷ kept) same each = absurd (omega (arith, same))
   placed k (part ∷ parts) [] same each = absurd (omega (arith, same))
-  placed k (part ∷ parts) (unit ∷ units) same each =
-      let count : length units ≡ length parts = omega (arith, same) in
-      let here = one (bodies_for limit all symbols suffixes (slice_index_or imports k []) part) part unit (each 0 k part unit (omega arith) refl refl) in
-      let rest = placed (suc k) parts units count (λ i j p u e at is. each (suc i) j p u (omega (arith, e)) at is) in
-      (here.0 ∷ rest.0, (here.1, rest.1), zip_append (IsSettledPiece exports) here.0 unit (joined rest.0) (flat_map (λ ps. ps) units) here.2 rest.2)
+  placed k (part ∷ parts) (unit ∷ kept) same each =
+      let count : length kept ≡ length parts = omega (arith, same) in
+      let here = each 0 k part unit (omega arith) refl refl in
+      let made = one (bodies_at k part) part here.0 here.1 in
+      let rest = placed (suc k) parts kept count (λ i j p u e at is. each (suc i) j p u (omega (arith, e)) at is) in
+      (made.0 ∷ rest.0, record { offers = offers_at k part; pieces = here.0 } ∷ rest.1, (made.1, rest.2), (record { offers_are = refl; pieces_are = made.2 }, rest.3), (here.2, rest.4))
 
-  compiled : (parts : List (List GlobalValue)) (units : List (List Piece)) → length units ≡ length parts
-      → ((i : ℕ) (unit : List Piece) → slice_get units i ≡ Some unit → IsCompiled i (slice_index_or parts i []) unit) → Printed 0 parts units
-  compiled parts units same each =
-      placed 0 parts units same
+  compiled : (parts : List (List GlobalValue)) (kept : List (List Piece)) → length kept ≡ length parts
+      → ((i : ℕ) (unit : List Piece) → slice_get kept i ≡ Some unit → IsCompiled i (slice_index_or parts i []) unit) → Printed 0 parts kept
+  compiled parts kept same each =
+      placed 0 parts kept same
       (λ i j p u e at is.
       let here : i ≡ j = omega (arith, e) in
       subst (λ (m : ℕ). IsCompiled m p u) here (subst (λ (q : List GlobalValue). IsCompiled i q u) (there parts i p at) (each i u is)))
@@ -77,13 +86,15 @@ module _ (exports : List (List ℕ)) (limit : ℕ) (all : List GlobalValue) (sym
 
 -- what was taken out of the slots
 pub all_compiled : {A E : Type 0} (s : Setting) (slots : List (Option (List Piece))) → AreFilled s slots → (r : Result (Vec (List Piece) A) E) → IfOk r (λ v. slots ≡ map Some v.items)
-    → IfOk r (λ v. ArePrinted s.exported.exports.now s.limit (joined s.parts.now) s.symbols.now s.suffixes.now (rows s.imports.now) s.parts.now v.items)
+    → IfOk r (λ v. ArePrinted s.exported.exports.now s.limit (joined s.parts.now) s.symbols.now s.suffixes.now (rows s.imports.now) (rows s.promoted.now) s.parts.now v.items)
 all_compiled {A} s slots filled r =
     IfOk-weaker r (λ (v : Vec (List Piece) A). slots ≡ map Some v.items)
-    (λ (v : Vec (List Piece) A). ArePrinted s.exported.exports.now s.limit (joined s.parts.now) s.symbols.now s.suffixes.now (rows s.imports.now) s.parts.now v.items)
+    (λ (v : Vec (List Piece) A). ArePrinted s.exported.exports.now s.limit (joined s.parts.now) s.symbols.now s.suffixes.now (rows s.imports.now) (rows s.promoted.now) s.parts.now v.items)
     (λ v taken.
     let count : length v.items ≡ length s.parts.now = sym (length-map v.items (λ (u : List Piece). Some u)) ∙ sym (ap length taken) ∙ filled.count in
     let made =
-    compiled s.exported.exports.now s.limit (joined s.parts.now) s.symbols.now s.suffixes.now (rows s.imports.now) s.parts.now v.items count
-    (λ i unit here. filled.each i unit (ap (λ (l : List (Option (List Piece))). slice_get l i) taken ∙ slice_get-map (λ (u : List Piece). Some u) v.items i ∙ ap (option_map (λ (u : List Piece). Some u)) here)) in
-    record { units = made.0; compiled = made.1; printed = made.2 })
+    compiled s.exported.exports.now s.limit (joined s.parts.now) s.symbols.now s.suffixes.now (rows s.imports.now) (rows s.promoted.now) s.parts.now v.items count
+    (λ i unit here.
+    let u = filled.each i unit (ap (λ (l : List (Option (List Piece))). slice_get l i) taken ∙ slice_get-map (λ (u : List Piece). Some u) v.items i ∙ ap (option_map (λ (u : List Piece). Some u)) here) in
+    (u.pieces, u.made, u.stripped)) in
+    record { units = made.0; compiled = made.2; printed = made.1; printed_are = made.3; stripped = made.4 })

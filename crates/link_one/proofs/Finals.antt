@@ -25,7 +25,7 @@ named_at suffixes (t ∷ symbols) (mark ∷ live) (suc n) s at on = named_at suf
 
 module _ (suffixes : List (List ℕ)) (symbols : List Symbol) (live : List Bool) (none : NoneTaken (final_names suffixes symbols live)) where
   -- so no two live symbols have one final name
-  one_symbol : (s u : Symbol) → is_live symbols live s ≡ true → is_live symbols live u ≡ true → final_symbol suffixes s ≡ final_symbol suffixes u → s ≡ u
+  pub one_symbol : (s u : Symbol) → is_live symbols live s ≡ true → is_live symbols live u ≡ true → final_symbol suffixes s ≡ final_symbol suffixes u → s ≡ u
   one_symbol s u a b e = by (live_at symbols live s a) (live_at symbols live u b)
     where
       same : final_name suffixes s ≡ final_name suffixes u

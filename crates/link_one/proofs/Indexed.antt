@@ -1,7 +1,8 @@
 -- The definitions of an index are those of modules that prevail.
-use Rattle.std.proofs.Common.{◌≡◌, ◌∙◌, ◌+◌, ℕ, zero, suc, true, List, [], ◌∷◌, length, map, Some, None, option_map, nat_eq, slice_get, refl, sym, ap, arith}
+use Rattle.std.proofs.Common.{◌≡◌, ◌∙◌, ◌+◌, ℕ, zero, suc, true, List, [], ◌∷◌, length, map, Some, None, option_map, nat_eq, slice_get, refl, subst, sym, ap, arith}
 use Rattle.std.proofs.lemmas.Bool.{and_from, and_parts, eq-eqb, eqb-true}
 use Rattle.std.proofs.lemmas.Option.{get_or_from_slice_get, slice_get-map, slice_get_within}
+use Rattle.std.specs.List.{Contains}
 use Rattle.ir_tree.specs.Once.{once}
 use Rattle.ir_tree.specs.Linkages.{defines}
 use Rattle.ir_tree.specs.declared.module.GlobalValue.{GlobalValue}
@@ -17,7 +18,7 @@ use Rattle.combined_index.specs.Entries as entries
 use Rattle.combined_index.specs.Indexed.{named, symbol_at}
 use Rattle.combined_index.specs.declared.definition.Definition.{Definition}
 use Rattle.ir_better.specs.Programs.{symbol_of}
-use Rattle.merge_meaning.proofs.Standing.{in_joined}
+use Rattle.merge_meaning.proofs.Standing.{in_joined, map_from}
 use Rattle.liveness.proofs.Sources.{find_one, joined}
 use Rattle.merge_meaning.specs.Laws.{AllWhole, IsGivenBy}
 use Rattle.merge_meaning.specs.Merged.{symbol_in}
@@ -32,7 +33,7 @@ use Rattle.link_one.proofs.Summed.{from_summaries, in_summaries, plain_symbol, p
 
 -- ---- entries of modules
 
-entries_at : (table : Symbols) (from : ℕ) (ms : List Module) (i : ℕ) (m : Module) → slice_get ms i ≡ Some m
+pub entries_at : (table : Symbols) (from : ℕ) (ms : List Module) (i : ℕ) (m : Module) → slice_get ms i ≡ Some m
     → slice_get (entries.entries_from table from (map (λ m. summaries m.globals) ms)) i ≡ Some (entries.entries table (from + i) (summaries m.globals))
 entries_at table from [] i m e = absurd (cc e)
 entries_at table from (x ∷ ms) zero m e =
@@ -65,6 +66,7 @@ pub record Comes (ms : List Module) (index : Combined) (n : ℕ) (d : Definition
   pub given : IsGivenBy ms k m g
   pub symbol : symbol_in k m.globals (symbol_of g) ≡ symbol_at index.symbols n
   pub refs : map (symbol_at index.symbols) d.refs ≡ map (entries.symbol_of k (entries.is_own (summaries m.globals))) (once (global_names g))
+  pub calls : (s : Symbol) → Contains (map (symbol_at index.symbols) d.calls) s → (name : List ℕ) × Contains (global_names g) name × (entries.symbol_of k (entries.is_own (summaries m.globals)) name ≡ s)
   pub within : IsWithin (length index.symbols) d
 
 module _ (ms : List Module) (whole : AllWhole ms) (index : Combined) (ix : IsIndex ms index) where
@@ -96,27 +98,36 @@ module _ (ms : List Module) (whole : AllWhole ms) (index : Combined) (ix : IsInd
         refs =
             sym (ap (λ (e : Entry). e.refs) origin.4)
             ∙ ap (λ (names : List (List ℕ)). map (entries.symbol_of k (entries.is_own (summaries m.globals))) names) says.refs;
+        calls = λ s c.
+            let callee = map_from (entries.symbol_of k (entries.is_own (summaries m.globals))) origin.0.calls s
+            (subst (λ (ss : List Symbol). Contains ss s) (sym (ap (λ (e : Entry). e.calls) origin.4)) c) in
+            (callee.0, says.calls callee.0 callee.1, callee.2);
         within = within;
       }
+
+  -- so is one that stands in the index and prevails
+  pub comes_there : (k : ℕ) (ds : List Definition) (d : Definition) → slice_get index.modules k ≡ Some ds → Contains ds d → d.prevails ≡ true → Comes ms index d.symbol d
+  comes_there k ds d stands inside counts =
+      let at = placed ds d inside in
+      let listed : slice_get (entries.combined (symbols ms) (map (λ m. summaries m.globals) ms)) k ≡ Some (map (named index.symbols) ds) =
+      ap (λ (all : List (List Entry)). slice_get all k) (sym ix.entries)
+      ∙ slice_get-map (λ (ds : List Definition). map (named index.symbols) ds) index.modules k
+      ∙ ap (option_map (λ (ds : List Definition). map (named index.symbols) ds)) stands in
+      let from = entries_from (symbols ms) 0 ms k (map (named index.symbols) ds) listed in
+      let number : k ≡ 0 + k = omega arith in
+      let there : slice_get (entries.entries (symbols ms) k (summaries from.0.globals)) at.0 ≡ Some (named index.symbols d) =
+      ap (λ (es : List Entry). slice_get es at.0) (ap (λ (i : ℕ). entries.entries (symbols ms) i (summaries from.0.globals)) number ∙ from.2)
+      ∙ slice_get-map (named index.symbols) ds at.0
+      ∙ ap (option_map (named index.symbols)) at.1 in
+      let all : AreWithin (length index.symbols) ds = at_place (λ (xs : List Definition). AreWithin (length index.symbols) xs) index.modules k ds ix.index.within stands in
+      entry_comes k from.0 at.0 d.symbol d from.1 there counts refl (at_place (λ (x : Definition). IsWithin (length index.symbols) x) ds at.0 d all at.1)
 
   pub comes : (n : ℕ) (d : Definition) → prevailing_of index n ≡ Some d → Comes ms index n d
   comes n d e =
       let found = find_one (prevails_for n) (definitions index) d e in
       let tests = and_parts d.prevails (nat_eq d.symbol n) found.1 in
       let stood = joined index.modules d found.0 in
-      let at = placed stood.1 d stood.3 in
-      let listed : slice_get (entries.combined (symbols ms) (map (λ m. summaries m.globals) ms)) stood.0 ≡ Some (map (named index.symbols) stood.1) =
-      ap (λ (all : List (List Entry)). slice_get all stood.0) (sym ix.entries)
-      ∙ slice_get-map (λ (ds : List Definition). map (named index.symbols) ds) index.modules stood.0
-      ∙ ap (option_map (λ (ds : List Definition). map (named index.symbols) ds)) stood.2 in
-      let from = entries_from (symbols ms) 0 ms stood.0 (map (named index.symbols) stood.1) listed in
-      let number : stood.0 ≡ 0 + stood.0 = omega arith in
-      let there : slice_get (entries.entries (symbols ms) stood.0 (summaries from.0.globals)) at.0 ≡ Some (named index.symbols d) =
-      ap (λ (es : List Entry). slice_get es at.0) (ap (λ (k : ℕ). entries.entries (symbols ms) k (summaries from.0.globals)) number ∙ from.2)
-      ∙ slice_get-map (named index.symbols) stood.1 at.0
-      ∙ ap (option_map (named index.symbols)) at.1 in
-      let all : AreWithin (length index.symbols) stood.1 = at_place (λ (ds : List Definition). AreWithin (length index.symbols) ds) index.modules stood.0 stood.1 ix.index.within stood.2 in
-      entry_comes stood.0 from.0 at.0 n d from.1 there tests.0 (eqb-true d.symbol n tests.1) (at_place (λ (x : Definition). IsWithin (length index.symbols) x) stood.1 at.0 d all at.1)
+      subst (λ (i : ℕ). Comes ms index i d) (eqb-true d.symbol n tests.1) (comes_there stood.0 stood.1 d stood.2 stood.3 tests.0)
 
   -- ---- and back
 

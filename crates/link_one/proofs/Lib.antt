@@ -25,3 +25,9 @@ pub mod Once
 pub mod Texts
 pub mod Written
 pub mod Unlinked
+mod Named
+mod Origins
+mod Imported
+mod Offering
+mod Stripped
+mod Referables

@@ -81,7 +81,7 @@ module _ (laws : MakingLaws) (exports : List (List ℕ)) (import_limit inline_li
   parts_define : All IsDefinition all
   parts_define = all_joined IsDefinition (parts ms c.index.symbols c.live suffixes) (laws.defines ms c.index.symbols c.live suffixes)
 
-  parts_known : All (GlobalKnown (symbols lives)) all
+  pub parts_known : All (GlobalKnown (symbols lives)) all
   parts_known = all_of (GlobalKnown (symbols lives)) all (λ g s. of_each (GlobalKnown (symbols lives)) lives g together.known (own g s))
 
   -- ---- what is made of them

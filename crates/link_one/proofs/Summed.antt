@@ -1,13 +1,15 @@
 -- What the summaries of a module say of its global values.
-use Rattle.std.proofs.Common.{◌≡◌, ◌∙◌, ◌||◌, ◌&&◌, ℕ, zero, suc, Bool, true, false, is_none, nat_eq, if◌then◌else◌, List, [], ◌∷◌, Option, Some, None, option_map, slice_get, bytes_eq, refl, sym, ap, ap₂, subst}
+use Rattle.std.proofs.Common.{◌≡◌, ◌∙◌, inl, inr, ◌||◌, ◌&&◌, not, ℕ, zero, suc, Bool, true, false, is_none, nat_eq, if◌then◌else◌, List, [], ◌∷◌, ◌++◌, Option, Some, None, option_map, slice_get, bytes_eq, refl, sym, ap, ap₂, subst}
 use Rattle.std.proofs.lemmas.Bool.{and_from, and_parts, eq-eqb, false≢true}
 use Rattle.std.proofs.lemmas.Map.Keys.{any_passes_from_place}
 use Rattle.std.proofs.lemmas.Slice.Eq.{bytes_eq-Decides}
-use Rattle.std.specs.List.{cons_option}
+use Rattle.std.proofs.lemmas.List.Elements.{Contains-append_left}
+use Rattle.std.specs.List.{Contains, cons_option}
 use Rattle.std.specs.Option.{option_eq}
 use Rattle.ir_tree.specs.Initials.{Initial}
 use Rattle.ir_tree.specs.Linkages.{defines}
-use Rattle.ir_tree.specs.Once.{once}
+use Rattle.ir_tree.specs.Items.{Item, phi_item, line_item, end_item, items, operands, phi_reads, reads}
+use Rattle.ir_tree.specs.Once.{once, without}
 use Rattle.ir_tree.specs.Wholes.{Whole}
 use Rattle.ir_tree.specs.declared.block.Block.{Block}
 use Rattle.ir_tree.specs.declared.function.Function.{Function}
@@ -16,9 +18,13 @@ use Rattle.ir_tree.specs.declared.function.Linkage.TheVariants as linkage
 use Rattle.ir_tree.specs.declared.function.Variable.{Variable}
 use Rattle.ir_tree.specs.declared.module.GlobalValue.{GlobalValue}
 use Rattle.ir_tree.specs.declared.module.GlobalValue.TheVariants as global
+use Rattle.ir_tree.specs.declared.instr.Instr.{Instr}
+use Rattle.ir_tree.specs.declared.instr.Instr.TheVariants as instr
 use Rattle.ir_tree.specs.declared.module.Module.{Module}
+use Rattle.ir_tree.specs.declared.operand.Operand.{Operand}
+use Rattle.ir_tree.specs.declared.operand.Operand.TheVariants.{Local, Number as Constant, Null, Poison as PoisonOf, Symbol as Named}
 use Rattle.ir_tree.specs.declared.operand.Symbol.{Symbol}
-use Rattle.ir_summary.specs.References.{global_names}
+use Rattle.ir_summary.specs.References.{all_named, body_callees, body_names, called, callee, directly, global_names, named}
 use Rattle.ir_summary.specs.Summaries.{bodied, function_summary, summaries, summary, variable_summary}
 use Rattle.ir_summary.specs.declared.summary.Summary.{Summary}
 use Rattle.symbol_resolve.specs.Mentions as mentions
@@ -33,6 +39,7 @@ use Rattle.merge_meaning.proofs.Looked.{some_is, symbol_stands}
 use Rattle.merge_meaning.proofs.Names.{clash, not_true}
 use Rattle.merge_meaning.proofs.Own.{local_standing}
 use Rattle.merge_meaning.proofs.Prevailing.{homeless, symbol_by_parts}
+use Rattle.merge_meaning.proofs.Standing.{filter_from, first, first_or_later, in_joined, joined_from, later, nothing}
 use Rattle.merge_meaning.proofs.Table.{table_names}
 use Rattle.link_one.proofs.Places.{placed}
 
@@ -69,6 +76,51 @@ pub none_of : {X : Type 0} (o : Option X) → is_none o ≡ true → o ≡ None
 none_of None h = refl
 none_of (Some x) h = absurd (false≢true h)
 
+-- ---- callees
+
+once_from : (names : List (List ℕ)) (name : List ℕ) → Contains (once names) name → Contains names name
+once_from [] name c = absurd (nothing name c)
+once_from (x ∷ names) name c =
+    elim (first_or_later x name (without x (once names)) c) [
+      | inl same ↦ subst (λ (y : List ℕ). Contains (x ∷ names) y) same (first x names)
+      | inr rest ↦ later x name names (once_from names name (filter_from (λ (y : List ℕ). not (bytes_eq x y)) (once names) name rest).0)
+    ]
+
+-- a direct callee is among what the item names
+item_callee : (item : Item) (name : List ℕ) → Contains (callee item) name → Contains (all_named (operands item)) name
+item_callee (phi_item b phi) name c = absurd (nothing name c)
+item_callee (end_item b e) name c = absurd (nothing name c)
+item_callee (line_item b k l) name c = of l.instr c
+  where
+    directly_named : (o : Operand) → Contains (directly o) name → Contains (named o) name
+    directly_named (Named s offset) d = by (nat_eq offset 0) d
+      where
+        by : (b : Bool) → Contains (if b then s.name ∷ [] else []) name → Contains (s.name ∷ []) name
+        by true d = d
+        by false d = absurd (nothing name d)
+    directly_named (Local x) d = absurd (nothing name d)
+    directly_named (Constant w bits) d = absurd (nothing name d)
+    directly_named Null d = absurd (nothing name d)
+    directly_named (PoisonOf reg) d = absurd (nothing name d)
+
+    of : (i : Instr) → Contains (called i) name → Contains (all_named (reads i ++ phi_reads i)) name
+    of (instr.Call result f arguments) d = Contains-append_left (named f) (all_named (arguments ++ [])) name (directly_named f d)
+    of (instr.Binary op flags w l r) d = absurd (nothing name d)
+    of (instr.Icmp p reg l r) d = absurd (nothing name d)
+    of (instr.Cast op from o to) d = absurd (nothing name d)
+    of (instr.Select c l r) d = absurd (nothing name d)
+    of (instr.Freeze reg o) d = absurd (nothing name d)
+    of (instr.Alloca shape align) d = absurd (nothing name d)
+    of (instr.Load reg o align) d = absurd (nothing name d)
+    of (instr.Store reg o a align) d = absurd (nothing name d)
+    of (instr.Address inbounds shape o is) d = absurd (nothing name d)
+    of (instr.Phi reg es) d = absurd (nothing name d)
+
+callees_named : (f : Function) (name : List ℕ) → Contains (body_callees f) name → Contains (body_names f) name
+callees_named f name c =
+    let item = joined_from callee (items f) name c in
+    in_joined (λ (x : Item). all_named (operands x)) (items f) item.0 name item.1 (item_callee item.0 name item.2)
+
 -- ---- one summary
 
 -- it has the name of its definition, counts as the definition does, and names what the definition names
@@ -76,6 +128,7 @@ pub record Sums (g : GlobalValue) (s : Summary) : Type 0 where
   pub name : s.name ≡ (symbol_of g).name
   pub standing : standing_of g ≡ mentions.standing_of s.linkage
   pub refs : s.refs ≡ once (global_names g)
+  pub calls : (name : List ℕ) → Contains s.calls name → Contains (global_names g) name
 
 body_sums : (f : Function) (bs : List Block) (s : Summary) → bodied bs f ≡ Some s
     → (s ≡ function_summary f) × (mentions.function_standing bs f.linkage ≡ mentions.standing_of f.linkage)
@@ -94,6 +147,7 @@ sums (global.Function f) s e =
       name = ap (λ (x : Summary). x.name) h.0;
       standing = h.1 ∙ sym (ap (λ (x : Summary). mentions.standing_of x.linkage) h.0);
       refs = ap (λ (x : Summary). x.refs) h.0;
+      calls = λ name c. callees_named f name (once_from (body_callees f) name (subst (λ (x : Summary). Contains x.calls name) h.0 c));
     }
 sums (global.Variable v) s e =
     let h = storage_sums v v.init s e in
@@ -101,6 +155,7 @@ sums (global.Variable v) s e =
       name = ap (λ (x : Summary). x.name) h.0;
       standing = h.1 ∙ sym (ap (λ (x : Summary). mentions.standing_of x.linkage) h.0);
       refs = ap (λ (x : Summary). x.refs) h.0;
+      calls = λ name c. absurd (nothing name (subst (λ (x : Summary). Contains x.calls name) h.0 c));
     }
 
 -- what prevails has a summary, which is one of a definition
@@ -145,7 +200,7 @@ one_place gs whole i j g h at_i at_j same =
     whole.once i j (symbol_of g) (symbol_stands gs i g at_i) (symbol_stands gs j h at_j ∙ ap (λ (s : Symbol). Some s) symbol)
 
 -- so the name of a global value is the module's own exactly where it is local itself
-own_local : (gs : List GlobalValue) → Whole gs → (i : ℕ) (g : GlobalValue) → slice_get gs i ≡ Some g → is_own gs (symbol_of g).name ≡ is_none (standing_of g)
+pub own_local : (gs : List GlobalValue) → Whole gs → (i : ℕ) (g : GlobalValue) → slice_get gs i ≡ Some g → is_own gs (symbol_of g).name ≡ is_none (standing_of g)
 own_local gs whole i g at = by (is_none (standing_of g)) refl
   where
     by : (b : Bool) → is_none (standing_of g) ≡ b → is_own gs (symbol_of g).name ≡ b

@@ -12,7 +12,7 @@ use Rattle.link_one.specs.Tables.{option_list, value_in, values}
 
 -- ---- lists
 
-one_given : {X : Type 0} (o : Option X) → cons_option o [] ≡ option_list o
+pub one_given : {X : Type 0} (o : Option X) → cons_option o [] ≡ option_list o
 one_given None = refl
 one_given (Some x) = refl
 

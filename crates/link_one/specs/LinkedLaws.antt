@@ -1,27 +1,24 @@
 -- What is true of modules that are linked, and of those that aren't.
-use Rattle.std.specs.Prelude.{◌≡◌, ℕ, Bool, List, [], All, IsTrue}
-use Rattle.std.specs.List.{AllZip}
+use Rattle.std.specs.Prelude.{◌≡◌, ℕ, Bool, List, [], All, IsTrue, flat_map}
 use Rattle.ir_tree.specs.Wholes.{IsVerified}
-use Rattle.ir_tree.specs.declared.module.GlobalValue.{GlobalValue}
 use Rattle.ir_tree.specs.declared.module.Module.{Module}
 use Rattle.ir_print.specs.Modules.{module_text}
 use Rattle.ir_meaning.specs.Refine.{RefinesUnder}
 use Rattle.ir_better.specs.Programs.{program_of}
-use Rattle.merge_meaning.specs.Lives.{is_export}
+use Rattle.merge_meaning.specs.Lives.{is_export, parts}
 use Rattle.merge_meaning.specs.Merged.{merged}
 use Rattle.lto_fault.specs.declared.refusal.Refusal.{Refusal}
 use Rattle.symbol_resolve.specs.Clashes.{given_text}
 use Rattle.symbol_resolve.specs.declared.clash.TargetLine.TheVariants.{Datalayout, Triple}
 use Rattle.combined_index.specs.Combined.{Combined}
 use Rattle.promote_rename.specs.Finals.{NoneTaken, final_names}
-use Rattle.lto_task.specs.Pieces.{IsPieceOf}
 use Rattle.lto_task.specs.declared.piece.Piece.{Piece}
-use Rattle.emit.specs.Emissions.{settled}
 use Rattle.emit.specs.Joins.{IsJoin}
 use Rattle.thin_link.specs.Linking.{IsThinLink}
-use Rattle.link_one.specs.Linked.{AreUnits, IsLinked, joined}
+use Rattle.link_one.specs.Linked.{IsLinked}
 use Rattle.link_one.specs.Naming.{linked_names}
 use Rattle.link_one.specs.Refusing.{CanBeLinked, IsUnlinked}
+use Rattle.link_one.specs.Units.{ArePrintedOf}
 
 -- the linked program of verified modules refines what they mean together
 abbrev pub LinkedRefines : Type 0
@@ -55,11 +52,11 @@ pub record IsLinkedText (exports : List (List ℕ)) (import_limit inline_limit :
   pub linked : IsLinked exports import_limit inline_limit suffixes ms l
   pub is : text ≡ module_text l
 
--- behind their target lines, what is joined of the pieces of what verified modules are compiled to
-abbrev pub JoinedIsLinked : Type 0
-JoinedIsLinked =
-    (exports : List (List ℕ)) (import_limit inline_limit : ℕ) (suffixes : List (List ℕ)) (ms : List Module) (index : Combined) (live : List Bool) (imports : List (List ℕ)) (units : List (List GlobalValue)) (pieces : List Piece) (text : List ℕ)
+-- behind their target lines, what is joined of the pieces that the units of verified modules keep
+abbrev pub KeptIsLinked : Type 0
+KeptIsLinked =
+    (exports : List (List ℕ)) (import_limit inline_limit : ℕ) (suffixes : List (List ℕ)) (ms : List Module) (index : Combined) (live : List Bool) (imports : List (List ℕ)) (kept : List (List Piece)) (text : List ℕ)
     → All IsVerified ms → IsThinLink ms exports import_limit index live imports → NoneTaken (final_names suffixes index.symbols live)
-    → AreUnits inline_limit suffixes ms index.symbols live imports units → AllZip (λ g. IsPieceOf (settled exports g)) (joined units) pieces
-    → IsJoin exports pieces (module_text (record { datalayout = given_text Datalayout ms; triple = given_text Triple ms; globals = [] })) text
+    → ArePrintedOf exports inline_limit index suffixes imports (parts ms index.symbols live suffixes) kept
+    → IsJoin exports (flat_map (λ ps. ps) kept) (module_text (record { datalayout = given_text Datalayout ms; triple = given_text Triple ms; globals = [] })) text
     → IsLinkedText exports import_limit inline_limit suffixes ms text

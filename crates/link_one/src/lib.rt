@@ -28,6 +28,7 @@ mod linked_laws;
 mod linking;
 mod meaning_laws;
 mod naming;
+mod referable;
 mod setting;
 mod table;
 mod target;

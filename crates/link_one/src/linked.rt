@@ -11,9 +11,9 @@ ghost use Rattle.symbol_resolve.specs.Clashes.{given_text};
 ghost use Rattle.symbol_resolve.specs.declared.clash.TargetLine.TheVariants.{Datalayout, Triple};
 ghost use Rattle.link_one.specs.Linked.{joined};
 ghost use Rattle.link_one.specs.LinkedLaws.{IsLinkedText};
-ghost use Rattle.link_one.specs.Units.{ArePrinted};
+ghost use Rattle.link_one.specs.Units.{ArePrintedOf};
 
-use crate::linked_laws::joined_is_linked;
+use crate::linked_laws::kept_is_linked;
 use crate::target::given_text;
 use crate::unit::units;
 use emit::emit;
@@ -21,6 +21,7 @@ use ir_print::print;
 use ir_tree::{Module, Rows, Text, Verified};
 use lto_task::Piece;
 use merge_meaning::{LiveSymbols, live_by_module, parts};
+use promote_rename::promoted;
 use std::alloc::{AllocError, Global};
 use std::thread::Threads;
 use symbol_resolve::TargetLine;
@@ -48,12 +49,13 @@ fn compiled<R: Threads + Sync>(
 ) -> Result<Vec<Rows<Piece>>, AllocError>
     requires resolved { decided.now.resolution ≡ symbols modules.now }
     requires marks { length decided.now.live ≡ length decided.now.index.symbols }
-    ensures { IfOk result (λ pieces. let ps = parts modules.now decided.now.index.symbols decided.now.live suffixes.now in ArePrinted exports.now limit (joined ps) decided.now.index.symbols suffixes.now (rows decided.now.imports.items) ps pieces.items) }
+    ensures { IfOk result (λ pieces. let ps = parts modules.now decided.now.index.symbols decided.now.live suffixes.now in ArePrintedOf exports.now limit decided.now.index suffixes.now (rows decided.now.imports.items) ps pieces.items) }
 {
     live_by_module();
     all_verified(modules);
     let live = LiveSymbols::of(alloc, decided.index.symbols(), &decided.live)?;
     let parts = parts(alloc, modules, &decided.resolution, &live, suffixes)?;
+    let promoted = promoted(alloc, &decided.index, &decided.imports)?;
     units(
         rt,
         alloc,
@@ -62,6 +64,7 @@ fn compiled<R: Threads + Sync>(
         decided.index.symbols(),
         suffixes,
         &decided.imports,
+        &promoted,
         limit,
         exports,
     )
@@ -102,7 +105,7 @@ pub(crate) fn linked<R: Threads + Sync>(
     requires named { NoneTaken (final_names suffixes.now decided.now.index.symbols decided.now.live) }
     ensures { IfOk result (IsLinkedText exports.now import_limit inline_limit suffixes.now modules.now) }
 {
-    joined_is_linked();
+    kept_is_linked();
     all_verified(modules);
     let header = header(alloc, modules)?;
     let pieces = compiled(

@@ -1,9 +1,9 @@
 //! Laws of modules that are linked, and of those that aren't.
-ghost use Rattle.link_one.specs.LinkedLaws.{JoinedIsLinked, LinkedIsVerified, LinkedRefines, UnlinkedIsNotLinked, UnlinkedIsOne};
+ghost use Rattle.link_one.specs.LinkedLaws.{KeptIsLinked, LinkedIsVerified, LinkedRefines, UnlinkedIsNotLinked, UnlinkedIsOne};
 
 use crate::{live_is_known, live_refines};
 use back_end::{made_has_interface, made_is_better, made_is_known};
-use emit::{emission_is_reordering, emission_is_whole, joined_is_emission};
+use emit::{emission_is_reordering, emission_is_whole, joined_is_emission, stripped_is_join};
 use merge_meaning::live_by_module;
 use thin_link::one_answer;
 
@@ -35,9 +35,9 @@ pub fn linked_is_verified()
     emission_is_whole();
 }
 
-/// What is joined of the pieces of what verified modules are compiled to is the text of their linked module.
-pub(crate) fn joined_is_linked()
-    ensures { JoinedIsLinked }
+/// What is joined of the pieces that the units of verified modules keep is the text of their linked module.
+pub(crate) fn kept_is_linked()
+    ensures { KeptIsLinked }
 {
     made_has_interface();
     made_is_better();
@@ -48,6 +48,7 @@ pub(crate) fn joined_is_linked()
     emission_is_reordering();
     emission_is_whole();
     joined_is_emission();
+    stripped_is_join();
 }
 
 /// Modules that can be linked aren't refused, and those that are have one refusal.

@@ -26,7 +26,7 @@ fn push_some<'a>(
 }
 
 /// The symbol of this number.
-fn symbol_at(symbols: &[Symbol], number: u32) -> Option<&Symbol>
+pub(crate) fn symbol_at(symbols: &[Symbol], number: u32) -> Option<&Symbol>
     ensures { option_copied result ≡ slice_get symbols.now number }
 {
     if (number as usize) < symbols.len() {
@@ -43,6 +43,7 @@ pub(crate) struct Setting<'a> {
     pub(crate) symbols: &'a [Symbol],
     pub(crate) suffixes: &'a [Text],
     pub(crate) imports: &'a [Vec<u32>],
+    pub(crate) promoted: &'a [Vec<u32>],
     pub(crate) limit: u32,
     pub(crate) exported: Exported<'a>,
     pub(crate) table: HashMap<&'a [u8], &'a GlobalValue>,

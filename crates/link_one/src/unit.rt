@@ -8,10 +8,11 @@ ghost use Rattle.thin_link.specs.Views.{rows};
 ghost use Rattle.link_one.specs.Linked.{IsLinkedGlobal, joined};
 ghost use Rattle.link_one.specs.Units.{AreFilled, ArePrinted, IsLinkedPiece, IsUnit};
 
+use crate::referable::offers;
 use crate::setting::Setting;
 use crate::table::table_of;
 use back_end::{Bodies, compile};
-use emit::Exported;
+use emit::{Exported, strip};
 use ir_tree::{Duplicate, GlobalValue, Rows, Symbol, Text};
 use lto_task::{Piece, piece_of};
 use std::alloc::{AllocError, Global};
@@ -82,24 +83,27 @@ fn part_at(parts: &[Rows<GlobalValue>], number: usize) -> &[GlobalValue]
     }
 }
 
-/// What the module of this number imports.
-fn imports_of(imports: &[Vec<u32>], number: usize) -> &[u32]
-    ensures { result.now ≡ slice_index_or (rows imports.now) number [] }
+/// The list of this number.
+fn list_at(lists: &[Vec<u32>], number: usize) -> &[u32]
+    ensures { result.now ≡ slice_index_or (rows lists.now) number [] }
 {
-    match imports.get(number) {
+    match lists.get(number) {
         Some(numbers) => numbers,
         None => &[],
     }
 }
 
-/// The unit of the module of this number.
+/// The unit of the module of this number: of the pieces of its definitions those to which others may refer, and what these lead to.
 fn unit(alloc: Global, setting: &Setting<'_>, number: usize) -> Result<Rows<Piece>, AllocError>
     requires { All GlobalSound (joined setting.now.parts.now) }
     ensures { IfOk result (λ unit. IsUnit setting.now number unit) }
 {
     let part = part_at(setting.parts, number);
-    let bodies = setting.bodies(alloc, imports_of(setting.imports, number), part)?;
-    linked_pieces(alloc, &bodies, &setting.exported, part)
+    let bodies = setting.bodies(alloc, list_at(setting.imports, number), part)?;
+    let pieces = linked_pieces(alloc, &bodies, &setting.exported, part)?;
+    let promoted = list_at(setting.promoted, number);
+    let offers = offers(alloc, setting.symbols, setting.suffixes, promoted, part)?;
+    strip(alloc, offers.as_slice(), pieces)
 }
 
 /// Puts the unit of the module of this number into its slot, or nothing where memory is lacking.
@@ -172,11 +176,12 @@ pub(crate) fn units<R: Threads + Sync>(
     symbols: &[Symbol],
     suffixes: &[Text],
     imports: &[Vec<u32>],
+    promoted: &[Vec<u32>],
     limit: u32,
     exports: &[Text],
 ) -> Result<Vec<Rows<Piece>>, AllocError>
     requires { All GlobalSound (joined parts.now) }
-    ensures { IfOk result (λ units. ArePrinted exports.now limit (joined parts.now) symbols.now suffixes.now (rows imports.now) parts.now units.items) }
+    ensures { IfOk result (λ units. ArePrinted exports.now limit (joined parts.now) symbols.now suffixes.now (rows imports.now) (rows promoted.now) parts.now units.items) }
 {
     let table = table_of(alloc, parts)?;
     let exported = Exported::of(alloc, exports)?;
@@ -185,6 +190,7 @@ pub(crate) fn units<R: Threads + Sync>(
         symbols,
         suffixes,
         imports,
+        promoted,
         limit,
         exported,
         table,

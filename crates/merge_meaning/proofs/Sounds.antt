@@ -61,7 +61,7 @@ count_square f p (x ∷ xs) =
 
 -- ---- functions
 
-abbrev item_under : Naming → Item → Item
+abbrev pub item_under : Naming → Item → Item
 item_under t (phi_item b phi) = phi_item b (phi_under t phi)
 item_under t (line_item b k l) = line_item b k (line_under t l)
 item_under t (end_item b e) = end_item b (end_under t e)
@@ -87,7 +87,7 @@ module _ (t : Naming) where
   items_from_same b (block ∷ bs) =
       (λ i. block_items_same b block i ++ items_from_same (suc b) bs i) ∙ sym (map-append (item_under t) (block_items b block) (items_from (suc b) bs))
 
-  items_same : (f : Function) → items (function_under t f) ≡ map (item_under t) (items f)
+  pub items_same : (f : Function) → items (function_under t f) ≡ map (item_under t) (items f)
   items_same f = items_from_same 0 f.blocks
 
   -- ---- what items read
@@ -129,7 +129,7 @@ module _ (t : Naming) where
   end_reads_same (Switch width value default cases) = refl
   end_reads_same Unreachable = refl
 
-  operands_same : (item : Item) → operands (item_under t item) ≡ map (argument_under t) (operands item)
+  pub operands_same : (item : Item) → operands (item_under t item) ≡ map (argument_under t) (operands item)
   operands_same (phi_item b phi) = taken_same phi.reg phi.incoming
   operands_same (line_item b k l) = (λ i. reads_same l.instr i ++ phi_reads_same l.instr i) ∙ sym (map-append (argument_under t) (reads l.instr) (phi_reads l.instr))
   operands_same (end_item b e) = end_reads_same e
@@ -599,7 +599,7 @@ mutual
   initials_same t no_initials = refl
   initials_same t (initial f v vs) = (λ i. initial_same t v i ++ initials_same t vs i) ∙ sym (map-append (operand_under t) (initial_operands v) (all_operands vs))
 
-init_same : (t : Naming) (init : Option Initial) → init_operands (option_map (initial_under t) init) ≡ map (operand_under t) (init_operands init)
+pub init_same : (t : Naming) (init : Option Initial) → init_operands (option_map (initial_under t) init) ≡ map (operand_under t) (init_operands init)
 init_same t None = refl
 init_same t (Some v) = initial_same t v
 

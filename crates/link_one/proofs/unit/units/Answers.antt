@@ -10,5 +10,5 @@ pub returns : goal.returns
 returns g c =
     subst
     (λ (exports : List (List ℕ)). IfOk c.taken.result
-    (λ units. ArePrinted exports c.args.limit (joined c.args.parts.now) c.args.symbols.now c.args.suffixes.now (rows c.args.imports.now) c.args.parts.now units.items))
+    (λ units. ArePrinted exports c.args.limit (joined c.args.parts.now) c.args.symbols.now c.args.suffixes.now (rows c.args.imports.now) (rows c.args.promoted.now) c.args.parts.now units.items))
     c.in_ok-exported.ensures (all_compiled _ c.in_ok-slots.slots.items c.in_ok-slots.ensures c.taken.result c.taken.ensures)
