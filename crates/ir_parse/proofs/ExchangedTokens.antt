@@ -96,6 +96,17 @@ otherwise_of wanted p =
     let one = and_parts (plain_names wanted) (plain_globals wanted) p in
     both_hold (plain_types wanted) (plain_globals wanted) (and_parts (disjoint OPEN_ANGLE wanted) (plain_types wanted) one.0).1 one.1
 
+-- what holds of each class that something is said of, and of the others, holds of all
+by_telling : (P : Head → Type 0) → P heads.RefusedType → P heads.Target → P heads.RegisterInteger → P heads.NumberedGlobal → P heads.NumberedDefinition → P heads.LifetimeMarker → P heads.Str → ((h : Head) → (contains TELLING (number h) ≡ true → ⊥) → P h) → (h : Head) → P h
+by_telling P type target integer global definition marker string other heads.RefusedType = type
+by_telling P type target integer global definition marker string other heads.Target = target
+by_telling P type target integer global definition marker string other heads.RegisterInteger = integer
+by_telling P type target integer global definition marker string other heads.NumberedGlobal = global
+by_telling P type target integer global definition marker string other heads.NumberedDefinition = definition
+by_telling P type target integer global definition marker string other heads.LifetimeMarker = marker
+by_telling P type target integer global definition marker string other heads.Str = string
+by_telling P type target integer global definition marker string other h = other h differ
+
 module _ {A : Type 0} (place : Place) (wide : Form Tok A) (meaning : Tok → Result A FaultKind) where
   bound_says : (h : Head) (k : FaultKind) → IsBound k → SaysAt place wide meaning h k
   bound_says h Number b = tt
@@ -190,14 +201,15 @@ module _ {A : Type 0} (wide : Form Tok A) (meaning : Tok → Result A FaultKind)
     globals = and_parts (plain_at wanted heads.NumberedGlobal) (plain_at wanted heads.NumberedDefinition) (and_parts (plain_types wanted) (plain_globals wanted) p).1
 
     plainly : (h : Head) → contains wanted (number h) ≡ false → Says wide meaning h (refusal (number h))
-    plainly heads.RefusedType n = none_taken wide meaning wanted refusal not_bound outside inside heads.RefusedType (and_parts (plain_at wanted heads.RefusedType) (plain_at wanted heads.Target && plain_at wanted heads.RegisterInteger) names).0 n
-    plainly heads.Target n = inl (λ u i. none_taken wide meaning wanted refusal not_bound outside inside heads.Target (and_parts (plain_at wanted heads.Target) (plain_at wanted heads.RegisterInteger) two).0 n u (a_type u i))
-    plainly heads.RegisterInteger n = (i8, refl, i8_real, none_taken wide meaning wanted refusal not_bound outside inside heads.RegisterInteger (and_parts (plain_at wanted heads.Target) (plain_at wanted heads.RegisterInteger) two).1 n i8 refl)
-    plainly heads.NumberedGlobal n = none_taken wide meaning wanted refusal not_bound outside inside heads.NumberedGlobal globals.0 n
-    plainly heads.NumberedDefinition n = none_taken wide meaning wanted refusal not_bound outside inside heads.NumberedDefinition globals.1 n
-    plainly heads.LifetimeMarker n = tt
-    plainly heads.Str n = none_taken wide meaning wanted refusal not_bound outside inside heads.Str (plain_string wanted) n
-    plainly h n = elsewhere wide meaning h (refusal (number h)) (λ q. cc)
+    plainly = by_telling (λ h. contains wanted (number h) ≡ false → Says wide meaning h (refusal (number h)))
+        (λ n. none_taken wide meaning wanted refusal not_bound outside inside heads.RefusedType (and_parts (plain_at wanted heads.RefusedType) (plain_at wanted heads.Target && plain_at wanted heads.RegisterInteger) names).0 n)
+        (λ n. inl (λ u i. none_taken wide meaning wanted refusal not_bound outside inside heads.Target (and_parts (plain_at wanted heads.Target) (plain_at wanted heads.RegisterInteger) two).0 n u (a_type u i)))
+        (λ n. (i8, refl, i8_real, none_taken wide meaning wanted refusal not_bound outside inside heads.RegisterInteger (and_parts (plain_at wanted heads.Target) (plain_at wanted heads.RegisterInteger) two).1 n i8 refl))
+        (λ n. none_taken wide meaning wanted refusal not_bound outside inside heads.NumberedGlobal globals.0 n)
+        (λ n. none_taken wide meaning wanted refusal not_bound outside inside heads.NumberedDefinition globals.1 n)
+        (λ _. tt)
+        (λ n. none_taken wide meaning wanted refusal not_bound outside inside heads.Str (plain_string wanted) n)
+        (λ h t _. elsewhere wide meaning h (refusal (number h)) t)
 
     pub says_plainly : (t : Tok) (k : FaultKind) → meaning t ≡ Err k → Says wide meaning t.head k
     says_plainly = says_by wide meaning wanted refusal not_bound outside inside plainly
@@ -209,14 +221,15 @@ module _ {A : Type 0} (wide : Form Tok A) (meaning : Tok → Result A FaultKind)
     numbers = and_parts (plain_at wanted heads.NumberedGlobal) (plain_at wanted heads.NumberedDefinition) (and_parts (plain_at wanted heads.RegisterInteger) (plain_at wanted heads.NumberedGlobal && plain_at wanted heads.NumberedDefinition) p).1
 
     typed : (h : Head) → contains wanted (number h) ≡ false → Says wide meaning h (type_refusal (number h))
-    typed heads.RefusedType n = type
-    typed heads.Target n = (type, no_word wide meaning wanted type_refusal type_not_bound outside inside q)
-    typed heads.RegisterInteger n = (i8, refl, i8_real, none_taken wide meaning wanted type_refusal type_not_bound outside inside heads.RegisterInteger (and_parts (plain_at wanted heads.RegisterInteger) (plain_at wanted heads.NumberedGlobal && plain_at wanted heads.NumberedDefinition) p).0 n i8 refl)
-    typed heads.NumberedGlobal n = none_taken wide meaning wanted type_refusal type_not_bound outside inside heads.NumberedGlobal numbers.0 n
-    typed heads.NumberedDefinition n = none_taken wide meaning wanted type_refusal type_not_bound outside inside heads.NumberedDefinition numbers.1 n
-    typed heads.LifetimeMarker n = tt
-    typed heads.Str n = none_taken wide meaning wanted type_refusal type_not_bound outside inside heads.Str (plain_string wanted) n
-    typed h n = elsewhere wide meaning h (type_refusal (number h)) (λ q. cc)
+    typed = by_telling (λ h. contains wanted (number h) ≡ false → Says wide meaning h (type_refusal (number h)))
+        (λ _. type)
+        (λ _. (type, no_word wide meaning wanted type_refusal type_not_bound outside inside q))
+        (λ n. (i8, refl, i8_real, none_taken wide meaning wanted type_refusal type_not_bound outside inside heads.RegisterInteger (and_parts (plain_at wanted heads.RegisterInteger) (plain_at wanted heads.NumberedGlobal && plain_at wanted heads.NumberedDefinition) p).0 n i8 refl))
+        (λ n. none_taken wide meaning wanted type_refusal type_not_bound outside inside heads.NumberedGlobal numbers.0 n)
+        (λ n. none_taken wide meaning wanted type_refusal type_not_bound outside inside heads.NumberedDefinition numbers.1 n)
+        (λ _. tt)
+        (λ n. none_taken wide meaning wanted type_refusal type_not_bound outside inside heads.Str (plain_string wanted) n)
+        (λ h t _. elsewhere wide meaning h (type_refusal (number h)) t)
 
     pub says_typed : (t : Tok) (k : FaultKind) → meaning t ≡ Err k → Says wide meaning t.head k
     says_typed = says_by wide meaning wanted type_refusal type_not_bound outside inside typed
@@ -228,14 +241,15 @@ module _ {A : Type 0} (wide : Form Tok A) (meaning : Tok → Result A FaultKind)
     both = and_parts (plain_at wanted heads.NumberedGlobal) (plain_at wanted heads.NumberedDefinition) p
 
     shaped : (h : Head) → contains wanted (number h) ≡ false → Says wide meaning h (memory_refusal (number h))
-    shaped heads.RefusedType n = type
-    shaped heads.Target n = (type, no_word wide meaning wanted memory_refusal memory_not_bound outside inside q)
-    shaped heads.RegisterInteger n = each
-    shaped heads.NumberedGlobal n = none_taken wide meaning wanted memory_refusal memory_not_bound outside inside heads.NumberedGlobal both.0 n
-    shaped heads.NumberedDefinition n = none_taken wide meaning wanted memory_refusal memory_not_bound outside inside heads.NumberedDefinition both.1 n
-    shaped heads.LifetimeMarker n = tt
-    shaped heads.Str n = none_taken wide meaning wanted memory_refusal memory_not_bound outside inside heads.Str (plain_string wanted) n
-    shaped h n = elsewhere wide meaning h (memory_refusal (number h)) (λ q. cc)
+    shaped = by_telling (λ h. contains wanted (number h) ≡ false → Says wide meaning h (memory_refusal (number h)))
+        (λ _. type)
+        (λ _. (type, no_word wide meaning wanted memory_refusal memory_not_bound outside inside q))
+        (λ _. each)
+        (λ n. none_taken wide meaning wanted memory_refusal memory_not_bound outside inside heads.NumberedGlobal both.0 n)
+        (λ n. none_taken wide meaning wanted memory_refusal memory_not_bound outside inside heads.NumberedDefinition both.1 n)
+        (λ _. tt)
+        (λ n. none_taken wide meaning wanted memory_refusal memory_not_bound outside inside heads.Str (plain_string wanted) n)
+        (λ h t _. elsewhere wide meaning h (memory_refusal (number h)) t)
 
     pub says_shaped : (t : Tok) (k : FaultKind) → meaning t ≡ Err k → Says wide meaning t.head k
     says_shaped = says_by wide meaning wanted memory_refusal memory_not_bound outside inside shaped
@@ -250,14 +264,15 @@ module _ {A : Type 0} (wide : Form Tok A) (meaning : Tok → Result A FaultKind)
     later = (and_parts (plain_at wanted heads.RefusedType) (plain_at wanted heads.Target && plain_at wanted heads.RegisterInteger) typeless).1
 
     named : (h : Head) → contains wanted (number h) ≡ false → Says wide meaning h (name_refusal (number h))
-    named heads.RefusedType n = none_taken wide meaning wanted name_refusal name_not_bound outside inside heads.RefusedType (and_parts (plain_at wanted heads.RefusedType) (plain_at wanted heads.Target && plain_at wanted heads.RegisterInteger) typeless).0 n
-    named heads.Target n = inl (λ u i. none_taken wide meaning wanted name_refusal name_not_bound outside inside heads.Target (and_parts (plain_at wanted heads.Target) (plain_at wanted heads.RegisterInteger) later).0 n u (a_type u i))
-    named heads.RegisterInteger n = (i8, refl, i8_real, none_taken wide meaning wanted name_refusal name_not_bound outside inside heads.RegisterInteger (and_parts (plain_at wanted heads.Target) (plain_at wanted heads.RegisterInteger) later).1 n i8 refl)
-    named heads.NumberedGlobal n = name
-    named heads.NumberedDefinition n = name
-    named heads.LifetimeMarker n = tt
-    named heads.Str n = none_taken wide meaning wanted name_refusal name_not_bound outside inside heads.Str (plain_string wanted) n
-    named h n = elsewhere wide meaning h (name_refusal (number h)) (λ q. cc)
+    named = by_telling (λ h. contains wanted (number h) ≡ false → Says wide meaning h (name_refusal (number h)))
+        (λ n. none_taken wide meaning wanted name_refusal name_not_bound outside inside heads.RefusedType (and_parts (plain_at wanted heads.RefusedType) (plain_at wanted heads.Target && plain_at wanted heads.RegisterInteger) typeless).0 n)
+        (λ n. inl (λ u i. none_taken wide meaning wanted name_refusal name_not_bound outside inside heads.Target (and_parts (plain_at wanted heads.Target) (plain_at wanted heads.RegisterInteger) later).0 n u (a_type u i)))
+        (λ n. (i8, refl, i8_real, none_taken wide meaning wanted name_refusal name_not_bound outside inside heads.RegisterInteger (and_parts (plain_at wanted heads.Target) (plain_at wanted heads.RegisterInteger) later).1 n i8 refl))
+        (λ _. name)
+        (λ _. name)
+        (λ _. tt)
+        (λ n. none_taken wide meaning wanted name_refusal name_not_bound outside inside heads.Str (plain_string wanted) n)
+        (λ h t _. elsewhere wide meaning h (name_refusal (number h)) t)
 
     pub says_named : (t : Tok) (k : FaultKind) → meaning t ≡ Err k → Says wide meaning t.head k
     says_named = says_by wide meaning wanted name_refusal name_not_bound outside inside named
@@ -401,14 +416,15 @@ module _ {A : Type 0} (wanted : List ℕ) (passes : Tok → Bool) (value : Tok �
     stuck_string u i = (type_refusal (number u.head), type_not_bound (number u.head), left_no (among tokens wanted u) (passes u) (value u) (type_refusal (number u.head)) (apart APART wanted none (number u.head) (within_of STRING APART refl (number u.head) i)))
 
     exact_class : (h : Head) → Says (form.token tested) tested h (type_refusal (number h))
-    exact_class heads.RefusedType = passing
-    exact_class heads.Target = (passing, stuck_word)
-    exact_class heads.RegisterInteger = failing
-    exact_class heads.NumberedGlobal = λ g p. stuck_global g p
-    exact_class heads.NumberedDefinition = λ g p. stuck_global g p
-    exact_class heads.LifetimeMarker = tt
-    exact_class heads.Str = λ u p. stuck_string u p
-    exact_class h = elsewhere (form.token tested) tested h (type_refusal (number h)) (λ q. cc)
+    exact_class = by_telling (λ h. Says (form.token tested) tested h (type_refusal (number h)))
+        passing
+        (passing, stuck_word)
+        failing
+        (λ g p. stuck_global g p)
+        (λ g p. stuck_global g p)
+        tt
+        (λ u p. stuck_string u p)
+        (λ h t. elsewhere (form.token tested) tested h (type_refusal (number h)) t)
 
     exact_says : (t : Tok) (k : FaultKind) → tested t ≡ Err k → Says (form.token tested) tested t.head k
     unfolding is_exact
@@ -482,14 +498,15 @@ module _ {A : Type 0} (wanted : List ℕ) (value : Tok → A) (p : worded wanted
       (one.0, two.0, three.0, four.0, four.1)
 
   word_class : (h : Head) → contains wanted (number h) ≡ false → Says (one_of wanted value) one_word h (refusal (number h))
-  word_class heads.RefusedType n = taken_none heads.RefusedType parts_of.1 n
-  word_class heads.Target n = inr (a_word, refl, word_goes parts_of.0)
-  word_class heads.RegisterInteger n = (word heads.MemoryInteger (codes "i8"), refl, i8_real, taken_none heads.RegisterInteger parts_of.2 n (word heads.MemoryInteger (codes "i8")) refl)
-  word_class heads.NumberedGlobal n = taken_none heads.NumberedGlobal parts_of.3 n
-  word_class heads.NumberedDefinition n = taken_none heads.NumberedDefinition parts_of.4 n
-  word_class heads.LifetimeMarker n = tt
-  word_class heads.Str n = taken_none heads.Str (plain_string wanted) n
-  word_class h n = elsewhere (one_of wanted value) one_word h (refusal (number h)) (λ q. cc)
+  word_class = by_telling (λ h. contains wanted (number h) ≡ false → Says (one_of wanted value) one_word h (refusal (number h)))
+      (λ n. taken_none heads.RefusedType parts_of.1 n)
+      (λ _. inr (a_word, refl, word_goes parts_of.0))
+      (λ n. (word heads.MemoryInteger (codes "i8"), refl, i8_real, taken_none heads.RegisterInteger parts_of.2 n (word heads.MemoryInteger (codes "i8")) refl))
+      (λ n. taken_none heads.NumberedGlobal parts_of.3 n)
+      (λ n. taken_none heads.NumberedDefinition parts_of.4 n)
+      (λ _. tt)
+      (λ n. taken_none heads.Str (plain_string wanted) n)
+      (λ h t _. elsewhere (one_of wanted value) one_word h (refusal (number h)) t)
 
   pub word_one : Exchanges (one_of wanted value) (one_of_at wanted value)
   unfolding is_among
@@ -521,14 +538,15 @@ module _ (wanted : ℕ) (p : plain (wanted ∷ []) ≡ true) where
       (two.0, three.0, three.1, four.0, four.1)
 
   angle_class : (h : Head) → contains (wanted ∷ []) (number h) ≡ false → Says (form.token behind_angle) behind_angle h (angle_refusal (number h))
-  angle_class heads.RefusedType n = angle_taken heads.RefusedType angle_parts.0 n
-  angle_class heads.Target n = inl (λ u i. angle_taken heads.Target angle_parts.1 n u (a_type u i))
-  angle_class heads.RegisterInteger n = (word heads.MemoryInteger (codes "i8"), refl, i8_real, angle_taken heads.RegisterInteger angle_parts.2 n (word heads.MemoryInteger (codes "i8")) refl)
-  angle_class heads.NumberedGlobal n = angle_taken heads.NumberedGlobal angle_parts.3 n
-  angle_class heads.NumberedDefinition n = angle_taken heads.NumberedDefinition angle_parts.4 n
-  angle_class heads.LifetimeMarker n = tt
-  angle_class heads.Str n = angle_taken heads.Str (plain_string (wanted ∷ [])) n
-  angle_class h n = elsewhere (form.token behind_angle) behind_angle h (angle_refusal (number h)) (λ q. cc)
+  angle_class = by_telling (λ h. contains (wanted ∷ []) (number h) ≡ false → Says (form.token behind_angle) behind_angle h (angle_refusal (number h)))
+      (λ n. angle_taken heads.RefusedType angle_parts.0 n)
+      (λ n. inl (λ u i. angle_taken heads.Target angle_parts.1 n u (a_type u i)))
+      (λ n. (word heads.MemoryInteger (codes "i8"), refl, i8_real, angle_taken heads.RegisterInteger angle_parts.2 n (word heads.MemoryInteger (codes "i8")) refl))
+      (λ n. angle_taken heads.NumberedGlobal angle_parts.3 n)
+      (λ n. angle_taken heads.NumberedDefinition angle_parts.4 n)
+      (λ _. tt)
+      (λ n. angle_taken heads.Str (plain_string (wanted ∷ [])) n)
+      (λ h t _. elsewhere (form.token behind_angle) behind_angle h (angle_refusal (number h)) t)
 
   pub angle_says : (t : Tok) (k : FaultKind) → behind_angle t ≡ Err k → Says (form.token behind_angle) behind_angle t.head k
   angle_says = says_by (form.token behind_angle) behind_angle (wanted ∷ []) angle_refusal angle_not_bound (class_outside angle_refusal wanted) (class_inside angle_refusal wanted) angle_class
