@@ -4,3 +4,4 @@ mod Numbers
 mod Headings
 mod Apart
 mod Rises
+mod Agreeing

@@ -1,4 +1,4 @@
-//! Writes the text of a unit.
+//! Writes names, numbers and the text of a unit.
 ghost use Rattle.std.specs.Prelude.{◌≡◌, ◌++◌, decimal, flat_map, IfOk, OnOk};
 ghost use Rattle.lto_task.specs.Units as units;
 
@@ -15,14 +15,14 @@ fn push_name(alloc: Global, out: &mut Text, name: &[u8]) -> Result<(), AllocErro
     out.append(written.as_slice())
 }
 
-fn push_name_line(alloc: Global, out: &mut Text, name: &[u8]) -> Result<(), AllocError>
+pub(crate) fn push_name_line(alloc: Global, out: &mut Text, name: &[u8]) -> Result<(), AllocError>
     ensures { OnOk result (out.new ≡ out.old ++ units.name_line name.now) }
 {
     push_name(alloc, out, name)?;
     out.append(b"\n")
 }
 
-fn push_number(out: &mut Text, number: usize) -> Result<(), AllocError>
+pub(crate) fn push_number(out: &mut Text, number: usize) -> Result<(), AllocError>
     ensures { OnOk result (out.new ≡ out.old ++ decimal number) }
 {
     let mut buffer = Buffer::new();
@@ -46,7 +46,7 @@ fn push_head(
     push_number(out, bytes)
 }
 
-fn push_names(alloc: Global, out: &mut Text, names: &[Text]) -> Result<(), AllocError>
+pub(crate) fn push_names(alloc: Global, out: &mut Text, names: &[Text]) -> Result<(), AllocError>
     ensures { OnOk result (out.new ≡ out.old ++ flat_map units.name_line names.now) }
 {
     for name in names {
