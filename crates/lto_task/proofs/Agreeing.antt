@@ -1,34 +1,17 @@
 -- What the text of a task says, and that it says one thing.
-use Rattle.std.proofs.Common.{◌≡◌, ◌∙◌, ℕ, ◌<◌, ◌^◌, List, [], ◌∷◌, ◌++◌, length, append_assoc, codes, arith, refl, sym, ap}
+use Rattle.std.proofs.Common.{◌≡◌, ◌∙◌, ℕ, ◌<◌, ◌^◌, List, [], ◌∷◌, ◌++◌, length, append_assoc, codes, arith, sym, ap}
 use Rattle.std.proofs.lemmas.Fmt.{decimal_injective}
 use Rattle.std.proofs.lemmas.List.{append_cancel_left}
 use Rattle.std.specs.Fmt.{decimal}
 use Rattle.std.specs.List.{All, flat_map}
-use Rattle.ir_lex.specs.Pieces.{bytes_of}
 use Rattle.ir_tree.specs.Names.{AllBytes}
 use Rattle.ir_tree.specs.declared.module.GlobalValue.{GlobalValue}
-use Rattle.ir_print.specs.Modules.{global_value, global_values, module_text, text_of}
+use Rattle.ir_print.specs.Modules.{module_text}
 use Rattle.lto_task.specs.Tasks.{TaskView, TasksAgree, counted_bytes, counted_names, module_of, number_line}
 use Rattle.lto_task.specs.Units.{name_line}
 use Rattle.lto_task.proofs.Headings.{names_one, texts_one}
 use Rattle.lto_task.proofs.Numbers.{decimal_no_line_feed}
 use Rattle.lto_task.proofs.Splitting.{first_split_one}
-
--- ---- values
-
--- the lines of values, one behind the other
-pub values_append : (gs hs : List GlobalValue) → text_of (global_values (gs ++ hs)) ≡ text_of (global_values gs) ++ text_of (global_values hs)
-values_append [] hs = refl
-values_append (g ∷ gs) hs =
-    ap (λ (t : List ℕ). bytes_of (global_value g) ++ (10 ∷ t)) (values_append gs hs)
-    ∙ sym (append_assoc (bytes_of (global_value g)) (10 ∷ text_of (global_values gs)) (text_of (global_values hs)))
-
--- written one behind the other
-pub two_written : (gs hs : List GlobalValue) (a b c : List ℕ) → a ≡ [] → b ≡ a ++ text_of (global_values gs) → c ≡ b ++ text_of (global_values hs) → c ≡ text_of (global_values (gs ++ hs))
-two_written gs hs a b c none first second =
-    second
-    ∙ ap (λ (t : List ℕ). t ++ text_of (global_values hs)) (first ∙ ap (λ (t : List ℕ). t ++ text_of (global_values gs)) none)
-    ∙ sym (values_append gs hs)
 
 -- ---- what is counted is one
 

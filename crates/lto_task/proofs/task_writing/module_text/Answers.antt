@@ -1,5 +1,5 @@
 use Rattle.std.proofs.Common.{map}
-use Rattle.lto_task.proofs.Agreeing.{two_written}
+use Rattle.lto_task.proofs.Values.{two_written}
 use Rattle.lto_task.proofs.task_writing.module_text.Goals as goal
 
 pub returns : goal.returns
