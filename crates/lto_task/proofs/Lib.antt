@@ -4,3 +4,5 @@ mod Numbers
 mod Headings
 mod Apart
 mod Rises
+pub mod Values
+mod Agreeing

@@ -1,17 +1,22 @@
-//! Pieces: what a back end hands on of each definition that it is done with.
+//! What goes to a back end of one module of a link, and what comes back of it, each with its text.
 //!
-//! A back end works on one module and knows no other. What it hands on of a definition is a [`Piece`]: the name that it has in
-//! the linked module, the names that it refers to, and its text. So a linked module can be joined without a look into any text,
-//! and no tree of a module lives longer than its compilation. The contract of [`piece_of`] says which piece a definition has
-//! (`specs/Pieces.antt`).
+//! A back end works on one module and knows no other. What it reads is a [`Task`]: the inline limit, the names that are exported
+//! and promoted, the module's definitions, and what it imports, with declarations behind both. A task has a text ([`task_text`],
+//! `specs/Tasks.antt`), which is the key of a cache: tasks with one text have the same limit, the same names, and modules with the
+//! same text ([`tasks_with_one_text_agree`]).
+//!
+//! What it hands on of a definition is a [`Piece`]: the name that it has in the linked module, the names that it refers to, and
+//! its text. So a linked module can be joined without a look into any text, and no tree of a module lives longer than its
+//! compilation. The contract of [`piece_of`] says which piece a definition has (`specs/Pieces.antt`).
 //!
 //! The pieces of a module are its unit, which has a text ([`unit_text`], `specs/Units.antt`), as a file can hold it. [`pieces`]
 //! takes any bytes apart: it gives the pieces of the unit whose text they are, and tells exactly where they are the text of none.
 //! Units with one text are one.
 //!
 //! Below stand `ir_tree`, for definitions, `ir_print`, for their text, `ir_summary`, for what they refer to, and `itoa` and
-//! `memchr`, for numbers and lines. A definition is walked once for its names, which are sorted, and once for its text. A unit's
-//! text is written and read in one pass; the text of a piece is copied whole and not looked into.
+//! `memchr`, for numbers and lines. A definition is walked once for its names, which are sorted, and once for its text. A task's
+//! text is written in one pass over values that are lent, each printed once and copied twice. A unit's text is written and read
+//! in one pass; the text of a piece is copied whole and not looked into.
 #![tactic(auto)]
 
 mod making;
@@ -19,9 +24,13 @@ mod order;
 mod piece;
 mod splits;
 mod taking_apart;
+mod task;
+mod task_writing;
 mod writing;
 
 pub use making::piece_of;
 pub use piece::Piece;
 pub use taking_apart::{pieces, unit_text_is_one};
+pub use task::{Task, TaskModule};
+pub use task_writing::{task_text, tasks_with_one_text_agree};
 pub use writing::unit_text;

@@ -21,7 +21,8 @@ fn name_of(global: &GlobalValue) -> &[u8]
     }
 }
 
-fn text_of(alloc: Global, global: &GlobalValue) -> Result<Text, AllocError>
+/// The lines of a global value as they stand in the text of a module.
+pub(crate) fn text_of(alloc: Global, global: &GlobalValue) -> Result<Text, AllocError>
     ensures { IfOk result (λ text. text ≡ text_of (global_value global.now ∷ [])) }
 {
     match global {

@@ -1,28 +1,33 @@
-//! Writes the text of a unit.
-ghost use Rattle.std.specs.Prelude.{◌≡◌, ◌++◌, decimal, flat_map, IfOk, OnOk};
+//! Writes names, numbers and the text of a unit.
+ghost use Rattle.std.specs.Prelude.{◌≡◌, ◌++◌, All, decimal, flat_map, IfOk, OnOk};
+ghost use Rattle.ir_tree.specs.Names.{AllBytes};
 ghost use Rattle.lto_task.specs.Units as units;
 
 use crate::piece::Piece;
+use crate::taking_apart::all_bytes;
 use ir_tree::{Text, quoted};
 use itoa::Buffer;
 use std::alloc::{AllocError, Global};
 
 fn push_name(alloc: Global, out: &mut Text, name: &[u8]) -> Result<(), AllocError>
-    ensures { OnOk result (out.new ≡ out.old ++ units.name_text name.now) }
+    ensures wrote { OnOk result (out.new ≡ out.old ++ units.name_text name.now) }
+    ensures bytes { AllBytes name.now }
 {
+    all_bytes(name);
     let written = quoted(alloc, name)?;
     out.append(b"@")?;
     out.append(written.as_slice())
 }
 
-fn push_name_line(alloc: Global, out: &mut Text, name: &[u8]) -> Result<(), AllocError>
-    ensures { OnOk result (out.new ≡ out.old ++ units.name_line name.now) }
+pub(crate) fn push_name_line(alloc: Global, out: &mut Text, name: &[u8]) -> Result<(), AllocError>
+    ensures wrote { OnOk result (out.new ≡ out.old ++ units.name_line name.now) }
+    ensures bytes { AllBytes name.now }
 {
     push_name(alloc, out, name)?;
     out.append(b"\n")
 }
 
-fn push_number(out: &mut Text, number: usize) -> Result<(), AllocError>
+pub(crate) fn push_number(out: &mut Text, number: usize) -> Result<(), AllocError>
     ensures { OnOk result (out.new ≡ out.old ++ decimal number) }
 {
     let mut buffer = Buffer::new();
@@ -46,8 +51,9 @@ fn push_head(
     push_number(out, bytes)
 }
 
-fn push_names(alloc: Global, out: &mut Text, names: &[Text]) -> Result<(), AllocError>
-    ensures { OnOk result (out.new ≡ out.old ++ flat_map units.name_line names.now) }
+pub(crate) fn push_names(alloc: Global, out: &mut Text, names: &[Text]) -> Result<(), AllocError>
+    ensures wrote { OnOk result (out.new ≡ out.old ++ flat_map units.name_line names.now) }
+    ensures bytes { OnOk result (All AllBytes names.now) }
 {
     for name in names {
         push_name_line(alloc, out, name.as_slice())?;

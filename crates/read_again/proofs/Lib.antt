@@ -104,3 +104,5 @@ pub mod InOrder
 pub mod Trips
 pub mod Anew
 pub mod AnewAgain
+pub mod OneText
+pub mod Tasks

@@ -3,7 +3,7 @@ use Rattle.std.proofs.Common.{◌≡◌, ℕ, None, Ok, List, [], ◌∷◌, ◌
 use Rattle.std.specs.List.{AllByRecursion as Each}
 use Rattle.std.proofs.lemmas.List.Elements.{recursion_from_All}
 use Rattle.ir_stages.specs.Lines.{lines_of}
-use Rattle.ir_items.specs.Modules.{whole_module}
+use Rattle.ir_items.specs.Modules.{FURTHER_PARAMETERS, whole_module}
 use Rattle.ir_lex.specs.Lexing.{AreTokens}
 use Rattle.ir_lex.specs.Quotes.{content}
 use Rattle.ir_lex.specs.Tok.{Tok}
@@ -25,7 +25,7 @@ use Rattle.read_again.proofs.Globals.{AllStand, after_layout, after_triple, glob
 use Rattle.read_again.proofs.Names.{fresh, names_differ, names_of}
 use Rattle.read_again.proofs.Passing.{Fresh, Right, globals_pass, no_types, within_pass}
 use Rattle.read_again.specs.Modules.{layout, triple, global_value, target, IsItem, AreItems}
-use Rattle.read_again.specs.ModulesReadable.{LayoutReadable, ModuleReadable}
+use Rattle.read_again.specs.ModulesReadable.{GlobalReadable, LayoutReadable, ModuleReadable}
 use Rattle.read_again.proofs.Binds.{bound}
 use Rattle.read_again.specs.PartsPrinted.{Paired, IsString}
 use Rattle.read_again.proofs.Quoted.{string_content}
@@ -71,12 +71,12 @@ module _ (known : List Symbol) (gs : List GlobalValue) (rest : (is : List Item) 
 made : (m : Module) (is : List Item) → datalayout_of is ≡ m.datalayout → triple_of is ≡ m.triple → record { datalayout = datalayout_of is; triple = triple_of is; globals = m.globals } ≡ m
 made m is d t = ap (λ (x : List ℕ). record { datalayout = x; triple = triple_of is; globals = m.globals }) d ∙ ap (λ (x : List ℕ). record { datalayout = m.datalayout; triple = x; globals = m.globals }) t
 
-pub module_again : (m : Module) (is : List Item) → ModuleReadable m → ModuleKnown m → AreItems m is → module_in is ≡ Ok m
+pub module_again : (m : Module) (is : List Item) → LayoutReadable m.datalayout → Each (GlobalReadable FURTHER_PARAMETERS) m.globals → ModuleKnown m → AreItems m is → module_in is ≡ Ok m
 unfolding module_in module_with
-module_again m is r k p =
+module_again m is l r k p =
     let known = symbols m.globals in
-    let w = with_targets known m.globals (λ js q. globals_stand known m.globals js (recursion_from_All GlobalFormed m.globals k.whole.formed) r.globals k.values (recursion_from_All (GlobalKnown known) m.globals k.whole.known) q)
-    m.datalayout m.triple is (layout_bytes m.datalayout r.layout) k.triple p in
+    let w = with_targets known m.globals (λ js q. globals_stand known m.globals js (recursion_from_All GlobalFormed m.globals k.whole.formed) r k.values (recursion_from_All (GlobalKnown known) m.globals k.whole.known) q)
+    m.datalayout m.triple is (layout_bytes m.datalayout l) k.triple p in
     let new : Fresh [] (names_of known) = fresh [] (names_of known) (names_differ known k.whole.once (recursion_from_All (λ (s : Symbol). s.home ≡ None) known k.whole.homeless)) in
     let g = globals_pass (marks_of is) (subst (λ (ns : List (List ℕ)). Each (Right ns) (marks_of is)) (sym w.all.names) w.all.right) (subst (Fresh []) (sym w.all.names) new) in
     bound _ (no_types (names_of known) (marks_of is) w.all.right)
@@ -94,4 +94,4 @@ pub readable_read : Spelled → ReadableIsRead
 readable_read spelled m r k =
     let s = spelled m r in
     let items : List Item = s.2.0 in
-    (lines_of items, record { written = s.0; items = items; cut = s.1; spelled = s.2.1; stand = module_again m items r k s.2.2; lined = refl })
+    (lines_of items, record { written = s.0; items = items; cut = s.1; spelled = s.2.1; stand = module_again m items r.layout r.globals k s.2.2; lined = refl })

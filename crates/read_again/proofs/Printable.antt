@@ -3,6 +3,7 @@ use Rattle.std.proofs.Common.{◌≡◌, ℕ, suc, Option, Some, None, List, [],
 use Rattle.std.specs.List.{AllByRecursion as Each}
 use Rattle.std.specs.Prelude.{All}
 use Rattle.std.proofs.lemmas.List.Elements.{All-from_recursion}
+use Rattle.ir_items.specs.Modules.{FURTHER_PARAMETERS}
 use Rattle.ir_tree.specs.Forms.{Form}
 use Rattle.ir_tree.specs.Initials.{Initial, Initials, plain, zeros, bytes, elements, members, no_initials, initial}
 use Rattle.ir_tree.specs.Items.{Item, phi_item, line_item, end_item, items, items_from, block_items, lines_from, operands, reads, phi_reads, end_reads, taken_as}
@@ -25,7 +26,7 @@ use Rattle.ir_tree.specs.declared.operand.Operand.TheVariants.{Local, Number, Nu
 use Rattle.ir_tree.specs.declared.operand.Reg.{Reg}
 use Rattle.ir_tree.specs.declared.operand.Reg.TheVariants.{Int, Ptr}
 use Rattle.read_again.specs.Bodies.{phi_as_line}
-use Rattle.read_again.specs.ModulesReadable.{FunctionReadable, GlobalReadable, ModuleReadable}
+use Rattle.read_again.specs.ModulesReadable.{FunctionReadable, GlobalReadable}
 use Rattle.read_again.specs.Readable.{InstructionReadable, LineReadable, BlockReadable, BodyReadable}
 use Rattle.read_again.specs.VariablesReadable.{ConstantReadable, InitialReadable, InitialsReadable, InitReadable}
 use Rattle.read_again.specs.PartsReadable.{OperandReadable, ArgumentReadable, IncomingReadable, TerminatorReadable}
@@ -153,5 +154,5 @@ globals_printable : (room : ℕ) (gs : List GlobalValue) → Each (GlobalReadabl
 globals_printable room [] h = tt
 globals_printable room (g ∷ gs) h = (global_printable room g h.0, globals_printable room gs h.1)
 
-pub module_printable : (m : Module) → ModuleReadable m → IsPrintable m
-module_printable m h = All-from_recursion GlobalPrintable m.globals (globals_printable _ m.globals h.globals)
+pub module_printable : (m : Module) → Each (GlobalReadable FURTHER_PARAMETERS) m.globals → IsPrintable m
+module_printable m h = All-from_recursion GlobalPrintable m.globals (globals_printable FURTHER_PARAMETERS m.globals h)

@@ -77,12 +77,16 @@ module _ (room : ℕ) where
 
 -- ---- modules
 
+-- with so many global names at most
+pub entries_read : (names : ℕ) (m : Module) → LayoutReadable m.datalayout → Each (GlobalReadable FURTHER_PARAMETERS) m.globals → length m.globals ≤ names → (line : ℕ)
+    → (all : List Item) × items FURTHER_PARAMETERS names (tokens_in line (entries m)) all × AreItems m all
+entries_read names m l globals few line =
+    (all_kept FURTHER_PARAMETERS names (layouts_read FURTHER_PARAMETERS names m.datalayout l (triples_read FURTHER_PARAMETERS names m.triple (globals_read FURTHER_PARAMETERS befores.Item names m.globals few globals)))).value line
+
 pub module_read : (m : Module) → ModuleReadable m → (line : ℕ) → (all : List Item) × whole_module (tokens_in line (entries m)) all × AreItems m all
 unfolding whole_module
-module_read m h line =
-    let names = GLOBAL_NAMES in
-    (all_kept FURTHER_PARAMETERS names (layouts_read FURTHER_PARAMETERS names m.datalayout h.layout (triples_read FURTHER_PARAMETERS names m.triple (globals_read FURTHER_PARAMETERS befores.Item names m.globals h.few h.globals)))).value line
+module_read m h line = entries_read GLOBAL_NAMES m h.layout h.globals h.few line
 
 -- the text of a module is cut into tokens that spell the printed items
 pub text_read : (m : Module) → ModuleReadable m → (ts : List Tok) × AreTokens (module_text m) ts × ((all : List Item) × whole_module ts all × AreItems m all)
-text_read m h = (tokens_in 1 (entries m), module_cut m (module_printable m h), module_read m h 1)
+text_read m h = (tokens_in 1 (entries m), module_cut m (module_printable m h.globals), module_read m h 1)

@@ -16,4 +16,4 @@ read_again parsed readable within typed bytes m lines h r =
     readable m (module_readable m (parsed bytes m lines r).whole (read_numbered bytes m lines r) (within bytes m lines h r) (typed bytes m lines h r)) (read_known parsed bytes m lines h r)
 
 pub verified_again : ReadableIsRead → VerifiedIsRead
-verified_again readable m v n w = readable m (module_readable m v.whole n.locals w (verified_typed m v w)) (module_known m v n)
+verified_again readable m v n w = readable m (module_readable m v.whole n.locals w (verified_typed m v w.values)) (module_known m v n)

@@ -26,15 +26,14 @@ module _ (known : List Symbol) (names : (s : Symbol) → Contains known s → Na
   values_readable [] h t k n name w = tt
   values_readable (g ∷ gs) h t k n name w = (value_readable g h.0 t.0 k.0 n.0 name.0 w.0, values_readable gs h.1 t.1 k.1 n.1 name.1 w.1)
 
+pub globals_readable : (gs : List GlobalValue) → Whole gs → Each LocalsNumbered gs → Each NameWithin (symbols gs) → Each ValueWithin gs → Each ValueTyped gs → Each (GlobalReadable FURTHER_PARAMETERS) gs
+globals_readable gs v n names w t =
+    let known = symbols gs in
+    let all : All NameWithin known = All-from_recursion NameWithin known names in
+    values_readable known (λ s c. subst NameWithin c.2 (all c.0 s c.1)) gs (recursion_from_All GlobalFormed gs v.formed) t (recursion_from_All (GlobalKnown known) gs v.known) n names w
+
 pub module_readable : (m : Module) → Whole m.globals → Each LocalsNumbered m.globals → ModuleWithin m → ModuleTyped m → ModuleReadable m
-module_readable m v n w t =
-    let known = symbols m.globals in
-    let names : All NameWithin known = All-from_recursion NameWithin known w.names in
-    record {
-      layout = w.layout;
-      globals = values_readable known (λ s c. subst NameWithin c.2 (names c.0 s c.1)) m.globals (recursion_from_All GlobalFormed m.globals v.formed) t (recursion_from_All (GlobalKnown known) m.globals v.known) n w.names w.values;
-      few = w.few;
-    }
+module_readable m v n w t = record { layout = w.layout; globals = globals_readable m.globals v n w.names w.values t; few = w.few }
 
 -- ---- verified modules
 
@@ -46,5 +45,5 @@ values_typed : (gs : List GlobalValue) → Each GlobalFormed gs → Each GlobalS
 values_typed [] h s w = tt
 values_typed (g ∷ gs) h s w = (value_typed g h.0 s.0 w.0, values_typed gs h.1 s.1 w.1)
 
-pub verified_typed : (m : Module) → IsVerified m → ModuleWithin m → ModuleTyped m
-verified_typed m v w = values_typed m.globals (recursion_from_All GlobalFormed m.globals v.whole.formed) (recursion_from_All GlobalSound m.globals v.sound) w.values
+pub verified_typed : (m : Module) → IsVerified m → Each ValueWithin m.globals → ModuleTyped m
+verified_typed m v w = values_typed m.globals (recursion_from_All GlobalFormed m.globals v.whole.formed) (recursion_from_All GlobalSound m.globals v.sound) w

@@ -28,3 +28,5 @@ pub mod Numbered
 pub mod Anew
 pub mod Laws
 pub mod Trips
+pub mod OneText
+pub mod Tasks

@@ -2,12 +2,15 @@
 //! state them.
 
 ghost use Rattle.read_again.specs.Laws.{NumberedAnewIsRead, ReadIsKnown, ReadIsNumbered, ReadIsReadAgain, ReadIsTyped, ReadIsWithin, ReadableIsRead, TextOrderIsNumbered, VerifiedIsRead};
+ghost use Rattle.read_again.specs.OneText.{PrintedIsOne};
+ghost use Rattle.read_again.specs.Tasks.{TaskTextIsOne};
 
 use crate::{contents_are_bytes, items_are_within, modules_are_read, tokens_are_cut};
 use ir_edit::{text_order_counts, text_order_is_sound};
 use ir_parse::{
     items_are_written, read_is_parsed, shapes_are_within, tokens_are_sized, types_are_written,
 };
+use lto_task::tasks_with_one_text_agree;
 
 /// The text that is printed of a module that is readable, and whose names are known, is read as that
 /// module (LangRef, "Module Structure").
@@ -93,4 +96,18 @@ pub fn modules_numbered_anew_are_read()
     text_order_is_sound();
     text_order_is_numbered();
     verified_modules_are_read();
+}
+
+/// Verified modules with one printed text are one, where their locals are numbered along their text and each name and value is
+/// within the grammar's limits. How many there are isn't asked: the values of many modules may stand in one.
+pub fn modules_with_one_text_are_one()
+    ensures { PrintedIsOne }
+{}
+
+/// So tasks with one text are one, where their modules are such: a cache's key tells the whole of its task.
+pub fn tasks_with_one_text_are_one()
+    ensures { TaskTextIsOne }
+{
+    tasks_with_one_text_agree();
+    modules_with_one_text_are_one();
 }

@@ -12,6 +12,10 @@
 //! However the locals of a verified module are numbered, it is printed under new numbers as a text that is read as that
 //! ([`modules_numbered_anew_are_read`]).
 //!
+//! Two modules with one printed text are one, however many global names they have ([`modules_with_one_text_are_one`]), and so
+//! are two tasks of a link (`lto_task`) with one text ([`tasks_with_one_text_are_one`]): their modules need be verified, numbered
+//! along their text, and of names and values within the grammar's limits (`specs/OneText.antt`).
+//!
 //! Below these stand laws that tie the printed form to tokens, grammar and resolution: a printed text is cut into the tokens
 //! that it was put together from (`cutting`); types, operands, instructions and heads are read (`parts`), and so are lines,
 //! definitions, variables and whole modules (`printing_laws`), as the raw items that were printed, in which each local and
@@ -37,9 +41,10 @@ pub use cutting::{
     text_is_cut_into_its_tokens, tokens_are_of_their_classes, tokens_stand_for_what_is_printed,
 };
 pub use laws::{
-    modules_numbered_anew_are_read, read_modules_are_known, read_modules_are_numbered,
-    read_modules_are_read, read_modules_are_typed, read_modules_are_within,
-    readable_modules_are_read, text_order_is_numbered, verified_modules_are_read,
+    modules_numbered_anew_are_read, modules_with_one_text_are_one, read_modules_are_known,
+    read_modules_are_numbered, read_modules_are_read, read_modules_are_typed,
+    read_modules_are_within, readable_modules_are_read, tasks_with_one_text_are_one,
+    text_order_is_numbered, verified_modules_are_read,
 };
 pub use limits::{contents_are_bytes, items_are_within, tokens_are_cut};
 pub use parts::{
