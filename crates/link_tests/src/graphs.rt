@@ -2,11 +2,11 @@
 //! tenths with each call, and in other shapes.
 use crate::files::{answered, linked, texts};
 use combined_index::Index;
-use thin_link::plan;
 use ir_tree::Text;
 use liveness::live;
 use std::alloc::{AllocError, Global};
 use std::fmt::Write;
+use thin_link::plan;
 
 /// Writes a call of each of these. How many there are.
 fn put_calls(text: &mut String, callees: &[&str]) -> Result<u32, AllocError> {
