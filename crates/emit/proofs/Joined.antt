@@ -36,7 +36,8 @@ use Rattle.emit.specs.Joins.{IsInNameOrder, IsJoin, IsUsed, asked, getchar_line,
 use Rattle.emit.specs.Laws.{JoinIsEmission}
 use Rattle.emit.proofs.Distinctions.{distinct_filter, distinct_left, distinct_moved, not_again}
 use Rattle.emit.proofs.Members.{settled_symbol}
-use Rattle.emit.proofs.Printed.{begins_so, behind_header, getchar_printed, putchar_printed, three_groups, two_groups}
+use Rattle.lto_task.proofs.Values.{values_append}
+use Rattle.emit.proofs.Printed.{begins_so, behind_header, getchar_printed, putchar_printed, three_groups}
 use Rattle.emit.proofs.Sorting.{filter_map}
 
 -- ---- orders of images
@@ -235,7 +236,7 @@ module _ (exports : List (List ℕ)) where
     hosts_are : host_lines keeps (pieces_of zs) ≡ text_of (global_values (outside_in_use keeps (values_of zs)))
     hosts_are =
         ap₂ (λ (a b : List ℕ). a ++ b) (line_is getchar getchar_line getchar_printed) (line_is putchar putchar_line putchar_printed)
-        ∙ sym (two_groups (in_use keeps (values_of zs) getchar) (in_use keeps (values_of zs) putchar))
+        ∙ sym (values_append (in_use keeps (values_of zs) getchar) (in_use keeps (values_of zs) putchar))
 
   -- ---- the linked module
 

@@ -18,6 +18,7 @@ use Rattle.ir_print.specs.Modules.{global_value, global_values, module_text, tar
 use Rattle.ir_print.specs.Tokens.{tight, word}
 use Rattle.ir_print.specs.Types.{result}
 use Rattle.ir_print.proofs.Written.{three_wrote}
+use Rattle.lto_task.proofs.Values.{values_append}
 use Rattle.merge_meaning.specs.Linked.{IsDefinition}
 use Rattle.emit.specs.Emissions.{getchar, is_variable, putchar, settled}
 use Rattle.emit.specs.Joins.{getchar_line, putchar_line}
@@ -62,22 +63,9 @@ putchar_printed = refl
 
 -- ---- put together
 
-global_values_append : (gs hs : List GlobalValue) → global_values (gs ++ hs) ≡ global_values gs ++ global_values hs
-global_values_append [] hs = refl
-global_values_append (g ∷ gs) hs = ap (λ (l : List (List Piece)). global_value g ∷ l) (global_values_append gs hs)
-
 -- the lines of three groups, one behind the other
 pub three_groups : (gs hs ks : List GlobalValue) → text_of (global_values (gs ++ (hs ++ ks))) ≡ text_of (global_values gs) ++ (text_of (global_values hs) ++ text_of (global_values ks))
-three_groups gs hs ks =
-    ap text_of (global_values_append gs (hs ++ ks) ∙ ap (λ (l : List (List Piece)). global_values gs ++ l) (global_values_append hs ks))
-    ∙ sym (three_wrote (global_values gs) (global_values hs) (global_values ks) [] (text_of (global_values gs)) (text_of (global_values gs) ++ text_of (global_values hs)) _ refl refl refl refl)
-    ∙ append_assoc (text_of (global_values gs)) (text_of (global_values hs)) (text_of (global_values ks))
-
-pub two_groups : (gs hs : List GlobalValue) → text_of (global_values (gs ++ hs)) ≡ text_of (global_values gs) ++ text_of (global_values hs)
-two_groups gs hs =
-    ap (λ (l : List GlobalValue). text_of (global_values (gs ++ l))) (sym (append-nil hs))
-    ∙ three_groups gs hs []
-    ∙ ap (λ (t : List ℕ). text_of (global_values gs) ++ t) (append-nil (text_of (global_values hs)))
+three_groups gs hs ks = values_append gs (hs ++ ks) ∙ ap (λ (t : List ℕ). text_of (global_values gs) ++ t) (values_append hs ks)
 
 -- the target lines, and behind them the lines of the values
 pub behind_header : (m : Module) (gs : List GlobalValue) → module_text (record m { globals = [] }) ++ text_of (global_values gs) ≡ module_text (record m { globals = gs })
