@@ -1,0 +1,4 @@
+mod Cutting
+mod Naming
+pub mod OneList
+mod Lining
