@@ -1,9 +1,11 @@
 -- From a command to the words that ask for it, and back.
-use Rattle.std.proofs.Common.{ℕ, ◌≡◌, true, List, [], ◌∷◌, ◌++◌, OnErr, OnOk, Result, Ok, Err, ap, inl, inr, refl, subst}
+use Rattle.std.proofs.Common.{ℕ, ◌≡◌, true, List, [], ◌∷◌, ◌++◌, OnErr, OnOk, Option, Some, None, Result, Ok, Err, ap, inl, inr, refl, subst}
 use Rattle.lto_fault.specs.declared.kind.Kind.{Kind}
 use Rattle.lto_fault.specs.declared.refusal.Refusal.{Refusal}
-use Rattle.thinlto_main.specs.Fetching.{FetchFailed, fetch_calls}
+use Rattle.command_files.specs.Fetching.{FetchFailed, fetch_call, fetch_calls}
+use Rattle.command_files.specs.Links.{all_files}
 use Rattle.lto_outside.specs.Calls.{Call, DidNoPut, Fetched, NoPut, Put}
+use Rattle.lto_outside.specs.Seen.{FilesSeen}
 use Rattle.lto_outside.specs.declared.fault.FetchFault.TheVariants.{Fault}
 use Rattle.lto_words.specs.Commands.{IsCommand}
 use Rattle.lto_words.specs.Laws.{OneCommand}
@@ -14,12 +16,14 @@ use Rattle.lto_words.specs.declared.request.LinkOptions.{LinkOptions}
 use Rattle.thinlto_main.specs.Answers.{Says, causes, causes_of, obeyed, reporting}
 use Rattle.thinlto_main.specs.Asking.{Asked, is_offered, is_offered_link}
 use Rattle.run_program.specs.Causes.{Causes, Comes, always}
+use Rattle.thinlto_main.specs.Batching.{batching}
 use Rattle.thinlto_main.specs.Linking.{linking}
 use Rattle.thinlto_main.specs.Running.{running}
 use Rattle.thinlto_main.specs.Seen.{InputSeen, Seen, Untouched, streams_of}
 use Rattle.run_program.specs.Streams.{Notes}
 use Rattle.thinlto_main.specs.Telling.{told, told_of}
 use Rattle.run_program.proofs.Causes.{Implies}
+use Rattle.thinlto_main.proofs.Batching.{given_no_put}
 use Rattle.thinlto_main.proofs.Completing.{telling}
 use Rattle.thinlto_main.proofs.Reading.{fetched_no_put, no_put_fetches}
 
@@ -48,10 +52,24 @@ pub on_each : {A : Type 0} (r : Result A Refusal) (P : Type 0) → P → OnOk r 
 on_each (Ok x) P h = (h, tt)
 on_each (Err why) P h = (tt, h)
 
--- what a link answers is what the command does, and so of an index and of a run
+-- what a link answers is what the command does, and so of a batch, of an index and of a run
 pub link_obeyed : (options : LinkOptions) (out : List ℕ) (names : List (List ℕ)) (s : Seen) (i : InputSeen) → is_offered_link options ≡ true → s.unprinted → i.untaken
     → Implies (linking options out names s.files) (obeyed (Link options out names) s i)
 link_obeyed options out names s i offered same untaken = record {
+  done = λ x. (((x, same), untaken), offered);
+  usage = λ x. absurd x;
+  unread = λ name x. (((x, same), untaken), offered);
+  refused = λ file line kind x. (((x, same), untaken), offered);
+  unlinked = λ why x. (((x, same), untaken), offered);
+  unfit = λ name x. absurd x;
+  unwritten = λ name x. (((x, same), untaken), offered);
+  unreturned = λ why x. absurd x;
+  memory = λ x. (((x, same), untaken), offered);
+}
+
+pub batch_obeyed : (options : LinkOptions) (list : List ℕ) (s : Seen) (i : InputSeen) → is_offered_link options ≡ true → s.unprinted → i.untaken
+    → Implies (batching options list s.files) (obeyed (Batch options list) s i)
+batch_obeyed options list s i offered same untaken = record {
   done = λ x. (((x, same), untaken), offered);
   usage = λ x. absurd x;
   unread = λ name x. (((x, same), untaken), offered);
@@ -115,13 +133,28 @@ module _ (root : List ℕ) (args : List Decimal) (steps : ℕ) (names : List (Li
   run_memory (inl x) = x.0
   run_memory (inr o) = fetched_no_put names o.is.given s.files.did o.is.fetched
 
+module _ (options : LinkOptions) (list : List ℕ) (files : FilesSeen) where
+  batch_unread : (name : List ℕ) → (batching options list files).unread name → DidNoPut files.did
+  batch_unread name (inl x) = failed_no_put files.did (list ∷ []) name x.failed
+  batch_unread name (inr x) =
+      let first = failed_no_put (λ calls. files.did (Fetched list (Ok x.bytes) ∷ calls)) (all_files x.links) name x.failed in
+      record { calls = Fetched list (Ok x.bytes) ∷ first.calls; made = first.made; no_put = first.no_put }
+
+  list_bad : (given : Option (List ℕ)) → files.did (fetch_call list given ∷ []) → DidNoPut files.did
+  list_bad None made = record { calls = fetch_call list None ∷ []; made = made; no_put = tt }
+  list_bad (Some bytes) made = record { calls = fetch_call list (Some bytes) ∷ []; made = made; no_put = tt }
+
+  batch_refused : (file : List ℕ) (line : ℕ) (kind : Kind) → (batching options list files).refused file line kind → DidNoPut files.did
+  batch_refused file line kind (inl x) = list_bad x.given x.calls
+  batch_refused file line kind (inr x) = given_no_put list x.links x.given files.did x.fetched
+
 calm : (s : Seen) (i : InputSeen) (c : Command) → Implies (causes c s i) (calmly (DidNoPut s.files.did))
 calm s i (Link options out names) = record {
   done = λ x. tt;
   usage = λ x. absurd x.0.0;
   unread = λ name x. failed_no_put s.files.did names name x.0.0.failed;
   refused = λ file line kind x. fetched_no_put names x.0.0.given s.files.did x.0.0.fetched;
-  unlinked = λ why x. fetched_no_put names x.0.0.read.given s.files.did x.0.0.read.fetched;
+  unlinked = λ why x. fetched_no_put names x.0.0.given s.files.did x.0.0.fetched;
   unfit = λ name x. absurd x.0.0;
   unwritten = λ name x. tt;
   unreturned = λ why x. absurd x.0.0;
@@ -138,7 +171,17 @@ calm s i (Index exports limit names) = record {
   unreturned = λ why x. absurd x.0.0;
   memory = λ x. x.0.0;
 }
-calm s i (Batch options list) = record { done = λ x. tt; usage = λ x. absurd x; unread = λ n x. absurd x; refused = λ f l k x. absurd x; unlinked = λ w x. absurd x; unfit = λ n x. absurd x; unwritten = λ n x. tt; unreturned = λ w x. absurd x; memory = λ x. absurd x }
+calm s i (Batch options list) = record {
+  done = λ x. tt;
+  usage = λ x. absurd x.0.0;
+  unread = λ name x. batch_unread options list s.files name x.0.0;
+  refused = λ file line kind x. batch_refused options list s.files file line kind x.0.0;
+  unlinked = λ why x. given_no_put list x.0.0.links x.0.0.given s.files.did x.0.0.fetched;
+  unfit = λ name x. absurd x.0.0;
+  unwritten = λ name x. tt;
+  unreturned = λ why x. absurd x.0.0;
+  memory = λ x. x.0.0;
+}
 calm s i (Run root args steps names) = record {
   done = λ x. tt;
   usage = λ x. absurd x;
@@ -176,21 +219,21 @@ module _ (s : Seen) (i : InputSeen) where
   refused_unused : (c : Command) (file : List ℕ) (line : ℕ) (kind : Kind) → (causes c s i).refused file line kind → i.untaken × s.unprinted
   refused_unused (Link options out names) file line kind x = (x.1, x.0.1)
   refused_unused (Index exports limit names) file line kind x = (x.1, x.0.1)
-  refused_unused (Batch options list) file line kind x = absurd x
+  refused_unused (Batch options list) file line kind x = (x.1, x.0.1)
   refused_unused (Run root args steps names) file line kind x = x.1
   refused_unused (Gen seed modules jobs) file line kind x = absurd x
 
   unlinked_unused : (c : Command) (why : Refusal) → (causes c s i).unlinked why → i.untaken × s.unprinted
   unlinked_unused (Link options out names) why x = (x.1, x.0.1)
   unlinked_unused (Index exports limit names) why x = (x.1, x.0.1)
-  unlinked_unused (Batch options list) why x = absurd x
+  unlinked_unused (Batch options list) why x = (x.1, x.0.1)
   unlinked_unused (Run root args steps names) why x = x.1
   unlinked_unused (Gen seed modules jobs) why x = absurd x
 
   unfit_unused : (c : Command) (name : List ℕ) → (causes c s i).unfit name → i.untaken × s.unprinted
   unfit_unused (Link options out names) name x = absurd x.0.0
   unfit_unused (Index exports limit names) name x = absurd x.0.0
-  unfit_unused (Batch options list) name x = absurd x
+  unfit_unused (Batch options list) name x = absurd x.0.0
   unfit_unused (Run root args steps names) name x = x.so.unused
   unfit_unused (Gen seed modules jobs) name x = absurd x
 

@@ -1,5 +1,5 @@
 -- When a command has to be done, and when refused.
-use Rattle.std.proofs.Common.{ℕ, ◌≡◌, ◌⊎◌, ◌∙◌, Bool, true, false, List, [], ◌∷◌, map, replicate, Option, Some, None, ap, inl, inr, sym, subst}
+use Rattle.std.proofs.Common.{ℕ, ◌≡◌, ◌⊎◌, ◌∙◌, Bool, true, false, List, [], ◌∷◌, replicate, Option, Some, None, ap, inl, inr, sym, subst}
 use Rattle.std.specs.List.{AllZip}
 use Rattle.std.specs.Prelude.{IfSome}
 use Rattle.ir_tree.specs.declared.module.Module.{Module}
@@ -8,8 +8,6 @@ use Rattle.ir_meaning.specs.Run.{Ending, Returned, run}
 use Rattle.ir_meaning.specs.declared.value.Value.{Value}
 use Rattle.link_one.specs.Laws.{AcceptedIsNotRefused, AcceptedIsOne, RefusedIsOne}
 use Rattle.link_one.specs.LinkedLaws.{UnlinkedIsNotLinked, UnlinkedIsOne}
-use Rattle.link_one.specs.Refusing.{CanBeLinked, IsUnlinked}
-use Rattle.promote_rename.specs.Suffixes.{suffix_of}
 use Rattle.lto_fault.specs.declared.kind.Kind.{Kind}
 use Rattle.lto_fault.specs.declared.refusal.Refusal.{Refusal}
 use Rattle.lto_outside.specs.Cause.{Rose}
@@ -28,9 +26,12 @@ use Rattle.run_program.specs.Said.{ending_refusal}
 use Rattle.thinlto_main.specs.Seen.{InputSeen, Seen, streams_of}
 use Rattle.run_program.specs.Streams.{Streams}
 use Rattle.run_program.specs.Starting.{beginning}
-use Rattle.thinlto_main.specs.Telling.{CanBeDone, CanDo, CanLink, EndsOver, Held, HoldFirstBad, HoldModules, HoldReport, HoldUnlinkable, HoldUnlinked, HoldsModule, IsTold, LinkHeld, MustNotBegin, MustNotLink, MustNotReturn, MustRefuse, RunComesTo, RunIsTold, told}
+use Rattle.thinlto_main.specs.Holding.{Held, HoldFirstBad, HoldMade, HoldUnlinked, HoldsModule, LinkHeld}
+use Rattle.thinlto_main.specs.Telling.{CanBeDone, CanDo, CanLink, EndsOver, HoldReport, IsTold, MustNotBegin, MustNotLink, MustNotReturn, MustRefuse, RunComesTo, RunIsTold, told}
 use Rattle.run_program.proofs.Causes.{Implies}
-use Rattle.thinlto_main.proofs.Held.{hold_modules, none_bad, one_first_bad, one_inputs, one_list}
+use Rattle.thinlto_main.proofs.BatchCompleting.{batch_bad_made, batch_made, batch_unlinkable_bad, batch_unlinkable_made, can_batch_bad, can_batch_unlinkable, one_batch_bad, one_batch_unlinkable}
+use Rattle.thinlto_main.proofs.HeldLinks.{linkable_bad, linkable_unlinkable, made_bad, made_unlinkable, one_unlinkable, unlinkable_bad}
+use Rattle.thinlto_main.proofs.Held.{none_bad, one_first_bad, one_list}
 use Rattle.lto_words.specs.declared.request.LinkOptions.{LinkOptions}
 
 -- what is told, of a command that is asked for
@@ -53,22 +54,12 @@ either (inr b) f g = g b
 
 -- ---- a link
 
-record HoldLinked (options : LinkOptions) (names : List (List ℕ)) (held : Store) : Type 0 where
-  inputs : List (List ℕ)
-  ms : List Module
-  modules : HoldModules held names inputs ms
-  can : CanBeLinked options.exports options.import_limit (map suffix_of inputs) ms
-
+-- the text that was put is made of what they hold
 link_told : (put : Store → Store → List ℕ → List ℕ → Type 0) (options : LinkOptions) (out : List ℕ) (names : List (List ℕ)) (old new : Option Store)
-    → LinkHeld put options out names old new → IfSome old (HoldLinked options names)
+    → LinkHeld put options out names old new → IfSome old (λ held. (text : List ℕ) × HoldMade options names held text)
 link_told put options out names None new h = tt
 link_told put options out names (Some old) None h = absurd h
-link_told put options out names (Some old) (Some new) h = record {
-  inputs = h.inputs;
-  ms = h.is_link.ms;
-  modules = record { there = h.held; accepted = h.is_link.accepted };
-  can = record { index = h.is_link.linked.index; live = h.is_link.linked.live; imports = h.is_link.linked.imports; thin = h.is_link.linked.thin; named = h.is_link.linked.named };
-}
+link_told put options out names (Some old) (Some new) h = (h.text, h.made)
 
 -- ---- a run
 
@@ -92,40 +83,8 @@ begins_not : (p : Program) (root : List ℕ) (args : List Decimal) (first : Stat
 begins_not p root args first none some = let never : None ≡ Some first = sym none ∙ some in cc never
 
 module _ (apart : AcceptedIsNotRefused) (accepted : AcceptedIsOne) (s : Seen) (i : InputSeen) where
-  linked_bad : (options : LinkOptions) (names : List (List ℕ)) (file : List ℕ) (line : ℕ) (kind : Kind) (held : Store) → HoldFirstBad held names file line kind → HoldLinked options names held → ⊥
-  linked_bad options names file line kind held bad linked =
-      none_bad held apart names linked.ms file line kind (hold_modules held names linked.inputs linked.ms linked.modules.there linked.modules.accepted) bad
-
-  unlinkable_bad : (options : LinkOptions) (names : List (List ℕ)) (why : Refusal) (file : List ℕ) (line : ℕ) (kind : Kind) (held : Store) → HoldUnlinkable options names held why → HoldFirstBad held names file line kind → ⊥
-  unlinkable_bad options names why file line kind held u bad =
-      none_bad held apart names u.ms file line kind (hold_modules held names u.inputs u.ms u.modules.there u.modules.accepted) bad
-
-  -- what is held is one list of modules from one list of bytes
-  moved_unlinked : (options : LinkOptions) (names : List (List ℕ)) (why : Refusal) (held : Store) (inputs : List (List ℕ)) (ms : List Module) → HoldModules held names inputs ms → (u : HoldUnlinkable options names held why)
-      → IsUnlinked names options.exports options.import_limit (map suffix_of inputs) ms why
-  moved_unlinked options names why held inputs ms h u =
-      let same : u.inputs ≡ inputs = one_inputs held names u.inputs inputs u.modules.there h.there in
-      let modules : u.ms ≡ ms = one_list held accepted names u.ms ms (hold_modules held names u.inputs u.ms u.modules.there u.modules.accepted) (hold_modules held names inputs ms h.there h.accepted) in
-      subst (λ (l : List Module). IsUnlinked names options.exports options.import_limit (map suffix_of inputs) l why) modules
-      (subst (λ (bs : List (List ℕ)). IsUnlinked names options.exports options.import_limit (map suffix_of bs) u.ms why) same u.unlinked)
-
-  linked_unlinkable : UnlinkedIsNotLinked → (options : LinkOptions) (names : List (List ℕ)) (why : Refusal) (held : Store) → HoldUnlinkable options names held why → HoldLinked options names held → ⊥
-  linked_unlinkable law options names why held u linked =
-      law names options.exports options.import_limit (map suffix_of linked.inputs) linked.ms why linked.can (moved_unlinked options names why held linked.inputs linked.ms linked.modules u)
-
-  one_unlinkable : UnlinkedIsOne → (options : LinkOptions) (names : List (List ℕ)) (why other : Refusal) (held : Store) → HoldUnlinkable options names held why → HoldUnlinkable options names held other → other ≡ why
-  one_unlinkable law options names why other held a b =
-      law names options.exports options.import_limit (map suffix_of a.inputs) a.ms other why (moved_unlinked options names other held a.inputs a.ms a.modules b) a.unlinked
-
-  done_bad : (options : LinkOptions) (names : List (List ℕ)) (file : List ℕ) (line : ℕ) (kind : Kind) (held : Store) → CanBeDone options names s.files held → HoldFirstBad held names file line kind → ⊥
-  done_bad options names file line kind held can bad =
-      none_bad held apart names can.ms file line kind (hold_modules held names can.inputs can.ms can.modules.there can.modules.accepted) bad
-
-  done_unlinkable : (options : LinkOptions) (names : List (List ℕ)) (why : Refusal) (held : Store) → CanBeDone options names s.files held → HoldUnlinkable options names held why → ⊥
-  done_unlinkable options names why held can u = can.linked why (moved_unlinked options names why held can.inputs can.ms can.modules u)
-
   done_fine : (options : LinkOptions) (names : List (List ℕ)) → IsTold s.files.held (CanBeDone options names s.files) → ¬ (Rose s.files.faults s.files.faults_now)
-  done_fine options names can = told_fact (CanBeDone options names s.files) (λ held c. c.fine) s.files.held can
+  done_fine options names can = told_fact (CanBeDone options names s.files) (λ held c. c.1) s.files.held can
 
   reported_bad : (exports names : List (List ℕ)) (limit : ℕ) (done : Bool) (file : List ℕ) (line : ℕ) (kind : Kind) (held : Store) → HoldFirstBad held names file line kind → HoldReport exports names limit s done held → ⊥
   reported_bad exports names limit done file line kind held bad report = none_bad held apart names report.ms file line kind report.modules bad
@@ -258,8 +217,8 @@ module _ (apart : AcceptedIsNotRefused) (accepted : AcceptedIsOne) (s : Seen) (i
     done = λ x. tt;
     usage = λ x. x;
     unread = λ name x. absurd (done_fine options names can x);
-    refused = λ file line kind x. of_told _ _ (done_bad options names file line kind) s.files.held can x;
-    unlinked = λ why x. of_told _ _ (done_unlinkable options names why) s.files.held can x;
+    refused = λ file line kind x. of_told _ _ (λ held c bad. linkable_bad held options names apart file line kind c.0 bad) s.files.held can x;
+    unlinked = λ why x. of_told _ _ (λ held c u. linkable_unlinkable held options names accepted why c.0 u) s.files.held can x;
     unfit = λ name x. x;
     unwritten = λ name x. absurd (done_fine options names can x.1);
     unreturned = λ why x. x;
@@ -276,7 +235,17 @@ module _ (apart : AcceptedIsNotRefused) (accepted : AcceptedIsOne) (s : Seen) (i
     unreturned = λ why x. x;
     memory = λ x. tt;
   }
-  completes (Batch options list) can = absurd can
+  completes (Batch options list) can = record {
+    done = λ x. tt;
+    usage = λ x. x;
+    unread = λ name x. absurd (can.1 x);
+    refused = λ file line kind x. of_told _ _ (λ held c bad. can_batch_bad apart accepted options list held file line kind c bad) s.files.held can.0 x;
+    unlinked = λ why x. of_told _ _ (λ held c u. can_batch_unlinkable apart accepted options list held why c u) s.files.held can.0 x;
+    unfit = λ name x. x;
+    unwritten = λ name x. absurd (can.1 x.1);
+    unreturned = λ why x. x;
+    memory = λ x. tt;
+  }
   completes (Run root args steps names) can = record {
     done = λ x. tt;
     usage = λ x. x;
@@ -295,11 +264,11 @@ module _ (apart : AcceptedIsNotRefused) (accepted : AcceptedIsOne) (s : Seen) (i
   pub refuses : RefusedIsOne → (c : Command) (file : List ℕ) (line : ℕ) (kind : Kind) → MustRefuse c s file line kind
       → Implies (telling c s i) (record never { refused = λ f l k. (f ≡ file) × (l ≡ line) × (k ≡ kind); memory = Unit {0} })
   refuses one (Link options out names) file line kind must = record {
-    done = λ x. of_told _ _ (linked_bad options names file line kind) s.files.held must.0 (link_told _ options out names s.files.held s.files.holds x);
+    done = λ x. of_told _ _ (λ held bad made. made_bad held options names apart made.0 file line kind made.1 bad) s.files.held must.0 (link_told _ options out names s.files.held s.files.holds x);
     usage = λ x. x;
     unread = λ name x. absurd (must.1 x);
     refused = λ f l k x. of_told _ _ (λ held a b. one_first_bad held apart one names f file l line k kind b a) s.files.held must.0 x;
-    unlinked = λ why x. of_told _ _ (λ held bad u. unlinkable_bad options names why file line kind held u bad) s.files.held must.0 x;
+    unlinked = λ why x. of_told _ _ (λ held bad u. unlinkable_bad held options names apart why file line kind u bad) s.files.held must.0 x;
     unfit = λ name x. x;
     unwritten = λ name x. absurd (must.1 x.1);
     unreturned = λ why x. x;
@@ -316,7 +285,17 @@ module _ (apart : AcceptedIsNotRefused) (accepted : AcceptedIsOne) (s : Seen) (i
     unreturned = λ why x. x;
     memory = λ x. tt;
   }
-  refuses one (Batch options list) file line kind must = absurd must
+  refuses one (Batch options list) file line kind must = record {
+    done = λ x. of_told _ _ (λ held bad made. batch_bad_made apart accepted options list held file line kind bad made) s.files.held must.0 (batch_made _ options list s.files.held s.files.holds x);
+    usage = λ x. x;
+    unread = λ name x. absurd (must.1 x);
+    refused = λ f l k x. of_told _ _ (λ held a b. one_batch_bad apart accepted options list held one f file l line k kind b a) s.files.held must.0 x;
+    unlinked = λ why x. of_told _ _ (λ held bad u. batch_unlinkable_bad apart accepted options list held why file line kind u bad) s.files.held must.0 x;
+    unfit = λ name x. x;
+    unwritten = λ name x. absurd (must.1 x.1);
+    unreturned = λ why x. x;
+    memory = λ x. tt;
+  }
   refuses one (Run root args steps names) file line kind must = record {
     done = λ x. modules_bad root names _ file line kind must.0 x.1;
     usage = λ x. x;
@@ -335,11 +314,11 @@ module _ (apart : AcceptedIsNotRefused) (accepted : AcceptedIsOne) (s : Seen) (i
   pub clashes : ReportedIsNotRefused → RefusalIsOne → UnlinkedIsNotLinked → UnlinkedIsOne → (c : Command) (why : Refusal) → MustNotLink c s why
       → Implies (telling c s i) (record never { unlinked = λ other. other ≡ why; memory = Unit {0} })
   clashes reported one linked unlinkable (Link options out names) why must = record {
-    done = λ x. of_told _ _ (linked_unlinkable linked options names why) s.files.held must.0 (link_told _ options out names s.files.held s.files.holds x);
+    done = λ x. of_told _ _ (λ held u made. made_unlinkable held options names accepted linked made.0 why made.1 u) s.files.held must.0 (link_told _ options out names s.files.held s.files.holds x);
     usage = λ x. x;
     unread = λ name x. absurd (must.1 x);
-    refused = λ file line kind x. of_told _ _ (unlinkable_bad options names why file line kind) s.files.held must.0 x;
-    unlinked = λ other x. of_told _ _ (one_unlinkable unlinkable options names why other) s.files.held must.0 x;
+    refused = λ file line kind x. of_told _ _ (λ held u bad. unlinkable_bad held options names apart why file line kind u bad) s.files.held must.0 x;
+    unlinked = λ other x. of_told _ _ (λ held a b. one_unlinkable held options names accepted unlinkable why other a b) s.files.held must.0 x;
     unfit = λ name x. x;
     unwritten = λ name x. absurd (must.1 x.1);
     unreturned = λ w x. x;
@@ -356,7 +335,17 @@ module _ (apart : AcceptedIsNotRefused) (accepted : AcceptedIsOne) (s : Seen) (i
     unreturned = λ w x. x;
     memory = λ x. tt;
   }
-  clashes reported one linked unlinkable (Batch options list) why must = absurd must
+  clashes reported one linked unlinkable (Batch options list) why must = record {
+    done = λ x. of_told _ _ (λ held u made. batch_unlinkable_made apart accepted options list held linked why u made) s.files.held must.0 (batch_made _ options list s.files.held s.files.holds x);
+    usage = λ x. x;
+    unread = λ name x. absurd (must.1 x);
+    refused = λ file line kind x. of_told _ _ (λ held u bad. batch_unlinkable_bad apart accepted options list held why file line kind u bad) s.files.held must.0 x;
+    unlinked = λ other x. of_told _ _ (λ held a b. one_batch_unlinkable apart accepted options list held unlinkable why other a b) s.files.held must.0 x;
+    unfit = λ name x. x;
+    unwritten = λ name x. absurd (must.1 x.1);
+    unreturned = λ w x. x;
+    memory = λ x. tt;
+  }
   clashes reported one linked unlinkable (Run root args steps names) why must = record {
     done = λ x. modules_unlinked root names _ why must.0 x.1;
     usage = λ x. x;

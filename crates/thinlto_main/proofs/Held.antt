@@ -5,13 +5,13 @@ use Rattle.ir_tree.specs.declared.module.Module.{Module}
 use Rattle.link_one.specs.Accepted.{Accepts}
 use Rattle.link_one.specs.Laws.{AcceptedIsNotRefused, AcceptedIsOne, RefusedIsOne}
 use Rattle.lto_fault.specs.declared.kind.Kind.{Kind}
-use Rattle.thinlto_main.specs.Fetching.{fetch_calls}
+use Rattle.command_files.specs.Fetching.{fetch_calls}
 use Rattle.lto_outside.specs.Calls.{Call, Fetched, NoPut, Put}
 use Rattle.lto_outside.specs.Replay.{Follows, Replays}
 use Rattle.lto_outside.specs.Store.{SameFiles, Stays, Store}
 use Rattle.lto_outside.specs.declared.fault.FetchFault.TheVariants.{Fault, NoMemory, TooLong}
 use Rattle.thinlto_main.specs.Modules.{FirstBad, IsBad, IsRead, bytes_of}
-use Rattle.thinlto_main.specs.Telling.{AreBad, HoldFirstBad, Holds, HoldsBad, HoldsModule}
+use Rattle.thinlto_main.specs.Holding.{AreBad, HoldFirstBad, Holds, HoldsBad, HoldsModule}
 
 -- calls without a put leave the files as they were
 replays_same : (old new : Store) (calls : List Call) → NoPut calls → Replays old calls new → SameFiles old new

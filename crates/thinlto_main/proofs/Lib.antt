@@ -1,13 +1,16 @@
-pub mod Fetches
 mod Reading
 mod Unlinked
 mod Renumbered
 mod Rereading
 mod Linking
+mod Batching
 mod Reporting
 mod Merging
 mod Held
+mod BatchHeld
 mod Telling
+mod HeldLinks
+mod BatchCompleting
 mod Completing
 mod Asking
 mod Judging

@@ -6,10 +6,10 @@ use Rattle.ir_tree.specs.declared.module.Module.{Module}
 use Rattle.link_one.specs.Laws.{AcceptedIsOne}
 use Rattle.lto_fault.specs.declared.kind.Kind.{Kind}
 use Rattle.lto_fault.specs.declared.refusal.Refusal.{Refusal}
-use Rattle.thinlto_main.specs.Fetched.{IfFault}
-use Rattle.thinlto_main.specs.Fetching.{FetchFailed, fetch_calls}
-use Rattle.thinlto_main.specs.declared.fetching.FetchError.{FetchError}
-use Rattle.thinlto_main.specs.declared.fetching.FetchError.TheVariants as error
+use Rattle.command_files.specs.Fetched.{IfFault}
+use Rattle.command_files.specs.Fetching.{FetchFailed, fetch_calls}
+use Rattle.command_files.specs.declared.fetching.FetchError.{FetchError}
+use Rattle.command_files.specs.declared.fetching.FetchError.TheVariants as error
 use Rattle.lto_outside.specs.Cause.{Rose}
 use Rattle.lto_outside.specs.Calls.{Call, DidNoPut, NoPut}
 use Rattle.lto_outside.specs.Seen.{FilesSeen}

@@ -1,13 +1,14 @@
 -- The causes of answers, where the files tell what they hold.
-use Rattle.std.proofs.Common.{ℕ, ◌≡◌, ◌∙◌, Bool, true, false, List, [], ◌∷◌, ◌++◌, map, Option, Some, None, length, subst, inl, inr}
+use Rattle.std.proofs.Common.{ℕ, ◌≡◌, ◌∙◌, Bool, true, false, List, [], ◌∷◌, ◌++◌, Option, Some, None, length, subst, inl, inr}
 use Rattle.std.specs.List.{AllZip}
 use Rattle.std.specs.Prelude.{IfSome}
 use Rattle.ir_tree.specs.declared.module.Module.{Module}
 use Rattle.link_one.specs.Laws.{AcceptedIsOne}
 use Rattle.lto_fault.specs.declared.kind.Kind.{Kind}
 use Rattle.lto_fault.specs.declared.refusal.Refusal.{Refusal}
-use Rattle.thinlto_main.specs.Fetching.{fetch_calls}
+use Rattle.command_files.specs.Fetching.{fetch_calls}
 use Rattle.lto_outside.specs.Calls.{Call, Put}
+use Rattle.lto_outside.specs.Cause.{Rose}
 use Rattle.lto_outside.specs.Replay.{Follows}
 use Rattle.lto_outside.specs.Seen.{FilesSeen}
 use Rattle.lto_outside.specs.Store.{HasPart, HasPut, IsPart, SameFiles, Stays, Store}
@@ -17,18 +18,21 @@ use Rattle.lto_words.specs.declared.request.Command.TheVariants.{Link, Batch, In
 use Rattle.thin_link.specs.Laws.{ReportIsOne}
 use Rattle.thin_link.specs.Linking.{IsIndexReport}
 use Rattle.thinlto_main.specs.Answers.{causes}
+use Rattle.thinlto_main.specs.Batching.{batching}
+use Rattle.thinlto_main.specs.BatchHolding.{HoldBatchBad}
 use Rattle.run_program.specs.Causes.{Causes}
 use Rattle.thinlto_main.specs.Linking.{CannotBeLinked, DidLink}
-use Rattle.thinlto_main.specs.Modules.{AreFetched, AreRead, CannotLink, CannotRead, bytes_of}
+use Rattle.thinlto_main.specs.Modules.{AreFetched, AreRead, CannotLink, CannotRead}
 use Rattle.thinlto_main.specs.Reporting.{DidReport}
 use Rattle.thinlto_main.specs.Running.{OfModules, running, running_by}
 use Rattle.run_program.specs.Merged.{merged_causes}
 use Rattle.thinlto_main.specs.Seen.{InputSeen, Seen, streams_of}
 use Rattle.run_program.specs.Streams.{Streams}
-use Rattle.thinlto_main.specs.Telling.{Held, HoldFirstBad, HoldLink, HoldReport, HoldUnlinkable, HoldUnlinked, LinkHeld, told, told_files}
+use Rattle.thinlto_main.specs.Holding.{Held, HoldFirstBad, HoldLink, HoldUnlinkable, HoldUnlinked, LinkHeld}
+use Rattle.thinlto_main.specs.Telling.{HoldReport, told, told_files}
 use Rattle.run_program.proofs.Causes.{Implies}
-use Rattle.thinlto_main.proofs.Held.{Gives, fetches_give, fetches_then, follows_same, held_first_bad, held_inputs, held_modules, one_list}
-use Rattle.thinlto_main.proofs.Linking.{accepted_bytes}
+use Rattle.thinlto_main.proofs.BatchHeld.{bad_list_told, done_told, hold_made, hold_unlinkable, part_told, stop_told}
+use Rattle.thinlto_main.proofs.Held.{Gives, fetches_give, fetches_then, follows_same, held_first_bad, held_modules, one_list}
 use Rattle.run_program.proofs.Mapping.{if_some_map}
 use Rattle.thinlto_main.proofs.Reading.{no_put_fetches}
 use Rattle.lto_words.specs.declared.request.LinkOptions.{LinkOptions}
@@ -62,12 +66,7 @@ module _ (files : FilesSeen) (tells : (calls : List Call) → files.did calls �
 
   pub unlinkable_told : (options : LinkOptions) (names : List (List ℕ)) (why : Refusal) → CannotBeLinked options names files why → IfSome files.held (λ held. HoldUnlinkable options names held why)
   unlinkable_told options names why r =
-      if_some_map _ _ (λ held gives. record {
-        inputs = map bytes_of r.read.given;
-        ms = r.ms;
-        modules = record { there = held_inputs held names r.read.given r.ms gives r.read.read; accepted = accepted_bytes r.read.given r.ms r.read.read };
-        unlinked = r.unlinked;
-      }) files.held (fetched_told names r.read.given r.read.fetched)
+      if_some_map _ _ (λ held gives. hold_unlinkable held options names r.given why gives r.unlinkable) files.held (fetched_told names r.given r.fetched)
 
   pub unlinked_told : (exports names : List (List ℕ)) (why : Refusal) → CannotLink exports names files why → IfSome files.held (λ held. HoldUnlinked exports names held why)
   unlinked_told exports names why r =
@@ -78,14 +77,7 @@ module _ (files : FilesSeen) (tells : (calls : List Call) → files.did calls �
 module _ (options : LinkOptions) (out : List ℕ) (names : List (List ℕ)) (files : FilesSeen) where
   linked_held : (put : Store → Store → List ℕ → List ℕ → Type 0) (done : Bool) (d : DidLink options out names files done) (old new : Store) → AllZip (Gives old) names d.given → put old new out d.text
       → HoldLink put options out names old new
-  linked_held put done d old new gives there = record {
-    inputs = map bytes_of d.given;
-    held = held_inputs old names d.given d.is_link.ms gives d.read;
-    text = d.text;
-    is_link = d.is_link;
-    only = d.only;
-    put_there = there;
-  }
+  linked_held put done d old new gives there = record { text = d.text; made = hold_made old options names d.given d.text gives d.made; put_there = there }
 
   held_done : (d : DidLink options out names files true) (old new : Option Store) → Follows old (fetch_calls names d.given ++ Put out d.text true ∷ []) new → LinkHeld HasPut options out names old new
   held_done d None new f = tt
@@ -143,6 +135,18 @@ module _ (accepted : AcceptedIsOne) (one : ReportIsOne) (s : Seen) (tells : (cal
     memory_told (inl x) = inl (tt, x.1)
     memory_told (inr o) = inr (moved (λ (k : Causes). k.memory) o)
 
+  -- ---- a batch
+
+  batch_unread : (options : LinkOptions) (list name : List ℕ) → (batching options list s.files).unread name → Rose s.files.faults s.files.faults_now
+  batch_unread options list name (inl x) = x.rose
+  batch_unread options list name (inr x) = x.rose
+
+  batch_refused : (options : LinkOptions) (list file : List ℕ) (line : ℕ) (kind : Kind) → (batching options list s.files).refused file line kind → IfSome s.files.held (λ held. HoldBatchBad options list held file line kind)
+  batch_refused options list file line kind (inl x) = if_some_map _ _ (λ held bad. inl (x.named, bad)) s.files.held (bad_list_told options list s.files tells file line kind x)
+  batch_refused options list file line kind (inr x) =
+      if_some_map _ _ (λ held stop. inr stop) s.files.held
+      (stop_told options list s.files tells _ (λ held link. HoldFirstBad held link.files file line kind) (λ held link given gives bad. held_first_bad held link.files given file line kind gives bad) x)
+
   pub tell : (i : InputSeen) (c : Command) → Implies (causes c s i) (told c s i)
   tell i (Link options out names) = record {
     done = λ x. held_done options out names s.files x.0.0 s.files.held s.files.holds (tells _ x.0.0.calls);
@@ -166,7 +170,17 @@ module _ (accepted : AcceptedIsOne) (one : ReportIsOne) (s : Seen) (tells : (cal
     unreturned = λ why x. absurd x.0.0;
     memory = λ x. tt;
   }
-  tell i (Batch options list) = record { done = λ x. x; usage = λ x. x; unread = λ n x. x; refused = λ f l k x. x; unlinked = λ w x. x; unfit = λ n x. x; unwritten = λ n x. x; unreturned = λ w x. x; memory = λ x. x }
+  tell i (Batch options list) = record {
+    done = λ x. done_told options list s.files tells x.0.0;
+    usage = λ x. absurd x.0.0;
+    unread = λ name x. batch_unread options list name x.0.0;
+    refused = λ file line kind x. batch_refused options list file line kind x.0.0;
+    unlinked = λ why x. stop_told options list s.files tells _ (λ held link. HoldUnlinkable options link.files held why) (λ held link given gives u. hold_unlinkable held options link.files given why gives u) x.0.0;
+    unfit = λ name x. absurd x.0.0;
+    unwritten = λ name x. (part_told options list s.files tells name x.0.0, x.0.0.rose);
+    unreturned = λ why x. absurd x.0.0;
+    memory = λ x. tt;
+  }
   tell i (Run root args steps names) = record {
     done = λ x. (modules_stay s.files tells root names _ x, moved root args steps names (streams_of s i) (λ (k : Causes). k.done) x);
     usage = λ x. x;

@@ -6,6 +6,7 @@ use Rattle.lto_words.specs.declared.request.Command.{Command}
 use Rattle.lto_words.specs.declared.request.Command.TheVariants.{Link, Batch, Index, Run, Gen}
 use Rattle.thinlto_main.specs.Asking.{AskNothing, Asked, is_offered}
 use Rattle.run_program.specs.Causes.{Causes, Comes, never}
+use Rattle.thinlto_main.specs.Batching.{batching}
 use Rattle.thinlto_main.specs.Linking.{linking}
 use Rattle.thinlto_main.specs.Modules.{AreRead, deciding}
 use Rattle.thinlto_main.specs.Reporting.{DidReport, ReportCannotWrite}
@@ -37,7 +38,7 @@ reporting exports limit names s = record (with_fact s.unprinted (deciding export
 abbrev pub causes : Command → Seen → InputSeen → Causes
 causes (Link options out names) s i = with_fact i.untaken (with_fact s.unprinted (linking options out names s.files))
 causes (Index exports limit names) s i = with_fact i.untaken (reporting exports limit names s)
-causes (Batch options list) s i = never
+causes (Batch options list) s i = with_fact i.untaken (with_fact s.unprinted (batching options list s.files))
 causes (Run root args steps names) s i = running root args steps names s.files (streams_of s i)
 causes (Gen seed modules jobs) s i = never
 

@@ -5,13 +5,13 @@ use Rattle.lto_words.specs.declared.request.Command.{Command}
 use Rattle.lto_words.specs.declared.request.Command.TheVariants.{Link, Batch, Index, Run, Gen}
 use Rattle.lto_words.specs.declared.request.LinkOptions.{LinkOptions}
 
--- a link without a cache
+-- links without a cache
 abbrev pub is_offered_link : LinkOptions → Bool
 is_offered_link options = not (is_some options.cache)
 
 abbrev pub is_offered : Command → Bool
 is_offered (Link options out names) = is_offered_link options
-is_offered (Batch options list) = false
+is_offered (Batch options list) = is_offered_link options
 is_offered (Index exports limit names) = true
 is_offered (Run root args steps names) = true
 is_offered (Gen seed modules jobs) = false

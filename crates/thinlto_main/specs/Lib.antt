@@ -1,12 +1,13 @@
-pub mod Fetching
-pub mod Fetched
 pub mod Exit
 pub mod Honest
 pub mod Seen
 pub mod Modules
 pub mod Linking
+pub mod Batching
 pub mod Reporting
 pub mod Running
 pub mod Asking
 pub mod Answers
+pub mod Holding
+pub mod BatchHolding
 pub mod Telling

@@ -1,5 +1,5 @@
 -- The same of files that tell what they hold.
-use Rattle.std.specs.Prelude.{◌≡◌, ◌⊎◌, ◌<◌, ◌≤◌, ◌^◌, ℕ, Bool, true, false, List, [], ◌∷◌, length, map, replicate, Option, Some, None, IfSome, MatchOption, ⊤}
+use Rattle.std.specs.Prelude.{◌≡◌, ℕ, Bool, true, false, List, [], ◌∷◌, replicate, Option, Some, None, IfSome, MatchOption}
 use Rattle.std.specs.List.{AllZip}
 use Rattle.ir_tree.specs.declared.module.Module.{Module}
 use Rattle.ir_meaning.specs.Program.{Program, State}
@@ -9,19 +9,16 @@ use Rattle.lto_outside.specs.Cause.{Rose}
 use Rattle.lto_outside.specs.Seen.{FilesSeen}
 use Rattle.lto_outside.specs.Store.{Store, HasPut, HasPart, Stays}
 use Rattle.lto_fault.specs.declared.kind.Kind.{Kind}
-use Rattle.lto_fault.specs.declared.kind.Kind.TheVariants.{Limit}
 use Rattle.lto_fault.specs.declared.refusal.Refusal.{Refusal}
 use Rattle.lto_words.specs.declared.list.Decimal.{Decimal}
 use Rattle.lto_words.specs.declared.request.Command.{Command}
 use Rattle.lto_words.specs.declared.request.Command.TheVariants.{Link, Batch, Index, Run, Gen}
 use Rattle.lto_fault.specs.Pushing.{Pushes}
-use Rattle.link_one.specs.Accepted.{Accepts, Refuses}
-use Rattle.link_one.specs.Linking.{IsLinkOf, IsOnlyLinkOf}
-use Rattle.link_one.specs.Refusing.{IsUnlinked}
-use Rattle.promote_rename.specs.Suffixes.{suffix_of}
 use Rattle.thin_link.specs.Linking.{IsIndexReport}
 use Rattle.thin_link.specs.Refusing.{IsRefused}
 use Rattle.thinlto_main.specs.Asking.{Asked}
+use Rattle.thinlto_main.specs.BatchHolding.{BatchHeld, CanBatch, HavePart, HavePut, HoldBatchBad, HoldBatchUnlinkable}
+use Rattle.thinlto_main.specs.Holding.{Held, HoldFirstBad, HoldLinkable, HoldUnlinkable, HoldUnlinked, HoldsModule, LinkHeld}
 use Rattle.run_program.specs.Causes.{Causes, free, never}
 use Rattle.merge_meaning.specs.Merged.{merged}
 use Rattle.thinlto_main.specs.Running.{OfModules, running_by}
@@ -31,71 +28,7 @@ use Rattle.thinlto_main.specs.Seen.{InputSeen, Seen, streams_of}
 use Rattle.run_program.specs.Starting.{beginning}
 use Rattle.lto_words.specs.declared.request.LinkOptions.{LinkOptions}
 
--- ---- what a file holds
-
--- 16 MiB at most, which are read as this sound module
-pub record HoldsModule (held : Store) (name : List ℕ) (m : Module) : Type 0 where
-  pub bytes : List ℕ
-  pub here : held name ≡ Some bytes
-  pub short : length bytes ≤ 2 ^ 24
-  pub accepted : Accepts bytes m
-
--- bytes past 16 MiB, which is told of line 0, or such as are read as no sound module within the limits
-abbrev pub AreBad : List ℕ → ℕ → Kind → Type 0
-AreBad bytes line kind = ((2 ^ 24 < length bytes) × (line ≡ 0) × (kind ≡ Limit)) ⊎ ((length bytes ≤ 2 ^ 24) × Refuses bytes line kind)
-
-pub record HoldsBad (held : Store) (name : List ℕ) (line : ℕ) (kind : Kind) : Type 0 where
-  pub bytes : List ℕ
-  pub here : held name ≡ Some bytes
-  pub fault : AreBad bytes line kind
-
--- of these files the first that holds no module, and why
-abbrev pub HoldFirstBad : Store → List (List ℕ) → List ℕ → ℕ → Kind → Type 0
-HoldFirstBad held [] file line kind = ⊥
-HoldFirstBad held (name ∷ names) file line kind =
-    ((file ≡ name) × HoldsBad held name line kind) ⊎ (((m : Module) × HoldsModule held name m) × HoldFirstBad held names file line kind)
-
--- these bytes, 16 MiB at most
-abbrev pub Holds : Store → List ℕ → List ℕ → Type 0
-Holds held name bytes = (held name ≡ Some bytes) × (length bytes ≤ 2 ^ 24)
-
--- these bytes, which are read as these modules
-pub record HoldModules (held : Store) (names inputs : List (List ℕ)) (ms : List Module) : Type 0 where
-  pub there : AllZip (Holds held) names inputs
-  pub accepted : AllZip Accepts inputs ms
-
--- they hold modules that can't be linked
-pub record HoldUnlinkable (options : LinkOptions) (names : List (List ℕ)) (held : Store) (why : Refusal) : Type 0 where
-  pub inputs : List (List ℕ)
-  pub ms : List Module
-  pub modules : HoldModules held names inputs ms
-  pub unlinked : IsUnlinked names options.exports options.import_limit (map suffix_of inputs) ms why
-
--- they hold modules that have no thin link
-pub record HoldUnlinked (exports names : List (List ℕ)) (held : Store) (why : Refusal) : Type 0 where
-  pub ms : List Module
-  pub modules : AllZip (HoldsModule held) names ms
-  pub refused : IsRefused names ms exports why
-
--- these modules, in order
-abbrev pub Held : List (List ℕ) → FilesSeen → List Module → Type 0
-Held names files ms = IfSome files.held (λ held. AllZip (HoldsModule held) names ms)
-
 -- ---- what a command did to them
-
--- they hold what a link makes of these files, or a front of it, and else what they held
-pub record HoldLink (put : Store → Store → List ℕ → List ℕ → Type 0) (options : LinkOptions) (out : List ℕ) (names : List (List ℕ)) (old new : Store) : Type 0 where
-  pub inputs : List (List ℕ)
-  pub held : AllZip (Holds old) names inputs
-  pub text : List ℕ
-  pub is_link : IsLinkOf options.exports options.import_limit options.inline_limit inputs text
-  pub only : IsOnlyLinkOf options.exports options.import_limit options.inline_limit inputs text
-  pub put_there : put old new out text
-
-abbrev pub LinkHeld : (Store → Store → List ℕ → List ℕ → Type 0) → LinkOptions → List ℕ → List (List ℕ) → Option Store → Option Store → Type 0
-LinkHeld put options out names None new = ⊤
-LinkHeld put options out names (Some old) None = ⊥
-LinkHeld put options out names (Some old) (Some new) = HoldLink put options out names old new
 
 -- what was pushed is the report of the modules that they hold, or a front of it; every report of these modules is this text
 pub record HoldReport (exports names : List (List ℕ)) (limit : ℕ) (s : Seen) (done : Bool) (held : Store) : Type 0 where
@@ -129,7 +62,16 @@ told (Index exports limit names) s i = record (told_files exports names s.files)
   done = Stays s.files.held s.files.holds × IfSome s.files.held (HoldReport exports names limit s true);
   unwritten = λ name. Stays s.files.held s.files.holds × IfSome s.files.held (HoldReport exports names limit s false);
 }
-told (Batch options list) s i = never
+told (Batch options list) s i = record free {
+  usage = ⊥;
+  unread = λ name. Rose s.files.faults s.files.faults_now;
+  refused = λ file line kind. IfSome s.files.held (λ held. HoldBatchBad options list held file line kind);
+  unlinked = λ why. IfSome s.files.held (λ held. HoldBatchUnlinkable options list held why);
+  unfit = λ name. ⊥;
+  unreturned = λ why. ⊥;
+  done = BatchHeld HavePut options list s.files.held s.files.holds;
+  unwritten = λ name. BatchHeld (HavePart name) options list s.files.held s.files.holds × Rose s.files.faults s.files.faults_now;
+}
 told (Run root args steps names) s i = record (running_by (Held names s.files) (told_files (root ∷ []) names s.files) root args steps names (streams_of s i)) {
   done = Stays s.files.held s.files.holds × OfModules (Held names s.files) root names (λ ms. (merged_causes root args steps names (streams_of s i) ms).done);
   unwritten = λ name. Stays s.files.held s.files.holds × OfModules (Held names s.files) root names (λ ms. (merged_causes root args steps names (streams_of s i) ms).unwritten name);
@@ -156,13 +98,9 @@ pub record CanLink (exports names : List (List ℕ)) (files : FilesSeen) (held :
   pub linked : (why : Refusal) → IsRefused names ms exports why → ⊥
   pub fine : ¬ (Rose files.faults files.faults_now)
 
--- they hold modules that can be linked, and no call failed
-pub record CanBeDone (options : LinkOptions) (names : List (List ℕ)) (files : FilesSeen) (held : Store) : Type 0 where
-  pub inputs : List (List ℕ)
-  pub ms : List Module
-  pub modules : HoldModules held names inputs ms
-  pub linked : (why : Refusal) → IsUnlinked names options.exports options.import_limit (map suffix_of inputs) ms why → ⊥
-  pub fine : ¬ (Rose files.faults files.faults_now)
+-- they hold modules that nothing keeps from being linked, and no call failed
+abbrev pub CanBeDone : LinkOptions → List (List ℕ) → FilesSeen → Store → Type 0
+CanBeDone options names files held = HoldLinkable options names held × ¬ (Rose files.faults files.faults_now)
 
 abbrev pub IsTold : {X : Type 0} → Option X → (X → Type 0) → Type 0
 IsTold held P = MatchOption held ⊥ P
@@ -199,7 +137,7 @@ pub record CanReturn (root : List ℕ) (args : List Decimal) (steps : ℕ) (name
 abbrev pub CanDo : Command → Seen → InputSeen → Type 0
 CanDo (Link options out names) s i = IsTold s.files.held (CanBeDone options names s.files)
 CanDo (Index exports limit names) s i = IsTold s.files.held (CanLink exports names s.files) × ¬ (Rose s.out.faults s.out.faults_now)
-CanDo (Batch options list) s i = ⊥
+CanDo (Batch options list) s i = IsTold s.files.held (CanBatch options list) × ¬ (Rose s.files.faults s.files.faults_now)
 CanDo (Run root args steps names) s i = CanReturn root args steps names s i
 CanDo (Gen seed modules jobs) s i = ⊥
 
@@ -210,7 +148,7 @@ FileIsBad names files file line kind = IsTold files.held (λ held. HoldFirstBad 
 abbrev pub MustRefuse : Command → Seen → List ℕ → ℕ → Kind → Type 0
 MustRefuse (Link options out names) s = FileIsBad names s.files
 MustRefuse (Index exports limit names) s = FileIsBad names s.files
-MustRefuse (Batch options list) s = λ file line kind. ⊥
+MustRefuse (Batch options list) s = λ file line kind. IsTold s.files.held (λ held. HoldBatchBad options list held file line kind) × ¬ (Rose s.files.faults s.files.faults_now)
 MustRefuse (Run root args steps names) s = FileIsBad names s.files
 MustRefuse (Gen seed modules jobs) s = λ file line kind. ⊥
 
@@ -221,7 +159,7 @@ ModulesClash exports names files why = IsTold files.held (λ held. HoldUnlinked 
 abbrev pub MustNotLink : Command → Seen → Refusal → Type 0
 MustNotLink (Link options out names) s = λ why. IsTold s.files.held (λ held. HoldUnlinkable options names held why) × ¬ (Rose s.files.faults s.files.faults_now)
 MustNotLink (Index exports limit names) s = ModulesClash exports names s.files
-MustNotLink (Batch options list) s = λ why. ⊥
+MustNotLink (Batch options list) s = λ why. IsTold s.files.held (λ held. HoldBatchUnlinkable options list held why) × ¬ (Rose s.files.faults s.files.faults_now)
 MustNotLink (Run root args steps names) s = ModulesClash (root ∷ []) names s.files
 MustNotLink (Gen seed modules jobs) s = λ why. ⊥
 

@@ -1,27 +1,32 @@
 //! The words of the command line are read, and their command is done.
 ghost use Rattle.std.specs.Prelude.{◌≡◌, ◌≤◌, OnErr, OnOk, map, string_bytes};
 ghost use Rattle.thinlto_main.specs.Answers.{Says, causes_of, obeyed};
-ghost use Rattle.thinlto_main.specs.Asking.{Asked, is_offered_link};
+ghost use Rattle.thinlto_main.specs.Asking.{Asked, is_offered};
 ghost use Rattle.run_program.specs.Causes.{Comes};
 ghost use Rattle.thinlto_main.specs.Seen.{input_seen, seen};
 ghost use Rattle.run_program.specs.Streams.{notes_seen};
 
+use crate::batch::batch;
 use crate::index::index;
 use crate::link::link;
 use crate::run::run;
 use crate::status::Status;
 use lto_fault::Refusal;
 use lto_outside::{ByteIn, ByteOut, Files};
-use lto_words::{Command, LinkOptions, WordsError, command, one_command};
+use lto_words::{Command, WordsError, command, one_command};
 use run_program::RunOptions;
 use std::alloc::Global;
 use std::thread::Threads;
 
-/// Whether the program does such a link: without a cache.
-fn is_offered_link(options: &LinkOptions) -> bool
-    ensures { result ≡ is_offered_link options.now }
+/// Whether the program does such a command: links without a cache, and no modules are generated.
+fn is_offered(command: &Command) -> bool
+    ensures { result ≡ is_offered command.now }
 {
-    options.cache.is_none()
+    match command {
+        Command::Link { options, .. } | Command::Batch { options, .. } => options.cache.is_none(),
+        Command::Index { .. } | Command::Run { .. } => true,
+        Command::Gen { .. } => false,
+    }
 }
 
 /// Does a command. Where it is done, the notes get what it says.
@@ -39,17 +44,15 @@ fn obey<R: Threads + Sync, F: Files, I: ByteIn, O: ByteOut, N: ByteOut>(
     ensures silent { OnErr result (notes.new ≡ notes.old) }
     ensures later { F.faults files.old ≤ F.faults files.new }
 {
+    if !is_offered(&command) {
+        return Err(Refusal::Usage);
+    }
     match command {
         Command::Link {
             options,
             out: name,
             files: names,
-        } => {
-            if !is_offered_link(&options) {
-                return Err(Refusal::Usage);
-            }
-            link(rt, alloc, files, &options, name, names.as_slice())
-        }
+        } => link(rt, alloc, files, &options, name, names.as_slice()),
         Command::Index {
             exports,
             import_limit,
@@ -62,7 +65,7 @@ fn obey<R: Threads + Sync, F: Files, I: ByteIn, O: ByteOut, N: ByteOut>(
             import_limit,
             names.as_slice(),
         ),
-        Command::Batch { .. } => Err(Refusal::Usage),
+        Command::Batch { options, list } => batch(rt, alloc, files, &options, &list),
         Command::Run {
             root,
             args,

@@ -65,6 +65,7 @@ pub fn top<
     ensures cannot_read { OnReadFault result.status (λ name. Asked (map string_bytes words.now) (λ c. (causes c (seen F.did F.held F.faults O.sent O.faults files.old files.new out.old out.new) (input_seen I.left I.faults input.old input.new)).unread name)) }
 
     // 3: of the files this is the first that is too long, or is read as no sound module within the limits; this is its first fault.
+    // Or the list file of a batch is too long, or this is its first line that is no link.
     ensures refused { OnRefused result.status (λ file line kind. Asked (map string_bytes words.now) (λ c. (causes c (seen F.did F.held F.faults O.sent O.faults files.old files.new out.old out.new) (input_seen I.left I.faults input.old input.new)).refused file line kind)) }
 
     // 4: the modules that were read have no thin link, for this reason; or the root of a run isn't a function that takes the arguments.
@@ -72,6 +73,7 @@ pub fn top<
     ensures unfit { OnUnfit result.status (λ name. Asked (map string_bytes words.now) (λ c. (causes c (seen F.did F.held F.faults O.sent O.faults files.old files.new out.old out.new) (input_seen I.left I.faults input.old input.new)).unfit name)) }
 
     // 5: the put of this name or a push failed, and the count of faults rose. The file may hold, and the output have got, a front of the text.
+    // The files of a batch's lines before it are put.
     ensures cannot_write { OnWriteFault result.status (λ name. Asked (map string_bytes words.now) (λ c. (causes c (seen F.did F.held F.faults O.sent O.faults files.old files.new out.old out.new) (input_seen I.left I.faults input.old input.new)).unwritten name)) }
 
     // 6: memory ran out before anything was put or printed, or in a run or behind it.
@@ -80,7 +82,8 @@ pub fn top<
     // 7, 8, 9: the definition's run, with 0 as every free choice, ended in undefined behaviour or at an uninitialised byte, or hadn't ended.
     ensures unreturned { OnUnreturned result.status (λ why. Asked (map string_bytes words.now) (λ c. (causes c (seen F.did F.held F.faults O.sent O.faults files.old files.new out.old out.new) (input_seen I.left I.faults input.old input.new)).unreturned why)) }
 
-    // 0: the command was done. Of a link, both promises: reproducible bytes and preserved behaviour. Of a run, that it is the definition's.
+    // 0: the command was done. Of a link, and of each line of a batch, both promises: reproducible bytes and preserved behaviour. Of a
+    // run, that it is the definition's.
     ensures done { OnOk result.status (Asked (map string_bytes words.now) (λ c. (causes c (seen F.did F.held F.faults O.sent O.faults files.old files.new out.old out.new) (input_seen I.left I.faults input.old input.new)).done)) }
 
     // Where the files tell what they hold: all that was put, or a front of it, or what they held.

@@ -1,12 +1,13 @@
-//! The program `thinlto`: the link, the index and the run of modules.
+//! The program `thinlto`: the link, batches of links, the index and the run of modules.
 //!
 //! `top` is the program's one call: it takes the words of the command line and the outside as five
 //! objects, and its contract says when each answer comes and what was done to each object. `main`
 //! makes the real objects, calls `top`, and ends with the status's number.
 //!
 //! What words ask for is said by `lto_words`; a command fetches its files, each once and in order
-//! (`specs/Fetching.antt`), and reads each (`link_one`), and by
-//! the modules' summaries it is decided what is kept and imported (`thin_link`). `link` puts the linked module, `index` prints
+//! (`command_files`), and reads each (`link_one`), and by
+//! the modules' summaries it is decided what is kept and imported (`thin_link`). `link` puts the linked module, `batch`
+//! those of the links that its list file lists, once all are made, `index` prints
 //! what was decided, and `run` merges the modules (`merge_meaning`), lowers what they mean together and opens its memory
 //! (`machine_code`), and runs it with the input and the output (`ir_interp`). A refusal and what a run returned are told on the
 //! notes (`lto_fault`).
@@ -19,10 +20,10 @@
 //! link itself, each byte is moved once; modules are copied once where they are merged.
 #![tactic(auto)]
 
+mod batch;
 mod cache;
 mod command;
 mod entry;
-mod fetching;
 mod index;
 mod link;
 mod modules;

@@ -2,13 +2,13 @@
 ghost use Rattle.std.specs.Prelude.{◌≡◌, ◌≤◌, ◌<◌, All, IfOk, IfErr, OnErr, length};
 ghost use Rattle.std.specs.List.{AllZip};
 ghost use Rattle.lto_fault.specs.declared.refusal.Refusal.{Refusal};
-ghost use Rattle.thinlto_main.specs.Fetching.{IsShort};
+ghost use Rattle.command_files.specs.Fetching.{IsShort};
 ghost use Rattle.lto_outside.specs.Seen.{files_seen};
 ghost use Rattle.run_program.specs.Causes.{Because, never};
 ghost use Rattle.thinlto_main.specs.Linking.{suffixes_of};
-ghost use Rattle.thinlto_main.specs.Modules.{AreFetched, AreRead, FirstBad, IsBad, IsRead, bytes_of, reading, unfetched};
+ghost use Rattle.thinlto_main.specs.Modules.{AreRead, FirstBad, IsBad, IsRead, bytes_of, reading, unfetched};
 
-use crate::fetching::{FetchError, fetch_all};
+use command_files::{FetchError, fetch_all};
 use ir_tree::{Rows, Text, Verified};
 use link_one::{LinkError, accepted};
 use lto_fault::{Kind, Refusal};
@@ -29,7 +29,7 @@ pub(crate) fn texts(alloc: Global, names: &[FileName]) -> Result<Rows<Text>, All
 }
 
 /// That this file is refused.
-fn refused(alloc: Global, name: &FileName, line: u64, kind: Kind) -> Refusal
+pub(crate) fn refused(alloc: Global, name: &FileName, line: u64, kind: Kind) -> Refusal
     ensures { Because (record never { refused = λ file at why. (file ≡ name.now) × (at ≡ line) × (why ≡ kind); memory = Unit {0} }) result }
 {
     match Text::copied(alloc, name.as_str().as_bytes()) {
@@ -57,7 +57,7 @@ fn read_one(alloc: Global, name: &FileName, bytes: &Option<Text>) -> Result<Veri
 }
 
 /// The module of each file, up to the first that isn't read.
-fn read_all(
+pub(crate) fn read_all(
     alloc: Global,
     names: &[FileName],
     given: &[Option<Text>],
@@ -81,42 +81,13 @@ fn read_all(
 }
 
 /// How it is told that a file can't be fetched.
-fn unfetched(error: FetchError) -> Refusal
+pub(crate) fn unfetched(error: FetchError) -> Refusal
     ensures { result ≡ unfetched error }
 {
     match error {
         FetchError::Fault { name } => Refusal::ReadFault { name },
         FetchError::NoMemory => Refusal::NoMemory,
     }
-}
-
-/// What files gave, and the modules that they are read as.
-#[derive(Drop)]
-pub(crate) struct GivenModules {
-    /// The bytes of each file; `None` of one that is too long.
-    pub given: Rows<Option<Text>>,
-    pub modules: Rows<Verified>,
-}
-
-/// The bytes of these files and their modules: all are fetched, and then each is read.
-pub(crate) fn inputs<F: Files>(
-    alloc: Global,
-    files: &mut F,
-    names: &[FileName],
-) -> Result<GivenModules, Refusal>
-    ensures read { IfOk result (λ i. AreFetched names.now i.given (λ calls. F.did files.old calls files.new) × AllZip IsRead i.given i.modules) }
-    ensures because { IfErr result (Because (reading names.now (files_seen F.did F.held F.faults files.old files.new))) }
-    ensures later { F.faults files.old ≤ F.faults files.new }
-{
-    let given = match fetch_all(alloc, files, names) {
-        Ok(given) => given,
-        Err(error) => return Err(unfetched(error)),
-    };
-    let modules = match read_all(alloc, names, given.as_slice()) {
-        Ok(modules) => modules,
-        Err(why) => return Err(why),
-    };
-    Ok(GivenModules { given, modules })
 }
 
 /// The modules of these files: all are fetched, and then each is read.
@@ -129,10 +100,11 @@ pub(crate) fn modules<F: Files>(
     ensures because { IfErr result (Because (reading names.now (files_seen F.did F.held F.faults files.old files.new))) }
     ensures later { F.faults files.old ≤ F.faults files.new }
 {
-    match inputs(alloc, files, names) {
-        Ok(inputs) => Ok(inputs.modules),
-        Err(why) => Err(why),
-    }
+    let given = match fetch_all(alloc, files, names) {
+        Ok(given) => given,
+        Err(error) => return Err(unfetched(error)),
+    };
+    read_all(alloc, names, given.as_slice())
 }
 
 /// The suffix of each file, which stands behind the names of its module's locals.

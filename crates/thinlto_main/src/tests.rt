@@ -58,8 +58,8 @@ fn output_of(alloc: Global, stuck: u64) -> Result<MemoryOut, AllocError> {
     Ok(MemoryOut::new(alloc, failing))
 }
 
-fn holds(files: &MemoryFiles, held: &[u8]) -> bool {
-    match files.content("o") {
+fn holds(files: &MemoryFiles, name: &str, held: &[u8]) -> bool {
+    match files.content(name) {
         Some(text) => text.equals(held),
         None => false,
     }
@@ -81,7 +81,7 @@ fn call_ends_so<'a, R: Threads + Wait + Sync>(
     let ended = top(rt, alloc, words, files, disk, &gate, input, out, &mut notes);
     let (status, held, printed, noted) = end;
     let told = out.sent() == printed && notes.sent() == noted;
-    status_of(&ended.status) == status && holds(files, held) && told
+    status_of(&ended.status) == status && holds(files, "o", held) && told
 }
 
 /// Whether the call for these words over these files ends so, where the push of this number fails.
@@ -384,10 +384,197 @@ fn modules_are_linked_together(rt: HostRuntime) -> Result<(), AllocError> {
     Ok(())
 }
 
+const SEVEN: &[u8] = b"define i32 @main() {\n  ret i32 7\n}\n";
+
+/// A list file, and how its batch ends: the number of the call of the files that fails, the status, what `o` and `p` hold, and
+/// what is told.
+type Batch<'a> = (&'a [u8], u64, u8, &'a [u8], &'a [u8], &'a [u8]);
+
+static BATCHES: [Batch<'static>; 23] = [
+    (b"o a.ll\np b.ll\n", NONE, 0, FIVE, SEVEN, NOTHING),
+    (b"o a.ll\np b.ll", NONE, 0, FIVE, SEVEN, NOTHING),
+    // one file twice
+    (b"o a.ll\no b.ll\n", NONE, 0, SEVEN, BEFORE, NOTHING),
+    (b"o a.ll e.ll\n", NONE, 0, FIVE, BEFORE, NOTHING),
+    (b"", NONE, 0, BEFORE, BEFORE, NOTHING),
+    (
+        b"o a.ll\no a.ll\no a.ll\no a.ll\no a.ll\no a.ll\no a.ll\no a.ll\no a.ll\no a.ll\no a.ll\no a.ll\no a.ll\no a.ll\no a.ll\np b.ll\n",
+        NONE,
+        0,
+        FIVE,
+        SEVEN,
+        NOTHING,
+    ),
+    // bad lines
+    (
+        b"\n",
+        NONE,
+        3,
+        BEFORE,
+        BEFORE,
+        b"thinlto: l:1: bad list line\n",
+    ),
+    (
+        b"o a.ll\n\np\n",
+        NONE,
+        3,
+        BEFORE,
+        BEFORE,
+        b"thinlto: l:2: bad list line\n",
+    ),
+    (
+        b"o a.ll\np b.ll\n\n",
+        NONE,
+        3,
+        BEFORE,
+        BEFORE,
+        b"thinlto: l:3: bad list line\n",
+    ),
+    (
+        b"o",
+        NONE,
+        3,
+        BEFORE,
+        BEFORE,
+        b"thinlto: l:1: bad list line\n",
+    ),
+    (
+        b"o  a.ll\n",
+        NONE,
+        3,
+        BEFORE,
+        BEFORE,
+        b"thinlto: l:1: bad list line\n",
+    ),
+    (
+        b" a.ll\n",
+        NONE,
+        3,
+        BEFORE,
+        BEFORE,
+        b"thinlto: l:1: bad list line\n",
+    ),
+    (
+        b"o a.ll\np b.ll \n",
+        NONE,
+        3,
+        BEFORE,
+        BEFORE,
+        b"thinlto: l:2: bad list line\n",
+    ),
+    (
+        b"o a.ll\np \xff\n",
+        NONE,
+        3,
+        BEFORE,
+        BEFORE,
+        b"thinlto: l:2: bad list line\n",
+    ),
+    (
+        b"o a.ll\no a.ll\no a.ll\no a.ll\no a.ll\no a.ll\no a.ll\no a.ll\no a.ll\no a.ll\no a.ll\no a.ll\no a.ll\no a.ll\no a.ll\no a.ll\no a.ll\np\n",
+        NONE,
+        3,
+        BEFORE,
+        BEFORE,
+        b"thinlto: l:17: bad list line\n",
+    ),
+    // files that can't be read or written: the list, two modules, two puts
+    (
+        b"o a.ll\np b.ll\n",
+        0,
+        2,
+        BEFORE,
+        BEFORE,
+        b"thinlto: cannot read l\n",
+    ),
+    (
+        b"o a.ll\np b.ll\n",
+        2,
+        2,
+        BEFORE,
+        BEFORE,
+        b"thinlto: cannot read b.ll\n",
+    ),
+    (
+        b"o c.ll\np d.ll\n",
+        NONE,
+        2,
+        BEFORE,
+        BEFORE,
+        b"thinlto: cannot read d.ll\n",
+    ),
+    (
+        b"o a.ll\np b.ll\n",
+        3,
+        5,
+        BEFORE,
+        BEFORE,
+        b"thinlto: cannot write o\n",
+    ),
+    (
+        b"o a.ll\np b.ll\n",
+        4,
+        5,
+        FIVE,
+        BEFORE,
+        b"thinlto: cannot write p\n",
+    ),
+    // the first link that isn't made, by its first reason
+    (
+        b"o a.ll\np b.ll c.ll\n",
+        NONE,
+        3,
+        BEFORE,
+        BEFORE,
+        b"thinlto: c.ll:1: syntax\n",
+    ),
+    (
+        b"o a.ll\np a.ll b.ll\no c.ll\n",
+        NONE,
+        4,
+        BEFORE,
+        BEFORE,
+        b"thinlto: duplicate symbol @main in a.ll and b.ll\n",
+    ),
+    (
+        b"o e.ll\np c.ll\n",
+        NONE,
+        4,
+        BEFORE,
+        BEFORE,
+        b"thinlto: no definition of exported @main\n",
+    ),
+];
+
+/// The list file `l` and what its lines name: modules that link, one that isn't read, an empty one, and two files that are put.
+fn batch_files(alloc: Global, list: &[u8], failing: u64) -> Result<MemoryFiles, AllocError> {
+    let mut files = files_of(alloc, SUM, SEVEN, failing)?;
+    files.with("c.ll", b"define")?;
+    files.with("e.ll", NOTHING)?;
+    files.with("p", BEFORE)?;
+    files.with("l", list)?;
+    Ok(files)
+}
+
+#[test]
+fn the_links_of_a_list_are_put(rt: HostRuntime) -> Result<(), AllocError> {
+    let alloc = rt.alloc();
+    for &jobs in &JOBS {
+        let words = ["batch", "--jobs", jobs, "l"];
+        for &(list, failing, status, first, second, noted) in &BATCHES {
+            let mut files = batch_files(alloc, list, failing)?;
+            let end = (status, first, NOTHING, noted);
+            let ends = ends_over(&rt, alloc, &words, &mut files, NONE, EMPTY, end)?;
+            assert!(rt; ends && holds(&files, "p", second), "{jobs}, {noted:?}");
+        }
+    }
+    Ok(())
+}
+
 const USAGE: &[u8] = b"thinlto: usage\n";
 
 /// The words of a run over a sum, its status, what `o` then holds, and what is told.
-static WORDS: [(&[&str], u8, &[u8], &[u8]); 12] = [
+static WORDS: [(&[&str], u8, &[u8], &[u8]); 13] = [
     (&["link", "-o", "o", "a.ll", "b.ll"], 0, FIVE, NOTHING),
     (&["link", "-o", "o"], 1, BEFORE, USAGE),
     (&["link", "-o", "-x", "a.ll"], 1, BEFORE, USAGE),
@@ -416,7 +603,13 @@ static WORDS: [(&[&str], u8, &[u8], &[u8]); 12] = [
         BEFORE,
         USAGE,
     ),
-    (&["batch", "a.ll"], 1, BEFORE, USAGE),
+    (
+        &["batch", "a.ll"],
+        3,
+        BEFORE,
+        b"thinlto: a.ll:2: bad list line\n",
+    ),
+    (&["batch", "--cache", "d", "a.ll"], 1, BEFORE, USAGE),
     (&[""], 1, BEFORE, USAGE),
     (
         &["link", "--export", "main,g", "-o", "o", "a.ll"],

@@ -10,17 +10,16 @@ use Rattle.thinlto_main.specs.Modules.{AreRead}
 use Rattle.thinlto_main.specs.Running.{SaysReturned, running}
 use Rattle.thinlto_main.specs.Seen.{input_seen, seen}
 use Rattle.run_program.specs.Streams.{notes_seen, streams_seen}
-use Rattle.thinlto_main.proofs.Asking.{index_obeyed, link_obeyed, on_each, run_obeyed}
+use Rattle.thinlto_main.proofs.Asking.{batch_obeyed, index_obeyed, link_obeyed, on_each, run_obeyed}
 use Rattle.run_program.proofs.Causes.{comes_map}
 use Rattle.thinlto_main.proofs.command.obey.Goals as goal
 
-pub returns-then-not-is_offered_link-clause-answer : goal.returns-then-not-is_offered_link-clause-answer
-returns-then-not-is_offered_link-clause-answer g c =
-    (ap is_offered c.in-Link.is ∙ sym c.is_offered_link.ensures ∙ c.if-not-is_offered_link.true, (g.met.F.Files.did_none _, refl), refl)
+pub returns-then-not-is_offered-clause-answer : goal.returns-then-not-is_offered-clause-answer
+returns-then-not-is_offered-clause-answer g c = (sym c.is_offered.ensures ∙ c.if-not-is_offered.true, (g.met.F.Files.did_none _, refl), refl)
 
 pub returns-in-Link-clause-answer : goal.returns-in-Link-clause-answer
 returns-in-Link-clause-answer g c =
-    let offered : is_offered_link c.in-Link.options ≡ true = sym c.is_offered_link.ensures ∙ c.if-not-is_offered_link.false in
+    let offered : is_offered_link c.in-Link.options ≡ true = sym (ap is_offered c.in-Link.is) ∙ sym c.is_offered.ensures ∙ c.if-not-is_offered.false in
     subst (λ (k : Command). Comes (obeyed k (seen g.F.Files.did g.F.Files.held g.F.Files.faults g.O.ByteOut.sent g.O.ByteOut.faults c.args.files.now c.link.new.files c.args.out.now c.args.out.now) (input_seen g.I.ByteIn.left g.I.ByteIn.faults c.args.input.now c.args.input.now)) c.link.result) (sym c.in-Link.is)
     (comes_map (link_obeyed c.in-Link.options c.in-Link.name c.in-Link.names (seen g.F.Files.did g.F.Files.held g.F.Files.faults g.O.ByteOut.sent g.O.ByteOut.faults c.args.files.now c.link.new.files c.args.out.now c.args.out.now) (input_seen g.I.ByteIn.left g.I.ByteIn.faults c.args.input.now c.args.input.now) offered refl refl) c.link.result
     (subst (λ (ns : List (List ℕ)). Comes (linking c.in-Link.options c.in-Link.name ns (files_seen g.F.Files.did g.F.Files.held g.F.Files.faults c.args.files.now c.link.new.files)) c.link.result) c.as_slice.ensures c.link.ensures.answer))
@@ -47,7 +46,17 @@ pub returns-in-Index-clause-silent : goal.returns-in-Index-clause-silent
 returns-in-Index-clause-silent g c = (on_each c.index.result (c.args.notes.now ≡ c.args.notes.now) refl).1
 
 pub returns-in-Batch-clause-answer : goal.returns-in-Batch-clause-answer
-returns-in-Batch-clause-answer g c = (ap is_offered c.in-Batch.is, (g.met.F.Files.did_none _, refl), refl)
+returns-in-Batch-clause-answer g c =
+    let offered : is_offered_link c.in-Batch.options ≡ true = sym (ap is_offered c.in-Batch.is) ∙ sym c.is_offered.ensures ∙ c.if-not-is_offered.false in
+    subst (λ (k : Command). Comes (obeyed k (seen g.F.Files.did g.F.Files.held g.F.Files.faults g.O.ByteOut.sent g.O.ByteOut.faults c.args.files.now c.batch.new.files c.args.out.now c.args.out.now) (input_seen g.I.ByteIn.left g.I.ByteIn.faults c.args.input.now c.args.input.now)) c.batch.result) (sym c.in-Batch.is)
+    (comes_map (batch_obeyed c.in-Batch.options c.in-Batch.list (seen g.F.Files.did g.F.Files.held g.F.Files.faults g.O.ByteOut.sent g.O.ByteOut.faults c.args.files.now c.batch.new.files c.args.out.now c.args.out.now) (input_seen g.I.ByteIn.left g.I.ByteIn.faults c.args.input.now c.args.input.now) offered refl refl) c.batch.result c.batch.ensures.answer)
+
+pub returns-in-Batch-clause-says : goal.returns-in-Batch-clause-says
+returns-in-Batch-clause-says g c =
+    subst (λ (k : Command). OnOk c.batch.result (Says k (seen g.F.Files.did g.F.Files.held g.F.Files.faults g.O.ByteOut.sent g.O.ByteOut.faults c.args.files.now c.batch.new.files c.args.out.now c.args.out.now) (input_seen g.I.ByteIn.left g.I.ByteIn.faults c.args.input.now c.args.input.now) (notes_seen g.N.ByteOut.sent g.N.ByteOut.faults c.args.notes.now c.args.notes.now))) (sym c.in-Batch.is) (on_each c.batch.result (c.args.notes.now ≡ c.args.notes.now) refl).0
+
+pub returns-in-Batch-clause-silent : goal.returns-in-Batch-clause-silent
+returns-in-Batch-clause-silent g c = (on_each c.batch.result (c.args.notes.now ≡ c.args.notes.now) refl).1
 
 pub returns-in-Run-clause-answer : goal.returns-in-Run-clause-answer
 returns-in-Run-clause-answer g c =
@@ -61,6 +70,3 @@ returns-in-Run-clause-says g c =
     subst (λ (k : Command). OnOk c.run.result (Says k (seen g.F.Files.did g.F.Files.held g.F.Files.faults g.O.ByteOut.sent g.O.ByteOut.faults c.args.files.now c.run.new.files c.args.out.now c.run.new.out) (input_seen g.I.ByteIn.left g.I.ByteIn.faults c.args.input.now c.run.new.input) (notes_seen g.N.ByteOut.sent g.N.ByteOut.faults c.args.notes.now c.run.new.notes))) (sym c.in-Run.is)
     (subst (λ (ns : List (List ℕ)). OnOk c.run.result (SaysReturned (AreRead ns (λ (calls : List Call). g.F.Files.did c.args.files.now calls c.run.new.files)) c.in-Run.root c.in-Run.args c.in-Run.steps ns (streams_seen g.I.ByteIn.left g.I.ByteIn.faults g.O.ByteOut.sent g.O.ByteOut.faults c.args.input.now c.run.new.input c.args.out.now c.run.new.out) (notes_seen g.N.ByteOut.sent g.N.ByteOut.faults c.args.notes.now c.run.new.notes)))
     c.as_slice-in-Run.ensures c.run.ensures.says)
-
-pub returns-clause-answer : goal.returns-clause-answer
-returns-clause-answer g c = (ap is_offered c.in-Gen.is, (g.met.F.Files.did_none _, refl), refl)

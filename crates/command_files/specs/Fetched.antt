@@ -1,7 +1,7 @@
 -- What a fetch of files answers.
 use Rattle.std.specs.Prelude.{ℕ, List, ⊤}
-use Rattle.thinlto_main.specs.declared.fetching.FetchError.{FetchError}
-use Rattle.thinlto_main.specs.declared.fetching.FetchError.TheVariants.{Fault, NoMemory}
+use Rattle.command_files.specs.declared.fetching.FetchError.{FetchError}
+use Rattle.command_files.specs.declared.fetching.FetchError.TheVariants.{Fault, NoMemory}
 
 abbrev pub IfFault : FetchError → (List ℕ → Type 0) → Type 0
 IfFault (Fault name) P = P name

@@ -1,15 +1,13 @@
 -- Fetches in a row.
-use Rattle.std.proofs.Common.{◌≡◌, ◌<◌, ◌≤◌, ℕ, zero, suc, ◌+◌, List, [], ◌∷◌, ◌++◌, length, take, drop, get_or, Option, Some, None, Result, Ok, Err, refl, ap, sym, ◌∙◌, subst, arith, drop-cons}
-use Rattle.std.specs.Prelude.{All, slice_index_or}
+use Rattle.std.proofs.Common.{◌≡◌, ◌<◌, ℕ, suc, ◌+◌, List, [], ◌∷◌, ◌++◌, length, take, drop, get_or, Option, Err, refl, ap, sym, ◌∙◌, subst, arith, drop-cons}
 use Rattle.std.proofs.lemmas.Grind.{take_at_read}
 use Rattle.std.proofs.lemmas.List.{length-take-le, take-append-drop}
 use Rattle.lto_outside.specs.Calls.{Call, DidNoPut, Fetched, NoPut, Put}
-use Rattle.lto_outside.specs.Cause.{Rose}
-use Rattle.lto_outside.specs.declared.fault.FetchFault.TheVariants.{Fault, TooLong}
-use Rattle.thinlto_main.specs.Fetched.{IfFault}
-use Rattle.thinlto_main.specs.Fetching.{FetchFailed, FetchStopped, IsShort, IsTried, fetch_call, fetch_calls}
-use Rattle.thinlto_main.specs.declared.fetching.FetchError.{FetchError}
-use Rattle.thinlto_main.specs.declared.fetching.FetchError.TheVariants as error
+use Rattle.lto_outside.specs.declared.fault.FetchFault.TheVariants.{Fault}
+use Rattle.command_files.specs.Fetched.{IfFault}
+use Rattle.command_files.specs.Fetching.{FetchFailed, FetchStopped, IsTried, fetch_call, fetch_calls}
+use Rattle.command_files.specs.declared.fetching.FetchError.{FetchError}
+use Rattle.command_files.specs.declared.fetching.FetchError.TheVariants as error
 
 pub if_fault_map : (e : FetchError) (P Q : List ℕ → Type 0) → ((name : List ℕ) → P name → Q name) → IfFault e P → IfFault e Q
 if_fault_map (error.Fault name) P Q f h = f name h

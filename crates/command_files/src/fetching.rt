@@ -3,8 +3,8 @@ ghost use Rattle.std.specs.Prelude.{◌≡◌, ◌≤◌, ◌<◌, ◌∷◌, []
 ghost use Rattle.lto_outside.specs.Calls.{DidNoPut, Fetched};
 ghost use Rattle.lto_outside.specs.Cause.{Rose};
 ghost use Rattle.lto_outside.specs.declared.fault.FetchFault.TheVariants.{Fault};
-ghost use Rattle.thinlto_main.specs.Fetched.{IfFault};
-ghost use Rattle.thinlto_main.specs.Fetching.{FetchFailed, FetchStopped, IsShort, IsTried, fetch_call, fetch_calls};
+ghost use Rattle.command_files.specs.Fetched.{IfFault};
+ghost use Rattle.command_files.specs.Fetching.{FetchFailed, FetchStopped, IsShort, IsTried, fetch_call, fetch_calls};
 
 use ir_tree::{Rows, Text};
 use lto_outside::{FetchFault, Files};
@@ -30,8 +30,8 @@ fn fault(alloc: Global, name: &FileName) -> FetchError
     }
 }
 
-/// What a file holds, or none where that is too much.
-fn fetch_one<F: Files>(
+/// What a file holds, or none where that is more than 16 MiB. No file changes.
+pub fn fetch_one<F: Files>(
     alloc: Global,
     files: &mut F,
     name: &FileName,

@@ -1,8 +1,8 @@
 use Rattle.std.proofs.Common.{◌≡◌, ◌≤◌, length, take}
 use Rattle.std.specs.Prelude.{All}
 use Rattle.lto_outside.specs.Calls.{DidNoPut}
-use Rattle.thinlto_main.specs.Fetching.{IsShort, fetch_calls}
-use Rattle.thinlto_main.proofs.fetching.fetch_all.Given as goal
+use Rattle.command_files.specs.Fetching.{IsShort, fetch_calls}
+use Rattle.command_files.proofs.fetching.fetch_all.Given as goal
 
 abbrev pub invariant-loop-name : goal.invariant-loop-name
 invariant-loop-name g l = record {

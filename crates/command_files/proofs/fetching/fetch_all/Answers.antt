@@ -1,10 +1,10 @@
-use Rattle.std.proofs.Common.{◌≡◌, ◌∙◌, ℕ, List, [], ◌∷◌, ◌++◌, length, ap, arith, length-append, subst, sym}
+use Rattle.std.proofs.Common.{ℕ, List, [], ◌∷◌, length, ap, arith, length-append, subst, sym}
 use Rattle.std.specs.Prelude.{All}
 use Rattle.std.proofs.lemmas.List.Elements.{All-push}
 use Rattle.lto_outside.specs.Cause.{Rose}
-use Rattle.thinlto_main.specs.Fetching.{FetchFailed, IsShort}
-use Rattle.thinlto_main.proofs.Fetches.{if_fault_map, no_put_more, one_failed, one_more, one_stopped}
-use Rattle.thinlto_main.proofs.fetching.fetch_all.Goals as goal
+use Rattle.command_files.specs.Fetching.{FetchFailed, IsShort}
+use Rattle.command_files.proofs.Fetches.{if_fault_map, no_put_more, one_failed, one_more, one_stopped}
+use Rattle.command_files.proofs.fetching.fetch_all.Goals as goal
 
 pub returns-in-Err-clause-failed : goal.returns-in-Err-clause-failed
 returns-in-Err-clause-failed g c =

@@ -2,8 +2,8 @@ use Rattle.std.proofs.Common.{ℕ, List, [], ◌∷◌, Ok, Err, ap, subst}
 use Rattle.lto_outside.specs.Calls.{Fetched}
 use Rattle.lto_outside.specs.Cause.{Rose}
 use Rattle.lto_outside.specs.declared.fault.FetchFault.TheVariants.{Fault, NoMemory, TooLong}
-use Rattle.thinlto_main.proofs.Fetches.{if_fault_map}
-use Rattle.thinlto_main.proofs.fetching.fetch_one.Goals as goal
+use Rattle.command_files.proofs.Fetches.{if_fault_map}
+use Rattle.command_files.proofs.fetching.fetch_one.Goals as goal
 
 pub returns-in-Err-Fault-clause-failed : goal.returns-in-Err-Fault-clause-failed
 returns-in-Err-Fault-clause-failed g c =

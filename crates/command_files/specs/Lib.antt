@@ -1,0 +1,5 @@
+pub mod Fetching
+pub mod Fetched
+pub mod Listing
+pub mod Lists
+pub mod Links

@@ -1,0 +1,44 @@
+use Rattle.std.proofs.Common.{◌≡◌, ◌<◌, ℕ, List, Option, length, subst, sym}
+use Rattle.std.specs.Prelude.{All}
+use Rattle.link_one.proofs.Zipping.{zip_next}
+use Rattle.command_files.specs.Fetching.{IsShort}
+use Rattle.command_files.specs.Links.{GivenFor}
+use Rattle.run_program.specs.Causes.{Because, never}
+use Rattle.run_program.proofs.Causes.{because_map}
+use Rattle.thinlto_main.specs.Linking.{IsLinkable, IsMade, IsUnlinkable}
+use Rattle.thinlto_main.specs.Modules.{FirstBad}
+use Rattle.thinlto_main.proofs.Batching.{link_because, linkable, zip_at, zip_both, zip_within}
+use Rattle.thinlto_main.proofs.batch.all_made.Goals as goal
+
+pub bounds-given-at : goal.bounds-given-at
+bounds-given-at g c = zip_within GivenFor c.args.links.now c.args.given.now c.loop-at.at c.requires.each c.loop-at-test.true
+
+pub made-requires-clause-each : goal.made-requires-clause-each
+made-requires-clause-each g c κs within =
+    subst (λ (b : List (Option (List ℕ))). length b ≡ length c.as_slice.result.now) (sym c.as_slice-bytes.ensures)
+    (subst (λ (n : List (List ℕ)). length c.index-given-at.result ≡ length n) (sym c.as_slice.ensures)
+    (zip_at GivenFor c.args.links.now c.args.given.now c.loop-at.at c.index-links-at.result c.index-given-at.result c.requires.each c.loop-at-test.true c.index-links-at.is c.index-given-at.is).each)
+
+pub made-requires-clause-short : goal.made-requires-clause-short
+made-requires-clause-short g c κs within =
+    subst (All IsShort) (sym c.as_slice-bytes.ensures)
+    (zip_at GivenFor c.args.links.now c.args.given.now c.loop-at.at c.index-links-at.result c.index-given-at.result c.requires.each c.loop-at-test.true c.index-links-at.is c.index-given-at.is).short
+
+pub returns-in-Err-clause-because : goal.returns-in-Err-clause-because
+returns-in-Err-clause-because g c =
+    because_map
+    (link_because c.args.options.now c.args.links.now c.args.given.now c.loop-at.at c.index-links-at.result c.index-given-at.result c.requires.each c.loop-at.invariant.linkable c.loop-at-test.true c.index-links-at.is c.index-given-at.is)
+    c.in-Err.why
+    (subst (λ (n : List (List ℕ)). Because (record never { refused = FirstBad n c.index-given-at.result; unlinked = IsUnlinkable c.args.options.now n c.index-given-at.result; memory = Unit {0} }) c.in-Err.why) c.as_slice.ensures
+    (subst (λ (b : List (Option (List ℕ))). Because (record never { refused = FirstBad c.as_slice.result.now b; unlinked = IsUnlinkable c.args.options.now c.as_slice.result.now b; memory = Unit {0} }) c.in-Err.why) c.as_slice-bytes.ensures c.in-Err.ensures.because))
+
+pub loop-at-preserved : goal.loop-at-preserved
+loop-at-preserved g c =
+    let within : c.loop-at.at < length c.args.given.now = zip_within GivenFor c.args.links.now c.args.given.now c.loop-at.at c.requires.each c.loop-at-test.true in
+    let is_made : IsMade c.args.options.now c.index-given-at.result c.in-Ok.text = subst (λ (b : List (Option (List ℕ))). IsMade c.args.options.now b c.in-Ok.text) c.as_slice-bytes.ensures c.in-Ok.ensures.made in
+    record {
+      made = zip_next (IsMade c.args.options.now) c.args.given.now c.loop-at.at c.index-given-at.result within c.index-given-at.is c.loop-at.texts c.push.new.self c.in-Ok.text c.loop-at.invariant.made is_made c.in-Ok-push.ensures.ok;
+      linkable =
+          zip_both (λ link bytes. IsLinkable c.args.options.now link.files bytes) c.args.links.now c.args.given.now c.loop-at.at c.index-links-at.result c.index-given-at.result c.loop-at.invariant.linkable c.loop-at-test.true within c.index-links-at.is c.index-given-at.is
+          (linkable c.unlinked_is_one.ensures.apart c.args.options.now c.index-links-at.result.files c.index-given-at.result c.in-Ok.text is_made);
+    }

@@ -1,0 +1,29 @@
+use Rattle.std.proofs.Common.{List, sym, subst}
+use Rattle.std.specs.List.{AllZip}
+use Rattle.std.proofs.lemmas.Result.{IfErr-weaker}
+use Rattle.ir_tree.specs.declared.module.Module.{Module}
+use Rattle.run_program.proofs.Causes.{because_map}
+use Rattle.thinlto_main.specs.Modules.{IsRead}
+use Rattle.thinlto_main.proofs.Linking.{bad_unmade, if_made, unlinked_unmade}
+use Rattle.thinlto_main.proofs.link.made.Goals as goal
+
+pub returns-in-Err-clause-because : goal.returns-in-Err-clause-because
+returns-in-Err-clause-because g c = because_map (bad_unmade c.args.options.now c.args.names.now c.args.given.now) c.in-Err.why c.in-Err.ensures.because
+
+pub text-requires-clause-each : goal.text-requires-clause-each
+text-requires-clause-each g c κs within = sym c.requires.each
+
+pub text-requires-clause-read : goal.text-requires-clause-read
+text-requires-clause-read g c κs within = subst (λ (l : List Module). AllZip IsRead c.args.given.now l) (sym c.as_slice.ensures) c.in-Ok.ensures.read
+
+pub returns-clause-made : goal.returns-clause-made
+returns-clause-made g c =
+    if_made
+    (record { verified = c.linked_is_verified.ensures; in_order = c.made_is_better.ensures.in_order; numbered = c.read_modules_are_numbered.ensures; ordered = c.text_order_is_numbered.ensures; read = c.verified_modules_are_read.ensures; sound = c.live_by_module.ensures.sound; emitted = c.emission_is_one.ensures.from })
+    c.accepted_is_not_refused.ensures.one c.args.options.now c.args.given.now c.in-Ok.modules c.in-Ok.ensures.read c.text.result c.text.ensures.done c.text.ensures.only
+
+pub returns-clause-because : goal.returns-clause-because
+returns-clause-because g c =
+    IfErr-weaker c.text.result _ _
+    (λ why h. because_map (unlinked_unmade c.args.options.now c.args.names.now c.args.given.now c.as_slice.result.now (subst (λ (l : List Module). AllZip IsRead c.args.given.now l) (sym c.as_slice.ensures) c.in-Ok.ensures.read)) why h)
+    c.text.ensures.because
