@@ -169,6 +169,12 @@ zip_at R (a ∷ xs) [] i x y z lt x_is y_is = absurd z
 zip_at {A} {B} R (a ∷ xs) (b ∷ ys) zero x y z lt x_is y_is = subst (λ (v : A). R v y) (sym x_is) (subst (λ (w : B). R a w) (sym y_is) z.0)
 zip_at R (a ∷ xs) (b ∷ ys) (suc i) x y z lt x_is y_is = zip_at R xs ys i x y z.1 (omega (arith, lt)) x_is y_is
 
+pub zip_length : {A B : Type 0} (R : A → B → Type 0) (xs : List A) (ys : List B) → AllZip R xs ys → length ys ≡ length xs
+zip_length R [] [] z = refl
+zip_length R [] (b ∷ ys) z = absurd z
+zip_length R (a ∷ xs) [] z = absurd z
+zip_length R (a ∷ xs) (b ∷ ys) z = ap (λ (n : ℕ). suc n) (zip_length R xs ys z.1)
+
 pub zip_within : {A B : Type 0} (R : A → B → Type 0) (xs : List A) (ys : List B) (i : ℕ) → AllZip R xs ys → i < length xs → i < length ys
 zip_within R [] ys i z lt = absurd (omega (arith, lt))
 zip_within R (a ∷ xs) [] i z lt = absurd z

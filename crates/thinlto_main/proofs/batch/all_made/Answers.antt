@@ -1,5 +1,6 @@
-use Rattle.std.proofs.Common.{◌≡◌, ◌<◌, ℕ, List, Option, length, subst, sym}
+use Rattle.std.proofs.Common.{◌≡◌, ◌<◌, ℕ, List, Option, arith, length, subst, sym, take_all}
 use Rattle.std.specs.Prelude.{All}
+use Rattle.std.specs.List.{AllZip}
 use Rattle.link_one.proofs.Zipping.{zip_next}
 use Rattle.command_files.specs.Fetching.{IsShort}
 use Rattle.command_files.specs.Links.{GivenFor}
@@ -7,7 +8,7 @@ use Rattle.run_program.specs.Causes.{Because, never}
 use Rattle.run_program.proofs.Causes.{because_map}
 use Rattle.thinlto_main.specs.Linking.{IsLinkable, IsMade, IsUnlinkable}
 use Rattle.thinlto_main.specs.Modules.{FirstBad}
-use Rattle.thinlto_main.proofs.Batching.{link_because, linkable, zip_at, zip_both, zip_within}
+use Rattle.thinlto_main.proofs.Batching.{link_because, linkable, zip_at, zip_both, zip_length, zip_within}
 use Rattle.thinlto_main.proofs.batch.all_made.Goals as goal
 
 pub bounds-given-at : goal.bounds-given-at
@@ -42,3 +43,9 @@ loop-at-preserved g c =
           zip_both (λ link bytes. IsLinkable c.args.options.now link.files bytes) c.args.links.now c.args.given.now c.loop-at.at c.index-links-at.result c.index-given-at.result c.loop-at.invariant.linkable c.loop-at-test.true within c.index-links-at.is c.index-given-at.is
           (linkable c.unlinked_is_one.ensures.apart c.args.options.now c.index-links-at.result.files c.index-given-at.result c.in-Ok.text is_made);
     }
+
+pub returns-clause-made : goal.returns-clause-made
+returns-clause-made g c =
+    let same : length c.args.given.now ≡ length c.args.links.now = zip_length GivenFor c.args.links.now c.args.given.now c.requires.each in
+    subst (λ (given : List (List (Option (List ℕ)))). AllZip (IsMade c.args.options.now) given c.loop-at.texts)
+    (take_all c.loop-at.at c.args.given.now (omega (arith, same, c.loop-at-test.false))) c.loop-at.invariant.made
