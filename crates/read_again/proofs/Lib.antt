@@ -106,3 +106,6 @@ pub mod Anew
 pub mod AnewAgain
 pub mod OneText
 pub mod Tasks
+pub mod Suffixed
+pub mod Renamed
+pub mod PartsSpelled

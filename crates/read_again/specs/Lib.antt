@@ -30,3 +30,4 @@ pub mod Laws
 pub mod Trips
 pub mod OneText
 pub mod Tasks
+pub mod Renamed

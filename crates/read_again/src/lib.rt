@@ -14,7 +14,8 @@
 //!
 //! Two modules with one printed text are one, however many global names they have ([`modules_with_one_text_are_one`]), and so
 //! are two tasks of a link (`lto_task`) with one text ([`tasks_with_one_text_are_one`]): their modules need be verified, numbered
-//! along their text, and of names and values within the grammar's limits (`specs/OneText.antt`).
+//! along their text, and of names and values within the grammar's limits (`specs/OneText.antt`). Verified values that a link takes
+//! from modules that were read, under final names, make such modules (`link_parts`, `specs/Renamed.antt`).
 //!
 //! Below these stand laws that tie the printed form to tokens, grammar and resolution: a printed text is cut into the tokens
 //! that it was put together from (`cutting`); types, operands, instructions and heads are read (`parts`), and so are lines,
@@ -32,6 +33,7 @@
 mod cutting;
 mod laws;
 mod limits;
+mod link_parts;
 mod parts;
 mod printing_laws;
 mod resolution;
@@ -47,6 +49,10 @@ pub use laws::{
     text_order_is_numbered, verified_modules_are_read,
 };
 pub use limits::{contents_are_bytes, items_are_within, tokens_are_cut};
+pub use link_parts::{
+    names_keep_spelling, parts_are_spelled, read_values_are_spelled, spelled_modules_are_told,
+    suffixed_names_are_writable,
+};
 pub use parts::{
     heads_are_read, instructions_are_read, names_are_read, operands_are_read, shapes_are_read,
     sound_items_are_read, target_lines_are_read, terminators_are_read, types_are_read,

@@ -1,6 +1,5 @@
 mod Reading
 mod Unlinked
-mod Renumbered
 mod Rereading
 mod Linking
 mod Batching

@@ -37,7 +37,7 @@ use Rattle.promote_rename.specs.Suffixes.{suffix_of}
 use Rattle.read_again.specs.Laws.{ReadIsNumbered, TextOrderIsNumbered, VerifiedIsRead}
 use Rattle.read_again.specs.Numbered.{LocalsNumbered, ModuleNumbered, StringsAreBytes}
 use Rattle.read_again.specs.Within.{ModuleWithin}
-use Rattle.thinlto_main.proofs.Renumbered.{locals_under, strings_under}
+use Rattle.read_again.proofs.Renamed.{locals_under, strings_under}
 
 -- what is linked of files
 pub record ReadingLaws : Type 0 where
