@@ -1,27 +1,19 @@
 //! The printed text of a module is read again as that module.
 //!
-//! Laws over the calls of reading (`ir_parse`) and printing (`ir_print`), as functions whose contracts state them.
-//! [`readable_modules_are_read`]: the items that are read of a printed module pass each stage of
-//! reading and stand for the module that was printed; meant are modules that are readable and whose names are known
-//! (`specs/Known.antt`). [`read_modules_are_within`], [`read_modules_are_typed`]: what is read of bytes is within the
-//! limits of the grammar (`specs/Within.antt`), and its constants are of the types before them (`specs/Typed.antt`). So
-//! what is read is read again as itself, with nothing else asked of it ([`read_modules_are_read`]), and so is a verified
-//! module whose locals are numbered along its text, as a link prints it, where it is within the limits
-//! ([`verified_modules_are_read`]).
+//! Laws over the calls of reading (`ir_parse`) and printing (`ir_print`), as functions whose contracts state them. A printed text
+//! is cut into the tokens that it was put together from (`cutting`); types, operands, instructions and heads are read (`parts`),
+//! and so are lines, definitions, variables and whole modules (`printing_laws`), as the raw items that were printed, in which
+//! each local and block is named by its number; what is read of a function or a variable resolves to it where its locals are
+//! numbered along its text (`resolution`); and what the grammar spells of a text of bytes is within its limits (`limits`).
 //!
-//! However the locals of a verified module are numbered, it is printed under new numbers as a text that is read as that
-//! ([`modules_numbered_anew_are_read`]).
+//! So what is read is read again as itself, with nothing else asked of it ([`read_modules_are_read`]), and so are a verified
+//! module whose locals are numbered along its text, as a link prints it, within the limits of the grammar (`specs/Within.antt`,
+//! [`verified_modules_are_read`]), and one with other numbers, under new ones ([`modules_numbered_anew_are_read`]).
 //!
 //! Two modules with one printed text are one, however many global names they have ([`modules_with_one_text_are_one`]), and so
 //! are two tasks of a link (`lto_task`) with one text ([`tasks_with_one_text_are_one`]): their modules need be verified, numbered
 //! along their text, and of names and values within the grammar's limits (`specs/OneText.antt`). Verified values that a link takes
 //! from modules that were read, under final names, make such modules (`link_parts`, `specs/Renamed.antt`).
-//!
-//! Below these stand laws that tie the printed form to tokens, grammar and resolution: a printed text is cut into the tokens
-//! that it was put together from (`cutting`); types, operands, instructions and heads are read (`parts`), and so are lines,
-//! definitions, variables and whole modules (`printing_laws`), as the raw items that were printed, in which each local and
-//! block is named by its number; what is read of a function or a variable resolves to it where its locals are numbered along
-//! its text (`resolution`); and what the grammar spells of a text of bytes is within its limits (`limits`).
 //!
 //! [`read_twice`] does so with the real calls: it reads, prints and reads again, and its promise is that the second
 //! reading gives the module of the first and refuses nothing.
