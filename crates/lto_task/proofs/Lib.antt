@@ -6,3 +6,4 @@ mod Apart
 mod Rises
 pub mod Values
 mod Agreeing
+mod Declared

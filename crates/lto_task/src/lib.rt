@@ -5,6 +5,9 @@
 //! `specs/Tasks.antt`), which is the key of a cache: tasks with one text have the same limit, the same names, and modules with the
 //! same text ([`tasks_with_one_text_agree`]).
 //!
+//! What a task refers to and lacks it declares. A declaration is made of the value that stands in another module
+//! ([`declaration_of`], `specs/Declarations.antt`), and is formed and sound where that is formed ([`declarations_are_sound`]).
+//!
 //! What it hands on of a definition is a [`Piece`]: the name that it has in the linked module, the names that it refers to, and
 //! its text. So a linked module can be joined without a look into any text, and no tree of a module lives longer than its
 //! compilation. The contract of [`piece_of`] says which piece a definition has (`specs/Pieces.antt`).
@@ -19,6 +22,7 @@
 //! in one pass; the text of a piece is copied whole and not looked into.
 #![tactic(auto)]
 
+mod declaring;
 mod making;
 mod order;
 mod piece;
@@ -28,6 +32,7 @@ mod task;
 mod task_writing;
 mod writing;
 
+pub use declaring::{declaration_of, declarations_are_sound};
 pub use making::piece_of;
 pub use piece::Piece;
 pub use taking_apart::{pieces, unit_text_is_one};
