@@ -109,3 +109,4 @@ pub mod Tasks
 pub mod Suffixed
 pub mod Renamed
 pub mod PartsSpelled
+pub mod DeclarationsSpelled

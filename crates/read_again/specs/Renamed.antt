@@ -1,4 +1,4 @@
--- Values as a module has them that was read, and under the names that a link gives them.
+-- Values as a module has them that was read, and under the names that a link gives them; and their declarations.
 use Rattle.std.specs.Prelude.{ℕ, List, ◌++◌, All, map, Bool}
 use Rattle.std.specs.List.{AllZip}
 use Rattle.ir_parse.specs.Reading.{Reads}
@@ -7,6 +7,7 @@ use Rattle.ir_tree.specs.Wholes.{IsVerified, global_symbol}
 use Rattle.ir_tree.specs.declared.module.GlobalValue.{GlobalValue}
 use Rattle.ir_tree.specs.declared.module.Module.{Module}
 use Rattle.ir_tree.specs.declared.operand.Symbol.{Symbol}
+use Rattle.lto_task.specs.Declarations.{declaration_of}
 use Rattle.lto_task.specs.Tasks.{module_of}
 use Rattle.merge_meaning.specs.Globals.{global_under, named_by}
 use Rattle.merge_meaning.specs.Lives.{parts}
@@ -45,3 +46,7 @@ IsReadOf bytes m = (lines : List (List ℕ)) × Reads bytes m lines
 -- so the parts of modules that were read, under their final names, have such values
 abbrev pub PartsAreSpelled : Type 0
 PartsAreSpelled = (files : List (List ℕ)) (ms : List Module) (symbols : List Symbol) (live : List Bool) → All AllBytes files → AllZip IsReadOf files ms → All (All ValueSpelled) (parts ms symbols live (map suffix_of files))
+
+-- the declaration of such a value is such
+abbrev pub DeclarationsAreSpelled : Type 0
+DeclarationsAreSpelled = (g : GlobalValue) → ValueSpelled g → ValueSpelled (declaration_of g)

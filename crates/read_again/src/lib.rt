@@ -13,7 +13,8 @@
 //! Two modules with one printed text are one, however many global names they have ([`modules_with_one_text_are_one`]), and so
 //! are two tasks of a link (`lto_task`) with one text ([`tasks_with_one_text_are_one`]): their modules need be verified, numbered
 //! along their text, and of names and values within the grammar's limits (`specs/OneText.antt`). Verified values that a link takes
-//! from modules that were read, under final names, make such modules (`link_parts`, `specs/Renamed.antt`).
+//! from modules that were read, under final names, make such modules, and so do their declarations (`link_parts`,
+//! `specs/Renamed.antt`).
 //!
 //! [`read_twice`] does so with the real calls: it reads, prints and reads again, and its promise is that the second
 //! reading gives the module of the first and refuses nothing.
@@ -42,8 +43,8 @@ pub use laws::{
 };
 pub use limits::{contents_are_bytes, items_are_within, tokens_are_cut};
 pub use link_parts::{
-    names_keep_spelling, parts_are_spelled, read_values_are_spelled, spelled_modules_are_told,
-    suffixed_names_are_writable,
+    declarations_are_spelled, names_keep_spelling, parts_are_spelled, read_values_are_spelled,
+    spelled_modules_are_told, suffixed_names_are_writable,
 };
 pub use parts::{
     heads_are_read, instructions_are_read, names_are_read, operands_are_read, shapes_are_read,

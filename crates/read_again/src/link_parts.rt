@@ -1,7 +1,7 @@
 //! Laws of the values that a link takes from modules that were read, under the names that it gives them, as functions whose
 //! contracts state them.
 
-ghost use Rattle.read_again.specs.Renamed.{NamesKeepSpelling, PartsAreSpelled, ReadIsSpelled, SpelledIsTold, SuffixedIsWritable};
+ghost use Rattle.read_again.specs.Renamed.{DeclarationsAreSpelled, NamesKeepSpelling, PartsAreSpelled, ReadIsSpelled, SpelledIsTold, SuffixedIsWritable};
 
 use crate::{read_modules_are_numbered, read_modules_are_within};
 
@@ -38,3 +38,8 @@ pub fn parts_are_spelled()
     names_keep_spelling();
     suffixed_names_are_writable();
 }
+
+/// The declaration of such a value is such (`lto_task`).
+pub fn declarations_are_spelled()
+    ensures { DeclarationsAreSpelled }
+{}
