@@ -9,3 +9,4 @@ pub mod LinkedLaws
 pub mod Laws
 pub mod Tables
 pub mod Units
+pub mod Tasks
