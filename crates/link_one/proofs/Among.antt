@@ -20,7 +20,7 @@ use Rattle.link_one.specs.declared.setting.Setting.{Setting}
 use Rattle.link_one.proofs.Compiling.{bodies_among}
 use Rattle.link_one.proofs.Members.{Stands, all_of, behind, in_front, of_each}
 
-part_within : (parts : List (List GlobalValue)) (n : ℕ) (g : GlobalValue) → Stands (slice_index_or parts n []) g → Stands (joined parts) g
+pub part_within : (parts : List (List GlobalValue)) (n : ℕ) (g : GlobalValue) → Stands (slice_index_or parts n []) g → Stands (joined parts) g
 part_within [] n g (i, here) = absurd (cc here)
 part_within (part ∷ parts) zero g s = in_front part (joined parts) g s
 part_within (part ∷ parts) (suc n) g s = behind part (joined parts) g (part_within parts n g s)

@@ -31,3 +31,8 @@ mod Imported
 mod Offering
 mod Stripped
 mod Referables
+mod OnceNamed
+mod Hosts
+mod Declaring
+mod ClosedUp
+mod TaskParts

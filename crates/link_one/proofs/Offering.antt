@@ -70,7 +70,7 @@ in_found {X} {Y} h (z ∷ xs) x y c e = by (h z) refl (first_or_later z x xs c) 
     by (Some w) is (inr more) rest = later w y (filter_map h xs) (rest more)
 
 -- and each of these comes from one
-found_from : {X Y : Type 0} (h : X → Option Y) (xs : List X) (y : Y) → Contains (filter_map h xs) y → (x : X) × Contains xs x × (h x ≡ Some y)
+pub found_from : {X Y : Type 0} (h : X → Option Y) (xs : List X) (y : Y) → Contains (filter_map h xs) y → (x : X) × Contains xs x × (h x ≡ Some y)
 found_from h [] y c = absurd (nothing y c)
 found_from {X} {Y} h (x ∷ xs) y c = by (h x) refl c (λ more. found_from h xs y more)
   where

@@ -10,3 +10,4 @@ pub mod Laws
 pub mod Tables
 pub mod Units
 pub mod Tasks
+pub mod TaskLaws

@@ -32,6 +32,7 @@ mod referable;
 mod setting;
 mod table;
 mod target;
+mod task_laws;
 mod unit;
 
 pub use accepting::{LinkError, accepted};
@@ -39,3 +40,4 @@ pub use laws::{accepted_is_not_refused, linked_is_one, refused_is_one};
 pub use linked_laws::{linked_is_verified, linked_refines, unlinked_is_one};
 pub use linking::link;
 pub use meaning_laws::{index_names_references, live_is_emitted, live_is_known, live_refines};
+pub use task_laws::{tasks_are_of_parts, tasks_are_verified};
