@@ -1,37 +1,27 @@
--- A part stands among all parts, and what is compiled with it is sound.
-use Rattle.std.proofs.Common.{◌≡◌, ◌∙◌, ◌+◌, ℕ, zero, suc, List, [], ◌∷◌, Option, Some, All, ap, length, map, option_map, refl, sym, subst, arith}
+-- A part stands among all parts; what is kept of the pieces of parts, and the units that slots have, place by place.
+use Rattle.std.proofs.Common.{◌≡◌, ◌∙◌, ◌+◌, ℕ, zero, suc, List, [], ◌∷◌, Option, Some, ap, length, map, option_map, refl, sym, subst, arith}
 use Rattle.std.proofs.lemmas.List.{length-map}
 use Rattle.std.proofs.lemmas.Option.{slice_get-map}
 use Rattle.std.proofs.lemmas.Result.{IfOk-weaker}
 use Rattle.std.specs.Prelude.{IfOk, Result, Vec, slice_get, slice_index_or}
 use Rattle.std.specs.List.{AllZip}
-use Rattle.ir_tree.specs.Wholes.{GlobalSound}
 use Rattle.ir_tree.specs.declared.function.Function.{Function}
 use Rattle.lto_task.specs.declared.piece.Piece.{Piece}
 use Rattle.ir_tree.specs.declared.module.GlobalValue.{GlobalValue}
-use Rattle.ir_tree.specs.declared.module.GlobalValue.TheVariants as global
 use Rattle.ir_tree.specs.declared.operand.Symbol.{Symbol}
-use Rattle.back_end.specs.Inlinable.{AreSound}
 use Rattle.thin_link.specs.Views.{rows}
 use Rattle.link_one.specs.Linked.{AreCompiled, IsLinkedGlobal, bodies_for, joined}
 use Rattle.emit.specs.Strips.{IsStripped, ModulePieces}
-use Rattle.link_one.specs.Units.{AreAllPrinted, AreFilled, ArePrinted, IsLinkedPiece, IsSettledPiece, offers}
+use Rattle.link_one.specs.ModuleUnits.{AreFilled, AreUnits}
+use Rattle.link_one.specs.Units.{IsLinkedPiece, IsSettledPiece}
+use Rattle.link_one.proofs.Printed.{AreAllPrinted, ArePrinted, offers}
 use Rattle.link_one.specs.declared.setting.Setting.{Setting}
-use Rattle.link_one.proofs.Compiling.{bodies_among}
-use Rattle.link_one.proofs.Members.{Stands, all_of, behind, in_front, of_each}
+use Rattle.link_one.proofs.Members.{Stands, behind, in_front}
 
 pub part_within : (parts : List (List GlobalValue)) (n : ℕ) (g : GlobalValue) → Stands (slice_index_or parts n []) g → Stands (joined parts) g
 part_within [] n g (i, here) = absurd (cc here)
 part_within (part ∷ parts) zero g s = in_front part (joined parts) g s
 part_within (part ∷ parts) (suc n) g s = behind part (joined parts) g (part_within parts n g s)
-
-pub part_sound : (parts : List (List GlobalValue)) (n : ℕ) → All GlobalSound (joined parts) → All GlobalSound (slice_index_or parts n [])
-part_sound parts n all = all_of GlobalSound (slice_index_or parts n []) (λ g s. of_each GlobalSound (joined parts) g all (part_within parts n g s))
-
-pub bodies_sound : (limit : ℕ) (parts : List (List GlobalValue)) (symbols : List Symbol) (suffixes : List (List ℕ)) (numbers : List ℕ) (n : ℕ) → All GlobalSound (joined parts)
-    → AreSound (bodies_for limit (joined parts) symbols suffixes numbers (slice_index_or parts n []))
-bodies_sound limit parts symbols suffixes numbers n all name c e =
-    of_each GlobalSound (joined parts) (global.Function c) all (bodies_among limit (joined parts) symbols suffixes numbers (slice_index_or parts n []) (part_within parts n) name c e).0
 
 -- what is compiled, and what is kept of its pieces, place by place
 module _ (exports : List (List ℕ)) (limit : ℕ) (all : List GlobalValue) (symbols : List Symbol) (suffixes : List (List ℕ)) (imports promoted : List (List ℕ)) where
@@ -41,7 +31,7 @@ module _ (exports : List (List ℕ)) (limit : ℕ) (all : List GlobalValue) (sym
   abbrev offers_at : ℕ → List GlobalValue → List (List ℕ)
   offers_at k part = offers symbols suffixes (slice_index_or promoted k []) part
 
-  abbrev IsCompiled : ℕ → List GlobalValue → List Piece → Type 0
+  abbrev pub IsCompiled : ℕ → List GlobalValue → List Piece → Type 0
   IsCompiled k part kept = (pieces : List Piece) × AllZip (IsLinkedPiece (bodies_at k part) exports) part pieces × IsStripped (record { offers = offers_at k part; pieces = pieces }) kept
 
   -- what each piece is of
@@ -84,17 +74,21 @@ module _ (exports : List (List ℕ)) (limit : ℕ) (all : List GlobalValue) (sym
       there (p ∷ parts) zero part e = cc e
       there (p ∷ parts) (suc i) part e = there parts i part e
 
+  pub printed_of : (parts : List (List GlobalValue)) (kept : List (List Piece)) → length kept ≡ length parts
+      → ((i : ℕ) (unit : List Piece) → slice_get kept i ≡ Some unit → IsCompiled i (slice_index_or parts i []) unit) → ArePrinted exports limit all symbols suffixes imports promoted parts kept
+  printed_of parts kept same each =
+      let made = compiled parts kept same each in
+      record { units = made.0; compiled = made.2; printed = made.1; printed_are = made.3; stripped = made.4 }
+
 -- what was taken out of the slots
-pub all_compiled : {A E : Type 0} (s : Setting) (slots : List (Option (List Piece))) → AreFilled s slots → (r : Result (Vec (List Piece) A) E) → IfOk r (λ v. slots ≡ map Some v.items)
-    → IfOk r (λ v. ArePrinted s.exported.exports.now s.limit (joined s.parts.now) s.symbols.now s.suffixes.now (rows s.imports.now) (rows s.promoted.now) s.parts.now v.items)
-all_compiled {A} s slots filled r =
+pub all_units : {A E : Type 0} (s : Setting) (slots : List (Option (List Piece))) → AreFilled s slots → (r : Result (Vec (List Piece) A) E) → IfOk r (λ v. slots ≡ map Some v.items)
+    → IfOk r (λ v. AreUnits s.exports.now s.limit s.symbols.now s.suffixes.now (rows s.imports.now) (rows s.promoted.now) s.parts.now v.items)
+all_units {A} s slots filled r =
     IfOk-weaker r (λ (v : Vec (List Piece) A). slots ≡ map Some v.items)
-    (λ (v : Vec (List Piece) A). ArePrinted s.exported.exports.now s.limit (joined s.parts.now) s.symbols.now s.suffixes.now (rows s.imports.now) (rows s.promoted.now) s.parts.now v.items)
-    (λ v taken.
-    let count : length v.items ≡ length s.parts.now = sym (length-map v.items (λ (u : List Piece). Some u)) ∙ sym (ap length taken) ∙ filled.count in
-    let made =
-    compiled s.exported.exports.now s.limit (joined s.parts.now) s.symbols.now s.suffixes.now (rows s.imports.now) (rows s.promoted.now) s.parts.now v.items count
-    (λ i unit here.
-    let u = filled.each i unit (ap (λ (l : List (Option (List Piece))). slice_get l i) taken ∙ slice_get-map (λ (u : List Piece). Some u) v.items i ∙ ap (option_map (λ (u : List Piece). Some u)) here) in
-    (u.pieces, u.made, u.stripped)) in
-    record { units = made.0; compiled = made.2; printed = made.1; printed_are = made.3; stripped = made.4 })
+    (λ (v : Vec (List Piece) A). AreUnits s.exports.now s.limit s.symbols.now s.suffixes.now (rows s.imports.now) (rows s.promoted.now) s.parts.now v.items)
+    (λ v taken. record {
+      count = sym (length-map v.items (λ (u : List Piece). Some u)) ∙ sym (ap length taken) ∙ filled.count;
+      each = λ k unit here.
+          filled.each k unit
+          (ap (λ (l : List (Option (List Piece))). slice_get l k) taken ∙ slice_get-map (λ (u : List Piece). Some u) v.items k ∙ ap (option_map (λ (u : List Piece). Some u)) here);
+    })

@@ -14,8 +14,13 @@ pub mod Own
 pub mod Zipping
 pub mod Members
 pub mod Compiling
+pub mod Printed
 pub mod Among
 pub mod Tabled
+pub mod Gathering
+pub mod Rising
+pub mod NameSets
+pub mod SortedValues
 pub mod Sent
 pub mod Bettering
 pub mod Knowing
@@ -29,6 +34,12 @@ mod Named
 mod Origins
 mod Imported
 mod Offering
+mod Declared
+mod Moved
+mod SortedJoins
+mod TaskBodies
+mod TaskUnits
+mod TaskSound
 mod Stripped
 mod Referables
 mod OnceNamed

@@ -42,7 +42,8 @@ use Rattle.emit.specs.Emissions.{settled}
 use Rattle.emit.specs.Strips.{ModulePieces, OfferEnough}
 use Rattle.emit.proofs.References.{known_more, names_known}
 use Rattle.link_one.specs.Linked.{AreCompiled, IsLinkedGlobal, bodies_for, brought, joined, value_of}
-use Rattle.link_one.specs.Units.{AreAllPrinted, IsPrinted, IsSettledPiece, linkage_in, names_of, shown}
+use Rattle.link_one.specs.Units.{IsSettledPiece, linkage_in, names_of, shown}
+use Rattle.link_one.proofs.Printed.{AreAllPrinted, IsPrinted}
 use Rattle.link_one.proofs.Compiling.{AreAmong, brought_stands}
 use Rattle.link_one.proofs.Finals.{one_symbol}
 use Rattle.link_one.proofs.Imported.{imported_lives, imported_within, module_listed}
@@ -59,7 +60,7 @@ use Rattle.link_one.proofs.Places.{placed}
 -- ---- lists
 
 -- what is found of an element is in the list of all that is found
-in_found : {X Y : Type 0} (h : X → Option Y) (xs : List X) (x : X) (y : Y) → Contains xs x → h x ≡ Some y → Contains (filter_map h xs) y
+pub in_found : {X Y : Type 0} (h : X → Option Y) (xs : List X) (x : X) (y : Y) → Contains xs x → h x ≡ Some y → Contains (filter_map h xs) y
 in_found h [] x y c e = absurd (nothing x c)
 in_found {X} {Y} h (z ∷ xs) x y c e = by (h z) refl (first_or_later z x xs c) (λ more. in_found h xs x y more e)
   where
@@ -89,7 +90,7 @@ in_range n size below =
 
 -- ---- what is compiled
 
-linked_symbol : MadeHasInterface → (bodies : List ℕ → Option Function) (g h : GlobalValue) → IsLinkedGlobal bodies g h → global_symbol h ≡ global_symbol g
+pub linked_symbol : MadeHasInterface → (bodies : List ℕ → Option Function) (g h : GlobalValue) → IsLinkedGlobal bodies g h → global_symbol h ≡ global_symbol g
 linked_symbol interface bodies (global.Variable v) (global.Variable w) made = ap (λ (x : GlobalValue). global_symbol x) (ap global.Variable made)
 linked_symbol interface bodies (global.Function f) (global.Function g) made = (interface bodies f g made).symbol
 linked_symbol interface bodies (global.Variable v) (global.Function g) made = absurd made

@@ -1,15 +1,17 @@
 -- The names by which others may refer to values, one value further.
-use Rattle.std.proofs.Common.{◌≡◌, ◌∙◌, ◌<◌, ◌+◌, not, ℕ, Bool, true, false, cond, List, [], ◌∷◌, ◌++◌, Option, append_assoc, ap, sym, refl, filter, length, map, option_map, slice_get, slice_index_or, take}
+use Rattle.std.proofs.Common.{◌≡◌, ◌∙◌, ◌<◌, ◌+◌, not, ℕ, Bor, Bool, true, false, cond, List, [], ◌∷◌, ◌++◌, Option, append_assoc, ap, sym, refl, filter, length, map, option_map, slice_get, slice_index_or, take}
 use Rattle.std.specs.Prelude.{filter_map}
 use Rattle.std.proofs.lemmas.Grind.{take_at_read}
+use Rattle.std.proofs.lemmas.List.{map-append}
 use Rattle.std.proofs.lemmas.List.Elements.{filter_map-append}
 use Rattle.ir_tree.specs.Linkages.{is_local}
 use Rattle.ir_tree.specs.declared.module.GlobalValue.{GlobalValue}
 use Rattle.ir_tree.specs.declared.operand.Symbol.{Symbol}
 use Rattle.ir_better.specs.Programs.{symbol_of}
 use Rattle.promote_rename.specs.Finals.{final_name}
-use Rattle.link_one.specs.Tables.{option_list}
+use Rattle.link_one.specs.Tables.{option_list, values}
 use Rattle.link_one.specs.Units.{linkage_in, names_of, shown}
+use Rattle.link_one.proofs.Gathering.{Joins}
 use Rattle.link_one.proofs.Tabled.{one_given}
 
 shown_append : (xs ys : List GlobalValue) → shown (xs ++ ys) ≡ (shown xs ++ shown ys)
@@ -22,18 +24,11 @@ shown_append (x ∷ xs) ys = by (not (is_local (linkage_in x))) (shown_append xs
     by true e = ap (λ (l : List (List ℕ)). (symbol_of x).name ∷ l) e
     by false e = e
 
--- the names so far, and those of one more value
-pub shown_more : (new old first : List (List ℕ)) (part : List GlobalValue) (i : ℕ) (g : GlobalValue) → i < length part → g ≡ slice_index_or part i g
-    → old ≡ first ++ shown (take i part) → new ≡ old ++ shown (g ∷ []) → new ≡ first ++ shown (take (i + 1) part)
-shown_more new old first part i g lt is before pushed =
-    pushed
-    ∙ ap (λ (l : List (List ℕ)). l ++ shown (g ∷ [])) before
-    ∙ append_assoc first (shown (take i part)) (shown (g ∷ []))
-    ∙ ap (λ (l : List (List ℕ)). first ++ l) (sym (shown_append (take i part) (g ∷ [])))
-    ∙ ap (λ (x : GlobalValue). first ++ shown (take i part ++ x ∷ [])) is
-    ∙ ap (λ (l : List GlobalValue). first ++ shown l) (sym (take_at_read part i g lt).1)
+-- so of borrowed values
+pub shown_of_values : Joins (λ (gs : List (Bor GlobalValue)). shown (values gs))
+shown_of_values xs ys = ap shown (map-append (λ (g : Bor GlobalValue). g.now) xs ys) ∙ shown_append (values xs) (values ys)
 
--- and those of one more number
+-- the names so far, and those of one more number
 pub names_more : (new old first : List (List ℕ)) (symbols : List Symbol) (suffixes : List (List ℕ)) (numbers : List ℕ) (i : ℕ) (o : Option Symbol) → i < length numbers → o ≡ slice_get symbols (slice_index_or numbers i 0)
     → old ≡ first ++ names_of symbols suffixes (take i numbers) → new ≡ old ++ option_list (option_map (final_name suffixes) o) → new ≡ first ++ names_of symbols suffixes (take (i + 1) numbers)
 names_more new old first symbols suffixes numbers i o lt found before pushed =

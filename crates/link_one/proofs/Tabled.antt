@@ -8,7 +8,9 @@ use Rattle.std.proofs.lemmas.Grind.{take_at_read}
 use Rattle.std.proofs.lemmas.List.Elements.{filter_map-append}
 use Rattle.std.proofs.lemmas.Map.Text.{hash_map_updates_str}
 use Rattle.ir_tree.specs.declared.module.GlobalValue.{GlobalValue}
+use Rattle.ir_summary.specs.Once.{texts}
 use Rattle.link_one.specs.Tables.{option_list, value_in, values}
+use Rattle.link_one.proofs.Gathering.{found_mapped}
 
 -- ---- lists
 
@@ -27,6 +29,18 @@ given_more h old new first numbers i o lt before given pushed =
     ∙ ap (λ (l : List GlobalValue). values first ++ (filter_map h (take i numbers) ++ l)) (sym (one_given (h n)))
     ∙ ap (λ (l : List GlobalValue). values first ++ l) (sym (filter_map-append h (take i numbers) (n ∷ [])))
     ∙ ap (λ (l : List ℕ). values first ++ filter_map h l) (sym (take_at_read numbers i 0 lt).1)
+
+-- the same of borrowed names
+pub found_more : (h : List ℕ → Option GlobalValue) (old new first : List GlobalValue) (names : List (Bor (List ℕ))) (i : ℕ) (d : Bor (List ℕ)) (o : Option GlobalValue) → i < length names
+    → old ≡ first ++ filter_map h (texts (take i names)) → o ≡ h (slice_index_or names i d).now → new ≡ old ++ option_list o → new ≡ first ++ filter_map h (texts (take (i + 1) names))
+found_more h old new first names i d o lt before found pushed =
+    let n : Bor (List ℕ) = slice_index_or names i d in
+    pushed ∙ ap (λ (p : Option GlobalValue). old ++ option_list p) found
+    ∙ ap (λ (l : List GlobalValue). l ++ option_list (h n.now)) before
+    ∙ append_assoc first (filter_map h (texts (take i names))) (option_list (h n.now))
+    ∙ ap (λ (l : List GlobalValue). first ++ (filter_map h (texts (take i names)) ++ l)) (sym (one_given (h n.now)))
+    ∙ ap (λ (l : List GlobalValue). first ++ l) (sym (found_mapped h (λ (m : Bor (List ℕ)). m.now) (take i names) (n ∷ [])))
+    ∙ ap (λ (l : List (Bor (List ℕ))). first ++ filter_map h (texts l)) (sym (take_at_read names i d lt).1)
 
 -- ---- the table
 

@@ -11,3 +11,5 @@ pub mod Tables
 pub mod Units
 pub mod Tasks
 pub mod TaskLaws
+pub mod TaskUnits
+pub mod ModuleUnits

@@ -18,7 +18,7 @@ use Rattle.thin_link.specs.Linking.{IsThinLink}
 use Rattle.link_one.specs.Linked.{IsLinked}
 use Rattle.link_one.specs.Naming.{linked_names}
 use Rattle.link_one.specs.Refusing.{CanBeLinked, IsUnlinked}
-use Rattle.link_one.specs.Units.{ArePrintedOf}
+use Rattle.link_one.specs.ModuleUnits.{AreUnitsOf}
 
 -- the linked program of verified modules refines what they mean together
 abbrev pub LinkedRefines : Type 0
@@ -52,11 +52,11 @@ pub record IsLinkedText (exports : List (List ℕ)) (import_limit inline_limit :
   pub linked : IsLinked exports import_limit inline_limit suffixes ms l
   pub is : text ≡ module_text l
 
--- behind their target lines, what is joined of the pieces that the units of verified modules keep
-abbrev pub KeptIsLinked : Type 0
-KeptIsLinked =
-    (exports : List (List ℕ)) (import_limit inline_limit : ℕ) (suffixes : List (List ℕ)) (ms : List Module) (index : Combined) (live : List Bool) (imports : List (List ℕ)) (kept : List (List Piece)) (text : List ℕ)
+-- behind their target lines, what is joined of the units of verified modules
+abbrev pub UnitsAreLinked : Type 0
+UnitsAreLinked =
+    (exports : List (List ℕ)) (import_limit inline_limit : ℕ) (suffixes : List (List ℕ)) (ms : List Module) (index : Combined) (live : List Bool) (imports : List (List ℕ)) (units : List (List Piece)) (text : List ℕ)
     → All IsVerified ms → IsThinLink ms exports import_limit index live imports → NoneTaken (final_names suffixes index.symbols live)
-    → ArePrintedOf exports inline_limit index suffixes imports (parts ms index.symbols live suffixes) kept
-    → IsJoin exports (flat_map (λ ps. ps) kept) (module_text (record { datalayout = given_text Datalayout ms; triple = given_text Triple ms; globals = [] })) text
+    → AreUnitsOf exports inline_limit index suffixes imports (parts ms index.symbols live suffixes) units
+    → IsJoin exports (flat_map (λ ps. ps) units) (module_text (record { datalayout = given_text Datalayout ms; triple = given_text Triple ms; globals = [] })) text
     → IsLinkedText exports import_limit inline_limit suffixes ms text

@@ -3,9 +3,10 @@
 //! The bytes of each file are read (`ir_parse`) and verified (`ir_verify`): [`accepted`] refuses bytes exactly where they are
 //! read as no sound module within the limits, with the line and the kind of the first fault (`specs/Accepted.antt`). [`link`]
 //! does the rest. By the index alone it is decided what is live, what it will be called and what each module imports
-//! (`thin_link`, `promote_rename`). Each module's part, its live definitions under final names (`merge_meaning`), is compiled by
-//! itself (`back_end`) on one of several threads, with the bodies of the part and those that the module imports, as they were
-//! read, and kept as pieces, which are printed at once (`lto_task`, `ir_print`); the text is joined of the pieces that are reached
+//! (`thin_link`, `promote_rename`). Each module's part, its live definitions under final names (`merge_meaning`), goes into its
+//! task with the bodies that it imports, as they were read, and declarations (`specs/Tasks.antt`). From the task alone the module
+//! is compiled on one of several threads (`specs/TaskUnits.antt`, `back_end`), and kept as pieces, which are printed at once
+//! (`lto_task`, `ir_print`); the text is joined of the pieces that are reached
 //! from the exported names (`emit`). What a linked module is, is said of trees (`specs/Linked.antt`), and [`link`] keeps both
 //! promises of the linker: the text is that of the linked module of the modules that the files are read as and no other text is
 //! one, and each run of the linked program from an exported function is a run of the merged modules (`specs/Linking.antt`). No
@@ -16,23 +17,29 @@
 //! the live definitions under their final names refine it, as better ones in their places do.
 //!
 //! Below stand these crates, `ir_better` for what is proved, and `lto_fault`, whose refusals are told. The cost is that of the stages: each definition is copied once
-//! under its final name, and imported bodies are found by name in one table. Each thread compiles a run of neighbouring modules,
+//! under its final name, and what a task lacks is found by name in one table: each reference is sorted once in its task. Each thread compiles a run of neighbouring modules,
 //! of equal number and not of equal length. That threads save time isn't shown: `bench/link` measures it.
 #![tactic(auto)]
 
 mod accepting;
+mod closing;
 mod kind;
 mod laws;
 mod linked;
 mod linked_laws;
 mod linking;
 mod meaning_laws;
+mod names;
 mod naming;
+mod outside;
+mod piece;
 mod referable;
 mod setting;
 mod table;
 mod target;
 mod task_laws;
+mod task_unit;
+mod tasks;
 mod unit;
 
 pub use accepting::{LinkError, accepted};

@@ -11,9 +11,9 @@ ghost use Rattle.symbol_resolve.specs.Clashes.{given_text};
 ghost use Rattle.symbol_resolve.specs.declared.clash.TargetLine.TheVariants.{Datalayout, Triple};
 ghost use Rattle.link_one.specs.Linked.{joined};
 ghost use Rattle.link_one.specs.LinkedLaws.{IsLinkedText};
-ghost use Rattle.link_one.specs.Units.{ArePrintedOf};
+ghost use Rattle.link_one.specs.ModuleUnits.{AreUnitsOf};
 
-use crate::linked_laws::kept_is_linked;
+use crate::linked_laws::units_are_linked;
 use crate::target::given_text;
 use crate::unit::units;
 use emit::emit;
@@ -49,7 +49,7 @@ fn compiled<R: Threads + Sync>(
 ) -> Result<Vec<Rows<Piece>>, AllocError>
     requires resolved { decided.now.resolution ≡ symbols modules.now }
     requires marks { length decided.now.live ≡ length decided.now.index.symbols }
-    ensures { IfOk result (λ pieces. let ps = parts modules.now decided.now.index.symbols decided.now.live suffixes.now in ArePrintedOf exports.now limit decided.now.index suffixes.now (rows decided.now.imports.items) ps pieces.items) }
+    ensures { IfOk result (λ pieces. let ps = parts modules.now decided.now.index.symbols decided.now.live suffixes.now in AreUnitsOf exports.now limit decided.now.index suffixes.now (rows decided.now.imports.items) ps pieces.items) }
 {
     live_by_module();
     all_verified(modules);
@@ -105,7 +105,7 @@ pub(crate) fn linked<R: Threads + Sync>(
     requires named { NoneTaken (final_names suffixes.now decided.now.index.symbols decided.now.live) }
     ensures { IfOk result (IsLinkedText exports.now import_limit inline_limit suffixes.now modules.now) }
 {
-    kept_is_linked();
+    units_are_linked();
     all_verified(modules);
     let header = header(alloc, modules)?;
     let pieces = compiled(

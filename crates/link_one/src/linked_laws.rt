@@ -1,5 +1,5 @@
 //! Laws of modules that are linked, and of those that aren't.
-ghost use Rattle.link_one.specs.LinkedLaws.{KeptIsLinked, LinkedIsVerified, LinkedRefines, UnlinkedIsNotLinked, UnlinkedIsOne};
+ghost use Rattle.link_one.specs.LinkedLaws.{LinkedIsVerified, LinkedRefines, UnitsAreLinked, UnlinkedIsNotLinked, UnlinkedIsOne};
 
 use crate::{live_is_known, live_refines};
 use back_end::{made_has_interface, made_is_better, made_is_known};
@@ -35,9 +35,9 @@ pub fn linked_is_verified()
     emission_is_whole();
 }
 
-/// What is joined of the pieces that the units of verified modules keep is the text of their linked module.
-pub(crate) fn kept_is_linked()
-    ensures { KeptIsLinked }
+/// What is joined of the units of verified modules is the text of their linked module.
+pub(crate) fn units_are_linked()
+    ensures { UnitsAreLinked }
 {
     made_has_interface();
     made_is_better();

@@ -1,8 +1,8 @@
-//! The names by which other units may refer to what is compiled of a part.
+//! The names by which other units may refer to what is compiled.
 ghost use Rattle.std.specs.Prelude.{◌≡◌, ◌++◌, ◌∷◌, [], IfOk, OnOk, option_copied, option_map};
 ghost use Rattle.promote_rename.specs.Finals.{final_name};
-ghost use Rattle.link_one.specs.Tables.{option_list};
-ghost use Rattle.link_one.specs.Units.{linkage_in, names_of, offers, shown};
+ghost use Rattle.link_one.specs.Tables.{option_list, values};
+ghost use Rattle.link_one.specs.Units.{linkage_in, names_of, shown};
 
 use crate::setting::symbol_at;
 use ir_better::symbol_of;
@@ -30,10 +30,14 @@ fn push_name(alloc: Global, names: &mut Rows<Text>, global: &GlobalValue) -> Res
 }
 
 /// Adds the names of what isn't local to the module.
-fn push_shown(alloc: Global, names: &mut Rows<Text>, part: &[GlobalValue]) -> Result<(), AllocError>
-    ensures { OnOk result (names.new ≡ names.old ++ shown part.now) }
+pub(crate) fn push_shown(
+    alloc: Global,
+    names: &mut Rows<Text>,
+    globals: &[&GlobalValue],
+) -> Result<(), AllocError>
+    ensures { OnOk result (names.new ≡ names.old ++ shown (values globals.now)) }
 {
-    for global in part {
+    for global in globals {
         push_name(alloc, names, global)?;
     }
     Ok(())
@@ -55,7 +59,7 @@ fn push_final(
 }
 
 /// Adds the final names of the symbols of these numbers.
-fn push_names(
+pub(crate) fn push_names(
     alloc: Global,
     names: &mut Rows<Text>,
     symbols: &[Symbol],
@@ -70,18 +74,16 @@ fn push_names(
     Ok(())
 }
 
-/// The names of a part to which other units may refer: of what isn't local, and of promoted locals.
-pub(crate) fn offers(
+/// Adds copies of these names.
+pub(crate) fn push_copies(
     alloc: Global,
-    symbols: &[Symbol],
-    suffixes: &[Text],
-    promoted: &[u32],
-    part: &[GlobalValue],
-) -> Result<Rows<Text>, AllocError>
-    ensures { IfOk result (λ names. names ≡ offers symbols.now suffixes.now promoted.now part.now) }
+    names: &mut Rows<Text>,
+    more: &[Text],
+) -> Result<(), AllocError>
+    ensures { OnOk result (names.new ≡ names.old ++ more.now) }
 {
-    let mut names = Rows::new(alloc);
-    push_shown(alloc, &mut names, part)?;
-    push_names(alloc, &mut names, symbols, suffixes, promoted)?;
-    Ok(names)
+    for name in more {
+        names.push(Text::copied(alloc, name.as_slice())?)?;
+    }
+    Ok(())
 }

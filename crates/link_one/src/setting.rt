@@ -1,16 +1,16 @@
-//! What each module is compiled from, and which bodies may be inlined in it.
-ghost use Rattle.std.specs.Prelude.{◌≡◌, ◌++◌, ℕ, IfOk, List, OnOk, option_copied, slice_get};
-ghost use Rattle.back_end.specs.Walking.{bodies_in};
-ghost use Rattle.link_one.specs.Linked.{bodies_for, brought, joined, value_named, value_of};
+//! What the tasks of a link's modules are made of.
+ghost use Rattle.std.specs.Prelude.{◌≡◌, ◌++◌, ℕ, [], IfOk, List, OnOk, option_copied, slice_get, slice_index_or};
+ghost use Rattle.std.specs.List.{list_any};
+ghost use Rattle.std.specs.Str.{bytes_eq};
+ghost use Rattle.emit.specs.Chosen.{has};
+ghost use Rattle.thin_link.specs.Views.{rows};
+ghost use Rattle.link_one.specs.Linked.{brought, joined, value_named, value_of};
 ghost use Rattle.link_one.specs.Tables.{option_list, value_in, values};
 
-use crate::table::push_all;
-use back_end::Bodies;
-use emit::Exported;
 use ir_tree::{GlobalValue, Rows, Symbol, Text};
 use promote_rename::final_name;
 use std::alloc::{AllocError, Global};
-use std::collections::HashMap;
+use std::collections::{HashMap, HashSet};
 
 /// Adds a value to those that are borrowed, if there is one.
 fn push_some<'a>(
@@ -36,7 +36,27 @@ pub(crate) fn symbol_at(symbols: &[Symbol], number: u32) -> Option<&Symbol>
     }
 }
 
-/// What each module is compiled from: the parts, what the index decided, and which names are exported.
+/// The part of this number.
+pub(crate) fn part_at(parts: &[Rows<GlobalValue>], number: usize) -> &[GlobalValue]
+    ensures { result.now ≡ slice_index_or parts.now number [] }
+{
+    match parts.get(number) {
+        Some(part) => part.as_slice(),
+        None => &[],
+    }
+}
+
+/// The list of this number.
+pub(crate) fn list_at(lists: &[Vec<u32>], number: usize) -> &[u32]
+    ensures { result.now ≡ slice_index_or (rows lists.now) number [] }
+{
+    match lists.get(number) {
+        Some(numbers) => numbers,
+        None => &[],
+    }
+}
+
+/// What tasks are made of: the parts, what the index decided, and which names are exported.
 #[derive(Drop)]
 pub(crate) struct Setting<'a> {
     pub(crate) parts: &'a [Rows<GlobalValue>],
@@ -45,14 +65,16 @@ pub(crate) struct Setting<'a> {
     pub(crate) imports: &'a [Vec<u32>],
     pub(crate) promoted: &'a [Vec<u32>],
     pub(crate) limit: u32,
-    pub(crate) exported: Exported<'a>,
+    pub(crate) exports: &'a [Text],
+    pub(crate) exported: HashSet<&'a [u8]>,
     pub(crate) table: HashMap<&'a [u8], &'a GlobalValue>,
+    ghost knows: { (name : List ℕ) → has exported name ≡ list_any (bytes_eq name) exports.now },
     ghost finds: { (name : List ℕ) → value_in table name ≡ value_named (joined parts.now) name },
 }
 
 impl<'a> Setting<'a> {
     /// The value of this name.
-    fn value_named(&self, name: &[u8]) -> Option<&'a GlobalValue>
+    pub(crate) fn value_named(&self, name: &[u8]) -> Option<&'a GlobalValue>
         ensures { option_copied result ≡ value_named (joined self.now.parts.now) name.now }
     {
         match self.table.get(&name) {
@@ -77,7 +99,7 @@ impl<'a> Setting<'a> {
     }
 
     /// Adds the imported values, those of the symbols of these numbers.
-    fn push_brought(
+    pub(crate) fn push_brought(
         &self,
         alloc: Global,
         list: &mut Vec<&'a GlobalValue>,
@@ -90,20 +112,5 @@ impl<'a> Setting<'a> {
             push_some(list, value)?;
         }
         Ok(())
-    }
-
-    /// The bodies that may be inlined in a module: its own, and those that it imports.
-    pub(crate) fn bodies(
-        &self,
-        alloc: Global,
-        numbers: &[u32],
-        part: &'a [GlobalValue],
-    ) -> Result<Bodies<'a>, AllocError>
-        ensures { IfOk result (λ b. bodies_in b ≡ bodies_for self.now.limit (joined self.now.parts.now) self.now.symbols.now self.now.suffixes.now numbers.now part.entry.now) }
-    {
-        let mut list = Vec::new(alloc);
-        self.push_brought(alloc, &mut list, numbers)?;
-        push_all(&mut list, part)?;
-        Bodies::of(alloc, &list, self.limit)
     }
 }

@@ -49,7 +49,7 @@ fn note<'a>(
 }
 
 /// The table of these global values; of one name the first.
-fn noted<'a>(
+pub(crate) fn noted<'a>(
     alloc: Global,
     all: &[&'a GlobalValue],
 ) -> Result<HashMap<&'a [u8], &'a GlobalValue>, AllocError>

@@ -9,7 +9,7 @@ use Rattle.merge_meaning.specs.Lives.{is_live, parts}
 use Rattle.link_one.specs.Linked.{joined}
 use Rattle.combined_index.specs.Combined.{Combined}
 use Rattle.promote_rename.specs.Promotions.{ArePromoted}
-use Rattle.link_one.specs.Units.{ArePrinted}
+use Rattle.link_one.specs.ModuleUnits.{AreUnits}
 use Rattle.link_one.proofs.Linkable.{parts_sound_in}
 use Rattle.link_one.proofs.linked.compiled.Goals as goal
 
@@ -38,10 +38,10 @@ returns g c =
     (λ made units. record {
       promoted = promoted;
       promoted_are = are;
-      printed =
-          subst (λ (ps : List (List GlobalValue)). ArePrinted c.args.exports.now c.args.limit (joined ps) symbols suffixes imports promoted ps made.items) of_modules
-          (subst (λ (ss : List Symbol). ArePrinted c.args.exports.now c.args.limit (joined c.deref-2.result.now) ss suffixes imports promoted c.deref-2.result.now made.items) c.symbols-2.ensures.symbols
-          (subst (λ (is : List (List ℕ)). ArePrinted c.args.exports.now c.args.limit (joined c.deref-2.result.now) c.symbols-2.result.now suffixes is promoted c.deref-2.result.now made.items) (ap rows c.deref-3.ensures.value)
+      are =
+          subst (λ (ps : List (List GlobalValue)). AreUnits c.args.exports.now c.args.limit symbols suffixes imports promoted ps made.items) of_modules
+          (subst (λ (ss : List Symbol). AreUnits c.args.exports.now c.args.limit ss suffixes imports promoted c.deref-2.result.now made.items) c.symbols-2.ensures.symbols
+          (subst (λ (is : List (List ℕ)). AreUnits c.args.exports.now c.args.limit c.symbols-2.result.now suffixes is promoted c.deref-2.result.now made.items) (ap rows c.deref-3.ensures.value)
           units));
     })
     c.units.ensures

@@ -10,7 +10,7 @@ pub returns : goal.returns
 returns g c =
     IfOk-weaker c.emit.result _ _
     (λ text join.
-    c.kept_is_linked.ensures c.args.exports.now c.args.import_limit c.args.inline_limit c.args.suffixes.now c.args.modules.now c.args.decided.now.index c.args.decided.now.live
+    c.units_are_linked.ensures c.args.exports.now c.args.import_limit c.args.inline_limit c.args.suffixes.now c.args.modules.now c.args.decided.now.index c.args.decided.now.live
     (rows c.args.decided.now.imports.items) c.in_ok-pieces.pieces.items text c.all_verified.ensures c.requires.thin c.requires.named c.in_ok-pieces.ensures
     (subst (λ (h : List ℕ). IsJoin c.args.exports.now (flat_map (λ u. u) c.in_ok-pieces.pieces.items) h text) (c.as_slice.ensures ∙ c.in_ok-header.ensures)
     (subst (λ (us : List (List Piece)). IsJoin c.args.exports.now (flat_map (λ u. u) us) c.as_slice.result.now text) c.deref.ensures.value join)))

@@ -6,7 +6,7 @@ use Rattle.std.proofs.lemmas.Grind.{common_steps}
 use Rattle.std.proofs.lemmas.Option.{get_or_from_slice_get, slice_get_within}
 use denote.Param.Send.{sendable}
 use Rattle.lto_task.specs.declared.piece.Piece.{Piece}
-use Rattle.link_one.specs.Units.{AreFilled, IsUnit}
+use Rattle.link_one.specs.ModuleUnits.{AreFilled, IsUnit}
 use Rattle.link_one.proofs.Sent.{global_sync}
 use Rattle.link_one.proofs.unit.filled.Goals as goal
 

@@ -1,8 +1,0 @@
-use Rattle.std.proofs.Common.{take}
-use Rattle.std.specs.List.{AllZip}
-use Rattle.back_end.specs.Walking.{bodies_in}
-use Rattle.link_one.specs.Units.{IsLinkedPiece}
-use Rattle.link_one.proofs.unit.linked_pieces.Given as goal
-
-abbrev pub invariant-each : goal.invariant-each
-invariant-each l = AllZip (IsLinkedPiece (bodies_in l.bodies) l.exported.exports.now) (take l.global-index l.globals) l.rows

@@ -1,0 +1,48 @@
+-- The units of the modules of a link: what is made of their tasks.
+use Rattle.std.specs.Prelude.{◌≡◌, ℕ, List, [], Option, Some, length, slice_get, slice_index_or}
+use Rattle.ir_tree.specs.declared.module.GlobalValue.{GlobalValue}
+use Rattle.ir_tree.specs.declared.operand.Symbol.{Symbol}
+use Rattle.combined_index.specs.Combined.{Combined}
+use Rattle.promote_rename.specs.Promotions.{ArePromoted}
+use Rattle.thin_link.specs.Views.{rows}
+use Rattle.lto_task.specs.Tasks.{TaskView}
+use Rattle.lto_task.specs.declared.piece.Piece.{Piece}
+use Rattle.link_one.specs.Linked.{joined}
+use Rattle.link_one.specs.TaskUnits.{IsTaskUnit}
+use Rattle.link_one.specs.Tasks.{IsTaskOf}
+use Rattle.link_one.specs.declared.setting.Setting.{Setting}
+
+-- the task of the module of this number
+abbrev pub IsTaskOfNumber : List (List ℕ) → ℕ → List Symbol → List (List ℕ) → List (List ℕ) → List (List ℕ) → List (List GlobalValue) → ℕ → TaskView → Type 0
+IsTaskOfNumber exports limit symbols suffixes imports promoted parts k t =
+    IsTaskOf exports limit (joined parts) symbols suffixes (slice_index_or imports k []) (slice_index_or promoted k []) (slice_index_or parts k []) t
+
+-- what is made of its task
+pub record IsUnitOfNumber (exports : List (List ℕ)) (limit : ℕ) (symbols : List Symbol) (suffixes : List (List ℕ)) (imports promoted : List (List ℕ)) (parts : List (List GlobalValue)) (k : ℕ) (unit : List Piece) : Type 0 where
+  pub task : TaskView
+  pub is_task : IsTaskOfNumber exports limit symbols suffixes imports promoted parts k task
+  pub made : IsTaskUnit task unit
+
+-- a unit for each module
+pub record AreUnits (exports : List (List ℕ)) (limit : ℕ) (symbols : List Symbol) (suffixes : List (List ℕ)) (imports promoted : List (List ℕ)) (parts : List (List GlobalValue)) (units : List (List Piece)) : Type 0 where
+  pub count : length units ≡ length parts
+  pub each : (k : ℕ) (unit : List Piece) → slice_get units k ≡ Some unit → IsUnitOfNumber exports limit symbols suffixes imports promoted parts k unit
+
+-- with the locals that imports promote
+pub record AreUnitsOf (exports : List (List ℕ)) (limit : ℕ) (index : Combined) (suffixes : List (List ℕ)) (imports : List (List ℕ)) (parts : List (List GlobalValue)) (units : List (List Piece)) : Type 0 where
+  pub promoted : List (List ℕ)
+  pub promoted_are : ArePromoted index imports promoted
+  pub are : AreUnits exports limit index.symbols suffixes imports promoted parts units
+
+-- ---- in a setting
+
+abbrev pub IsTaskAt : Setting → ℕ → TaskView → Type 0
+IsTaskAt s number t = IsTaskOfNumber s.exports.now s.limit s.symbols.now s.suffixes.now (rows s.imports.now) (rows s.promoted.now) s.parts.now number t
+
+abbrev pub IsUnit : Setting → ℕ → List Piece → Type 0
+IsUnit s number unit = IsUnitOfNumber s.exports.now s.limit s.symbols.now s.suffixes.now (rows s.imports.now) (rows s.promoted.now) s.parts.now number unit
+
+-- there is a slot for each module, and what is in it is the unit
+pub record AreFilled (s : Setting) (slots : List (Option (List Piece))) : Type 0 where
+  pub count : length slots ≡ length s.parts.now
+  pub each : (k : ℕ) (unit : List Piece) → slice_get slots k ≡ Some (Some unit) → IsUnit s k unit
