@@ -36,3 +36,4 @@ mod Hosts
 mod Declaring
 mod ClosedUp
 mod TaskParts
+mod OneTask
