@@ -47,3 +47,4 @@ mod Hosts
 mod Declaring
 mod ClosedUp
 mod TaskParts
+mod OneTask

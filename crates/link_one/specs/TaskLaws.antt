@@ -3,6 +3,7 @@ use Rattle.std.specs.Prelude.{◌≡◌, ◌⊎◌, ℕ, Bool, List, [], All, Co
 use Rattle.ir_tree.specs.Wholes.{IsVerified}
 use Rattle.ir_tree.specs.declared.module.GlobalValue.{GlobalValue}
 use Rattle.ir_tree.specs.declared.module.Module.{Module}
+use Rattle.ir_tree.specs.declared.operand.Symbol.{Symbol}
 use Rattle.combined_index.specs.Combined.{Combined}
 use Rattle.promote_rename.specs.Finals.{NoneTaken, final_names}
 use Rattle.thin_link.specs.Linking.{IsThinLink}
@@ -34,3 +35,9 @@ TasksAreVerified =
     → All IsVerified ms → IsThinLink ms exports import_limit index live imports → NoneTaken (final_names suffixes index.symbols live)
     → IsTaskOf exports inline_limit (joined (parts ms index.symbols live suffixes)) index.symbols suffixes (slice_index_or imports k []) promoted (slice_index_or (parts ms index.symbols live suffixes) k []) t
     → IsVerified (module_of t.own) × IsVerified (module_of t.imported)
+
+-- a module has one task
+abbrev pub TaskIsOne : Type 0
+TaskIsOne =
+    (exports : List (List ℕ)) (limit : ℕ) (all : List GlobalValue) (symbols : List Symbol) (suffixes : List (List ℕ)) (imports promoted : List ℕ) (part : List GlobalValue) (t u : TaskView)
+    → IsTaskOf exports limit all symbols suffixes imports promoted part t → IsTaskOf exports limit all symbols suffixes imports promoted part u → t ≡ u

@@ -14,7 +14,8 @@
 //!
 //! That what a thin link decides by summaries is right of the program that the modules mean together is said by laws
 //! (`specs/MeaningLaws.antt`): the index finds and names what the program has, what it calls live is closed in the program, and
-//! the live definitions under their final names refine it, as better ones in their places do.
+//! the live definitions under their final names refine it, as better ones in their places do. The task of a module, all that its
+//! back end reads (`specs/Tasks.antt`), is one ([`task_is_one`]), and its modules are verified ([`tasks_are_verified`]).
 //!
 //! Below stand these crates, `ir_better` for what is proved, and `lto_fault`, whose refusals are told. The cost is that of the stages: each definition is copied once
 //! under its final name, and what a task lacks is found by name in one table: each reference is sorted once in its task. Each thread compiles a run of neighbouring modules,
@@ -47,4 +48,4 @@ pub use laws::{accepted_is_not_refused, linked_is_one, refused_is_one};
 pub use linked_laws::{linked_is_verified, linked_refines, unlinked_is_one};
 pub use linking::link;
 pub use meaning_laws::{index_names_references, live_is_emitted, live_is_known, live_refines};
-pub use task_laws::{tasks_are_of_parts, tasks_are_verified};
+pub use task_laws::{task_is_one, tasks_are_of_parts, tasks_are_verified};

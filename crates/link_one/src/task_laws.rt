@@ -1,5 +1,5 @@
 //! Laws of the tasks of a link.
-ghost use Rattle.link_one.specs.TaskLaws.{TasksAreOfParts, TasksAreVerified};
+ghost use Rattle.link_one.specs.TaskLaws.{TaskIsOne, TasksAreOfParts, TasksAreVerified};
 
 use crate::live_is_known;
 use lto_task::declarations_are_sound;
@@ -18,3 +18,8 @@ pub fn tasks_are_verified()
     live_by_module();
     live_is_known();
 }
+
+/// A module has one task: its names rise, its bodies stand in order, and so do the declarations of what they refer to and lack.
+pub fn task_is_one()
+    ensures { TaskIsOne }
+{}

@@ -14,3 +14,4 @@ mod Completing
 mod Asking
 mod Judging
 mod Saying
+mod TasksTold

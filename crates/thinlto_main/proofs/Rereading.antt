@@ -133,7 +133,7 @@ given_bytes (m ∷ ms) n = by (is_given (target_text Triple m)) (given_bytes ms 
 
 -- ---- the linked module
 
-host_plain : (g : GlobalValue) → (g ≡ getchar) ⊎ (g ≡ putchar) → IsPlain g
+pub host_plain : (g : GlobalValue) → (g ≡ getchar) ⊎ (g ≡ putchar) → IsPlain g
 host_plain g (inl e) = subst IsPlain (sym e) (record { locals = (tt, tt); strings = tt })
 host_plain g (inr e) = subst IsPlain (sym e) (record { locals = ((refl, tt), tt); strings = tt })
 

@@ -11,3 +11,4 @@ pub mod Answers
 pub mod Holding
 pub mod BatchHolding
 pub mod Telling
+pub mod Tasks

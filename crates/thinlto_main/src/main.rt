@@ -17,7 +17,8 @@
 //! The linker's two promises are kept here for any number of modules: the bytes put are the text of the linked module and of
 //! no other, and each run of the linked program is a run of what the modules mean together. A run that is asked for is the
 //! definition's of the merged modules with 0 as every free choice: its ending, what it writes and how much it reads. Beside the
-//! link itself, each byte is moved once; modules are copied once where they are merged.
+//! link itself, each byte is moved once; modules are copied once where they are merged. Of files of bytes, tasks of links
+//! (`link_one`) that have one text are one ([`tasks_are_told`]), as the key of a cache asks for.
 #![tactic(auto)]
 
 mod batch;
@@ -29,6 +30,7 @@ mod link;
 mod modules;
 mod run;
 mod status;
+mod tasks;
 #[cfg(test)]
 mod tests;
 
@@ -40,6 +42,7 @@ use std::alloc::Global;
 use std::process::ExitCode;
 use std::rt::Env;
 use std::{env, io};
+pub use tasks::{tasks_are_spelled, tasks_are_told};
 
 /// The words behind the program's own name, unless they can't be had.
 fn all_words<R: Env + AllocGlobal>(rt: &R, alloc: Global) -> Option<Vec<String>> {
