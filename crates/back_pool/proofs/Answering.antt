@@ -1,6 +1,6 @@
 -- What a cache finds under the text of a task is the answer of the task.
 use mathlib.Core.Logic.{∥∥₁_elim, ∥∥₁_map}
-use Rattle.std.proofs.Common.{◌≡◌, ◌∙◌, ℕ, List, ap, subst, sym}
+use Rattle.std.proofs.Common.{◌≡◌, ℕ, List, subst, sym}
 use Rattle.lto_task.specs.Tasks.{TaskView, task_text}
 use Rattle.lto_task.specs.Units.{IsUnit, UnitTextIsOne, unit_text}
 use Rattle.lto_task.specs.declared.piece.Piece.{Piece}

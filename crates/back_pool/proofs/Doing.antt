@@ -1,5 +1,5 @@
 -- What a worker's list holds once a task is done.
-use Rattle.std.proofs.Common.{◌≡◌, ◌++◌, [], ◌∷◌, ℕ, All, List, Option, None, Some, subst, sym}
+use Rattle.std.proofs.Common.{◌≡◌, ◌++◌, [], ◌∷◌, ℕ, All, List, Option, Some, subst, sym}
 use Rattle.std.specs.Prelude.{IfOk, IfSome, Result, Ok, Err, slice_get}
 use Rattle.std.specs.Result.{result_ok}
 use Rattle.std.proofs.lemmas.List.Elements.{All-push}

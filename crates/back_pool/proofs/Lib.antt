@@ -2,3 +2,4 @@ mod Answering
 mod Doing
 mod Slots
 pub mod Sent
+mod PoolSent

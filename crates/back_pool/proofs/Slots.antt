@@ -1,12 +1,7 @@
 -- Slots with answers.
-use Rattle.std.proofs.Common.{◌≡◌, ◌<◌, ◌∙◌, ◌+◌, ◌++◌, [], ◌∷◌, ℕ, zero, suc, All, List, Option, None, Some, arith, ap, length, map, refl, set, subst, sym}
+use Rattle.std.proofs.Common.{◌≡◌, [], ◌∷◌, ℕ, zero, suc, All, List, Option, None, Some, arith, length, map, set, subst, sym}
 use Rattle.std.specs.Prelude.{IfSome, slice_get}
 use Rattle.std.specs.List.{AllZip}
-use Rattle.lto_task.specs.Tasks.{TaskView, task_view}
-use Rattle.lto_task.specs.declared.piece.Piece.{Piece}
-use Rattle.lto_task.specs.declared.task.Task.{Task}
-use Rattle.back_pool.specs.Making.{IsAnswer}
-use Rattle.back_pool.specs.Working.{AreAnswers, IsAnswerAt}
 
 module _ {A B : Type 0} (R : A → B → Type 0) where
   -- one of the second list is replaced

@@ -17,10 +17,7 @@ use lto_task::Piece;
 use std::alloc::{AllocError, Global};
 
 /// So many slots with nothing in them.
-pub(crate) fn empty(
-    alloc: Global,
-    count: usize,
-) -> Result<Vec<Option<Rows<Piece>>>, AllocError>
+pub(crate) fn empty(alloc: Global, count: usize) -> Result<Vec<Option<Rows<Piece>>>, AllocError>
     ensures { IfOk result (λ slots. (length slots.items ≡ count) × All (λ slot. slot ≡ None) slots.items) }
 {
     let mut slots = Vec::with_capacity(alloc, count)?;

@@ -43,9 +43,7 @@ impl<'a, D: CacheDisk + Drop, S: Setting, B: Backend, G: Gate> Pool<'a, D, S, B,
             number,
         };
         let task = &self.tasks[number as usize];
-        let pieces = self
-            .answer(rt, alloc, &mut worker.pass, turn, task)
-            .ok();
+        let pieces = self.answer(rt, alloc, &mut worker.pass, turn, task).ok();
         worker.done.push_reserved(Done { number, pieces });
         self.gate.pass(worker.number, Some(number), Stage::Done);
         true

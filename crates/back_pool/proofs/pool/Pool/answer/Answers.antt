@@ -1,4 +1,4 @@
-use Rattle.std.proofs.Common.{◌≡◌, ◌∙◌, ℕ, List, Option, Some, subst}
+use Rattle.std.proofs.Common.{◌∙◌, List, Option, subst}
 use Rattle.std.specs.Prelude.{IfSome}
 use Rattle.lto_task.specs.Tasks.{task_view}
 use Rattle.lto_task.specs.Units.{IsUnit, unit_text}

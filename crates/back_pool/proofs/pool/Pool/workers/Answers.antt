@@ -1,4 +1,4 @@
-use Rattle.std.proofs.Common.{◌≡◌, ◌≤◌, ◌∙◌, All, arith, rules, ap, length}
+use Rattle.std.proofs.Common.{◌∙◌, All, arith, rules, ap, length}
 use Rattle.std.specs.Prelude.{vec_capacity}
 use Rattle.std.proofs.lemmas.List.Elements.{All-push, All-same}
 use Rattle.back_pool.specs.Making.{IsTrusted}
@@ -20,11 +20,11 @@ loop-number-preserved g c =
       pass = c.split-pass.ensures.pass.0;
       seen = c.split-pass.ensures.pass.1 ∙ c.loop-number.invariant.seen;
       workers = All-same P _ _ c.in_ok-push.ensures.items
-      (All-push P c.loop-number.workers.items _ c.loop-number.invariant.workers record {
-        of_word = c.in-Ok.ensures.made.0;
-        of_cache = c.split-pass.ensures.new.0;
-        counted = omega (arith, none);
-        roomy = omega (arith, all, room);
-      });
+          (All-push P c.loop-number.workers.items _ c.loop-number.invariant.workers record {
+            of_word = c.in-Ok.ensures.made.0;
+            of_cache = c.split-pass.ensures.new.0;
+            counted = omega (arith, none);
+            roomy = omega (arith, all, room);
+          });
       done = All-same Q _ _ c.in_ok-push.ensures.items (All-push Q c.loop-number.workers.items _ c.loop-number.invariant.done (search rules));
     }
