@@ -1,7 +1,8 @@
 //! Tests of the linker's outside, of its cache, and of what workers share: the traits of the outside (`lto_outside`) and
 //! the objects that meet them, in memory (`outside_memory`) and over real files (`outside_real`); entries of the cache
 //! (`cache_entry`), turns (`cache_turn`) and the shared cache over a disk in memory (`cache_slot`); numbers that workers
-//! draw (`claim_word`) and the core's events (`link_core`); and the words of the command line (`lto_words`).
+//! draw (`claim_word`), pools (`back_pool`) and the core's events (`link_core`); and the words of the command line
+//! (`lto_words`).
 //!
 //! What the clauses of these crates say is not tried again here. These tests show that the calls succeed with ample
 //! memory, what real files hold, and what threads beside each other get. The tests stand above the crates, so that their
@@ -24,6 +25,8 @@ mod events;
 mod meaning;
 #[cfg(test)]
 mod memory;
+#[cfg(test)]
+mod pool;
 #[cfg(test)]
 mod real;
 #[cfg(test)]
