@@ -1,10 +1,9 @@
 -- What a back end makes of a task, and which text of a cache is made of it.
 use Rattle.std.specs.Prelude.{◌≡◌, ◌↔◌, ◌⊎◌, ℕ, List, Option, None}
-use Rattle.std.specs.List.{Contains}
 use Rattle.lto_outside.specs.DiskStore.{DiskStore}
 use Rattle.lto_outside.specs.Honest.{IsHonest}
 use Rattle.cache_slot.specs.Decoded.{decoded}
-use Rattle.lto_task.specs.Tasks.{TaskView, task_text}
+use Rattle.lto_task.specs.Tasks.{IsWrittenTask, TaskView, task_text}
 use Rattle.lto_task.specs.Units.{IsUnit, unit_text}
 use Rattle.lto_task.specs.declared.piece.Piece.{Piece}
 
@@ -26,7 +25,7 @@ pub record IsAnswer (trusted : Type 0) (makes : TaskView → List Piece → Type
   pub made : trusted → ∥ makes t ps ∥₁
 
 -- The task may be compiled, its text may be stored as a key, and what fits that are the texts that are made of the task.
-pub record IsReady (keys : List (List ℕ)) (fits : List ℕ → List ℕ → Type 0) (makes : TaskView → List Piece → Type 0) (takes : TaskView → Type 0) (t : TaskView) : Type 0 where
-  pub key : Contains keys (task_text t)
-  pub as_made : FitsAsMade fits makes t
+pub record IsReady (IsKey : List ℕ → Type 0) (fits : List ℕ → List ℕ → Type 0) (makes : TaskView → List Piece → Type 0) (takes : TaskView → Type 0) (t : TaskView) : Type 0 where
+  pub key : IsKey (task_text t)
+  pub as_made : IsWrittenTask t → FitsAsMade fits makes t
   pub taken : takes t

@@ -42,7 +42,7 @@ pub(crate) fn taken(
     Ok(list)
 }
 
-impl<'a, D: CacheDisk + Drop, S: Setting, B: Backend, G: Gate> Pool<'a, D, S, B, G> {
+impl<'a, D: CacheDisk, S: Setting, B: Backend, G: Gate> Pool<'a, D, S, B, G> {
     /// Puts the pieces of a task into its slot, where there are any.
     fn put(&self, slots: &mut [Option<Rows<Piece>>], done: Done)
         requires slots { AreAnswers (IsTrusted S.dir D.fits S.files) B.makes self.now.tasks.now slots.old }

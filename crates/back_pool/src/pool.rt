@@ -4,7 +4,7 @@ ghost use Rattle.std.specs.List.{Contains};
 ghost use mathlib.Core.List.{IsPrefix};
 ghost use Rattle.cache_turn.specs.Places.{IsAt, seen_by};
 ghost use Rattle.lto_task.specs.Tasks as tasks;
-ghost use Rattle.lto_task.specs.Tasks.{task_view};
+ghost use Rattle.lto_task.specs.Tasks.{IsWrittenTask, task_view};
 ghost use Rattle.lto_task.specs.Units as units;
 ghost use Rattle.lto_task.specs.Units.{IsUnit};
 ghost use Rattle.back_pool.specs.Making.{FitsAsMade, IsAnswer, IsTrusted};
@@ -20,7 +20,7 @@ use std::sync::Wait;
 
 /// The tasks of a run, the word from which their numbers are drawn, and what each worker uses.
 #[derive(Drop)]
-pub(crate) struct Pool<'a, D: CacheDisk + Drop, S: Setting, B: Backend, G: Gate> {
+pub(crate) struct Pool<'a, D: CacheDisk, S: Setting, B: Backend, G: Gate> {
     pub(crate) tasks: &'a [Task<'a>],
     pub(crate) claims: Claims,
     pub(crate) backend: &'a B,
@@ -36,7 +36,7 @@ pub(crate) struct Turn {
     pub(crate) number: u32,
 }
 
-impl<'a, D: CacheDisk + Drop, S: Setting, B: Backend, G: Gate> Pool<'a, D, S, B, G> {
+impl<'a, D: CacheDisk, S: Setting, B: Backend, G: Gate> Pool<'a, D, S, B, G> {
     /// The unit that the cache has of this key, where its text is a unit's.
     fn found<W: Wait>(
         &self,
@@ -67,7 +67,7 @@ impl<'a, D: CacheDisk + Drop, S: Setting, B: Backend, G: Gate> Pool<'a, D, S, B,
         key: &[u8],
     ) -> Result<Rows<Piece>, AllocError>
         requires pass { IsAt self.now.cache.now.lock.table.shared.table_id pass.old.place.seat }
-        requires key { (key.now ≡ tasks.task_text (task_view task.now)) × Contains S.keys key.now }
+        requires key { (key.now ≡ tasks.task_text (task_view task.now)) × S.keys key.now }
         requires fits { FitsAsMade D.fits B.makes (task_view task.now) }
         requires takes { B.takes (task_view task.now) }
         ensures pass { IsAt self.now.cache.now.lock.table.shared.table_id pass.new.place.seat }
@@ -90,8 +90,8 @@ impl<'a, D: CacheDisk + Drop, S: Setting, B: Backend, G: Gate> Pool<'a, D, S, B,
         task: &Task,
     ) -> Result<Rows<Piece>, AllocError>
         requires pass { IsAt self.now.cache.now.lock.table.shared.table_id pass.old.place.seat }
-        requires key { Contains S.keys (tasks.task_text (task_view task.now)) }
-        requires fits { FitsAsMade D.fits B.makes (task_view task.now) }
+        requires key { S.keys (tasks.task_text (task_view task.now)) }
+        requires fits { IsWrittenTask (task_view task.now) → FitsAsMade D.fits B.makes (task_view task.now) }
         requires takes { B.takes (task_view task.now) }
         ensures pass { IsAt self.now.cache.now.lock.table.shared.table_id pass.new.place.seat }
         ensures answer { IfOk result (IsAnswer (IsTrusted S.dir D.fits S.files) B.makes (task_view task.now)) }

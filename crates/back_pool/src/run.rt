@@ -16,7 +16,7 @@ use std::alloc::{AllocError, Global};
 use std::sync::Wait;
 use std::thread::{Threads, for_each_mut};
 
-impl<'a, D: CacheDisk + Drop, S: Setting, B: Backend, G: Gate> Pool<'a, D, S, B, G> {
+impl<'a, D: CacheDisk, S: Setting, B: Backend, G: Gate> Pool<'a, D, S, B, G> {
     /// So many workers, each with passes of its own, split off these, and a list with room for all tasks.
     pub(crate) fn workers(
         &self,
@@ -50,13 +50,13 @@ impl<'a, D: CacheDisk + Drop, S: Setting, B: Backend, G: Gate> Pool<'a, D, S, B,
     }
 }
 
-impl<
+impl<'a, D: CacheDisk + Send, S: Setting + Send + Sync, B: Backend + Sync, G: Gate + Sync> Pool<
     'a,
-    D: CacheDisk + Drop + Send,
-    S: Setting + Send + Sync,
-    B: Backend + Sync,
-    G: Gate + Sync,
-> Pool<'a, D, S, B, G> {
+    D,
+    S,
+    B,
+    G,
+> {
     /// Each worker does tasks on a thread of its own until no number is left.
     pub(crate) fn work_in_threads<R: Threads + Wait + Sync>(
         &self,

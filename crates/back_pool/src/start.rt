@@ -4,7 +4,7 @@ ghost use Rattle.std.specs.List.{AllZip, Contains};
 ghost use mathlib.Core.List.{IsPrefix};
 ghost use Rattle.cache_turn.specs.Places.{IsAt, seen_by};
 ghost use Rattle.claim_word.specs.Passes.{IsPassOf};
-ghost use Rattle.lto_task.specs.Tasks.{task_text, task_view};
+ghost use Rattle.lto_task.specs.Tasks.{IsWrittenTask, task_text, task_view};
 ghost use Rattle.back_pool.specs.Making.{FitsAsMade, IsAnswer, IsReady, IsTrusted};
 ghost use Rattle.back_pool.specs.Working.{AreAnswers};
 
@@ -20,13 +20,13 @@ use std::alloc::{AllocError, Global};
 use std::sync::Wait;
 use std::thread::Threads;
 
-impl<
+impl<'a, D: CacheDisk + Send, S: Setting + Send + Sync, B: Backend + Sync, G: Gate + Sync> Pool<
     'a,
-    D: CacheDisk + Drop + Send,
-    S: Setting + Send + Sync,
-    B: Backend + Sync,
-    G: Gate + Sync,
-> Pool<'a, D, S, B, G> {
+    D,
+    S,
+    B,
+    G,
+> {
     /// Puts the answers of all tasks into the slots, by so many workers.
     fn fill<R: Threads + Wait + Sync>(
         &self,
@@ -57,7 +57,7 @@ impl<
 /// Refused for memory alone. May wait for other callers of the cache.
 pub fn run_pool<
     R: Threads + Wait + Sync,
-    D: CacheDisk + Drop + Send,
+    D: CacheDisk + Send,
     S: Setting + Send + Sync,
     B: Backend + Sync,
     G: Gate + Sync,
@@ -74,8 +74,8 @@ pub fn run_pool<
     requires jobs { (1 ≤ jobs) × (jobs ≤ 64) }
     requires count { length tasks.now < 2 ^ 32 }
     requires pass { IsAt cache.now.lock.table.shared.table_id pass.old.place.seat }
-    requires keys { All (λ t. Contains S.keys (task_text (task_view t))) tasks.now }
-    requires fits { All (λ t. FitsAsMade D.fits B.makes (task_view t)) tasks.now }
+    requires keys { All (λ t. S.keys (task_text (task_view t))) tasks.now }
+    requires fits { All (λ t. IsWrittenTask (task_view t) → FitsAsMade D.fits B.makes (task_view t)) tasks.now }
     requires takes { All (λ t. B.takes (task_view t)) tasks.now }
     ensures pass { IsAt cache.now.lock.table.shared.table_id pass.new.place.seat }
     ensures seen { IsPrefix (seen_by pass.old.place.seat) (seen_by pass.new.place.seat) }

@@ -18,14 +18,14 @@ use std::sync::Wait;
 
 /// A worker: what it draws with, its right to use the cache, and what it has done.
 #[derive(Drop)]
-pub(crate) struct Worker<D: CacheDisk + Drop, S: Setting> {
+pub(crate) struct Worker<D: CacheDisk, S: Setting> {
     pub(crate) number: u32,
     pub(crate) draws: ClaimPass,
     pub(crate) pass: CachePass<D, S>,
     pub(crate) done: Vec<Done>,
 }
 
-impl<'a, D: CacheDisk + Drop, S: Setting, B: Backend, G: Gate> Pool<'a, D, S, B, G> {
+impl<'a, D: CacheDisk, S: Setting, B: Backend, G: Gate> Pool<'a, D, S, B, G> {
     /// Draws a number, and does its task. Whether there was a number left.
     fn step<W: Wait>(&self, rt: &W, alloc: Global, worker: &mut Worker<D, S>) -> bool
         requires worker { IsAtWork self.now.claims self.now.cache.now.lock.table.shared.table_id worker.old.draws worker.old.pass.place.seat worker.old.done.items (vec_capacity worker.old.done) }

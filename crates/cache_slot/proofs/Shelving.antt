@@ -20,7 +20,7 @@ told_push : (rs : List Record) (r : Record) → faults_told (rs ++ r ∷ []) ≡
 told_push [] r = omega arith
 told_push (x ∷ rs) r = let h = told_push rs r in omega arith
 
-module _ (fits : List ℕ → List ℕ → Type 0) (keys : List (List ℕ)) (dir : Option (List ℕ)) (faults : ℕ) (files : Option DiskStore) where
+module _ (fits : List ℕ → List ℕ → Type 0) (keys : List ℕ → Type 0) (dir : Option (List ℕ)) (faults : ℕ) (files : Option DiskStore) where
   abbrev Shelved : ℕ → Option DiskStore → List Record → Type 0
   Shelved count held rs = IsShelved fits keys dir faults files count held rs
 
@@ -103,7 +103,7 @@ module _ (fits : List ℕ → List ℕ → Type 0) (keys : List (List ℕ)) (dir
       (told_stay dir files held held rs (Again key) stays (λ k t failed e. cc e) (λ k e. absurd (cc e)) (λ k e. absurd (cc e)) f.told) f
 
   -- a store of another key
-  module _ (key text : List ℕ) (small : length (bytes_of key text) < 2 ^ 64) (named : Contains keys key) (made : fits key text) where
+  module _ (key text : List ℕ) (small : length (bytes_of key text) < 2 ^ 64) (named : keys key) (made : fits key text) where
     rose_by : (count count_now : ℕ) (held next : Option DiskStore) (failed : Bool) → SavedOn held next count count_now dir key text failed → count ≤ count_now → count_now < 2 ^ 64 - 1 → faults_in (Entry key text failed) + count ≤ count_now
     rose_by count count_now held next failed saved later below = by dir failed saved
       where
@@ -124,7 +124,7 @@ module _ (fits : List ℕ → List ℕ → Type 0) (keys : List (List ℕ)) (dir
               (stands_push rs before behind r (Miss k NoDirectory) at);
           bound = λ below. (let b = f.bound in let more = told_push rs r in let h = rose_by count count_now held next failed saved later below in omega arith);
           named = λ k t b before behind at. ⊎_elim
-              (λ (h : (behind ≡ []) × (r ≡ Entry k t b) × (rs ≡ before)). let same : key ≡ k = cc h.1 in subst (Contains keys) same named)
+              (λ (h : (behind ≡ []) × (r ≡ Entry k t b) × (rs ≡ before)). let same : key ≡ k = cc h.1 in subst keys same named)
               (λ (h : (front : List Record) × (behind ≡ front ++ r ∷ []) × Stands (Entry k t b) before front rs). f.named k t b before h.0 h.2)
               (stands_push rs before behind r (Entry k t b) at);
           once = λ k t b before behind at. ⊎_elim

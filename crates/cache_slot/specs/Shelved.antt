@@ -1,6 +1,5 @@
 -- What a shelf keeps: what its history says of the disk.
 use Rattle.std.specs.Prelude.{◌≡◌, ◌≢◌, ℕ, ◌+◌, ◌-◌, ◌<◌, ◌≤◌, ◌^◌, Bool, false, List, Option, None, Some, ⊤}
-use Rattle.std.specs.List.{Contains}
 use Rattle.lto_outside.specs.DiskStore.{DiskStore}
 use Rattle.lto_outside.specs.Honest.{IsHonest}
 use Rattle.cache_slot.specs.declared.record.Record.{Record}
@@ -35,14 +34,14 @@ DiskTold dir (Some first) (Some now) rs = FilesTold dir first now rs
 
 -- What a shelf with the history `rs` keeps. The disk had failed `faults` times and held `files` as it was made, and has
 -- failed `faults_now` times and holds `held` now.
-pub record IsShelved (fits : List ℕ → List ℕ → Type 0) (keys : List (List ℕ)) (dir : Option (List ℕ)) (faults : ℕ) (files : Option DiskStore)
+pub record IsShelved (fits : List ℕ → List ℕ → Type 0) (IsKey : List ℕ → Type 0) (dir : Option (List ℕ)) (faults : ℕ) (files : Option DiskStore)
     (faults_now : ℕ) (held : Option DiskStore) (rs : List Record) : Type 0 where
   -- a look-up found no directory only where there is none
   pub without : (key : List ℕ) (before later : List Record) → Stands (Miss key NoDirectory) before later rs → dir ≡ None
   -- the history tells of no more faults than there were, unless their count stands at its last value
   pub bound : faults_now < 2 ^ 64 - 1 → faults_told rs + faults ≤ faults_now
-  -- each entry has one of the keys, which no entry before it has, and a text that is made of it
-  pub named : (key text : List ℕ) (failed : Bool) (before later : List Record) → Stands (Entry key text failed) before later rs → Contains keys key
+  -- each entry has a key that may be stored, which no entry before it has, and a text that is made of it
+  pub named : (key text : List ℕ) (failed : Bool) (before later : List Record) → Stands (Entry key text failed) before later rs → IsKey key
   pub once : (key text : List ℕ) (failed : Bool) (before later : List Record) → Stands (Entry key text failed) before later rs → text_of key before ≡ None
   pub made : (key text : List ℕ) (failed : Bool) (before later : List Record) → Stands (Entry key text failed) before later rs → fits key text
   -- an honest disk is still honest

@@ -16,25 +16,25 @@ use std::sync::Wait;
 ///
 /// It is shared by reference; dropping it without [`SharedCache::close`] is allowed.
 #[derive(Drop)]
-pub struct SharedCache<D: CacheDisk + Drop, S: Setting> {
+pub struct SharedCache<D: CacheDisk, S: Setting> {
     lock: TicketLock<Shelf<D, S>, Record>,
 }
 
 /// The right of one caller to use the cache, and what it has seen of the history: the list as it was at its last turn,
 /// which stands in contracts alone.
 #[derive(Drop)]
-pub struct CachePass<D: CacheDisk + Drop, S: Setting> {
+pub struct CachePass<D: CacheDisk, S: Setting> {
     place: Place<Shelf<D, S>, Record>,
     ghost idle: { (place.seat.me.0.stage ≡ Out) × (place.seat.me.1 ≡ []) },
 }
 
 /// There was no memory for the cache; the disk comes back.
 #[derive(Drop)]
-pub struct Refused<D: CacheDisk + Drop> {
+pub struct Refused<D: CacheDisk> {
     pub disk: D,
 }
 
-impl<D: CacheDisk + Drop, S: Setting> SharedCache<D, S> {
+impl<D: CacheDisk, S: Setting> SharedCache<D, S> {
     ghost use Rattle.std.specs.Prelude.{◌≢◌, ℕ, ◌⊎◌, ◌^◌, ◌<◌, None, Some, IfOk, IfErr, IfSome, OnErr};
     ghost use Rattle.std.specs.List.{Contains};
     ghost use mathlib.Core.List.{IsPrefix};
@@ -107,7 +107,7 @@ impl<D: CacheDisk + Drop, S: Setting> SharedCache<D, S> {
         text: &[u8],
     ) -> Result<Kept, AllocError>
         requires pass { IsAt self.now.lock.table.shared.table_id pass.old.place.seat }
-        requires key { Contains S.keys key.now }
+        requires key { S.keys key.now }
         requires made { D.fits key.now text.now }
         ensures pass { IsAt self.now.lock.table.shared.table_id pass.new.place.seat }
 

@@ -7,8 +7,8 @@ pub trait Setting {
     ghost use Rattle.std.specs.Prelude.{ℕ, List, Option};
     ghost use Rattle.lto_outside.specs.DiskStore.{DiskStore};
 
-    /// The keys that may be stored.
-    ghost keys: { List (List ℕ) };
+    /// A key that may be stored.
+    ghost keys: { List ℕ → Type 0 };
 
     /// The directory, where there is one.
     ghost dir: { Option (List ℕ) };
@@ -21,9 +21,9 @@ pub trait Setting {
 }
 
 impl Setting for Brand {
-    ghost use Rattle.std.specs.Prelude.{[], None};
+    ghost use Rattle.std.specs.Prelude.{None};
 
-    ghost keys = { [] };
+    ghost keys = { λ key. Unit {0} };
 
     ghost dir = { None };
 

@@ -18,7 +18,7 @@ use std::marker::PhantomData;
 
 /// The disk, the directory, and the history, which is empty at first.
 #[derive(Drop)]
-pub struct Shelf<D: CacheDisk + Drop, S: Setting> {
+pub struct Shelf<D: CacheDisk, S: Setting> {
     disk: D,
     dir: Option<String>,
     records: Vec<Record>,
@@ -27,11 +27,11 @@ pub struct Shelf<D: CacheDisk + Drop, S: Setting> {
     pub ghost kept: { ∥ IsShelved D.fits S.keys S.dir S.faults S.files (D.faults disk) (D.held disk) records.items ∥₁ },
 }
 
-impl<D: CacheDisk + Drop, S: Setting> Logged<Record> for Shelf<D, S> {
+impl<D: CacheDisk, S: Setting> Logged<Record> for Shelf<D, S> {
     ghost log = { λ s. s.records.items };
 }
 
-impl<D: CacheDisk + Drop, S: Setting> Shelf<D, S> {
+impl<D: CacheDisk, S: Setting> Shelf<D, S> {
     ghost use Rattle.std.specs.Prelude.{◌≤◌, ◌<◌, ◌^◌, [], ◌⊎◌, None, length, IfOk, IfSome, OnErr};
     ghost use Rattle.std.specs.List.{Contains};
     ghost use Rattle.lto_outside.specs.DiskStore.{DiskStays};
@@ -81,7 +81,7 @@ impl<D: CacheDisk + Drop, S: Setting> Shelf<D, S> {
     /// Makes the pair an entry, and saves it where there is a directory, unless an entry has the key. One record is
     /// added. Refused for memory alone, and then the history and the disk are as before.
     pub fn keep(&mut self, alloc: Global, key: &[u8], text: &[u8]) -> Result<Kept, AllocError>
-        requires key { Contains S.keys key.now }
+        requires key { S.keys key.now }
         requires made { D.fits key.now text.now }
         ensures stored { IfOk result (Stored S.dir key.now text.now self.old.records.items self.new.records.items) }
         ensures disk { IfOk result (StoredOn (D.held self.old.disk) (D.held self.new.disk) (D.faults self.old.disk) (D.faults self.new.disk) S.dir key.now text.now) }

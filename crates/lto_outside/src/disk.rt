@@ -15,7 +15,7 @@ pub trait Meaning {
 }
 
 /// The cache's directories, each of files by name.
-pub trait CacheDisk {
+pub trait CacheDisk: Drop {
     /// What each name of each directory holds, where that is told.
     ghost held: { Self → Option DiskStore };
 

@@ -1,5 +1,6 @@
 //! Pools over a disk in memory.
-ghost use Rattle.std.specs.Prelude.{◌≡◌, ◌<◌, ◌≤◌, ◌^◌, IfOk, Some, length, map};
+ghost use Rattle.std.specs.Prelude.{◌≡◌, ◌<◌, ◌≤◌, ◌^◌, ℕ, IfOk, List, Some, length, map};
+ghost use Rattle.std.specs.List.{Contains};
 ghost use Rattle.cache_slot.specs.Directory.{dir_of};
 ghost use Rattle.lto_task.specs.Tasks.{task_text, task_view};
 ghost use Rattle.outside_memory.specs.Disk.{disk_held, disk_calls};
@@ -93,7 +94,7 @@ fn run<R: Threads + Wait + Sync, S: Setting + Send + Sync>(
 ) -> Result<(Vec<u8>, Disk), AllocError>
     requires jobs { (1 ≤ jobs) × (jobs ≤ 64) }
     requires count { length tasks.now < 2 ^ 32 }
-    requires keys { S.keys ≡ map (λ t. task_text (task_view t)) tasks.now }
+    requires keys { (key : List ℕ) → Contains (map (λ t. task_text (task_view t)) tasks.now) key → S.keys key }
     requires dir { S.dir ≡ dir_of dir }
     requires faults { S.faults ≡ (disk_calls disk).failed }
     requires files { S.files ≡ Some (disk_held disk) }

@@ -1,5 +1,5 @@
 //! Look-ups and stores, one after another, on a cache over a disk in memory.
-ghost use Rattle.std.specs.Prelude.{◌≡◌, Some};
+ghost use Rattle.std.specs.Prelude.{◌≡◌, ℕ, List, Some};
 ghost use Rattle.std.specs.List.{Contains};
 ghost use Rattle.cache_turn.specs.Places.{IsAt};
 ghost use Rattle.cache_slot.specs.Directory.{dir_of};
@@ -64,7 +64,7 @@ fn take_step<W: Wait, S: Setting>(
     step: Step,
 ) -> Result<Answer, AllocError>
     requires pass { IsAt cache.now.lock.table.shared.table_id pass.old.place.seat }
-    requires keys { S.keys ≡ test_keys }
+    requires keys { (key : List ℕ) → Contains test_keys key → S.keys key }
     ensures { IsAt cache.now.lock.table.shared.table_id pass.new.place.seat }
 {
     match step {
@@ -88,7 +88,7 @@ fn take_steps<W: Wait, S: Setting>(
     script: &[Step],
 ) -> Result<Vec<Answer>, AllocError>
     requires pass { IsAt cache.now.lock.table.shared.table_id pass.old.place.seat }
-    requires keys { S.keys ≡ test_keys }
+    requires keys { (key : List ℕ) → Contains test_keys key → S.keys key }
     ensures { IsAt cache.now.lock.table.shared.table_id pass.new.place.seat }
 {
     let mut answers = Vec::new(alloc);
@@ -105,7 +105,7 @@ fn run<W: Wait, S: Setting>(
     dir: Option<String>,
     script: &[Step],
 ) -> Result<(Vec<Answer>, Disk), AllocError>
-    requires keys { S.keys ≡ test_keys }
+    requires keys { (key : List ℕ) → Contains test_keys key → S.keys key }
     requires dir { S.dir ≡ dir_of dir }
     requires faults { S.faults ≡ (disk_calls disk).failed }
     requires files { S.files ≡ Some (disk_held disk) }

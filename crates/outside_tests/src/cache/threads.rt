@@ -1,5 +1,5 @@
 //! Callers beside each other that store one key.
-ghost use Rattle.std.specs.Prelude.{◌≡◌, None, Some, All, IfOk};
+ghost use Rattle.std.specs.Prelude.{◌≡◌, ℕ, List, None, Some, All, IfOk};
 ghost use Rattle.std.specs.List.{Contains};
 ghost use Rattle.cache_turn.specs.Places.{IsAt};
 ghost use Rattle.outside_memory.specs.Disk.{disk_held, disk_calls};
@@ -28,7 +28,7 @@ fn store_once<W: Wait, S: Setting>(
     caller: &mut Caller<S>,
 )
     requires pass { IsAt cache.now.lock.table.shared.table_id caller.old.pass.place.seat }
-    requires keys { S.keys ≡ test_keys }
+    requires keys { (key : List ℕ) → Contains test_keys key → S.keys key }
 {
     let answer = cache.store(rt, alloc, &mut caller.pass, Key::A.bytes(), b"1");
     caller.kept = answer.ok();
@@ -41,7 +41,7 @@ fn store_in_threads<R: Threads + Wait + Sync, S: Setting + Send + Sync>(
     callers: &mut [Caller<S>],
 )
     requires passes { All (λ c. IsAt cache.now.lock.table.shared.table_id c.pass.place.seat) callers.old }
-    requires keys { S.keys ≡ test_keys }
+    requires keys { (key : List ℕ) → Contains test_keys key → S.keys key }
 {
     let threads = callers.len();
     if threads > 0 {
@@ -94,7 +94,7 @@ fn store_beside<R: Threads + Wait + Sync, S: Setting + Send + Sync>(
     disk: Disk,
     count: usize,
 ) -> Result<(usize, usize), AllocError>
-    requires keys { S.keys ≡ test_keys }
+    requires keys { (key : List ℕ) → Contains test_keys key → S.keys key }
     requires dir { S.dir ≡ None }
     requires faults { S.faults ≡ (disk_calls disk).failed }
     requires files { S.files ≡ Some (disk_held disk) }

@@ -14,4 +14,7 @@ returns-in-Some-clause-answer g c =
     let unit : IsUnit c.in-Some.pieces = subst (λ (o : Option (List Piece)). IfSome o IsUnit) c.in-Some.is c.in_ok-pieces.ensures.unit in
     let found : trusted → ∥ fits c.as_slice.result.now (unit_text c.in-Some.pieces) ∥₁ =
     subst (λ (o : Option (List Piece)). IfSome o (λ ps. trusted → ∥ fits c.as_slice.result.now (unit_text ps) ∥₁)) c.in-Some.is c.in_ok-pieces.ensures.fits in
-    found_answers fits g.B.Backend.makes (task_view c.args.task.now) c.requires.fits c.unit_text_is_one.ensures trusted c.as_slice.result.now (c.as_slice.ensures ∙ c.in_ok-key.ensures.text) c.in-Some.pieces unit found
+    found_answers fits g.B.Backend.makes (task_view c.args.task.now) (c.requires.fits c.in_ok-key.ensures.written) c.unit_text_is_one.ensures trusted c.as_slice.result.now (c.as_slice.ensures ∙ c.in_ok-key.ensures.text) c.in-Some.pieces unit found
+
+pub made-requires-clause-fits : goal.made-requires-clause-fits
+made-requires-clause-fits g c κs within = c.requires.fits c.in_ok-key.ensures.written
