@@ -1,10 +1,14 @@
 -- The units of the modules of a link: what is made of their tasks.
-use Rattle.std.specs.Prelude.{◌≡◌, ℕ, List, [], Option, Some, length, slice_get, slice_index_or}
+use Rattle.std.specs.Prelude.{◌≡◌, ◌<◌, ℕ, Bool, List, [], Option, Some, length, slice_get, slice_index_or}
 use Rattle.ir_tree.specs.declared.module.GlobalValue.{GlobalValue}
+use Rattle.ir_tree.specs.declared.module.Module.{Module}
 use Rattle.ir_tree.specs.declared.operand.Symbol.{Symbol}
 use Rattle.combined_index.specs.Combined.{Combined}
+use Rattle.promote_rename.specs.Finals.{NoneTaken, final_names}
 use Rattle.promote_rename.specs.Promotions.{ArePromoted}
+use Rattle.thin_link.specs.Linking.{IsThinLink}
 use Rattle.thin_link.specs.Views.{rows}
+use Rattle.merge_meaning.specs.Lives.{parts}
 use Rattle.lto_task.specs.Tasks.{TaskView}
 use Rattle.lto_task.specs.declared.piece.Piece.{Piece}
 use Rattle.link_one.specs.Linked.{joined}
@@ -33,6 +37,21 @@ pub record AreUnitsOf (exports : List (List ℕ)) (limit : ℕ) (index : Combine
   pub promoted : List (List ℕ)
   pub promoted_are : ArePromoted index imports promoted
   pub are : AreUnits exports limit index.symbols suffixes imports promoted parts units
+
+-- ---- of a link
+
+-- the task of one of the modules
+pub record IsTaskInLink (exports : List (List ℕ)) (import_limit inline_limit : ℕ) (suffixes : List (List ℕ)) (ms : List Module) (t : TaskView) : Type 0 where
+  pub index : Combined
+  pub live : List Bool
+  pub imports : List (List ℕ)
+  pub thin : IsThinLink ms exports import_limit index live imports
+  pub named : NoneTaken (final_names suffixes index.symbols live)
+  pub promoted : List (List ℕ)
+  pub promoted_are : ArePromoted index imports promoted
+  pub number : ℕ
+  pub within : number < length ms
+  pub task : IsTaskOfNumber exports inline_limit index.symbols suffixes imports promoted (parts ms index.symbols live suffixes) number t
 
 -- ---- in a setting
 
