@@ -35,7 +35,7 @@ mod writing;
 pub use declaring::{declaration_of, declarations_are_sound};
 pub use making::piece_of;
 pub use piece::Piece;
-pub use taking_apart::{pieces, unit_text_is_one};
+pub use taking_apart::{all_bytes, pieces, unit_text_is_one};
 pub use task::{Task, TaskModule};
 pub use task_writing::{task_text, tasks_with_one_text_agree};
 pub use writing::unit_text;

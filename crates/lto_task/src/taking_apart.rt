@@ -12,7 +12,7 @@ use ir_tree::{Rows, Text, quoted, unquoted};
 use std::alloc::{AllocError, Global};
 
 /// That the items of a slice are bytes.
-pub(crate) fn all_bytes(bytes: &[u8])
+pub fn all_bytes(bytes: &[u8])
     ensures { AllBytes bytes.now }
 {}
 

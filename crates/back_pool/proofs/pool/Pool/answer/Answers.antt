@@ -17,4 +17,4 @@ returns-in-Some-clause-answer g c =
     found_answers fits g.B.Backend.makes (task_view c.args.task.now) (c.requires.fits c.in_ok-key.ensures.written) c.unit_text_is_one.ensures trusted c.as_slice.result.now (c.as_slice.ensures ∙ c.in_ok-key.ensures.text) c.in-Some.pieces unit found
 
 pub made-requires-clause-fits : goal.made-requires-clause-fits
-made-requires-clause-fits g c κs within = c.requires.fits c.in_ok-key.ensures.written
+made-requires-clause-fits g c = c.requires.fits c.in_ok-key.ensures.written
