@@ -56,6 +56,7 @@ fn read_entry<R: HostFiles>(
     }
 }
 
+/// Writes the entry, in a directory that is made where it isn't there.
 fn write_entry<R: HostFiles>(
     rt: &R,
     alloc: Global,
@@ -65,6 +66,7 @@ fn write_entry<R: HostFiles>(
 ) -> io::Result<()> {
     let path = format!(in alloc; "{dir}/{name}")?;
     let part = format!(in alloc; "{dir}/{name}.part")?;
+    fs::create_dir_all(rt, dir)?;
     File::create(rt, part.as_str())?.write_all(bytes)?;
     fs::rename(rt, part.as_str(), path.as_str())
 }
