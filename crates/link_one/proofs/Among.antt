@@ -1,21 +1,15 @@
--- A part stands among all parts; what is kept of the pieces of parts, and the units that slots have, place by place.
-use Rattle.std.proofs.Common.{◌≡◌, ◌∙◌, ◌+◌, ℕ, zero, suc, List, [], ◌∷◌, Option, Some, ap, length, map, option_map, refl, sym, subst, arith}
-use Rattle.std.proofs.lemmas.List.{length-map}
-use Rattle.std.proofs.lemmas.Option.{slice_get-map}
-use Rattle.std.proofs.lemmas.Result.{IfOk-weaker}
-use Rattle.std.specs.Prelude.{IfOk, Result, Vec, slice_get, slice_index_or}
+-- A part stands among all parts; what is kept of the pieces of parts, place by place.
+use Rattle.std.proofs.Common.{◌≡◌, ◌+◌, ℕ, zero, suc, List, [], ◌∷◌, Option, Some, length, refl, subst, arith}
+use Rattle.std.specs.Prelude.{slice_get, slice_index_or}
 use Rattle.std.specs.List.{AllZip}
 use Rattle.ir_tree.specs.declared.function.Function.{Function}
 use Rattle.lto_task.specs.declared.piece.Piece.{Piece}
 use Rattle.ir_tree.specs.declared.module.GlobalValue.{GlobalValue}
 use Rattle.ir_tree.specs.declared.operand.Symbol.{Symbol}
-use Rattle.thin_link.specs.Views.{rows}
 use Rattle.link_one.specs.Linked.{AreCompiled, IsLinkedGlobal, bodies_for, joined}
 use Rattle.emit.specs.Strips.{IsStripped, ModulePieces}
-use Rattle.link_one.specs.ModuleUnits.{AreFilled, AreUnits}
 use Rattle.link_one.specs.Units.{IsLinkedPiece, IsSettledPiece}
 use Rattle.link_one.proofs.Printed.{AreAllPrinted, ArePrinted, offers}
-use Rattle.link_one.specs.declared.setting.Setting.{Setting}
 use Rattle.link_one.proofs.Members.{Stands, behind, in_front}
 
 pub part_within : (parts : List (List GlobalValue)) (n : ℕ) (g : GlobalValue) → Stands (slice_index_or parts n []) g → Stands (joined parts) g
@@ -79,16 +73,3 @@ module _ (exports : List (List ℕ)) (limit : ℕ) (all : List GlobalValue) (sym
   printed_of parts kept same each =
       let made = compiled parts kept same each in
       record { units = made.0; compiled = made.2; printed = made.1; printed_are = made.3; stripped = made.4 }
-
--- what was taken out of the slots
-pub all_units : {A E : Type 0} (s : Setting) (slots : List (Option (List Piece))) → AreFilled s slots → (r : Result (Vec (List Piece) A) E) → IfOk r (λ v. slots ≡ map Some v.items)
-    → IfOk r (λ v. AreUnits s.exports.now s.limit s.symbols.now s.suffixes.now (rows s.imports.now) (rows s.promoted.now) s.parts.now v.items)
-all_units {A} s slots filled r =
-    IfOk-weaker r (λ (v : Vec (List Piece) A). slots ≡ map Some v.items)
-    (λ (v : Vec (List Piece) A). AreUnits s.exports.now s.limit s.symbols.now s.suffixes.now (rows s.imports.now) (rows s.promoted.now) s.parts.now v.items)
-    (λ v taken. record {
-      count = sym (length-map v.items (λ (u : List Piece). Some u)) ∙ sym (ap length taken) ∙ filled.count;
-      each = λ k unit here.
-          filled.each k unit
-          (ap (λ (l : List (Option (List Piece))). slice_get l k) taken ∙ slice_get-map (λ (u : List Piece). Some u) v.items k ∙ ap (option_map (λ (u : List Piece). Some u)) here);
-    })

@@ -21,7 +21,6 @@ pub mod Gathering
 pub mod Rising
 pub mod NameSets
 pub mod SortedValues
-pub mod Sent
 pub mod Bettering
 pub mod Knowing
 pub mod Linkable
@@ -39,7 +38,6 @@ mod Moved
 mod SortedJoins
 mod TaskBodies
 mod TaskUnits
-mod TaskSound
 mod Stripped
 mod Referables
 mod OnceNamed
@@ -48,3 +46,5 @@ mod Declaring
 mod ClosedUp
 mod TaskParts
 mod OneTask
+mod UnitNames
+mod LinkTasks

@@ -96,7 +96,7 @@ linked_symbol interface bodies (global.Function f) (global.Function g) made = (i
 linked_symbol interface bodies (global.Variable v) (global.Function g) made = absurd made
 linked_symbol interface bodies (global.Function f) (global.Variable w) made = absurd made
 
-settled_symbol : (exports : List (List ℕ)) (h : GlobalValue) → global_symbol (settled exports h) ≡ global_symbol h
+pub settled_symbol : (exports : List (List ℕ)) (h : GlobalValue) → global_symbol (settled exports h) ≡ global_symbol h
 settled_symbol exports (global.Variable v) = refl
 settled_symbol exports (global.Function f) = refl
 

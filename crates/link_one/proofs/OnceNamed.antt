@@ -1,5 +1,5 @@
 -- Names that stand once in a list.
-use Rattle.std.proofs.Common.{◌≡◌, ◌≢◌, ◌∙◌, inl, inr, ◌<◌, ℕ, zero, suc, List, [], ◌∷◌, ◌++◌, map, get_or, Option, Some, None, option_map, slice_get, refl, sym, ap, subst, arith}
+use Rattle.std.proofs.Common.{◌≡◌, ◌≢◌, ◌∙◌, inl, inr, ◌<◌, ℕ, zero, suc, Bool, true, false, cond, List, [], ◌∷◌, ◌++◌, filter, map, get_or, Option, Some, None, option_map, slice_get, refl, sym, ap, subst, arith}
 use Rattle.std.specs.List.{AllPairs, Contains, cons_option}
 use Rattle.std.specs.List.Sorted.{IsPermutation}
 use Rattle.std.specs.Prelude.{filter_map, slice_index_or}
@@ -23,10 +23,10 @@ use Rattle.merge_meaning.proofs.Looked.{same_symbol, symbol_stands}
 use Rattle.merge_meaning.proofs.Once.{mapped}
 use Rattle.merge_meaning.proofs.Names.{clash}
 use Rattle.merge_meaning.proofs.Prevailing.{symbol_by_parts}
-use Rattle.merge_meaning.proofs.Standing.{first, later, map_from}
+use Rattle.merge_meaning.proofs.Standing.{filter_from, first, in_map, later, map_from}
 use Rattle.link_one.specs.Linked.{joined}
 use Rattle.link_one.specs.Tasks.{name_of}
-use Rattle.link_one.proofs.Members.{Stands, at_first, contained, either_part, further}
+use Rattle.link_one.proofs.Members.{Stands, at_first, contained, either_part, further, standing}
 use Rattle.link_one.proofs.Offering.{found_from}
 
 -- ---- lists
@@ -94,6 +94,20 @@ distinct_found {X} {Y} h name (x ∷ xs) once apart =
     by : (o : Option Y) → h x ≡ o → Distinct (map name (filter_map h xs)) → Distinct (map name (cons_option o (filter_map h xs)))
     by None is rest = rest
     by (Some y) is rest = distinct_more (name y) (map name (filter_map h xs)) (new y is) rest
+
+-- and so does what is kept of elements whose names stand once
+pub distinct_kept : {X Y : Type 0} (name : X → Y) (p : X → Bool) (xs : List X) → Distinct (map name xs) → Distinct (map name (filter p xs))
+distinct_kept name p [] once = λ i j x a b. absurd (cc a)
+distinct_kept name p (x ∷ xs) once = by (p x) (distinct_kept name p xs (distinct_rest (name x) (map name xs) once))
+  where
+    new : Stands (map name (filter p xs)) (name x) → ⊥
+    new s =
+        let y = map_from name (filter p xs) (name x) (contained (map name (filter p xs)) (name x) s) in
+        not_again (name x) (map name xs) once (standing (map name xs) (name x) (subst (Contains (map name xs)) y.2 (in_map name xs y.0 (filter_from p xs y.0 y.1).0)))
+
+    by : (b : Bool) → Distinct (map name (filter p xs)) → Distinct (map name (cond b (x ∷ filter p xs) (filter p xs)))
+    by true rest = distinct_more (name x) (map name (filter p xs)) new rest
+    by false rest = rest
 
 -- ---- names
 

@@ -7,7 +7,8 @@ use Rattle.ir_tree.specs.declared.module.GlobalValue.TheVariants as global
 use Rattle.back_end.specs.Inlinable.{bodies_of, has_blocks}
 use Rattle.emit.specs.Joins.{IsInNameOrder}
 use Rattle.emit.specs.Strips.{IsStripped}
-use Rattle.lto_task.specs.Tasks.{TaskView}
+use Rattle.ir_tree.specs.Wholes.{IsVerified}
+use Rattle.lto_task.specs.Tasks.{TaskView, module_of}
 use Rattle.lto_task.specs.Units.{IsUnit, unit_text}
 use Rattle.lto_task.specs.declared.piece.Piece.{Piece}
 use Rattle.link_one.specs.Units.{IsLinkedPiece, shown}
@@ -35,6 +36,11 @@ pub record IsTaskUnit (t : TaskView) (unit : List Piece) : Type 0 where
   pub kept : List Piece
   pub stripped : IsStripped (record { offers = offered_by t; pieces = pieces }) kept
   pub order : IsInNameOrder kept unit
+
+-- what a back end may compile: both modules of the task are verified
+pub record HasVerifiedModules (t : TaskView) : Type 0 where
+  pub own : IsVerified (module_of t.own)
+  pub imported : IsVerified (module_of t.imported)
 
 -- its text, where its names rise
 pub record IsUnitText (t : TaskView) (text : List ℕ) : Type 0 where

@@ -5,21 +5,22 @@
 //! does the rest. By the index alone it is decided what is live, what it will be called and what each module imports
 //! (`thin_link`, `promote_rename`). Each module's part, its live definitions under final names (`merge_meaning`), goes into its
 //! task with the bodies that it imports, as they were read, and declarations (`specs/Tasks.antt`). From the task alone the module
-//! is compiled on one of several threads (`specs/TaskUnits.antt`, `back_end`), and kept as pieces, which are printed at once
-//! (`lto_task`, `ir_print`); the text is joined of the pieces that are reached
-//! from the exported names (`emit`). What a linked module is, is said of trees (`specs/Linked.antt`), and [`link`] keeps both
-//! promises of the linker: the text is that of the linked module of the modules that the files are read as and no other text is
-//! one, and each run of the linked program from an exported function is a run of the merged modules (`specs/Linking.antt`). No
-//! clause names threads: with however many, the text is the same. Why modules aren't linked stands in `specs/Refusing.antt`. The linked module is verified as those were ([`linked_is_verified`]).
+//! is compiled to pieces, which are printed at once (`specs/TaskUnits.antt`, `back_end`, `lto_task`). Several workers do the tasks
+//! over a shared cache, in which each looks the text of its task up first (`back_pool`). The linked text is joined of the pieces
+//! that are reached from the exported names (`emit`).
 //!
-//! That what a thin link decides by summaries is right of the program that the modules mean together is said by laws
-//! (`specs/MeaningLaws.antt`): the index finds and names what the program has, what it calls live is closed in the program, and
-//! the live definitions under their final names refine it, as better ones in their places do. The task of a module, all that its
-//! back end reads (`specs/Tasks.antt`), is one ([`task_is_one`]), and its modules are verified ([`tasks_are_verified`]).
+//! **Promise.** Where the cache has no directory or its disk was honest, [`link`] keeps both promises of the linker: the text is
+//! that of the linked module (`specs/Linked.antt`) of the modules that the files are read as, and no other text is one; and each run
+//! of the linked program from an exported function is a run of the merged modules (`specs/Linking.antt`). No clause names threads:
+//! with however many, the text is the same. Whatever the cache holds, only modules that can be linked are linked, and why others
+//! aren't stands in `specs/Refusing.antt`. That decisions by summaries are right of the program that the modules mean together is
+//! said by laws (`specs/MeaningLaws.antt`). A module's task is one ([`task_is_one`]), and both its modules are verified
+//! ([`tasks_are_verified`]), as is the linked module ([`linked_is_verified`]).
 //!
-//! Below stand these crates, `ir_better` for what is proved, and `lto_fault`, whose refusals are told. The cost is that of the stages: each definition is copied once
-//! under its final name, and what a task lacks is found by name in one table: each reference is sorted once in its task. Each thread compiles a run of neighbouring modules,
-//! of equal number and not of equal length. That threads save time isn't shown: `bench/link` measures it.
+//! **Cost.** That of the stages: each definition is copied once under its final name, what a task lacks is found by name in one
+//! table, and each reference is sorted once in its task. All tasks are made before the first is compiled.
+//!
+//! **Not shown.** That threads or the cache save time: `bench/link` measures it.
 #![tactic(auto)]
 
 mod accepting;
@@ -33,7 +34,9 @@ mod meaning_laws;
 mod names;
 mod naming;
 mod outside;
+mod passes;
 mod piece;
+mod pool;
 mod referable;
 mod setting;
 mod table;
@@ -41,7 +44,7 @@ mod target;
 mod task_laws;
 mod task_unit;
 mod tasks;
-mod unit;
+mod writable;
 
 pub use accepting::{LinkError, accepted};
 pub use laws::{accepted_is_not_refused, linked_is_one, refused_is_one};

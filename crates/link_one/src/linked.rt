@@ -1,28 +1,37 @@
 //! The text of the linked module.
-ghost use Rattle.std.specs.Prelude.{◌≡◌, [], All, IfOk, length};
+ghost use Rattle.std.specs.Prelude.{◌≡◌, ◌<◌, ◌^◌, [], All, IfOk, length};
+ghost use mathlib.Core.List.{IsPrefix};
 ghost use Rattle.ir_tree.specs.Wholes.{IsVerified};
+ghost use Rattle.cache_turn.specs.Places.{IsAt, seen_by};
 ghost use Rattle.thin_link.specs.Views.{rows};
 ghost use Rattle.promote_rename.specs.Finals.{NoneTaken, final_names};
 ghost use Rattle.symbol_resolve.specs.Resolved.{symbols};
 ghost use Rattle.thin_link.specs.Linking.{IsThinLink};
 ghost use Rattle.ir_print.specs.Modules.{module_text};
+ghost use Rattle.lto_task.specs.Tasks.{IsWrittenTask, TaskView, task_text};
+ghost use Rattle.back_pool.specs.Making.{FitsAsMade, IsReady, IsTrusted};
 ghost use Rattle.merge_meaning.specs.Lives.{parts};
 ghost use Rattle.symbol_resolve.specs.Clashes.{given_text};
 ghost use Rattle.symbol_resolve.specs.declared.clash.TargetLine.TheVariants.{Datalayout, Triple};
-ghost use Rattle.link_one.specs.Linked.{joined};
 ghost use Rattle.link_one.specs.LinkedLaws.{IsLinkedText};
-ghost use Rattle.link_one.specs.ModuleUnits.{AreUnitsOf};
+ghost use Rattle.link_one.specs.ModuleUnits.{AreUnitsOf, IsTaskInLink};
+ghost use Rattle.link_one.specs.TaskUnits.{HasVerifiedModules, IsTaskUnit};
 
 use crate::linked_laws::units_are_linked;
+use crate::pool::Pool;
 use crate::target::given_text;
-use crate::unit::units;
+use crate::task_laws::tasks_are_verified;
+use crate::tasks::tasks_of;
+use cache_slot::{CachePass, Setting};
 use emit::emit;
 use ir_print::print;
 use ir_tree::{Module, Rows, Text, Verified};
+use lto_outside::{CacheDisk, Gate};
 use lto_task::Piece;
 use merge_meaning::{LiveSymbols, live_by_module, parts};
 use promote_rename::promoted;
 use std::alloc::{AllocError, Global};
+use std::sync::Wait;
 use std::thread::Threads;
 use symbol_resolve::TargetLine;
 use thin_link::ThinLink;
@@ -36,38 +45,49 @@ fn all_verified(modules: &[Verified])
     }
 }
 
-/// The modules' units as pieces: the part of each, compiled by itself. The parts are given up once that is done.
-fn compiled<R: Threads + Sync>(
-    rt: &R,
+/// The modules' units as pieces: the task of each, done by the pool. The parts are given up once that is done.
+fn compiled<
+    R: Threads + Wait + Sync,
+    D: CacheDisk + Send,
+    S: Setting + Send + Sync,
+    G: Gate + Sync,
+>(
     alloc: Global,
-    jobs: u32,
+    pool: &Pool<'_, R, D, S, G>,
+    pass: &mut CachePass<D, S>,
     modules: &[Verified],
     decided: &ThinLink<'_>,
     suffixes: &[Text],
     exports: &[Text],
-    limit: u32,
+    import_limit: u32,
+    inline_limit: u32,
 ) -> Result<Vec<Rows<Piece>>, AllocError>
+    requires count { length modules.now < 2 ^ 32 }
+    requires thin { IsThinLink modules.now exports.now import_limit decided.now.index decided.now.live (rows decided.now.imports.items) }
+    requires named { NoneTaken (final_names suffixes.now decided.now.index.symbols decided.now.live) }
     requires resolved { decided.now.resolution ≡ symbols modules.now }
     requires marks { length decided.now.live ≡ length decided.now.index.symbols }
-    ensures { IfOk result (λ pieces. let ps = parts modules.now decided.now.index.symbols decided.now.live suffixes.now in AreUnitsOf exports.now limit decided.now.index suffixes.now (rows decided.now.imports.items) ps pieces.items) }
+    requires pass { IsAt pool.now.cache.now.lock.table.shared.table_id pass.old.place.seat }
+    requires ready { (t : TaskView) → IsTaskInLink exports.now import_limit inline_limit suffixes.now modules.now t → IsReady S.keys D.fits IsTaskUnit HasVerifiedModules t }
+    ensures pass { IsAt pool.now.cache.now.lock.table.shared.table_id pass.new.place.seat }
+    ensures seen { IsPrefix (seen_by pass.old.place.seat) (seen_by pass.new.place.seat) }
+    ensures units { IfOk result (λ units. IsTrusted S.dir D.fits S.files → ∥ AreUnitsOf exports.now inline_limit decided.now.index suffixes.now (rows decided.now.imports.items) (parts modules.now decided.now.index.symbols decided.now.live suffixes.now) units.items ∥₁) }
 {
     live_by_module();
-    all_verified(modules);
     let live = LiveSymbols::of(alloc, decided.index.symbols(), &decided.live)?;
     let parts = parts(alloc, modules, &decided.resolution, &live, suffixes)?;
     let promoted = promoted(alloc, &decided.index, &decided.imports)?;
-    units(
-        rt,
+    let tasks = tasks_of(
         alloc,
-        jobs,
         &parts,
         decided.index.symbols(),
         suffixes,
         &decided.imports,
         &promoted,
-        limit,
+        inline_limit,
         exports,
-    )
+    )?;
+    pool.units(alloc, pass, &tasks)
 }
 
 /// The target lines of the linked module: the text of a module without global values.
@@ -87,12 +107,17 @@ fn header(alloc: Global, modules: &[Verified]) -> Result<Text, AllocError>
     )
 }
 
-/// The text of the linked module of these modules, of which this was decided, compiled on up to so many threads: no two live
-/// symbols have one final name.
-pub(crate) fn linked<R: Threads + Sync>(
-    rt: &R,
+/// The text of the linked module of these modules, of which this was decided, compiled by the pool: no two live symbols have one
+/// final name.
+pub(crate) fn linked<
+    R: Threads + Wait + Sync,
+    D: CacheDisk + Send,
+    S: Setting + Send + Sync,
+    G: Gate + Sync,
+>(
     alloc: Global,
-    jobs: u32,
+    pool: &Pool<'_, R, D, S, G>,
+    pass: &mut CachePass<D, S>,
     modules: &[Verified],
     decided: &ThinLink<'_>,
     suffixes: &[Text],
@@ -100,22 +125,30 @@ pub(crate) fn linked<R: Threads + Sync>(
     import_limit: u32,
     inline_limit: u32,
 ) -> Result<Text, AllocError>
+    requires count { length modules.now < 2 ^ 32 }
     requires thin { IsThinLink modules.now exports.now import_limit decided.now.index decided.now.live (rows decided.now.imports.items) }
     requires resolved { decided.now.resolution ≡ symbols modules.now }
     requires named { NoneTaken (final_names suffixes.now decided.now.index.symbols decided.now.live) }
-    ensures { IfOk result (IsLinkedText exports.now import_limit inline_limit suffixes.now modules.now) }
+    requires pass { IsAt pool.now.cache.now.lock.table.shared.table_id pass.old.place.seat }
+    requires keys { (t : TaskView) → IsTaskInLink exports.now import_limit inline_limit suffixes.now modules.now t → S.keys (task_text t) }
+    requires fits { (t : TaskView) → IsTaskInLink exports.now import_limit inline_limit suffixes.now modules.now t → IsWrittenTask t → FitsAsMade D.fits IsTaskUnit t }
+    ensures pass { IsAt pool.now.cache.now.lock.table.shared.table_id pass.new.place.seat }
+    ensures seen { IsPrefix (seen_by pass.old.place.seat) (seen_by pass.new.place.seat) }
+    ensures linked { IfOk result (λ text. IsTrusted S.dir D.fits S.files → ∥ IsLinkedText exports.now import_limit inline_limit suffixes.now modules.now text ∥₁) }
 {
+    tasks_are_verified();
     units_are_linked();
     all_verified(modules);
     let header = header(alloc, modules)?;
     let pieces = compiled(
-        rt,
         alloc,
-        jobs,
+        pool,
+        pass,
         modules,
         decided,
         suffixes,
         exports,
+        import_limit,
         inline_limit,
     )?;
     emit(alloc, &pieces, header.as_slice(), exports)

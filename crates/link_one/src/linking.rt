@@ -1,31 +1,47 @@
 //! From modules to text.
 ghost use Rattle.std.specs.List.{AllZip};
-ghost use Rattle.std.specs.Prelude.{◌≡◌, ◌≢◌, ℕ, List, IfOk, IfErr, length, map};
+ghost use Rattle.std.specs.Prelude.{◌≡◌, ◌≢◌, ◌<◌, ◌≤◌, ◌^◌, ℕ, List, IfOk, IfErr, length, map};
+ghost use mathlib.Core.List.{IsPrefix};
+ghost use Rattle.cache_turn.specs.Places.{IsAt, seen_by};
 ghost use Rattle.lto_fault.specs.declared.refusal.Refusal.TheVariants.{NoMemory};
+ghost use Rattle.lto_task.specs.Tasks.{IsWrittenTask, TaskView, task_text};
+ghost use Rattle.back_pool.specs.Making.{FitsAsMade, IsTrusted};
 ghost use Rattle.promote_rename.specs.Suffixes.{suffix_of};
 ghost use Rattle.link_one.specs.Accepted.{Accepts};
 ghost use Rattle.link_one.specs.Linking.{IsLinkOf, IsOnlyLinkOf};
-ghost use Rattle.link_one.specs.Refusing.{IsUnlinked};
+ghost use Rattle.link_one.specs.ModuleUnits.{IsTaskInLink};
+ghost use Rattle.link_one.specs.Refusing.{CanBeLinked, IsUnlinked};
+ghost use Rattle.link_one.specs.TaskUnits.{IsTaskUnit};
 
 use crate::laws::linked_is_one;
 use crate::linked::linked;
 use crate::linked_laws::linked_refines;
 use crate::naming::named;
+use crate::pool::Pool;
+use cache_slot::{CachePass, Setting, SharedCache};
 use ir_tree::{Text, Verified};
 use lto_fault::Refusal;
+use lto_outside::{CacheDisk, Gate};
 use std::alloc::Global;
+use std::sync::Wait;
 use std::thread::Threads;
 use thin_link::thin_link;
 
-/// The text of the linked module of these modules, which stand in these files, in command order, each compiled by itself on one
-/// of up to `jobs` threads. Each has a suffix, that of
-/// its file's bytes, which stands behind the names of its locals. Bodies are imported of functions of at most `import_limit`
-/// phis, instructions and terminators that a module calls, and of smaller ones that those call, and inlined up to `inline_limit`.
+/// The text of the linked module of these modules, which stand in these files, in command order. Each is compiled by itself, by one
+/// of up to `jobs` workers, or its unit is found in the cache, which other calls may use meanwhile. Each has a suffix, that of its
+/// file's bytes, which stands behind the names of its locals. Bodies are imported of functions of at most `import_limit` phis,
+/// instructions and terminators that a module calls, and of smaller ones that those call, and inlined up to `inline_limit`.
 ///
 /// Refused where the modules have no thin link (`thin_link`), and where two live symbols come to have one name in the linked
 /// module; of several such names the one with the least bytes is told. Every link of files that are accepted as these modules
-/// has this text. A number past 32 bits in a linked function is answered as want of memory.
-pub fn link<R: Threads + Sync>(
+/// has this text, where the cache has no directory or its disk was honest. A number past 32 bits in a linked function is answered
+/// as want of memory.
+pub fn link<
+    R: Threads + Wait + Sync,
+    D: CacheDisk + Send,
+    S: Setting + Send + Sync,
+    G: Gate + Sync,
+>(
     rt: &R,
     alloc: Global,
     jobs: u32,
@@ -35,21 +51,38 @@ pub fn link<R: Threads + Sync>(
     exports: &[Text],
     import_limit: u32,
     inline_limit: u32,
+    cache: &SharedCache<D, S>,
+    pass: &mut CachePass<D, S>,
+    gate: &G,
 ) -> Result<Text, Refusal>
+    requires jobs { (1 ≤ jobs) × (jobs ≤ 64) }
+    requires count { length modules.now < 2 ^ 32 }
     requires files { length files.now ≡ length modules.now }
     requires suffixes { length suffixes.now ≡ length modules.now }
-    ensures linked { IfOk result (λ text. (bytes : List (List ℕ)) → AllZip Accepts bytes modules.now → suffixes.now ≡ map suffix_of bytes → IsLinkOf exports.now import_limit inline_limit bytes text) }
-    ensures only { IfOk result (λ text. (bytes : List (List ℕ)) → AllZip Accepts bytes modules.now → suffixes.now ≡ map suffix_of bytes → IsOnlyLinkOf exports.now import_limit inline_limit bytes text) }
+    requires pass { IsAt cache.now.lock.table.shared.table_id pass.old.place.seat }
+    requires keys { (t : TaskView) → IsTaskInLink exports.now import_limit inline_limit suffixes.now modules.now t → S.keys (task_text t) }
+    requires fits { (t : TaskView) → IsTaskInLink exports.now import_limit inline_limit suffixes.now modules.now t → IsWrittenTask t → FitsAsMade D.fits IsTaskUnit t }
+    ensures pass { IsAt cache.now.lock.table.shared.table_id pass.new.place.seat }
+    ensures seen { IsPrefix (seen_by pass.old.place.seat) (seen_by pass.new.place.seat) }
+    ensures linked { IfOk result (λ text. IsTrusted S.dir D.fits S.files → (bytes : List (List ℕ)) → AllZip Accepts bytes modules.now → suffixes.now ≡ map suffix_of bytes → ∥ IsLinkOf exports.now import_limit inline_limit bytes text ∥₁) }
+    ensures only { IfOk result (λ text. IsTrusted S.dir D.fits S.files → (bytes : List (List ℕ)) → AllZip Accepts bytes modules.now → suffixes.now ≡ map suffix_of bytes → IsOnlyLinkOf exports.now import_limit inline_limit bytes text) }
+    ensures linkable { IfOk result (λ _. CanBeLinked exports.now import_limit suffixes.now modules.now) }
     ensures refused { IfErr result (λ why. why ≢ NoMemory → IsUnlinked files.now exports.now import_limit suffixes.now modules.now why) }
 {
     linked_refines();
     linked_is_one();
     let decided = thin_link(alloc, files, modules, exports, import_limit)?;
     named(alloc, &decided, suffixes)?;
-    match linked(
+    let pool = Pool {
         rt,
-        alloc,
         jobs,
+        cache,
+        gate,
+    };
+    match linked(
+        alloc,
+        &pool,
+        pass,
         modules,
         &decided,
         suffixes,

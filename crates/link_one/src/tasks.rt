@@ -6,17 +6,18 @@ ghost use Rattle.ir_summary.specs.Once.{texts};
 ghost use Rattle.lto_task.specs.Pieces.{NamesRise};
 ghost use Rattle.lto_task.specs.Tasks.{task_view};
 ghost use Rattle.link_one.specs.Linked.{brought, joined};
-ghost use Rattle.link_one.specs.ModuleUnits.{IsTaskAt};
+ghost use Rattle.link_one.specs.ModuleUnits.{AreTasks, IsTaskAt};
 ghost use Rattle.link_one.specs.Tables.{values};
 ghost use Rattle.link_one.specs.Tasks.{name_of};
 ghost use Rattle.link_one.specs.Units.{names_of};
+ghost use Rattle.thin_link.specs.Views.{rows};
 
-use crate::names::{borrowed, copies, sort_names};
+use crate::names::{borrowed, copies, set_of, sort_names};
 use crate::referable::push_names;
 use crate::setting::{Setting, list_at, part_at};
-use crate::table::push_all;
+use crate::table::{push_all, table_of};
 use ir_better::symbol_of;
-use ir_tree::{GlobalValue, Rows, Text};
+use ir_tree::{GlobalValue, Rows, Symbol, Text};
 use lto_task::Task;
 use std::alloc::{AllocError, Global};
 use std::collections::HashSet;
@@ -102,7 +103,7 @@ impl<'a> Setting<'a> {
     }
 
     /// The task of the module of this number.
-    pub(crate) fn task_of(&self, alloc: Global, number: usize) -> Result<Task<'a>, AllocError>
+    fn task_of(&self, alloc: Global, number: usize) -> Result<Task<'a>, AllocError>
         ensures { IfOk result (λ task. IsTaskAt self.now number (task_view task)) }
     {
         let part = part_at(self.parts, number);
@@ -121,4 +122,45 @@ impl<'a> Setting<'a> {
             imported,
         })
     }
+
+    /// The tasks of all modules, in command order.
+    fn tasks(&self, alloc: Global) -> Result<Vec<Task<'a>>, AllocError>
+        ensures { IfOk result (λ tasks. AreTasks self.now.exports.now self.now.limit self.now.symbols.now self.now.suffixes.now (rows self.now.imports.now) (rows self.now.promoted.now) self.now.parts.now tasks.items) }
+    {
+        let mut tasks = Vec::new(alloc);
+        for number in 0..self.parts.len() {
+            let task = self.task_of(alloc, number)?;
+            tasks.push(task)?;
+        }
+        Ok(tasks)
+    }
+}
+
+/// The tasks of the modules, in command order, where these names are exported. The parts are those of all modules.
+pub(crate) fn tasks_of<'a>(
+    alloc: Global,
+    parts: &'a [Rows<GlobalValue>],
+    symbols: &'a [Symbol],
+    suffixes: &'a [Text],
+    imports: &'a [Vec<u32>],
+    promoted: &'a [Vec<u32>],
+    limit: u32,
+    exports: &'a [Text],
+) -> Result<Vec<Task<'a>>, AllocError>
+    ensures { IfOk result (λ tasks. AreTasks exports.entry.now limit symbols.entry.now suffixes.entry.now (rows imports.entry.now) (rows promoted.entry.now) parts.entry.now tasks.items) }
+{
+    let table = table_of(alloc, parts)?;
+    let exported = set_of(alloc, exports)?;
+    let setting = Setting {
+        parts,
+        symbols,
+        suffixes,
+        imports,
+        promoted,
+        limit,
+        exports,
+        exported,
+        table,
+    };
+    setting.tasks(alloc)
 }

@@ -1,10 +1,11 @@
 -- From a command to the words that ask for it, and back.
-use Rattle.std.proofs.Common.{ℕ, ◌≡◌, true, List, [], ◌∷◌, ◌++◌, OnErr, OnOk, Option, Some, None, Result, Ok, Err, ap, inl, inr, refl, subst}
+use Rattle.std.proofs.Common.{ℕ, ◌≡◌, ◌⊎◌, true, List, [], ◌∷◌, ◌++◌, OnErr, OnOk, Option, Some, None, Result, Ok, Err, ap, inl, inr, refl, subst}
 use Rattle.lto_fault.specs.declared.kind.Kind.{Kind}
 use Rattle.lto_fault.specs.declared.refusal.Refusal.{Refusal}
 use Rattle.command_files.specs.Fetching.{FetchFailed, fetch_call, fetch_calls}
 use Rattle.command_files.specs.Links.{all_files}
 use Rattle.lto_outside.specs.Calls.{Call, DidNoPut, Fetched, NoPut, Put}
+use Rattle.lto_outside.specs.DiskStore.{DiskStore}
 use Rattle.lto_outside.specs.Seen.{FilesSeen}
 use Rattle.lto_outside.specs.declared.fault.FetchFault.TheVariants.{Fault}
 use Rattle.lto_words.specs.Commands.{IsCommand}
@@ -14,12 +15,14 @@ use Rattle.lto_words.specs.declared.request.Command.{Command}
 use Rattle.lto_words.specs.declared.request.Command.TheVariants.{Link, Batch, Index, Run, Gen}
 use Rattle.lto_words.specs.declared.request.LinkOptions.{LinkOptions}
 use Rattle.thinlto_main.specs.Answers.{Says, causes, causes_of, obeyed, reporting}
-use Rattle.thinlto_main.specs.Asking.{Asked, is_offered, is_offered_link}
+use Rattle.thinlto_main.specs.Asking.{Asked, is_offered}
 use Rattle.run_program.specs.Causes.{Causes, Comes, always}
-use Rattle.thinlto_main.specs.Batching.{batching}
+use Rattle.thinlto_main.specs.Batching.{LinkCannotRead, ListIsBad, batching, fetching}
+use Rattle.thinlto_main.specs.Honest.{IsTrustedBy}
+use Rattle.thinlto_main.specs.Keys.{LeavesDisk}
 use Rattle.thinlto_main.specs.Linking.{linking}
 use Rattle.thinlto_main.specs.Running.{running}
-use Rattle.thinlto_main.specs.Seen.{InputSeen, Seen, Untouched, streams_of}
+use Rattle.thinlto_main.specs.Seen.{RestSeen, Seen, Untouched, streams_of}
 use Rattle.run_program.specs.Streams.{Notes}
 use Rattle.thinlto_main.specs.Telling.{told, told_of}
 use Rattle.run_program.proofs.Causes.{Implies}
@@ -28,7 +31,7 @@ use Rattle.thinlto_main.proofs.Completing.{telling}
 use Rattle.thinlto_main.proofs.Reading.{fetched_no_put, no_put_fetches}
 
 -- an answer for a command is one for its words
-pub asked_for : OneCommand → (words : List (List ℕ)) (c : Command) (s : Seen) (i : InputSeen) → IsCommand words c → Implies (obeyed c s i) (causes_of words s i)
+pub asked_for : OneCommand → (words : List (List ℕ)) (c : Command) (s : Seen) (i : RestSeen) → IsCommand words c → Implies (obeyed c s i) (causes_of words s i)
 asked_for one words c s i is = record {
   done = λ x. record { command = c; is = is; offered = x.1; so = x.0 };
   usage = λ x. (λ d asked offered. let same : is_offered d ≡ is_offered c = ap is_offered (one words d c asked is) in let no : ⊥ = cc (same, offered, x.0) in no, x.1, x.2);
@@ -42,10 +45,19 @@ asked_for one words c s i is = record {
 }
 
 -- and so is what is said
-pub said_for : {A : Type 0} (words : List (List ℕ)) (c : Command) (s : Seen) (i : InputSeen) (notes : Notes) → IsCommand words c → (r : Result A Refusal) → Comes (obeyed c s i) r → OnOk r (Says c s i notes)
+pub said_for : {A : Type 0} (words : List (List ℕ)) (c : Command) (s : Seen) (i : RestSeen) (notes : Notes) → IsCommand words c → (r : Result A Refusal) → Comes (obeyed c s i) r → OnOk r (Says c s i notes)
     → OnOk r (Asked words (λ d. Says d s i notes))
 said_for words c s i notes is (Ok x) come says = record { command = c; is = is; offered = come.1; so = says }
 said_for words c s i notes is (Err why) come says = tt
+
+-- and so is what is left of the disk
+pub asked_disk : (words : List (List ℕ)) (c : Command) → IsCommand words c → (did : List Call → Type 0) (fits : List ℕ → List ℕ → Type 0) (old new : Option DiskStore) → LeavesDisk c did fits old new
+    → (new ≡ old) ⊎ Asked words (λ d. LeavesDisk d did fits old new)
+asked_disk words (Link options out names) is did fits old new leaves = inr (record { command = Link options out names; is = is; offered = refl; so = leaves })
+asked_disk words (Batch options list) is did fits old new leaves = inr (record { command = Batch options list; is = is; offered = refl; so = leaves })
+asked_disk words (Index exports limit names) is did fits old new leaves = inl leaves
+asked_disk words (Run root args steps names) is did fits old new leaves = inl leaves
+asked_disk words (Gen seed modules jobs) is did fits old new leaves = inl leaves
 
 -- what holds whatever the answer is
 pub on_each : {A : Type 0} (r : Result A Refusal) (P : Type 0) → P → OnOk r P × OnErr r P
@@ -53,35 +65,35 @@ on_each (Ok x) P h = (h, tt)
 on_each (Err why) P h = (tt, h)
 
 -- what a link answers is what the command does, and so of a batch, of an index and of a run
-pub link_obeyed : (options : LinkOptions) (out : List ℕ) (names : List (List ℕ)) (s : Seen) (i : InputSeen) → is_offered_link options ≡ true → s.unprinted → i.untaken
-    → Implies (linking options out names s.files) (obeyed (Link options out names) s i)
-link_obeyed options out names s i offered same untaken = record {
-  done = λ x. (((x, same), untaken), offered);
+pub link_obeyed : (options : LinkOptions) (out : List ℕ) (names : List (List ℕ)) (s : Seen) (i : RestSeen) → s.unprinted → i.untaken
+    → Implies (linking options out names (IsTrustedBy options i.honest) s.files) (obeyed (Link options out names) s i)
+link_obeyed options out names s i same untaken = record {
+  done = λ x. (((x, same), untaken), refl);
   usage = λ x. absurd x;
-  unread = λ name x. (((x, same), untaken), offered);
-  refused = λ file line kind x. (((x, same), untaken), offered);
-  unlinked = λ why x. (((x, same), untaken), offered);
+  unread = λ name x. (((x, same), untaken), refl);
+  refused = λ file line kind x. (((x, same), untaken), refl);
+  unlinked = λ why x. (((x, same), untaken), refl);
   unfit = λ name x. absurd x;
-  unwritten = λ name x. (((x, same), untaken), offered);
+  unwritten = λ name x. (((x, same), untaken), refl);
   unreturned = λ why x. absurd x;
-  memory = λ x. (((x, same), untaken), offered);
+  memory = λ x. (((x, same), untaken), refl);
 }
 
-pub batch_obeyed : (options : LinkOptions) (list : List ℕ) (s : Seen) (i : InputSeen) → is_offered_link options ≡ true → s.unprinted → i.untaken
-    → Implies (batching options list s.files) (obeyed (Batch options list) s i)
-batch_obeyed options list s i offered same untaken = record {
-  done = λ x. (((x, same), untaken), offered);
+pub batch_obeyed : (options : LinkOptions) (list : List ℕ) (s : Seen) (i : RestSeen) → s.unprinted → i.untaken
+    → Implies (batching options list (IsTrustedBy options i.honest) s.files) (obeyed (Batch options list) s i)
+batch_obeyed options list s i same untaken = record {
+  done = λ x. (((x, same), untaken), refl);
   usage = λ x. absurd x;
-  unread = λ name x. (((x, same), untaken), offered);
-  refused = λ file line kind x. (((x, same), untaken), offered);
-  unlinked = λ why x. (((x, same), untaken), offered);
+  unread = λ name x. (((x, same), untaken), refl);
+  refused = λ file line kind x. (((x, same), untaken), refl);
+  unlinked = λ why x. (((x, same), untaken), refl);
   unfit = λ name x. absurd x;
-  unwritten = λ name x. (((x, same), untaken), offered);
+  unwritten = λ name x. (((x, same), untaken), refl);
   unreturned = λ why x. absurd x;
-  memory = λ x. (((x, same), untaken), offered);
+  memory = λ x. (((x, same), untaken), refl);
 }
 
-pub index_obeyed : (exports : List (List ℕ)) (limit : ℕ) (names : List (List ℕ)) (s : Seen) (i : InputSeen) → i.untaken → Implies (reporting exports limit names s) (obeyed (Index exports limit names) s i)
+pub index_obeyed : (exports : List (List ℕ)) (limit : ℕ) (names : List (List ℕ)) (s : Seen) (i : RestSeen) → i.untaken → Implies (reporting exports limit names s) (obeyed (Index exports limit names) s i)
 index_obeyed exports limit names s i untaken = record {
   done = λ x. ((x, untaken), refl);
   usage = λ x. absurd x.0;
@@ -94,7 +106,7 @@ index_obeyed exports limit names s i untaken = record {
   memory = λ x. ((x, untaken), refl);
 }
 
-pub run_obeyed : (root : List ℕ) (args : List Decimal) (steps : ℕ) (names : List (List ℕ)) (s : Seen) (i : InputSeen)
+pub run_obeyed : (root : List ℕ) (args : List Decimal) (steps : ℕ) (names : List (List ℕ)) (s : Seen) (i : RestSeen)
     → Implies (running root args steps names s.files (streams_of s i)) (obeyed (Run root args steps names) s i)
 run_obeyed root args steps names s i = record {
   done = λ x. (x, refl);
@@ -124,7 +136,7 @@ untouched_no_put s u = record { calls = []; made = u.0; no_put = tt }
 abbrev pub calmly : Type 0 → Causes
 calmly P = record (always P) { done = Unit {0}; unwritten = λ name. Unit {0} }
 
-module _ (root : List ℕ) (args : List Decimal) (steps : ℕ) (names : List (List ℕ)) (s : Seen) (i : InputSeen) where
+module _ (root : List ℕ) (args : List Decimal) (steps : ℕ) (names : List (List ℕ)) (s : Seen) (i : RestSeen) where
   run_unread : (name : List ℕ) → (causes (Run root args steps names) s i).unread name → DidNoPut s.files.did
   run_unread name (inl x) = failed_no_put s.files.did names name x.0.failed
   run_unread name (inr o) = fetched_no_put names o.is.given s.files.did o.is.fetched
@@ -134,7 +146,7 @@ module _ (root : List ℕ) (args : List Decimal) (steps : ℕ) (names : List (Li
   run_memory (inr o) = fetched_no_put names o.is.given s.files.did o.is.fetched
 
 module _ (options : LinkOptions) (list : List ℕ) (files : FilesSeen) where
-  batch_unread : (name : List ℕ) → (batching options list files).unread name → DidNoPut files.did
+  batch_unread : (name : List ℕ) → (fetching list files).unread name → DidNoPut files.did
   batch_unread name (inl x) = failed_no_put files.did (list ∷ []) name x.failed
   batch_unread name (inr x) =
       let first = failed_no_put (λ calls. files.did (Fetched list (Ok x.bytes) ∷ calls)) (all_files x.links) name x.failed in
@@ -144,11 +156,11 @@ module _ (options : LinkOptions) (list : List ℕ) (files : FilesSeen) where
   list_bad None made = record { calls = fetch_call list None ∷ []; made = made; no_put = tt }
   list_bad (Some bytes) made = record { calls = fetch_call list (Some bytes) ∷ []; made = made; no_put = tt }
 
-  batch_refused : (file : List ℕ) (line : ℕ) (kind : Kind) → (batching options list files).refused file line kind → DidNoPut files.did
+  batch_refused : (file : List ℕ) (line : ℕ) (kind : Kind) → ListIsBad list files file line kind ⊎ LinkCannotRead options list files file line kind → DidNoPut files.did
   batch_refused file line kind (inl x) = list_bad x.given x.calls
   batch_refused file line kind (inr x) = given_no_put list x.links x.given files.did x.fetched
 
-calm : (s : Seen) (i : InputSeen) (c : Command) → Implies (causes c s i) (calmly (DidNoPut s.files.did))
+calm : (s : Seen) (i : RestSeen) (c : Command) → Implies (causes c s i) (calmly (DidNoPut s.files.did))
 calm s i (Link options out names) = record {
   done = λ x. tt;
   usage = λ x. absurd x.0.0;
@@ -195,7 +207,7 @@ calm s i (Run root args steps names) = record {
 }
 calm s i (Gen seed modules jobs) = record { done = λ x. tt; usage = λ x. absurd x; unread = λ n x. absurd x; refused = λ f l k x. absurd x; unlinked = λ w x. absurd x; unfit = λ n x. absurd x; unwritten = λ n x. tt; unreturned = λ w x. absurd x; memory = λ x. absurd x }
 
-module _ (words : List (List ℕ)) (s : Seen) (i : InputSeen) where
+module _ (words : List (List ℕ)) (s : Seen) (i : RestSeen) where
   memory_no_put : (causes_of words s i).memory → DidNoPut s.files.did
   memory_no_put (inl x) = untouched_no_put s x.0
   memory_no_put (inr x) = (calm s i x.command).memory x.so
@@ -215,7 +227,7 @@ module _ (words : List (List ℕ)) (s : Seen) (i : InputSeen) where
 
 -- ---- before anything is printed, or taken from the input
 
-module _ (s : Seen) (i : InputSeen) where
+module _ (s : Seen) (i : RestSeen) where
   refused_unused : (c : Command) (file : List ℕ) (line : ℕ) (kind : Kind) → (causes c s i).refused file line kind → i.untaken × s.unprinted
   refused_unused (Link options out names) file line kind x = (x.1, x.0.1)
   refused_unused (Index exports limit names) file line kind x = (x.1, x.0.1)
@@ -248,7 +260,7 @@ module _ (s : Seen) (i : InputSeen) where
 
 -- ---- where the files tell
 
-module _ (words : List (List ℕ)) (s : Seen) (i : InputSeen) (tell : (c : Command) → Implies (causes c s i) (told c s i)) where
+module _ (words : List (List ℕ)) (s : Seen) (i : RestSeen) (tell : (c : Command) → Implies (causes c s i) (told c s i)) where
   pub told_so : Implies (causes_of words s i) (told_of words s i)
   told_so = record {
     done = λ x. record { command = x.command; is = x.is; offered = x.offered; so = (tell x.command).done x.so };

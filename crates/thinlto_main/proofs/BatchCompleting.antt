@@ -1,9 +1,9 @@
 -- When a batch has to be done, and when refused.
 use Rattle.std.proofs.Common.{ℕ, ◌≡◌, ◌∙◌, List, [], ◌∷◌, Option, Some, None, ap, arith, inl, inr, length, subst, sym}
-use Rattle.std.specs.List.{AllByRecursion, AllZip}
+use Rattle.std.specs.List.{AllByRecursion}
 use Rattle.std.specs.Prelude.{IfSome}
 use Rattle.link_one.specs.Laws.{AcceptedIsNotRefused, AcceptedIsOne, RefusedIsOne}
-use Rattle.link_one.specs.LinkedLaws.{UnlinkedIsNotLinked, UnlinkedIsOne}
+use Rattle.link_one.specs.LinkedLaws.{UnlinkedIsOne}
 use Rattle.lto_fault.specs.declared.kind.Kind.{Kind}
 use Rattle.lto_fault.specs.declared.refusal.Refusal.{Refusal}
 use Rattle.lto_outside.specs.Store.{Store}
@@ -12,21 +12,16 @@ use Rattle.command_files.specs.Listing.{IsList}
 use Rattle.command_files.specs.declared.listing.ListedLink.{ListedLink}
 use Rattle.command_files.proofs.OneList as list_laws
 use Rattle.thinlto_main.specs.BatchHolding.{AreBadLines, BatchHeld, CanBatch, FirstHeld, HoldBatchBad, HoldBatchUnlinkable, HoldsBadList, HoldsList}
-use Rattle.thinlto_main.specs.Holding.{HoldFirstBad, HoldLinkable, HoldMade, HoldUnlinkable}
+use Rattle.thinlto_main.specs.Holding.{HoldFirstBad, HoldLinkable, HoldUnlinkable}
 use Rattle.thinlto_main.proofs.Held.{one_first_bad}
-use Rattle.thinlto_main.proofs.HeldLinks.{linkable_bad, linkable_unlinkable, made_bad, made_unlinkable, one_unlinkable, unlinkable_bad}
+use Rattle.thinlto_main.proofs.HeldLinks.{linkable_bad, linkable_unlinkable, one_unlinkable, unlinkable_bad}
 
--- the list is read, and each of its links was made
-pub record HoldsMade (options : LinkOptions) (list : List ℕ) (held : Store) : Type 0 where
-  pub links : List ListedLink
-  pub listed : HoldsList held list links
-  pub texts : List (List ℕ)
-  pub made : AllZip (λ link. HoldMade options link.files held) links texts
-
-pub batch_made : (put : Store → Store → List ListedLink → List (List ℕ) → Type 0) (options : LinkOptions) (list : List ℕ) (old new : Option Store) → BatchHeld put options list old new → IfSome old (HoldsMade options list)
-batch_made put options list None new h = tt
-batch_made put options list (Some old) None h = absurd h
-batch_made put options list (Some old) (Some new) h = record { links = h.links; listed = h.listed; texts = h.texts; made = h.made }
+-- what was done could be
+pub batch_done : (put : Store → Store → List ListedLink → List (List ℕ) → Type 0) (options : LinkOptions) (list : List ℕ) (trusted : Type 0) (old new : Option Store) → BatchHeld put options list trusted old new
+    → IfSome old (CanBatch options list)
+batch_done put options list trusted None new h = tt
+batch_done put options list trusted (Some old) None h = absurd h
+batch_done put options list trusted (Some old) (Some new) h = record { links = h.links; listed = h.listed; each = h.each }
 
 -- ---- the list file
 
@@ -64,13 +59,6 @@ module _ (options : LinkOptions) (held : Store) where
   all_linkable P never (link ∷ links) all (inl p) = never link all.0 p
   all_linkable P never (link ∷ links) all (inr (good, first)) = all_linkable P never links all.1 first
 
-  all_made : (P : ListedLink → Type 0) → ((link : ListedLink) (text : List ℕ) → HoldMade options link.files held text → P link → ⊥) → (links : List ListedLink) (texts : List (List ℕ)) → AllZip (λ link. HoldMade options link.files held) links texts
-      → FirstHeld options held P links → ⊥
-  all_made P never [] texts made first = first
-  all_made P never (link ∷ links) [] made first = made
-  all_made P never (link ∷ links) (text ∷ texts) made (inl p) = never link text made.0 p
-  all_made P never (link ∷ links) (text ∷ texts) made (inr (good, first)) = all_made P never links texts made.1 first
-
   both_first : (P Q : ListedLink → Type 0) (R : Type 0) → ((link : ListedLink) → P link → Q link → R) → ((link : ListedLink) → HoldLinkable options link.files held → P link → ⊥) → ((link : ListedLink) → HoldLinkable options link.files held → Q link → ⊥)
       → (links : List ListedLink) → FirstHeld options held P links → FirstHeld options held Q links → R
   both_first P Q R both no_p no_q [] a b = absurd a
@@ -104,17 +92,6 @@ module _ (apart : AcceptedIsNotRefused) (accepted : AcceptedIsOne) (options : Li
   can_batch_unlinkable why can stop =
       all_linkable options held (unlinkable_at why) (not_unlinkable why) can.links can.each
       (subst (FirstHeld options held (unlinkable_at why)) (one_links held list stop.links can.links stop.listed can.listed) stop.first)
-
-  pub batch_bad_made : (file : List ℕ) (line : ℕ) (kind : Kind) → HoldBatchBad options list held file line kind → HoldsMade options list held → ⊥
-  batch_bad_made file line kind (inl bad) m = read_or_bad held list m.links line kind m.listed bad.1
-  batch_bad_made file line kind (inr stop) m =
-      all_made options held (bad_at file line kind) (λ link text made bad. made_bad held options link.files apart text file line kind made bad) m.links m.texts m.made
-      (subst (FirstHeld options held (bad_at file line kind)) (one_links held list stop.links m.links stop.listed m.listed) stop.first)
-
-  pub batch_unlinkable_made : UnlinkedIsNotLinked → (why : Refusal) → HoldBatchUnlinkable options list held why → HoldsMade options list held → ⊥
-  batch_unlinkable_made law why stop m =
-      all_made options held (unlinkable_at why) (λ link text made u. made_unlinkable held options link.files accepted law text why made u) m.links m.texts m.made
-      (subst (FirstHeld options held (unlinkable_at why)) (one_links held list stop.links m.links stop.listed m.listed) stop.first)
 
   pub batch_unlinkable_bad : (why : Refusal) (file : List ℕ) (line : ℕ) (kind : Kind) → HoldBatchUnlinkable options list held why → HoldBatchBad options list held file line kind → ⊥
   batch_unlinkable_bad why file line kind u (inl bad) = read_or_bad held list u.links line kind u.listed bad.1

@@ -1,6 +1,7 @@
 -- What told files hold of a batch follows from its calls.
+use mathlib.Core.Logic.{∥∥₁_map}
 use Rattle.std.proofs.Common.{ℕ, ◌≡◌, ◌∙◌, Bool, true, false, List, [], ◌∷◌, ◌++◌, map, Option, Some, None, Ok, ap, arith, inl, inr, length, refl, subst, sym, take, if◌then◌else◌}
-use Rattle.std.specs.List.{AllZip}
+use Rattle.std.specs.List.{AllByRecursion, AllZip}
 use Rattle.std.specs.Prelude.{IfSome}
 use Rattle.std.specs.Str.{bytes_eq}
 use Rattle.std.proofs.lemmas.Slice.Eq.{bytes_eq-Decides}
@@ -15,10 +16,10 @@ use Rattle.command_files.specs.Fetching.{fetch_call, fetch_calls}
 use Rattle.command_files.specs.Links.{GivenFor, PutFailed, all_files, all_given, puts}
 use Rattle.command_files.specs.declared.listing.ListedLink.{ListedLink}
 use Rattle.command_files.proofs.InARow.{as_many}
-use Rattle.thinlto_main.specs.Batching.{AreGiven, BatchCannotWrite, DidBatch, FirstLink, IsBadList, LinkStops, ListIsBad}
+use Rattle.thinlto_main.specs.Batching.{AreGiven, AreLinkable, BatchCannotWrite, DidBatch, FirstLink, IsBadList, LinkStops, ListIsBad}
 use Rattle.thinlto_main.specs.BatchHolding.{BatchHeld, FirstHeld, HavePart, HavePut, HoldStop, HoldsBadList, HoldsList, put_over}
 use Rattle.thinlto_main.specs.Holding.{HoldLinkable, HoldMade, HoldUnlinkable}
-use Rattle.thinlto_main.specs.Linking.{IsLinkable, IsMade, IsUnlinkable}
+use Rattle.thinlto_main.specs.Linking.{IsLinkable, IsMade, IsMadeIf, IsUnlinkable}
 use Rattle.thinlto_main.specs.Modules.{bytes_of}
 use Rattle.thinlto_main.proofs.Held.{Gives, fetches_then, held_inputs}
 use Rattle.thinlto_main.proofs.Linking.{accepted_bytes}
@@ -100,7 +101,7 @@ by_link held (link ∷ links) (g ∷ given) each gives =
 -- ---- links
 
 module _ (held : Store) (options : LinkOptions) where
-  hold_linkable : (names : List (List ℕ)) (given : List (Option (List ℕ))) → AllZip (Gives held) names given → IsLinkable options names given → HoldLinkable options names held
+  pub hold_linkable : (names : List (List ℕ)) (given : List (Option (List ℕ))) → AllZip (Gives held) names given → IsLinkable options names given → HoldLinkable options names held
   hold_linkable names given gives l = record {
     inputs = map bytes_of given;
     ms = l.ms;
@@ -119,13 +120,22 @@ module _ (held : Store) (options : LinkOptions) where
   pub hold_made : (names : List (List ℕ)) (given : List (Option (List ℕ))) (text : List ℕ) → AllZip (Gives held) names given → IsMade options given text → HoldMade options names held text
   hold_made names given text gives m = record { inputs = map bytes_of given; there = held_inputs held names given m.is_link.ms gives m.read; is_link = m.is_link; only = m.only }
 
-  all_made : (links : List ListedLink) (given : List (List (Option (List ℕ)))) (texts : List (List ℕ)) → AllZip (GivesFor held) links given → AllZip (IsMade options) given texts → AllZip (λ link. HoldMade options link.files held) links texts
-  all_made [] [] [] gives made = tt
-  all_made [] [] (t ∷ texts) gives made = absurd made
-  all_made [] (g ∷ given) texts gives made = absurd gives
-  all_made (link ∷ links) [] texts gives made = absurd gives
-  all_made (link ∷ links) (g ∷ given) [] gives made = absurd made
-  all_made (link ∷ links) (g ∷ given) (t ∷ texts) gives made = (hold_made link.files g t gives.0 made.0, all_made links given texts gives.1 made.1)
+  pub hold_if_made : (trusted : Type 0) (names : List (List ℕ)) (given : List (Option (List ℕ))) (text : List ℕ) → AllZip (Gives held) names given → IsMadeIf trusted options given text → trusted → ∥ HoldMade options names held text ∥₁
+  hold_if_made trusted names given text gives made sure = ∥∥₁_map (made sure) (hold_made names given text gives)
+
+  all_made : (trusted : Type 0) (links : List ListedLink) (given : List (List (Option (List ℕ)))) (texts : List (List ℕ)) → AllZip (GivesFor held) links given → AllZip (IsMadeIf trusted options) given texts
+      → AllZip (λ link text. trusted → ∥ HoldMade options link.files held text ∥₁) links texts
+  all_made trusted [] [] [] gives made = tt
+  all_made trusted [] [] (t ∷ texts) gives made = absurd made
+  all_made trusted [] (g ∷ given) texts gives made = absurd gives
+  all_made trusted (link ∷ links) [] texts gives made = absurd gives
+  all_made trusted (link ∷ links) (g ∷ given) [] gives made = absurd made
+  all_made trusted (link ∷ links) (g ∷ given) (t ∷ texts) gives made = (hold_if_made trusted link.files g t gives.0 made.0, all_made trusted links given texts gives.1 made.1)
+
+  all_linkable : (links : List ListedLink) (given : List (List (Option (List ℕ)))) → AllZip (GivesFor held) links given → AreLinkable options links given → AllByRecursion (λ link. HoldLinkable options link.files held) links
+  all_linkable [] given gives linkable = tt
+  all_linkable (link ∷ links) [] gives linkable = absurd gives
+  all_linkable (link ∷ links) (g ∷ given) gives linkable = (hold_linkable link.files g gives.0 linkable.0, all_linkable links given gives.1 linkable.1)
 
   first_held : (P : ListedLink → List (Option (List ℕ)) → Type 0) (Q : ListedLink → Type 0) → ((link : ListedLink) (g : List (Option (List ℕ))) → AllZip (Gives held) link.files g → P link g → Q link)
       → (links : List ListedLink) (given : List (List (Option (List ℕ)))) → AllZip (GivesFor held) links given → FirstLink options P links given → FirstHeld options held Q links
@@ -150,8 +160,8 @@ given_then list links given old new rest g =
       behind = both.1;
     }
 
-module _ (options : LinkOptions) (list : List ℕ) (files : FilesSeen) (tells : (calls : List Call) → files.did calls → Follows files.held calls files.holds) where
-  batch_told : (d : DidBatch options list files) (old new : Option Store) → ((calls : List Call) → files.did calls → Follows old calls new) → BatchHeld HavePut options list old new
+module _ (options : LinkOptions) (list : List ℕ) (trusted : Type 0) (files : FilesSeen) (tells : (calls : List Call) → files.did calls → Follows files.held calls files.holds) where
+  batch_told : (d : DidBatch options list trusted files) (old new : Option Store) → ((calls : List Call) → files.did calls → Follows old calls new) → BatchHeld HavePut options list trusted old new
   batch_told d None new follows = tt
   batch_told d (Some old) None follows = follows _ d.fetched.calls
   batch_told d (Some old) (Some new) follows =
@@ -159,12 +169,13 @@ module _ (options : LinkOptions) (list : List ℕ) (files : FilesSeen) (tells : 
       record {
         links = d.links;
         listed = t.listed;
+        each = all_linkable old options d.links d.given t.gives d.linkable;
         texts = d.texts;
-        made = all_made old options d.links d.given d.texts t.gives d.made;
+        made = all_made old options trusted d.links d.given d.texts t.gives d.made;
         put_there = all_put old new d.links d.texts t.behind;
       }
 
-  stuck_told : (name : List ℕ) (d : BatchCannotWrite options list files name) (old new : Option Store) → ((calls : List Call) → files.did calls → Follows old calls new) → BatchHeld (HavePart name) options list old new
+  stuck_told : (name : List ℕ) (d : BatchCannotWrite options list trusted files name) (old new : Option Store) → ((calls : List Call) → files.did calls → Follows old calls new) → BatchHeld (HavePart name) options list trusted old new
   stuck_told name d None new follows = tt
   stuck_told name d (Some old) None follows = follows _ d.fetched.calls.calls
   stuck_told name d (Some old) (Some new) follows =
@@ -174,19 +185,21 @@ module _ (options : LinkOptions) (list : List ℕ) (files : FilesSeen) (tells : 
       record {
         links = d.links;
         listed = t.listed;
+        each = all_linkable old options d.links d.given t.gives d.linkable;
         texts = d.texts;
-        made = all_made old options d.links d.given d.texts t.gives d.made;
+        made = all_made old options trusted d.links d.given d.texts t.gives d.made;
         put_there = some_put old new d.links d.texts d.at name (record { link = f.link; text = f.text; of_link = f.of_link; of_text = f.of_text; calls = t.behind }) d.named;
       }
 
-  pub done_told : DidBatch options list files → BatchHeld HavePut options list files.held files.holds
+  pub done_told : DidBatch options list trusted files → BatchHeld HavePut options list trusted files.held files.holds
   done_told d = batch_told d files.held files.holds tells
 
-  pub part_told : (name : List ℕ) → BatchCannotWrite options list files name → BatchHeld (HavePart name) options list files.held files.holds
+  pub part_told : (name : List ℕ) → BatchCannotWrite options list trusted files name → BatchHeld (HavePart name) options list trusted files.held files.holds
   part_told name d = stuck_told name d files.held files.holds tells
 
-  -- ---- why there is none
+-- ---- why there is none
 
+module _ (options : LinkOptions) (list : List ℕ) (files : FilesSeen) (tells : (calls : List Call) → files.did calls → Follows files.held calls files.holds) where
   bad_list : (file : List ℕ) (line : ℕ) (kind : Kind) (b : ListIsBad list files file line kind) (given : Option (List ℕ)) → b.given ≡ given → (old new : Option Store) → ((calls : List Call) → files.did calls → Follows old calls new)
       → IfSome old (λ held. HoldsBadList held list line kind)
   bad_list file line kind b given is None new follows = tt

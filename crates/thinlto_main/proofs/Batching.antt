@@ -1,10 +1,9 @@
 -- A batch of links.
-use Rattle.std.proofs.Common.{◌≡◌, ◌<◌, ◌∙◌, ℕ, zero, suc, ◌+◌, List, [], ◌∷◌, ◌++◌, length, take, get_or, map, Option, Some, Ok, Err, ap, inl, inr, refl, sym, subst, arith}
+use Rattle.std.proofs.Common.{◌≡◌, ◌<◌, ◌∙◌, ℕ, zero, suc, ◌+◌, List, [], ◌∷◌, ◌++◌, length, take, get_or, map, OnOk, Option, Some, Result, Ok, Err, ap, inl, inr, refl, sym, subst, arith}
 use Rattle.std.specs.List.{AllZip}
-use Rattle.std.specs.Prelude.{slice_get}
+use Rattle.std.specs.Prelude.{IfErr, slice_get}
 use Rattle.std.proofs.lemmas.Grind.{take_at_read}
 use Rattle.std.proofs.lemmas.Option.{get_or_from_slice_get}
-use Rattle.link_one.specs.LinkedLaws.{UnlinkedIsNotLinked}
 use Rattle.link_one.proofs.Zipping.{zip_more}
 use Rattle.lto_fault.specs.declared.kind.Kind.{Kind}
 use Rattle.lto_outside.specs.Calls.{Call, DidNoPut, Fetched}
@@ -18,12 +17,14 @@ use Rattle.command_files.specs.Links.{GivenFor, PutFailed, all_files, all_given,
 use Rattle.command_files.specs.declared.fetching.FetchError.{FetchError}
 use Rattle.command_files.specs.declared.fetching.FetchError.TheVariants as error
 use Rattle.command_files.specs.declared.listing.ListedLink.{ListedLink}
-use Rattle.promote_rename.specs.Suffixes.{suffix_of}
-use Rattle.run_program.specs.Causes.{Because, never}
+use Rattle.lto_fault.specs.declared.refusal.Refusal.{Refusal}
+use Rattle.lto_fault.specs.declared.refusal.Refusal.TheVariants.{WriteFault}
+use Rattle.run_program.specs.Causes.{Because, Comes, never}
 use Rattle.run_program.proofs.Causes.{Implies}
-use Rattle.thinlto_main.specs.Batching.{AreGiven, BatchCannotWrite, DidBatch, FirstLink, HasListed, IsBadList, LinksCannotFetch, batching, listing}
-use Rattle.thinlto_main.specs.Linking.{IsLinkable, IsMade, IsUnlinkable}
-use Rattle.thinlto_main.specs.Modules.{FirstBad, bytes_of, unfetched}
+use Rattle.thinlto_main.specs.Batching.{AreGiven, AreLinkable, BatchCannotWrite, DidBatch, FirstLink, HasListed, IsBadList, LinksCannotFetch, batching, fetching, listing}
+use Rattle.thinlto_main.specs.Keys.{IsKeyAmong, IsKeyOfList}
+use Rattle.thinlto_main.specs.Linking.{IsLinkable, IsMadeIf, IsUnlinkable}
+use Rattle.thinlto_main.specs.Modules.{FirstBad, unfetched}
 use Rattle.thinlto_main.proofs.Reading.{no_put_fetches}
 
 -- ---- the list file
@@ -59,12 +60,26 @@ list_unfetched list files (error.Fault name) failed calm = record {
 }
 list_unfetched list files error.NoMemory failed calm = calm
 
--- why there are no links is why there is no batch
-pub listing_stops : (options : LinkOptions) (list : List ℕ) (files : FilesSeen) → Implies (listing list files) (batching options list files)
-listing_stops options list files = record {
-  done = λ x. absurd x;
+-- why there are no links is why their files can't be had
+pub listing_stops : (list : List ℕ) (files : FilesSeen) → Implies (listing list files) (fetching list files)
+listing_stops list files = record {
+  done = λ x. x;
   usage = λ x. x;
   unread = λ name x. inl x;
+  refused = λ file line kind x. x;
+  unlinked = λ why x. x;
+  unfit = λ name x. x;
+  unwritten = λ name x. x;
+  unreturned = λ why x. x;
+  memory = λ x. x;
+}
+
+-- and that is why there is no batch
+pub fetching_stops : (options : LinkOptions) (list : List ℕ) (trusted : Type 0) (files : FilesSeen) → Implies (fetching list files) (batching options list trusted files)
+fetching_stops options list trusted files = record {
+  done = λ x. absurd x;
+  usage = λ x. x;
+  unread = λ name x. x;
   refused = λ file line kind x. inl x;
   unlinked = λ why x. absurd x;
   unfit = λ name x. x;
@@ -75,9 +90,9 @@ listing_stops options list files = record {
 
 -- ---- the files of its links
 
-pub unfetched_stops : (options : LinkOptions) (list : List ℕ) (files : FilesSeen) (e : FetchError) → IfFault e (LinksCannotFetch list files) → DidNoPut files.did → Because (batching options list files) (unfetched e)
-unfetched_stops options list files (error.Fault name) failed calm = inr failed
-unfetched_stops options list files error.NoMemory failed calm = calm
+pub unfetched_stops : (list : List ℕ) (files : FilesSeen) (e : FetchError) → IfFault e (LinksCannotFetch list files) → DidNoPut files.did → Because (fetching list files) (unfetched e)
+unfetched_stops list files (error.Fault name) failed calm = inr failed
+unfetched_stops list files error.NoMemory failed calm = calm
 
 module _ {F : Type 0} (did : F → List Call → F → Type 0)
     (more : (a b c : F) (first rest : List Call) → did a first b → did b rest c → did a (first ++ rest) c) (a b c : F) (list : List ℕ) (links : List ListedLink) where
@@ -96,18 +111,19 @@ module _ {F : Type 0} (did : F → List Call → F → Type 0)
       let g = links_failed h name f in
       record { bytes = h.bytes; links = links; is = h.is; failed = record { before = g.before; behind = g.behind; split = g.split; given = g.given; each = g.each; calls = shows _ g.calls }; rose = rose }
 
-  module _ (options : LinkOptions) (given : List (List (Option (List ℕ)))) (texts : List (List ℕ)) (g : AreGiven list links given (λ calls. did a calls b)) (made : AllZip (IsMade options) given texts)
-      (files : FilesSeen) (shows : (calls : List Call) → did a calls c → files.did calls) where
-    pub did_batch : did b (puts links texts) c → DidBatch options list files
+  module _ (options : LinkOptions) (trusted : Type 0) (given : List (List (Option (List ℕ)))) (texts : List (List ℕ)) (g : AreGiven list links given (λ calls. did a calls b)) (linkable : AreLinkable options links given)
+      (made : AllZip (IsMadeIf trusted options) given texts) (files : FilesSeen) (shows : (calls : List Call) → did a calls c → files.did calls) where
+    pub did_batch : did b (puts links texts) c → DidBatch options list trusted files
     did_batch stored = record {
       links = links;
       given = given;
       texts = texts;
       fetched = record { bytes = g.bytes; short = g.short; is = g.is; each = g.each; calls = shows _ (more a b c _ _ g.calls stored) };
+      linkable = linkable;
       made = made;
     }
 
-    pub batch_stuck : (at : ℕ) (name : List ℕ) (f : PutFailed (λ calls. did b calls c) links texts at) → name ≡ f.link.out → Rose files.faults files.faults_now → BatchCannotWrite options list files name
+    pub batch_stuck : (at : ℕ) (name : List ℕ) (f : PutFailed (λ calls. did b calls c) links texts at) → name ≡ f.link.out → Rose files.faults files.faults_now → BatchCannotWrite options list trusted files name
     batch_stuck at name f named rose = record {
       links = links;
       given = given;
@@ -120,22 +136,41 @@ module _ {F : Type 0} (did : F → List Call → F → Type 0)
         each = g.each;
         calls = record { link = f.link; text = f.text; of_link = f.of_link; of_text = f.of_text; calls = shows _ (more a b c _ _ g.calls f.calls) };
       };
+      linkable = linkable;
       made = made;
       named = named;
       rose = rose;
     }
 
+    -- what comes of the puts
+    pub batch_comes : {A : Type 0} (faults : ℕ) → (Rose faults files.faults_now → Rose files.faults files.faults_now) → (r : Result A Refusal) → OnOk r (did b (puts links texts) c)
+        → IfErr r (λ why. (at : ℕ) × ((f : PutFailed (λ calls. did b calls c) links texts at) × (why ≡ WriteFault f.link.out)) × Rose faults files.faults_now) → Comes (batching options list trusted files) r
+    batch_comes faults later (Ok x) done failed = did_batch done
+    batch_comes faults later (Err why) done failed =
+        subst (Because (batching options list trusted files)) (sym failed.1.1) (batch_stuck failed.0 failed.1.0.link.out failed.1.0 refl (later failed.2))
+
+    -- the calls of the puts
+    pub puts_calls : {A : Type 0} (faults : ℕ) (r : Result A Refusal) → OnOk r (did b (puts links texts) c)
+        → IfErr r (λ why. (at : ℕ) × ((f : PutFailed (λ calls. did b calls c) links texts at) × (why ≡ WriteFault f.link.out)) × Rose faults files.faults_now) → (later : List Call) × did b later c
+    puts_calls faults (Ok x) done failed = (puts links texts, done)
+    puts_calls faults (Err why) done failed = (_, failed.1.0.calls)
+
+  -- a key of what was given is one of the list that was fetched
+  pub key_of_list : (options : LinkOptions) (given : List (List (Option (List ℕ)))) → AreGiven list links given (λ calls. did a calls b) → (rest : (later : List Call) × did b later c) → (key : List ℕ) → IsKeyAmong options given key
+      → IsKeyOfList options list (λ calls. did a calls c) key
+  key_of_list options given g rest key is = record { bytes = g.bytes; links = links; is_list = g.is; given = given; each = g.each; later = rest.0; calls = more a b c _ rest.0 g.calls rest.1; is = is }
+
 pub given_no_put : (list : List ℕ) (links : List ListedLink) (given : List (List (Option (List ℕ)))) (did : List Call → Type 0) → AreGiven list links given did → DidNoPut did
 given_no_put list links given did g = record { calls = Fetched list (Ok g.bytes) ∷ fetch_calls (all_files links) (all_given given); made = g.calls; no_put = no_put_fetches (all_files links) (all_given given) }
 
 -- why a link isn't made is why there is no batch
-pub link_stops : (options : LinkOptions) (list : List ℕ) (files : FilesSeen) (links : List ListedLink) (given : List (List (Option (List ℕ)))) → AreGiven list links given files.did
+pub link_stops : (options : LinkOptions) (list : List ℕ) (trusted : Type 0) (files : FilesSeen) (links : List ListedLink) (given : List (List (Option (List ℕ)))) → AreGiven list links given files.did
     → Implies (record never {
       refused = λ file line kind. FirstLink options (λ link bytes. FirstBad link.files bytes file line kind) links given;
       unlinked = λ why. FirstLink options (λ link bytes. IsUnlinkable options link.files bytes why) links given;
       memory = Unit {0};
-    }) (batching options list files)
-link_stops options list files links given g = record {
+    }) (batching options list trusted files)
+link_stops options list trusted files links given g = record {
   done = λ x. absurd x;
   usage = λ x. x;
   unread = λ name x. absurd x;
@@ -152,16 +187,6 @@ pub name_at : (links : List ListedLink) (at : ℕ) (link other : ListedLink) →
 name_at links at link other of_link is = is ∙ get_or_from_slice_get links at link other of_link
 
 -- ---- the links one after another
-
--- what is made can be linked
-pub linkable : UnlinkedIsNotLinked → (options : LinkOptions) (names : List (List ℕ)) (given : List (Option (List ℕ))) (text : List ℕ) → IsMade options given text → IsLinkable options names given
-linkable law options names given text m = record {
-  ms = m.is_link.ms;
-  read = m.read;
-  linked =
-      λ why u. law names options.exports options.import_limit (map suffix_of (map bytes_of given)) m.is_link.ms why
-      (record { index = m.is_link.linked.index; live = m.is_link.linked.live; imports = m.is_link.linked.imports; thin = m.is_link.linked.thin; named = m.is_link.linked.named }) u;
-}
 
 pub zip_at : {A B : Type 0} (R : A → B → Type 0) (xs : List A) (ys : List B) (i : ℕ) (x : A) (y : B) → AllZip R xs ys → i < length xs → x ≡ get_or xs i x → y ≡ get_or ys i y → R x y
 zip_at R [] ys i x y z lt x_is y_is = absurd (omega (arith, lt))

@@ -7,7 +7,7 @@ use Rattle.ir_meaning.specs.Program.{Program, State}
 use Rattle.ir_meaning.specs.Run.{Ending, Returned, run}
 use Rattle.ir_meaning.specs.declared.value.Value.{Value}
 use Rattle.link_one.specs.Laws.{AcceptedIsNotRefused, AcceptedIsOne, RefusedIsOne}
-use Rattle.link_one.specs.LinkedLaws.{UnlinkedIsNotLinked, UnlinkedIsOne}
+use Rattle.link_one.specs.LinkedLaws.{UnlinkedIsOne}
 use Rattle.lto_fault.specs.declared.kind.Kind.{Kind}
 use Rattle.lto_fault.specs.declared.refusal.Refusal.{Refusal}
 use Rattle.lto_outside.specs.Cause.{Rose}
@@ -23,19 +23,19 @@ use Rattle.thinlto_main.specs.Running.{OfModules}
 use Rattle.run_program.specs.Merged.{file_of}
 use Rattle.run_program.specs.Runs.{CannotSend, CannotTake, DidReturn, EndedOtherwise, EndsSo, IsUnfit, RunEnds}
 use Rattle.run_program.specs.Said.{ending_refusal}
-use Rattle.thinlto_main.specs.Seen.{InputSeen, Seen, streams_of}
+use Rattle.thinlto_main.specs.Seen.{RestSeen, Seen, streams_of}
 use Rattle.run_program.specs.Streams.{Streams}
 use Rattle.run_program.specs.Starting.{beginning}
-use Rattle.thinlto_main.specs.Holding.{Held, HoldFirstBad, HoldMade, HoldUnlinked, HoldsModule, LinkHeld}
+use Rattle.thinlto_main.specs.Holding.{Held, HoldFirstBad, HoldLinkable, HoldUnlinked, HoldsModule, LinkHeld}
 use Rattle.thinlto_main.specs.Telling.{CanBeDone, CanDo, CanLink, EndsOver, HoldReport, IsTold, MustNotBegin, MustNotLink, MustNotReturn, MustRefuse, RunComesTo, RunIsTold, told}
 use Rattle.run_program.proofs.Causes.{Implies}
-use Rattle.thinlto_main.proofs.BatchCompleting.{batch_bad_made, batch_made, batch_unlinkable_bad, batch_unlinkable_made, can_batch_bad, can_batch_unlinkable, one_batch_bad, one_batch_unlinkable}
-use Rattle.thinlto_main.proofs.HeldLinks.{linkable_bad, linkable_unlinkable, made_bad, made_unlinkable, one_unlinkable, unlinkable_bad}
+use Rattle.thinlto_main.proofs.BatchCompleting.{batch_done, batch_unlinkable_bad, can_batch_bad, can_batch_unlinkable, one_batch_bad, one_batch_unlinkable}
+use Rattle.thinlto_main.proofs.HeldLinks.{linkable_bad, linkable_unlinkable, one_unlinkable, unlinkable_bad}
 use Rattle.thinlto_main.proofs.Held.{none_bad, one_first_bad, one_list}
 use Rattle.lto_words.specs.declared.request.LinkOptions.{LinkOptions}
 
 -- what is told, of a command that is asked for
-abbrev pub telling : Command → Seen → InputSeen → Causes
+abbrev pub telling : Command → Seen → RestSeen → Causes
 telling c s i = record (told c s i) { usage = ⊥; memory = Unit {0} }
 
 -- ---- of the files that tell
@@ -54,12 +54,12 @@ either (inr b) f g = g b
 
 -- ---- a link
 
--- the text that was put is made of what they hold
-link_told : (put : Store → Store → List ℕ → List ℕ → Type 0) (options : LinkOptions) (out : List ℕ) (names : List (List ℕ)) (old new : Option Store)
-    → LinkHeld put options out names old new → IfSome old (λ held. (text : List ℕ) × HoldMade options names held text)
-link_told put options out names None new h = tt
-link_told put options out names (Some old) None h = absurd h
-link_told put options out names (Some old) (Some new) h = (h.text, h.made)
+-- what was done could be
+link_done : (put : Store → Store → List ℕ → List ℕ → Type 0) (options : LinkOptions) (out : List ℕ) (names : List (List ℕ)) (trusted : Type 0) (old new : Option Store) → LinkHeld put options out names trusted old new
+    → IfSome old (HoldLinkable options names)
+link_done put options out names trusted None new h = tt
+link_done put options out names trusted (Some old) None h = absurd h
+link_done put options out names trusted (Some old) (Some new) h = h.linkable
 
 -- ---- a run
 
@@ -82,7 +82,7 @@ one_ending p root args steps t a b can r = of_told (λ (bytes : List ℕ). EndsO
 begins_not : (p : Program) (root : List ℕ) (args : List Decimal) (first : State) → beginning p root args ≡ None → beginning p root args ≡ Some first → ⊥
 begins_not p root args first none some = let never : None ≡ Some first = sym none ∙ some in cc never
 
-module _ (apart : AcceptedIsNotRefused) (accepted : AcceptedIsOne) (s : Seen) (i : InputSeen) where
+module _ (apart : AcceptedIsNotRefused) (accepted : AcceptedIsOne) (s : Seen) (i : RestSeen) where
   done_fine : (options : LinkOptions) (names : List (List ℕ)) → IsTold s.files.held (CanBeDone options names s.files) → ¬ (Rose s.files.faults s.files.faults_now)
   done_fine options names can = told_fact (CanBeDone options names s.files) (λ held c. c.1) s.files.held can
 
@@ -264,7 +264,7 @@ module _ (apart : AcceptedIsNotRefused) (accepted : AcceptedIsOne) (s : Seen) (i
   pub refuses : RefusedIsOne → (c : Command) (file : List ℕ) (line : ℕ) (kind : Kind) → MustRefuse c s file line kind
       → Implies (telling c s i) (record never { refused = λ f l k. (f ≡ file) × (l ≡ line) × (k ≡ kind); memory = Unit {0} })
   refuses one (Link options out names) file line kind must = record {
-    done = λ x. of_told _ _ (λ held bad made. made_bad held options names apart made.0 file line kind made.1 bad) s.files.held must.0 (link_told _ options out names s.files.held s.files.holds x);
+    done = λ x. of_told _ _ (λ held bad l. linkable_bad held options names apart file line kind l bad) s.files.held must.0 (link_done _ options out names _ s.files.held s.files.holds x);
     usage = λ x. x;
     unread = λ name x. absurd (must.1 x);
     refused = λ f l k x. of_told _ _ (λ held a b. one_first_bad held apart one names f file l line k kind b a) s.files.held must.0 x;
@@ -286,7 +286,7 @@ module _ (apart : AcceptedIsNotRefused) (accepted : AcceptedIsOne) (s : Seen) (i
     memory = λ x. tt;
   }
   refuses one (Batch options list) file line kind must = record {
-    done = λ x. of_told _ _ (λ held bad made. batch_bad_made apart accepted options list held file line kind bad made) s.files.held must.0 (batch_made _ options list s.files.held s.files.holds x);
+    done = λ x. of_told _ _ (λ held bad can. can_batch_bad apart accepted options list held file line kind can bad) s.files.held must.0 (batch_done _ options list _ s.files.held s.files.holds x);
     usage = λ x. x;
     unread = λ name x. absurd (must.1 x);
     refused = λ f l k x. of_told _ _ (λ held a b. one_batch_bad apart accepted options list held one f file l line k kind b a) s.files.held must.0 x;
@@ -311,10 +311,10 @@ module _ (apart : AcceptedIsNotRefused) (accepted : AcceptedIsOne) (s : Seen) (i
 
   -- ---- nothing but the modules
 
-  pub clashes : ReportedIsNotRefused → RefusalIsOne → UnlinkedIsNotLinked → UnlinkedIsOne → (c : Command) (why : Refusal) → MustNotLink c s why
+  pub clashes : ReportedIsNotRefused → RefusalIsOne → UnlinkedIsOne → (c : Command) (why : Refusal) → MustNotLink c s why
       → Implies (telling c s i) (record never { unlinked = λ other. other ≡ why; memory = Unit {0} })
-  clashes reported one linked unlinkable (Link options out names) why must = record {
-    done = λ x. of_told _ _ (λ held u made. made_unlinkable held options names accepted linked made.0 why made.1 u) s.files.held must.0 (link_told _ options out names s.files.held s.files.holds x);
+  clashes reported one unlinkable (Link options out names) why must = record {
+    done = λ x. of_told _ _ (λ held u l. linkable_unlinkable held options names accepted why l u) s.files.held must.0 (link_done _ options out names _ s.files.held s.files.holds x);
     usage = λ x. x;
     unread = λ name x. absurd (must.1 x);
     refused = λ file line kind x. of_told _ _ (λ held u bad. unlinkable_bad held options names apart why file line kind u bad) s.files.held must.0 x;
@@ -324,7 +324,7 @@ module _ (apart : AcceptedIsNotRefused) (accepted : AcceptedIsOne) (s : Seen) (i
     unreturned = λ w x. x;
     memory = λ x. tt;
   }
-  clashes reported one linked unlinkable (Index exports limit names) why must = record {
+  clashes reported one unlinkable (Index exports limit names) why must = record {
     done = λ x. of_told _ _ (reported_unlinked reported exports names limit true why) s.files.held must.0 x.1;
     usage = λ x. x;
     unread = λ name x. absurd (must.1 x);
@@ -335,8 +335,8 @@ module _ (apart : AcceptedIsNotRefused) (accepted : AcceptedIsOne) (s : Seen) (i
     unreturned = λ w x. x;
     memory = λ x. tt;
   }
-  clashes reported one linked unlinkable (Batch options list) why must = record {
-    done = λ x. of_told _ _ (λ held u made. batch_unlinkable_made apart accepted options list held linked why u made) s.files.held must.0 (batch_made _ options list s.files.held s.files.holds x);
+  clashes reported one unlinkable (Batch options list) why must = record {
+    done = λ x. of_told _ _ (λ held u can. can_batch_unlinkable apart accepted options list held why can u) s.files.held must.0 (batch_done _ options list _ s.files.held s.files.holds x);
     usage = λ x. x;
     unread = λ name x. absurd (must.1 x);
     refused = λ file line kind x. of_told _ _ (λ held u bad. batch_unlinkable_bad apart accepted options list held why file line kind u bad) s.files.held must.0 x;
@@ -346,7 +346,7 @@ module _ (apart : AcceptedIsNotRefused) (accepted : AcceptedIsOne) (s : Seen) (i
     unreturned = λ w x. x;
     memory = λ x. tt;
   }
-  clashes reported one linked unlinkable (Run root args steps names) why must = record {
+  clashes reported one unlinkable (Run root args steps names) why must = record {
     done = λ x. modules_unlinked root names _ why must.0 x.1;
     usage = λ x. x;
     unread = λ name x. either x (λ a. must.1 a.0) (λ o. modules_unlinked root names _ why must.0 o);
@@ -357,7 +357,7 @@ module _ (apart : AcceptedIsNotRefused) (accepted : AcceptedIsOne) (s : Seen) (i
     unreturned = λ w x. modules_unlinked root names _ why must.0 x;
     memory = λ x. tt;
   }
-  clashes reported one linked unlinkable (Gen seed modules jobs) why must = absurd must
+  clashes reported one unlinkable (Gen seed modules jobs) why must = absurd must
 
   -- ---- nothing but that the root doesn't take the arguments
 

@@ -2,14 +2,14 @@
 use Rattle.std.proofs.Common.{ℕ, ◌≡◌, List, map, subst}
 use Rattle.ir_tree.specs.declared.module.Module.{Module}
 use Rattle.link_one.specs.Laws.{AcceptedIsNotRefused, AcceptedIsOne}
-use Rattle.link_one.specs.LinkedLaws.{UnlinkedIsNotLinked, UnlinkedIsOne}
+use Rattle.link_one.specs.LinkedLaws.{UnlinkedIsOne}
 use Rattle.link_one.specs.Refusing.{IsUnlinked}
 use Rattle.promote_rename.specs.Suffixes.{suffix_of}
 use Rattle.lto_fault.specs.declared.kind.Kind.{Kind}
 use Rattle.lto_fault.specs.declared.refusal.Refusal.{Refusal}
 use Rattle.lto_outside.specs.Store.{Store}
 use Rattle.lto_words.specs.declared.request.LinkOptions.{LinkOptions}
-use Rattle.thinlto_main.specs.Holding.{HoldFirstBad, HoldLinkable, HoldMade, HoldModules, HoldUnlinkable}
+use Rattle.thinlto_main.specs.Holding.{HoldFirstBad, HoldLinkable, HoldModules, HoldUnlinkable}
 use Rattle.thinlto_main.proofs.Held.{hold_modules, none_bad, one_inputs, one_list}
 
 module _ (held : Store) (options : LinkOptions) (names : List (List ℕ)) where
@@ -20,10 +20,6 @@ module _ (held : Store) (options : LinkOptions) (names : List (List ℕ)) where
   pub unlinkable_bad : AcceptedIsNotRefused → (why : Refusal) (file : List ℕ) (line : ℕ) (kind : Kind) → HoldUnlinkable options names held why → HoldFirstBad held names file line kind → ⊥
   unlinkable_bad apart why file line kind u bad =
       none_bad held apart names u.ms file line kind (hold_modules held names u.inputs u.ms u.modules.there u.modules.accepted) bad
-
-  pub made_bad : AcceptedIsNotRefused → (text file : List ℕ) (line : ℕ) (kind : Kind) → HoldMade options names held text → HoldFirstBad held names file line kind → ⊥
-  made_bad apart text file line kind m bad =
-      none_bad held apart names m.is_link.ms file line kind (hold_modules held names m.inputs m.is_link.ms m.there m.is_link.accepted) bad
 
   -- what is held is one list of modules from one list of bytes
   moved_unlinked : AcceptedIsOne → (why : Refusal) (inputs : List (List ℕ)) (ms : List Module) → HoldModules held names inputs ms → (u : HoldUnlinkable options names held why)
@@ -36,12 +32,6 @@ module _ (held : Store) (options : LinkOptions) (names : List (List ℕ)) where
 
   pub linkable_unlinkable : AcceptedIsOne → (why : Refusal) → HoldLinkable options names held → HoldUnlinkable options names held why → ⊥
   linkable_unlinkable accepted why l u = l.linked why (moved_unlinked accepted why l.inputs l.ms l.modules u)
-
-  pub made_unlinkable : AcceptedIsOne → UnlinkedIsNotLinked → (text : List ℕ) (why : Refusal) → HoldMade options names held text → HoldUnlinkable options names held why → ⊥
-  made_unlinkable accepted law text why m u =
-      law names options.exports options.import_limit (map suffix_of m.inputs) m.is_link.ms why
-      (record { index = m.is_link.linked.index; live = m.is_link.linked.live; imports = m.is_link.linked.imports; thin = m.is_link.linked.thin; named = m.is_link.linked.named })
-      (moved_unlinked accepted why m.inputs m.is_link.ms (record { there = m.there; accepted = m.is_link.accepted }) u)
 
   pub one_unlinkable : AcceptedIsOne → UnlinkedIsOne → (why other : Refusal) → HoldUnlinkable options names held why → HoldUnlinkable options names held other → other ≡ why
   one_unlinkable accepted law why other a b =

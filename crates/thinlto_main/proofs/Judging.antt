@@ -1,7 +1,7 @@
 -- What is true of each answer for words, over what was seen.
 use Rattle.std.proofs.Common.{ℕ, List, OnOk, Result}
 use Rattle.link_one.specs.Laws.{AcceptedIsNotRefused, AcceptedIsOne, RefusedIsOne}
-use Rattle.link_one.specs.LinkedLaws.{UnlinkedIsNotLinked, UnlinkedIsOne}
+use Rattle.link_one.specs.LinkedLaws.{UnlinkedIsOne}
 use Rattle.lto_fault.specs.declared.kind.Kind.{Kind}
 use Rattle.lto_fault.specs.declared.refusal.Refusal.{Refusal}
 use Rattle.lto_outside.specs.Calls.{Call, DidNoPut}
@@ -13,7 +13,7 @@ use Rattle.thin_link.specs.Laws.{RefusalIsOne, ReportIsOne, ReportedIsNotRefused
 use Rattle.thinlto_main.specs.Answers.{IsRefusal, IsUnfitted, IsUnlinked, IsUnreturned, Succeeds, causes, causes_of}
 use Rattle.thinlto_main.specs.Asking.{AskNothing, Asked}
 use Rattle.run_program.specs.Causes.{Causes, Comes, OnNoMemory, OnReadFault, OnRefused, OnUnfit, OnUnlinked, OnUnreturned, OnUnused, OnUnwritten, OnUsage, OnWriteFault}
-use Rattle.thinlto_main.specs.Seen.{InputSeen, Seen, Untouched}
+use Rattle.thinlto_main.specs.Seen.{RestSeen, Seen, Untouched}
 use Rattle.thinlto_main.specs.Telling.{CanDo, MustNotBegin, MustNotLink, MustNotReturn, MustRefuse, told, told_of}
 use Rattle.thinlto_main.proofs.Asking.{asked_refused, asked_unfit, asked_unlinked, calm_before, of_command, told_so}
 use Rattle.run_program.proofs.Causes.{Implies, both_imply, comes_map, on_done, on_no_memory, on_read_fault, on_refused, on_unfit, on_unlinked, on_unreturned, on_unused, on_unwritten_map, on_usage, on_write_fault}
@@ -30,10 +30,9 @@ pub record Laws : Type 0 where
   pub reported : ReportedIsNotRefused
   pub report : ReportIsOne
   pub refusal : RefusalIsOne
-  pub linked : UnlinkedIsNotLinked
   pub unlinked : UnlinkedIsOne
 
-pub record Judged {A : Type 0} (words : List (List ℕ)) (s : Seen) (i : InputSeen) (r : Result A Refusal) : Type 0 where
+pub record Judged {A : Type 0} (words : List (List ℕ)) (s : Seen) (i : RestSeen) (r : Result A Refusal) : Type 0 where
   pub usage : OnUsage r (AskNothing words × Untouched s × i.untaken)
   pub cannot_read : OnReadFault r (λ name. Asked words (λ c. (causes c s i).unread name))
   pub refused : OnRefused r (λ file line kind. Asked words (λ c. (causes c s i).refused file line kind))
@@ -58,7 +57,7 @@ pub record Judged {A : Type 0} (words : List (List ℕ)) (s : Seen) (i : InputSe
   pub no_put : OnUnwritten r (DidNoPut s.files.did)
   pub unused : OnUnused r (i.untaken × s.unprinted)
 
-module _ {A : Type 0} (laws : Laws) (words : List (List ℕ)) (s : Seen) (i : InputSeen) (tells : (calls : List Call) → s.files.did calls → Follows s.files.held calls s.files.holds) (r : Result A Refusal) (come : Comes (causes_of words s i) r) where
+module _ {A : Type 0} (laws : Laws) (words : List (List ℕ)) (s : Seen) (i : RestSeen) (tells : (calls : List Call) → s.files.did calls → Follows s.files.held calls s.files.holds) (r : Result A Refusal) (come : Comes (causes_of words s i) r) where
   says : (c : Command) → Implies (causes c s i) (told c s i)
   says = tell laws.accepted laws.report s tells i
 
@@ -92,7 +91,7 @@ module _ {A : Type 0} (laws : Laws) (words : List (List ℕ)) (s : Seen) (i : In
     stay = on_unwritten_map _ _ (λ calm. follows_same s.files.held s.files.holds calm.calls calm.no_put (tells calm.calls calm.made)) r calm;
     complete = λ asked. ruled _ (completes laws.apart laws.accepted s i) asked;
     complete_refusal = λ file line kind asked. ruled _ (λ c must. refuses laws.apart laws.accepted s i laws.refused c file line kind must) asked;
-    complete_unlinked = λ why asked. ruled _ (λ c must. clashes laws.apart laws.accepted s i laws.reported laws.refusal laws.linked laws.unlinked c why must) asked;
+    complete_unlinked = λ why asked. ruled _ (λ c must. clashes laws.apart laws.accepted s i laws.reported laws.refusal laws.unlinked c why must) asked;
     complete_unfit = λ name asked. ruled _ (λ c must. begins_none laws.apart laws.accepted s i c name must) asked;
     complete_unreturned = λ why asked. ruled _ (λ c must. returns_none laws.apart laws.accepted s i c why must) asked;
     no_put = calm;

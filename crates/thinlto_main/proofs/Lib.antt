@@ -15,3 +15,4 @@ mod Asking
 mod Judging
 mod Saying
 mod TasksTold
+mod Disks

@@ -1,5 +1,5 @@
 -- The causes of answers, where the files tell what they hold.
-use Rattle.std.proofs.Common.{ℕ, ◌≡◌, ◌∙◌, Bool, true, false, List, [], ◌∷◌, ◌++◌, Option, Some, None, length, subst, inl, inr}
+use Rattle.std.proofs.Common.{ℕ, ◌≡◌, ◌⊎◌, ◌∙◌, Bool, true, false, List, [], ◌∷◌, ◌++◌, Option, Some, None, length, subst, inl, inr}
 use Rattle.std.specs.List.{AllZip}
 use Rattle.std.specs.Prelude.{IfSome}
 use Rattle.ir_tree.specs.declared.module.Module.{Module}
@@ -18,7 +18,8 @@ use Rattle.lto_words.specs.declared.request.Command.TheVariants.{Link, Batch, In
 use Rattle.thin_link.specs.Laws.{ReportIsOne}
 use Rattle.thin_link.specs.Linking.{IsIndexReport}
 use Rattle.thinlto_main.specs.Answers.{causes}
-use Rattle.thinlto_main.specs.Batching.{batching}
+use Rattle.thinlto_main.specs.Batching.{LinkCannotRead, ListIsBad, fetching}
+use Rattle.thinlto_main.specs.Honest.{IsTrustedBy}
 use Rattle.thinlto_main.specs.BatchHolding.{HoldBatchBad}
 use Rattle.run_program.specs.Causes.{Causes}
 use Rattle.thinlto_main.specs.Linking.{CannotBeLinked, DidLink}
@@ -26,12 +27,12 @@ use Rattle.thinlto_main.specs.Modules.{AreFetched, AreRead, CannotLink, CannotRe
 use Rattle.thinlto_main.specs.Reporting.{DidReport}
 use Rattle.thinlto_main.specs.Running.{OfModules, running, running_by}
 use Rattle.run_program.specs.Merged.{merged_causes}
-use Rattle.thinlto_main.specs.Seen.{InputSeen, Seen, streams_of}
+use Rattle.thinlto_main.specs.Seen.{RestSeen, Seen, streams_of}
 use Rattle.run_program.specs.Streams.{Streams}
 use Rattle.thinlto_main.specs.Holding.{Held, HoldFirstBad, HoldLink, HoldUnlinkable, HoldUnlinked, LinkHeld}
 use Rattle.thinlto_main.specs.Telling.{HoldReport, told, told_files}
 use Rattle.run_program.proofs.Causes.{Implies}
-use Rattle.thinlto_main.proofs.BatchHeld.{bad_list_told, done_told, hold_made, hold_unlinkable, part_told, stop_told}
+use Rattle.thinlto_main.proofs.BatchHeld.{bad_list_told, done_told, hold_if_made, hold_linkable, hold_unlinkable, part_told, stop_told}
 use Rattle.thinlto_main.proofs.Held.{Gives, fetches_give, fetches_then, follows_same, held_first_bad, held_modules, one_list}
 use Rattle.run_program.proofs.Mapping.{if_some_map}
 use Rattle.thinlto_main.proofs.Reading.{no_put_fetches}
@@ -74,12 +75,17 @@ module _ (files : FilesSeen) (tells : (calls : List Call) → files.did calls �
 
 -- ---- what a link put
 
-module _ (options : LinkOptions) (out : List ℕ) (names : List (List ℕ)) (files : FilesSeen) where
-  linked_held : (put : Store → Store → List ℕ → List ℕ → Type 0) (done : Bool) (d : DidLink options out names files done) (old new : Store) → AllZip (Gives old) names d.given → put old new out d.text
-      → HoldLink put options out names old new
-  linked_held put done d old new gives there = record { text = d.text; made = hold_made old options names d.given d.text gives d.made; put_there = there }
+module _ (options : LinkOptions) (out : List ℕ) (names : List (List ℕ)) (trusted : Type 0) (files : FilesSeen) where
+  linked_held : (put : Store → Store → List ℕ → List ℕ → Type 0) (done : Bool) (d : DidLink options out names trusted files done) (old new : Store) → AllZip (Gives old) names d.given → put old new out d.text
+      → HoldLink put options out names trusted old new
+  linked_held put done d old new gives there = record {
+    linkable = hold_linkable old options names d.given gives d.linkable;
+    text = d.text;
+    made = hold_if_made old options trusted names d.given d.text gives d.made;
+    put_there = there;
+  }
 
-  held_done : (d : DidLink options out names files true) (old new : Option Store) → Follows old (fetch_calls names d.given ++ Put out d.text true ∷ []) new → LinkHeld HasPut options out names old new
+  held_done : (d : DidLink options out names trusted files true) (old new : Option Store) → Follows old (fetch_calls names d.given ++ Put out d.text true ∷ []) new → LinkHeld HasPut options out names trusted old new
   held_done d None new f = tt
   held_done d (Some old) None f = f
   held_done d (Some old) (Some new) f =
@@ -90,7 +96,7 @@ module _ (options : LinkOptions) (out : List ℕ) (names : List (List ℕ)) (fil
   part_behind old next new text (inl is) same = inl (same out ∙ is)
   part_behind old next new text (inr (count, is)) same = inr (count, same out ∙ is)
 
-  held_part : (d : DidLink options out names files false) (old new : Option Store) → Follows old (fetch_calls names d.given ++ Put out d.text false ∷ []) new → LinkHeld HasPart options out names old new
+  held_part : (d : DidLink options out names trusted files false) (old new : Option Store) → Follows old (fetch_calls names d.given ++ Put out d.text false ∷ []) new → LinkHeld HasPart options out names trusted old new
   held_part d None new f = tt
   held_part d (Some old) None f = f
   held_part d (Some old) (Some new) f =
@@ -137,25 +143,25 @@ module _ (accepted : AcceptedIsOne) (one : ReportIsOne) (s : Seen) (tells : (cal
 
   -- ---- a batch
 
-  batch_unread : (options : LinkOptions) (list name : List ℕ) → (batching options list s.files).unread name → Rose s.files.faults s.files.faults_now
-  batch_unread options list name (inl x) = x.rose
-  batch_unread options list name (inr x) = x.rose
+  batch_unread : (list name : List ℕ) → (fetching list s.files).unread name → Rose s.files.faults s.files.faults_now
+  batch_unread list name (inl x) = x.rose
+  batch_unread list name (inr x) = x.rose
 
-  batch_refused : (options : LinkOptions) (list file : List ℕ) (line : ℕ) (kind : Kind) → (batching options list s.files).refused file line kind → IfSome s.files.held (λ held. HoldBatchBad options list held file line kind)
+  batch_refused : (options : LinkOptions) (list file : List ℕ) (line : ℕ) (kind : Kind) → ListIsBad list s.files file line kind ⊎ LinkCannotRead options list s.files file line kind → IfSome s.files.held (λ held. HoldBatchBad options list held file line kind)
   batch_refused options list file line kind (inl x) = if_some_map _ _ (λ held bad. inl (x.named, bad)) s.files.held (bad_list_told options list s.files tells file line kind x)
   batch_refused options list file line kind (inr x) =
       if_some_map _ _ (λ held stop. inr stop) s.files.held
       (stop_told options list s.files tells _ (λ held link. HoldFirstBad held link.files file line kind) (λ held link given gives bad. held_first_bad held link.files given file line kind gives bad) x)
 
-  pub tell : (i : InputSeen) (c : Command) → Implies (causes c s i) (told c s i)
+  pub tell : (i : RestSeen) (c : Command) → Implies (causes c s i) (told c s i)
   tell i (Link options out names) = record {
-    done = λ x. held_done options out names s.files x.0.0 s.files.held s.files.holds (tells _ x.0.0.calls);
+    done = λ x. held_done options out names (IsTrustedBy options i.honest) s.files x.0.0 s.files.held s.files.holds (tells _ x.0.0.calls);
     usage = λ x. absurd x.0.0;
     unread = λ name x. x.0.0.rose;
     refused = λ file line kind x. bad_told s.files tells names file line kind x.0.0;
     unlinked = λ why x. unlinkable_told s.files tells options names why x.0.0;
     unfit = λ name x. absurd x.0.0;
-    unwritten = λ name x. (held_part options out names s.files x.0.0.did_link s.files.held s.files.holds (tells _ x.0.0.did_link.calls), x.0.0.rose);
+    unwritten = λ name x. (held_part options out names (IsTrustedBy options i.honest) s.files x.0.0.did_link s.files.held s.files.holds (tells _ x.0.0.did_link.calls), x.0.0.rose);
     unreturned = λ why x. absurd x.0.0;
     memory = λ x. tt;
   }
@@ -171,13 +177,13 @@ module _ (accepted : AcceptedIsOne) (one : ReportIsOne) (s : Seen) (tells : (cal
     memory = λ x. tt;
   }
   tell i (Batch options list) = record {
-    done = λ x. done_told options list s.files tells x.0.0;
+    done = λ x. done_told options list (IsTrustedBy options i.honest) s.files tells x.0.0;
     usage = λ x. absurd x.0.0;
-    unread = λ name x. batch_unread options list name x.0.0;
+    unread = λ name x. batch_unread list name x.0.0;
     refused = λ file line kind x. batch_refused options list file line kind x.0.0;
     unlinked = λ why x. stop_told options list s.files tells _ (λ held link. HoldUnlinkable options link.files held why) (λ held link given gives u. hold_unlinkable held options link.files given why gives u) x.0.0;
     unfit = λ name x. absurd x.0.0;
-    unwritten = λ name x. (part_told options list s.files tells name x.0.0, x.0.0.rose);
+    unwritten = λ name x. (part_told options list (IsTrustedBy options i.honest) s.files tells name x.0.0, x.0.0.rose);
     unreturned = λ why x. absurd x.0.0;
     memory = λ x. tt;
   }

@@ -7,11 +7,12 @@ use Rattle.lto_words.specs.declared.request.Command.TheVariants.{Link, Batch, In
 use Rattle.thinlto_main.specs.Asking.{AskNothing, Asked, is_offered}
 use Rattle.run_program.specs.Causes.{Causes, Comes, never}
 use Rattle.thinlto_main.specs.Batching.{batching}
+use Rattle.thinlto_main.specs.Honest.{IsTrustedBy}
 use Rattle.thinlto_main.specs.Linking.{linking}
 use Rattle.thinlto_main.specs.Modules.{AreRead, deciding}
 use Rattle.thinlto_main.specs.Reporting.{DidReport, ReportCannotWrite}
 use Rattle.thinlto_main.specs.Running.{SaysReturned, running}
-use Rattle.thinlto_main.specs.Seen.{InputSeen, Seen, Untouched, streams_of}
+use Rattle.thinlto_main.specs.Seen.{RestSeen, Seen, Untouched, streams_of}
 use Rattle.run_program.specs.Streams.{Notes}
 
 -- beside the fact of each answer this one
@@ -35,21 +36,21 @@ reporting exports limit names s = record (with_fact s.unprinted (deciding export
 }
 
 -- the cause of each answer: a case for each command, of which a run alone takes input
-abbrev pub causes : Command → Seen → InputSeen → Causes
-causes (Link options out names) s i = with_fact i.untaken (with_fact s.unprinted (linking options out names s.files))
+abbrev pub causes : Command → Seen → RestSeen → Causes
+causes (Link options out names) s i = with_fact i.untaken (with_fact s.unprinted (linking options out names (IsTrustedBy options i.honest) s.files))
 causes (Index exports limit names) s i = with_fact i.untaken (reporting exports limit names s)
-causes (Batch options list) s i = with_fact i.untaken (with_fact s.unprinted (batching options list s.files))
+causes (Batch options list) s i = with_fact i.untaken (with_fact s.unprinted (batching options list (IsTrustedBy options i.honest) s.files))
 causes (Run root args steps names) s i = running root args steps names s.files (streams_of s i)
 causes (Gen seed modules jobs) s i = never
 
 -- of a command that is done, or is none of those that the program does
-abbrev pub obeyed : Command → Seen → InputSeen → Causes
+abbrev pub obeyed : Command → Seen → RestSeen → Causes
 obeyed c s i = record (with_fact (is_offered c ≡ true) (causes c s i)) {
   usage = (is_offered c ≡ false) × Untouched s × i.untaken;
 }
 
 -- of words; memory may run out where they are read
-abbrev pub causes_of : List (List ℕ) → Seen → InputSeen → Causes
+abbrev pub causes_of : List (List ℕ) → Seen → RestSeen → Causes
 causes_of words s i = record {
   done = Asked words (λ c. (causes c s i).done);
   usage = AskNothing words × Untouched s × i.untaken;
@@ -63,7 +64,7 @@ causes_of words s i = record {
 }
 
 -- what the notes got where the command was done: of a run its line, and else nothing
-abbrev pub Says : Command → Seen → InputSeen → Notes → Type 0
+abbrev pub Says : Command → Seen → RestSeen → Notes → Type 0
 Says (Link options out names) s i notes = notes.silent
 Says (Batch options list) s i notes = notes.silent
 Says (Index exports limit names) s i notes = notes.silent

@@ -1,17 +1,13 @@
 -- What the words ask for, and what the program does so far.
-use Rattle.std.specs.Prelude.{◌≡◌, ℕ, Bool, true, false, List, is_some, not}
+use Rattle.std.specs.Prelude.{◌≡◌, ℕ, Bool, true, false, List}
 use Rattle.lto_words.specs.Commands.{IsCommand}
 use Rattle.lto_words.specs.declared.request.Command.{Command}
 use Rattle.lto_words.specs.declared.request.Command.TheVariants.{Link, Batch, Index, Run, Gen}
-use Rattle.lto_words.specs.declared.request.LinkOptions.{LinkOptions}
 
--- links without a cache
-abbrev pub is_offered_link : LinkOptions → Bool
-is_offered_link options = not (is_some options.cache)
-
+-- no modules are generated
 abbrev pub is_offered : Command → Bool
-is_offered (Link options out names) = is_offered_link options
-is_offered (Batch options list) = is_offered_link options
+is_offered (Link options out names) = true
+is_offered (Batch options list) = true
 is_offered (Index exports limit names) = true
 is_offered (Run root args steps names) = true
 is_offered (Gen seed modules jobs) = false

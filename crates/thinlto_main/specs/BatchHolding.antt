@@ -79,15 +79,16 @@ pub record HavePart (name : List ℕ) (old new : Store) (links : List ListedLink
   pub before : HavePut old next (take at links) (take at texts)
   pub part : HasPart next new link.out text
 
--- the list is read, each text is what a link makes of its link's files, and they were put so
-pub record HoldBatch (put : Store → Store → List ListedLink → List (List ℕ) → Type 0) (options : LinkOptions) (list : List ℕ) (old new : Store) : Type 0 where
+-- the list is read, each link can be made, its text is what a link makes of its files, where the cache is trusted, and all were put so
+pub record HoldBatch (put : Store → Store → List ListedLink → List (List ℕ) → Type 0) (options : LinkOptions) (list : List ℕ) (trusted : Type 0) (old new : Store) : Type 0 where
   pub links : List ListedLink
   pub listed : HoldsList old list links
+  pub each : AllByRecursion (λ link. HoldLinkable options link.files old) links
   pub texts : List (List ℕ)
-  pub made : AllZip (λ link. HoldMade options link.files old) links texts
+  pub made : AllZip (λ link text. trusted → ∥ HoldMade options link.files old text ∥₁) links texts
   pub put_there : put old new links texts
 
-abbrev pub BatchHeld : (Store → Store → List ListedLink → List (List ℕ) → Type 0) → LinkOptions → List ℕ → Option Store → Option Store → Type 0
-BatchHeld put options list None new = ⊤
-BatchHeld put options list (Some old) None = ⊥
-BatchHeld put options list (Some old) (Some new) = HoldBatch put options list old new
+abbrev pub BatchHeld : (Store → Store → List ListedLink → List (List ℕ) → Type 0) → LinkOptions → List ℕ → (trusted : Type 0) → Option Store → Option Store → Type 0
+BatchHeld put options list trusted None new = ⊤
+BatchHeld put options list trusted (Some old) None = ⊥
+BatchHeld put options list trusted (Some old) (Some new) = HoldBatch put options list trusted old new

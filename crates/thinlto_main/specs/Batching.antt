@@ -14,7 +14,7 @@ use Rattle.command_files.specs.Links.{GivenFor, PutFailed, all_files, all_given,
 use Rattle.command_files.specs.Listing.{FirstBadLine, IsList}
 use Rattle.command_files.specs.declared.listing.ListedLink.{ListedLink}
 use Rattle.run_program.specs.Causes.{Causes, never}
-use Rattle.thinlto_main.specs.Linking.{IsLinkable, IsMade, IsUnlinkable}
+use Rattle.thinlto_main.specs.Linking.{IsLinkable, IsMadeIf, IsUnlinkable}
 use Rattle.thinlto_main.specs.Modules.{CannotFetch, FirstBad}
 
 -- ---- the list file
@@ -87,31 +87,39 @@ LinkIsRefused options list files why = LinkStops options list files (λ link giv
 
 -- ---- all links
 
+-- nothing keeps the modules of any from being linked
+abbrev pub AreLinkable : LinkOptions → List ListedLink → List (List (Option (List ℕ))) → Type 0
+AreLinkable options = AllZip (λ link given. IsLinkable options link.files given)
+
 -- each was made, and then each was put; there were no other calls
-pub record DidBatch (options : LinkOptions) (list : List ℕ) (files : FilesSeen) : Type 0 where
+pub record DidBatch (options : LinkOptions) (list : List ℕ) (trusted : Type 0) (files : FilesSeen) : Type 0 where
   pub links : List ListedLink
   pub given : List (List (Option (List ℕ)))
   pub texts : List (List ℕ)
   pub fetched : AreGiven list links given (λ calls. files.did (calls ++ puts links texts))
-  pub made : AllZip (IsMade options) given texts
+  pub linkable : AreLinkable options links given
+  pub made : AllZip (IsMadeIf trusted options) given texts
 
 -- each was made, and the put of this one failed, behind those before it
-pub record BatchCannotWrite (options : LinkOptions) (list : List ℕ) (files : FilesSeen) (name : List ℕ) : Type 0 where
+pub record BatchCannotWrite (options : LinkOptions) (list : List ℕ) (trusted : Type 0) (files : FilesSeen) (name : List ℕ) : Type 0 where
   pub links : List ListedLink
   pub given : List (List (Option (List ℕ)))
   pub texts : List (List ℕ)
   pub at : ℕ
   pub fetched : AreGiven list links given (λ calls. PutFailed (λ more. files.did (calls ++ more)) links texts at)
-  pub made : AllZip (IsMade options) given texts
+  pub linkable : AreLinkable options links given
+  pub made : AllZip (IsMadeIf trusted options) given texts
   pub named : name ≡ fetched.calls.link.out
   pub rose : Rose files.faults files.faults_now
 
-abbrev pub batching : LinkOptions → List ℕ → FilesSeen → Causes
-batching options list files = record never {
-  done = DidBatch options list files;
-  unread = λ name. CannotFetch (list ∷ []) files name ⊎ LinksCannotFetch list files name;
+-- why there are none, or their files can't be had
+abbrev pub fetching : List ℕ → FilesSeen → Causes
+fetching list files = record (listing list files) { unread = λ name. CannotFetch (list ∷ []) files name ⊎ LinksCannotFetch list files name }
+
+abbrev pub batching : LinkOptions → List ℕ → (trusted : Type 0) → FilesSeen → Causes
+batching options list trusted files = record (fetching list files) {
+  done = DidBatch options list trusted files;
   refused = λ file line kind. ListIsBad list files file line kind ⊎ LinkCannotRead options list files file line kind;
   unlinked = LinkIsRefused options list files;
-  unwritten = BatchCannotWrite options list files;
-  memory = DidNoPut files.did;
+  unwritten = BatchCannotWrite options list trusted files;
 }

@@ -80,13 +80,14 @@ pub record HoldMade (options : LinkOptions) (names : List (List ℕ)) (held : St
   pub is_link : IsLinkOf options.exports options.import_limit options.inline_limit inputs text
   pub only : IsOnlyLinkOf options.exports options.import_limit options.inline_limit inputs text
 
--- they hold what a link makes of these files, or a front of it, and else what they held
-pub record HoldLink (put : Store → Store → List ℕ → List ℕ → Type 0) (options : LinkOptions) (out : List ℕ) (names : List (List ℕ)) (old new : Store) : Type 0 where
+-- they hold what a link makes of these files, where the cache is trusted, or a front of it, and else what they held
+pub record HoldLink (put : Store → Store → List ℕ → List ℕ → Type 0) (options : LinkOptions) (out : List ℕ) (names : List (List ℕ)) (trusted : Type 0) (old new : Store) : Type 0 where
+  pub linkable : HoldLinkable options names old
   pub text : List ℕ
-  pub made : HoldMade options names old text
+  pub made : trusted → ∥ HoldMade options names old text ∥₁
   pub put_there : put old new out text
 
-abbrev pub LinkHeld : (Store → Store → List ℕ → List ℕ → Type 0) → LinkOptions → List ℕ → List (List ℕ) → Option Store → Option Store → Type 0
-LinkHeld put options out names None new = ⊤
-LinkHeld put options out names (Some old) None = ⊥
-LinkHeld put options out names (Some old) (Some new) = HoldLink put options out names old new
+abbrev pub LinkHeld : (Store → Store → List ℕ → List ℕ → Type 0) → LinkOptions → List ℕ → List (List ℕ) → (trusted : Type 0) → Option Store → Option Store → Type 0
+LinkHeld put options out names trusted None new = ⊤
+LinkHeld put options out names trusted (Some old) None = ⊥
+LinkHeld put options out names trusted (Some old) (Some new) = HoldLink put options out names trusted old new

@@ -3,6 +3,7 @@ pub mod Honest
 pub mod Seen
 pub mod Modules
 pub mod Linking
+pub mod Keys
 pub mod Batching
 pub mod Reporting
 pub mod Running

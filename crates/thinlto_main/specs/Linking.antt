@@ -41,6 +41,10 @@ pub record IsMade (options : LinkOptions) (given : List (Option (List ℕ))) (te
   -- within the reader's limits, which a linked module may pass
   pub reads : All AllBytes (map bytes_of given) → ModuleWithin is_link.l → (lines : List (List ℕ)) × Reads text is_link.l lines
 
+-- where the cache is trusted, both promises hold; of what a cache gives no more can be had than that there is such a link
+abbrev pub IsMadeIf : (trusted : Type 0) → LinkOptions → List (Option (List ℕ)) → List ℕ → Type 0
+IsMadeIf trusted options given text = trusted → ∥ IsMade options given text ∥₁
+
 -- all of it is read, as modules that can't be linked
 pub record IsUnlinkable (options : LinkOptions) (names : List (List ℕ)) (given : List (Option (List ℕ))) (why : Refusal) : Type 0 where
   pub ms : List Module
@@ -55,12 +59,14 @@ pub record IsLinkable (options : LinkOptions) (names : List (List ℕ)) (given :
 
 -- ---- a link
 
--- All files were fetched, in this order, and what a link makes of them was put, or its put failed; there were no other calls.
-pub record DidLink (options : LinkOptions) (out : List ℕ) (names : List (List ℕ)) (files : FilesSeen) (done : Bool) : Type 0 where
+-- All files were fetched, in this order, nothing keeps them from being linked, and what a link makes of them was put, or its put
+-- failed; there were no other calls
+pub record DidLink (options : LinkOptions) (out : List ℕ) (names : List (List ℕ)) (trusted : Type 0) (files : FilesSeen) (done : Bool) : Type 0 where
   pub given : List (Option (List ℕ))
   pub each : length given ≡ length names
+  pub linkable : IsLinkable options names given
   pub text : List ℕ
-  pub made : IsMade options given text
+  pub made : IsMadeIf trusted options given text
   pub calls : files.did (fetch_calls names given ++ Put out text done ∷ [])
 
 -- all were fetched, and can't be linked
@@ -69,14 +75,14 @@ pub record CannotBeLinked (options : LinkOptions) (names : List (List ℕ)) (fil
   pub fetched : AreFetched names given files.did
   pub unlinkable : IsUnlinkable options names given why
 
-pub record LinkCannotWrite (options : LinkOptions) (out : List ℕ) (names : List (List ℕ)) (files : FilesSeen) (name : List ℕ) : Type 0 where
+pub record LinkCannotWrite (options : LinkOptions) (out : List ℕ) (names : List (List ℕ)) (trusted : Type 0) (files : FilesSeen) (name : List ℕ) : Type 0 where
   pub named : name ≡ out
-  pub did_link : DidLink options out names files false
+  pub did_link : DidLink options out names trusted files false
   pub rose : Rose files.faults files.faults_now
 
-abbrev pub linking : LinkOptions → List ℕ → List (List ℕ) → FilesSeen → Causes
-linking options out names files = record (reading names files) {
-  done = DidLink options out names files true;
+abbrev pub linking : LinkOptions → List ℕ → List (List ℕ) → (trusted : Type 0) → FilesSeen → Causes
+linking options out names trusted files = record (reading names files) {
+  done = DidLink options out names trusted files true;
   unlinked = CannotBeLinked options names files;
-  unwritten = LinkCannotWrite options out names files;
+  unwritten = LinkCannotWrite options out names trusted files;
 }

@@ -22,18 +22,20 @@ seen did held faults sent failures files files_now out out_now = record {
 abbrev pub Untouched : Seen → Type 0
 Untouched s = s.files.did [] × s.unprinted
 
--- ---- the streams of a run, as a command sees them
+-- ---- the rest of the outside
 
--- the input, and that nothing was taken from it
-pub record InputSeen : Type 1 where
+-- the input, that nothing was taken from it, and that the disk of the cache was honest as the command began
+pub record RestSeen : Type 1 where
   pub stream : StreamSeen
   pub untaken : Type 0
+  pub honest : Type 0
 
-abbrev pub input_seen : {I : Type 0} → (I → Option (List ℕ)) → (I → ℕ) → I → I → InputSeen
-input_seen left failures input input_now = record {
+abbrev pub rest_seen : {I : Type 0} → (I → Option (List ℕ)) → (I → ℕ) → (honest : Type 0) → I → I → RestSeen
+rest_seen left failures honest input input_now = record {
   stream = stream_seen left failures input input_now;
   untaken = input_now ≡ input;
+  honest = honest;
 }
 
-abbrev pub streams_of : Seen → InputSeen → Streams
+abbrev pub streams_of : Seen → RestSeen → Streams
 streams_of s i = record { input = i.stream; out = s.out; unused = i.untaken × s.unprinted }

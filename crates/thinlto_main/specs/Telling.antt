@@ -18,13 +18,14 @@ use Rattle.thin_link.specs.Linking.{IsIndexReport}
 use Rattle.thin_link.specs.Refusing.{IsRefused}
 use Rattle.thinlto_main.specs.Asking.{Asked}
 use Rattle.thinlto_main.specs.BatchHolding.{BatchHeld, CanBatch, HavePart, HavePut, HoldBatchBad, HoldBatchUnlinkable}
+use Rattle.thinlto_main.specs.Honest.{IsTrustedBy}
 use Rattle.thinlto_main.specs.Holding.{Held, HoldFirstBad, HoldLinkable, HoldUnlinkable, HoldUnlinked, HoldsModule, LinkHeld}
 use Rattle.run_program.specs.Causes.{Causes, free, never}
 use Rattle.merge_meaning.specs.Merged.{merged}
 use Rattle.thinlto_main.specs.Running.{OfModules, running_by}
 use Rattle.run_program.specs.Merged.{file_of, merged_causes}
 use Rattle.run_program.specs.Said.{ending_refusal}
-use Rattle.thinlto_main.specs.Seen.{InputSeen, Seen, streams_of}
+use Rattle.thinlto_main.specs.Seen.{RestSeen, Seen, streams_of}
 use Rattle.run_program.specs.Starting.{beginning}
 use Rattle.lto_words.specs.declared.request.LinkOptions.{LinkOptions}
 
@@ -52,11 +53,11 @@ told_files exports names files = record free {
   unreturned = λ why. ⊥;
 }
 
-abbrev pub told : Command → Seen → InputSeen → Causes
+abbrev pub told : Command → Seen → RestSeen → Causes
 told (Link options out names) s i = record (told_files options.exports names s.files) {
   unlinked = λ why. IfSome s.files.held (λ held. HoldUnlinkable options names held why);
-  done = LinkHeld HasPut options out names s.files.held s.files.holds;
-  unwritten = λ name. LinkHeld HasPart options out names s.files.held s.files.holds × Rose s.files.faults s.files.faults_now;
+  done = LinkHeld HasPut options out names (IsTrustedBy options i.honest) s.files.held s.files.holds;
+  unwritten = λ name. LinkHeld HasPart options out names (IsTrustedBy options i.honest) s.files.held s.files.holds × Rose s.files.faults s.files.faults_now;
 }
 told (Index exports limit names) s i = record (told_files exports names s.files) {
   done = Stays s.files.held s.files.holds × IfSome s.files.held (HoldReport exports names limit s true);
@@ -69,8 +70,8 @@ told (Batch options list) s i = record free {
   unlinked = λ why. IfSome s.files.held (λ held. HoldBatchUnlinkable options list held why);
   unfit = λ name. ⊥;
   unreturned = λ why. ⊥;
-  done = BatchHeld HavePut options list s.files.held s.files.holds;
-  unwritten = λ name. BatchHeld (HavePart name) options list s.files.held s.files.holds × Rose s.files.faults s.files.faults_now;
+  done = BatchHeld HavePut options list (IsTrustedBy options i.honest) s.files.held s.files.holds;
+  unwritten = λ name. BatchHeld (HavePart name) options list (IsTrustedBy options i.honest) s.files.held s.files.holds × Rose s.files.faults s.files.faults_now;
 }
 told (Run root args steps names) s i = record (running_by (Held names s.files) (told_files (root ∷ []) names s.files) root args steps names (streams_of s i)) {
   done = Stays s.files.held s.files.holds × OfModules (Held names s.files) root names (λ ms. (merged_causes root args steps names (streams_of s i) ms).done);
@@ -79,7 +80,7 @@ told (Run root args steps names) s i = record (running_by (Held names s.files) (
 told (Gen seed modules jobs) s i = never
 
 -- the same of the words
-abbrev pub told_of : List (List ℕ) → Seen → InputSeen → Causes
+abbrev pub told_of : List (List ℕ) → Seen → RestSeen → Causes
 told_of words s i = record free {
   done = Asked words (λ c. (told c s i).done);
   refused = λ file line kind. Asked words (λ c. (told c s i).refused file line kind);
@@ -112,29 +113,29 @@ pub record EndsOver (p : Program) (root : List ℕ) (args : List Decimal) (steps
   pub ended : (run p bytes (replicate steps 0) first).ending ≡ ending
 
 -- they hold modules whose run over what the input has ends so
-abbrev pub RunComesTo : List ℕ → List Decimal → ℕ → List (List ℕ) → Seen → InputSeen → Ending → Type 0
+abbrev pub RunComesTo : List ℕ → List Decimal → ℕ → List (List ℕ) → Seen → RestSeen → Ending → Type 0
 RunComesTo root args steps names s i ending =
     IsTold s.files.held (λ held. OfModules (AllZip (HoldsModule held) names) root names (λ ms. IsTold i.stream.told (λ bytes. EndsOver (merged ms) root args steps bytes ending)))
 
 -- the same, and it ends otherwise than by returning and is told so
-abbrev pub RunIsTold : List ℕ → List Decimal → ℕ → List (List ℕ) → Seen → InputSeen → Ending → Refusal → Type 0
+abbrev pub RunIsTold : List ℕ → List Decimal → ℕ → List (List ℕ) → Seen → RestSeen → Ending → Refusal → Type 0
 RunIsTold root args steps names s i ending why =
     IsTold s.files.held (λ held. OfModules (AllZip (HoldsModule held) names) root names (λ ms. IsTold i.stream.told (λ bytes. EndsOver (merged ms) root args steps bytes ending) × (ending_refusal (file_of names ms) steps ending ≡ Some why)))
 
 -- no call of the files, the input or the output failed
-pub record AllWork (s : Seen) (i : InputSeen) : Type 0 where
+pub record AllWork (s : Seen) (i : RestSeen) : Type 0 where
   pub files : ¬ (Rose s.files.faults s.files.faults_now)
   pub input : ¬ (Rose i.stream.faults i.stream.faults_now)
   pub out : ¬ (Rose s.out.faults s.out.faults_now)
 
 -- they hold modules whose run returns
-pub record CanReturn (root : List ℕ) (args : List Decimal) (steps : ℕ) (names : List (List ℕ)) (s : Seen) (i : InputSeen) : Type 0 where
+pub record CanReturn (root : List ℕ) (args : List Decimal) (steps : ℕ) (names : List (List ℕ)) (s : Seen) (i : RestSeen) : Type 0 where
   pub answer : Option Value
   pub comes : RunComesTo root args steps names s i (Returned answer)
   pub work : AllWork s i
 
 -- nothing is in the way
-abbrev pub CanDo : Command → Seen → InputSeen → Type 0
+abbrev pub CanDo : Command → Seen → RestSeen → Type 0
 CanDo (Link options out names) s i = IsTold s.files.held (CanBeDone options names s.files)
 CanDo (Index exports limit names) s i = IsTold s.files.held (CanLink exports names s.files) × ¬ (Rose s.out.faults s.out.faults_now)
 CanDo (Batch options list) s i = IsTold s.files.held (CanBatch options list) × ¬ (Rose s.files.faults s.files.faults_now)
@@ -177,12 +178,12 @@ MustNotBegin (Run root args steps names) s = CannotBegin root args names s.files
 MustNotBegin (Gen seed modules jobs) s = λ name. ⊥
 
 -- nothing but that a run ends otherwise than by returning
-pub record CannotReturn (root : List ℕ) (args : List Decimal) (steps : ℕ) (names : List (List ℕ)) (s : Seen) (i : InputSeen) (why : Refusal) : Type 0 where
+pub record CannotReturn (root : List ℕ) (args : List Decimal) (steps : ℕ) (names : List (List ℕ)) (s : Seen) (i : RestSeen) (why : Refusal) : Type 0 where
   pub ending : Ending
   pub comes : RunIsTold root args steps names s i ending why
   pub work : AllWork s i
 
-abbrev pub MustNotReturn : Command → Seen → InputSeen → Refusal → Type 0
+abbrev pub MustNotReturn : Command → Seen → RestSeen → Refusal → Type 0
 MustNotReturn (Link options out names) s i = λ why. ⊥
 MustNotReturn (Index exports limit names) s i = λ why. ⊥
 MustNotReturn (Batch options list) s i = λ why. ⊥

@@ -4,25 +4,27 @@
 //! objects, and its contract says when each answer comes and what was done to each object. `main`
 //! makes the real objects, calls `top`, and ends with the status's number.
 //!
-//! What words ask for is said by `lto_words`; a command fetches its files, each once and in order
-//! (`command_files`), and reads each (`link_one`), and by
-//! the modules' summaries it is decided what is kept and imported (`thin_link`). `link` puts the linked module, `batch`
-//! those of the links that its list file lists, once all are made, `index` prints
-//! what was decided, and `run` merges the modules (`merge_meaning`), lowers what they mean together and opens its memory
-//! (`machine_code`), and runs it with the input and the output (`ir_interp`). A refusal and what a run returned are told on the
-//! notes (`lto_fault`).
-//! Which answer comes when is one definition by cases on the command (`specs/Answers.antt`), and what files that tell hold is
-//! another (`specs/Telling.antt`).
+//! What words ask for is said by `lto_words`; a command fetches its files, each once and in order (`command_files`), and reads each
+//! (`link_one`), and by the modules' summaries it is decided what is kept and imported (`thin_link`). `link` puts the linked module,
+//! `batch` those of the links that its list file lists, once all are made, `index` prints what was decided, and `run` merges the
+//! modules (`merge_meaning`), lowers what they mean together and opens its memory (`machine_code`), and runs it with the input and
+//! the output (`ir_interp`). Links are compiled over one cache of the command (`cache_slot`), in memory or in a directory. Which
+//! answer comes when is one definition by cases on the command (`specs/Answers.antt`), what files that tell hold another
+//! (`specs/Telling.antt`), and what a cache's disk holds a third (`specs/Keys.antt`).
 //!
 //! The linker's two promises are kept here for any number of modules: the bytes put are the text of the linked module and of
-//! no other, and each run of the linked program is a run of what the modules mean together. A run that is asked for is the
-//! definition's of the merged modules with 0 as every free choice: its ending, what it writes and how much it reads. Beside the
-//! link itself, each byte is moved once; modules are copied once where they are merged. Of files of bytes, tasks of links
-//! (`link_one`) that have one text are one ([`tasks_are_told`]), as the key of a cache asks for.
+//! no other, and each run of the linked program is a run of what the modules mean together; of a link over a directory, where its
+//! disk was honest (`specs/Honest.antt`). A run that is asked for is the definition's of the merged modules with 0 as every free
+//! choice: its ending, what it writes and how much it reads. Of files of bytes, tasks of links that have one text are one
+//! ([`tasks_are_told`]), so what is found under a key is made of the key's task.
+//!
+//! Beside the link itself, each byte is moved once; modules are copied once where they are merged.
 #![tactic(auto)]
 
 mod batch;
 mod cache;
+#[cfg(test)]
+mod cache_tests;
 mod command;
 mod entry;
 mod index;

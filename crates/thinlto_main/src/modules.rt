@@ -119,7 +119,7 @@ pub(crate) fn suffixes(alloc: Global, given: &[Option<Text>]) -> Result<Rows<Tex
 }
 
 /// The bytes that a file gave, if it did.
-fn slice_of(bytes: &Option<Text>) -> &[u8]
+pub(crate) fn slice_of(bytes: &Option<Text>) -> &[u8]
     ensures { result.now ≡ bytes_of bytes.now }
 {
     match bytes {

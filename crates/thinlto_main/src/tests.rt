@@ -12,12 +12,12 @@ use std::thread::Threads;
 type Outside<'a> = (&'a [u8], &'a [u8], u64, u64);
 
 /// What the input has, and the number of the read that fails.
-type Input<'a> = (&'a [u8], u64);
+pub(crate) type Input<'a> = (&'a [u8], u64);
 
 /// What a run ends with: its status, what `o` holds, what was printed and what the notes got.
 type End<'a> = (u8, &'a [u8], &'a [u8], &'a [u8]);
 
-fn words_of(alloc: Global, given: &[&str]) -> Result<Vec<String>, AllocError> {
+pub(crate) fn words_of(alloc: Global, given: &[&str]) -> Result<Vec<String>, AllocError> {
     let mut words = Vec::new(alloc);
     for word in given {
         let word = String::from_str(alloc, word)?;
@@ -27,7 +27,7 @@ fn words_of(alloc: Global, given: &[&str]) -> Result<Vec<String>, AllocError> {
 }
 
 /// The files `a.ll`, `b.ll` and `o`, of which the call of this number fails.
-fn files_of(
+pub(crate) fn files_of(
     alloc: Global,
     first: &[u8],
     second: &[u8],
@@ -45,7 +45,7 @@ fn files_of(
 }
 
 /// An input of these bytes, of which the read of this number fails.
-fn input_of<'a>(alloc: Global, input: Input<'a>) -> Result<MemoryIn, AllocError> {
+pub(crate) fn input_of<'a>(alloc: Global, input: Input<'a>) -> Result<MemoryIn, AllocError> {
     let (bytes, lacking) = input;
     let failing = vec![in alloc; lacking]?;
     let bytes = Vec::from_slice(alloc, bytes)?;
@@ -53,12 +53,12 @@ fn input_of<'a>(alloc: Global, input: Input<'a>) -> Result<MemoryIn, AllocError>
 }
 
 /// An output of which the push of this number fails.
-fn output_of(alloc: Global, stuck: u64) -> Result<MemoryOut, AllocError> {
+pub(crate) fn output_of(alloc: Global, stuck: u64) -> Result<MemoryOut, AllocError> {
     let failing = vec![in alloc; stuck]?;
     Ok(MemoryOut::new(alloc, failing))
 }
 
-fn holds(files: &MemoryFiles, name: &str, held: &[u8]) -> bool {
+pub(crate) fn holds(files: &MemoryFiles, name: &str, held: &[u8]) -> bool {
     match files.content(name) {
         Some(text) => text.equals(held),
         None => false,
@@ -124,12 +124,12 @@ fn ends_so<'a, R: Threads + Wait + Sync>(
 }
 
 /// The number of no call.
-const NONE: u64 = 9_999;
+pub(crate) const NONE: u64 = 9_999;
 
-const NOTHING: &[u8] = b"";
+pub(crate) const NOTHING: &[u8] = b"";
 
 /// An input that is at its end.
-const EMPTY: Input<'static> = (b"", NONE);
+pub(crate) const EMPTY: Input<'static> = (b"", NONE);
 
 /// What `o` holds before a run.
 const BEFORE: &[u8] = b"-";
@@ -587,9 +587,9 @@ static WORDS: [(&[&str], u8, &[u8], &[u8]); 13] = [
     ),
     (
         &["link", "--cache", "d", "-o", "o", "a.ll"],
-        1,
-        BEFORE,
-        USAGE,
+        0,
+        FIVE,
+        NOTHING,
     ),
     (
         &["link", "--inline-limit=20001", "-o", "o", "a.ll"],
@@ -609,7 +609,12 @@ static WORDS: [(&[&str], u8, &[u8], &[u8]); 13] = [
         BEFORE,
         b"thinlto: a.ll:2: bad list line\n",
     ),
-    (&["batch", "--cache", "d", "a.ll"], 1, BEFORE, USAGE),
+    (
+        &["batch", "--cache", "d", "a.ll"],
+        3,
+        BEFORE,
+        b"thinlto: a.ll:2: bad list line\n",
+    ),
     (&[""], 1, BEFORE, USAGE),
     (
         &["link", "--export", "main,g", "-o", "o", "a.ll"],

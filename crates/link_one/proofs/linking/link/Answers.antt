@@ -1,4 +1,6 @@
+use mathlib.Core.Logic.{∥∥₁_elim, ∥∥₁_map}
 use Rattle.std.proofs.Common.{◌≡◌, ◌≢◌, ◌∙◌, Err, IfErr, ap, inr, subst, sym}
+use Rattle.std.proofs.Props.{props}
 use Rattle.std.proofs.lemmas.Result.{err_from_is_err_and}
 use Rattle.lto_fault.specs.declared.refusal.Refusal.{Refusal}
 use Rattle.lto_fault.specs.declared.refusal.Refusal.TheVariants.{NoMemory}
@@ -25,11 +27,22 @@ returns-in_err-named-clause-refused g c =
     }))
 
 pub returns-in-Ok-clause-linked : goal.returns-in-Ok-clause-linked
-returns-in-Ok-clause-linked g c = λ bytes accepted same.
-    is_link c.linked_refines.ensures c.args.exports.now c.args.import_limit c.args.inline_limit c.args.suffixes.now c.args.modules.now c.in-Ok.ensures.l c.in-Ok.ensures.linked bytes accepted same
-    c.in-Ok.text c.in-Ok.ensures.is
+returns-in-Ok-clause-linked g c = λ trusted bytes accepted same.
+    ∥∥₁_map (c.in-Ok.ensures.linked trusted)
+    (λ l. is_link c.linked_refines.ensures c.args.exports.now c.args.import_limit c.args.inline_limit c.args.suffixes.now c.args.modules.now l.l l.linked bytes accepted same c.in-Ok.text l.is)
 
 pub returns-in-Ok-clause-only : goal.returns-in-Ok-clause-only
-returns-in-Ok-clause-only g c = λ bytes accepted same.
-    is_only_link c.linked_refines.ensures c.args.exports.now c.args.import_limit c.args.inline_limit c.args.suffixes.now c.args.modules.now c.in-Ok.ensures.l c.in-Ok.ensures.linked c.linked_is_one.ensures
-    bytes accepted same c.in-Ok.text c.in-Ok.ensures.is
+returns-in-Ok-clause-only g c = λ trusted bytes accepted same other h.
+    ∥∥₁_elim (c.in-Ok.ensures.linked trusted) (hlevel props)
+    (λ l.
+    is_only_link c.linked_refines.ensures c.args.exports.now c.args.import_limit c.args.inline_limit c.args.suffixes.now c.args.modules.now l.l l.linked c.linked_is_one.ensures bytes accepted same
+    c.in-Ok.text l.is other h)
+
+pub returns-in-Ok-clause-linkable : goal.returns-in-Ok-clause-linkable
+returns-in-Ok-clause-linkable g c = record {
+  index = c.in_ok-decided.decided.index;
+  live = c.in_ok-decided.decided.live;
+  imports = _;
+  thin = c.in_ok-decided.ensures.done;
+  named = c.in_ok-named.ensures.named;
+}

@@ -1,4 +1,4 @@
-use Rattle.std.proofs.Common.{◌≡◌, ◌<◌, ℕ, List, Option, arith, length, subst, sym, take_all}
+use Rattle.std.proofs.Common.{◌≡◌, ◌<◌, ℕ, List, Option, arith, length, subst, sym, take, take_all}
 use Rattle.std.specs.Prelude.{All}
 use Rattle.std.specs.List.{AllZip}
 use Rattle.link_one.proofs.Zipping.{zip_next}
@@ -6,9 +6,13 @@ use Rattle.command_files.specs.Fetching.{IsShort}
 use Rattle.command_files.specs.Links.{GivenFor}
 use Rattle.run_program.specs.Causes.{Because, never}
 use Rattle.run_program.proofs.Causes.{because_map}
-use Rattle.thinlto_main.specs.Linking.{IsLinkable, IsMade, IsUnlinkable}
+use Rattle.command_files.specs.declared.listing.ListedLink.{ListedLink}
+use Rattle.back_pool.specs.Making.{IsTrusted}
+use Rattle.thinlto_main.specs.Batching.{AreLinkable}
+use Rattle.thinlto_main.specs.Keys.{IsKeyOf}
+use Rattle.thinlto_main.specs.Linking.{IsLinkable, IsMadeIf, IsUnlinkable}
 use Rattle.thinlto_main.specs.Modules.{FirstBad}
-use Rattle.thinlto_main.proofs.Batching.{link_because, linkable, zip_at, zip_both, zip_length, zip_within}
+use Rattle.thinlto_main.proofs.Batching.{link_because, zip_at, zip_both, zip_length, zip_within}
 use Rattle.thinlto_main.proofs.batch.all_made.Goals as goal
 
 pub bounds-given-at : goal.bounds-given-at
@@ -16,8 +20,8 @@ bounds-given-at g c = zip_within GivenFor c.args.links.now c.args.given.now c.lo
 
 pub made-requires-clause-each : goal.made-requires-clause-each
 made-requires-clause-each g c κs within =
-    subst (λ (b : List (Option (List ℕ))). length b ≡ length c.as_slice.result.now) (sym c.as_slice-bytes.ensures)
-    (subst (λ (n : List (List ℕ)). length c.index-given-at.result ≡ length n) (sym c.as_slice.ensures)
+    subst (λ (b : List (Option (List ℕ))). length b ≡ length c.as_slice-names.result.now) (sym c.as_slice-bytes.ensures)
+    (subst (λ (n : List (List ℕ)). length c.index-given-at.result ≡ length n) (sym c.as_slice-names.ensures)
     (zip_at GivenFor c.args.links.now c.args.given.now c.loop-at.at c.index-links-at.result c.index-given-at.result c.requires.each c.loop-at-test.true c.index-links-at.is c.index-given-at.is).each)
 
 pub made-requires-clause-short : goal.made-requires-clause-short
@@ -30,22 +34,39 @@ returns-in-Err-clause-because g c =
     because_map
     (link_because c.args.options.now c.args.links.now c.args.given.now c.loop-at.at c.index-links-at.result c.index-given-at.result c.requires.each c.loop-at.invariant.linkable c.loop-at-test.true c.index-links-at.is c.index-given-at.is)
     c.in-Err.why
-    (subst (λ (n : List (List ℕ)). Because (record never { refused = FirstBad n c.index-given-at.result; unlinked = IsUnlinkable c.args.options.now n c.index-given-at.result; memory = Unit {0} }) c.in-Err.why) c.as_slice.ensures
-    (subst (λ (b : List (Option (List ℕ))). Because (record never { refused = FirstBad c.as_slice.result.now b; unlinked = IsUnlinkable c.args.options.now c.as_slice.result.now b; memory = Unit {0} }) c.in-Err.why) c.as_slice-bytes.ensures c.in-Err.ensures.because))
+    (subst (λ (n : List (List ℕ)). Because (record never { refused = FirstBad n c.index-given-at.result; unlinked = IsUnlinkable c.args.options.now n c.index-given-at.result; memory = Unit {0} }) c.in-Err.why) c.as_slice-names.ensures
+    (subst (λ (b : List (Option (List ℕ))). Because (record never { refused = FirstBad c.as_slice-names.result.now b; unlinked = IsUnlinkable c.args.options.now c.as_slice-names.result.now b; memory = Unit {0} }) c.in-Err.why) c.as_slice-bytes.ensures c.in-Err.ensures.because))
+
+pub made-requires-clause-keys : goal.made-requires-clause-keys
+made-requires-clause-keys g c κs within = λ key is.
+    let lt : c.loop-at.at < length c.args.given.now = zip_within GivenFor c.args.links.now c.args.given.now c.loop-at.at c.requires.each c.loop-at-test.true in
+    let of_given : IsKeyOf c.args.options.now c.index-given-at.result key = subst (λ (b : List (Option (List ℕ))). IsKeyOf c.args.options.now b key) c.as_slice-bytes.ensures is in
+    c.requires.keys key (record { given = c.index-given-at.result; one = (c.loop-at.at, lt, sym c.index-given-at.is); is = of_given })
 
 pub loop-at-preserved : goal.loop-at-preserved
 loop-at-preserved g c =
+    let trusted = IsTrusted g.S.Setting.dir g.D.CacheDisk.fits g.S.Setting.files in
     let within : c.loop-at.at < length c.args.given.now = zip_within GivenFor c.args.links.now c.args.given.now c.loop-at.at c.requires.each c.loop-at-test.true in
-    let is_made : IsMade c.args.options.now c.index-given-at.result c.in-Ok.text = subst (λ (b : List (Option (List ℕ))). IsMade c.args.options.now b c.in-Ok.text) c.as_slice-bytes.ensures c.in-Ok.ensures.made in
+    let is_made : IsMadeIf trusted c.args.options.now c.index-given-at.result c.in-Ok.text = subst (λ (b : List (Option (List ℕ))). IsMadeIf trusted c.args.options.now b c.in-Ok.text) c.as_slice-bytes.ensures c.in-Ok.ensures.made in
+    let is_linkable : IsLinkable c.args.options.now c.index-links-at.result.files c.index-given-at.result =
+    subst (λ (n : List (List ℕ)). IsLinkable c.args.options.now n c.index-given-at.result) c.as_slice-names.ensures
+    (subst (λ (b : List (Option (List ℕ))). IsLinkable c.args.options.now c.as_slice-names.result.now b) c.as_slice-bytes.ensures c.in-Ok.ensures.linkable) in
     record {
-      made = zip_next (IsMade c.args.options.now) c.args.given.now c.loop-at.at c.index-given-at.result within c.index-given-at.is c.loop-at.texts c.push.new.self c.in-Ok.text c.loop-at.invariant.made is_made c.in-Ok-push.ensures.ok;
+      pass = c.made.ensures.pass;
+      made = zip_next (IsMadeIf trusted c.args.options.now) c.args.given.now c.loop-at.at c.index-given-at.result within c.index-given-at.is c.loop-at.texts c.push.new.self c.in-Ok.text c.loop-at.invariant.made is_made c.in-Ok-push.ensures.ok;
       linkable =
           zip_both (λ link bytes. IsLinkable c.args.options.now link.files bytes) c.args.links.now c.args.given.now c.loop-at.at c.index-links-at.result c.index-given-at.result c.loop-at.invariant.linkable c.loop-at-test.true within c.index-links-at.is c.index-given-at.is
-          (linkable c.unlinked_is_one.ensures.apart c.args.options.now c.index-links-at.result.files c.index-given-at.result c.in-Ok.text is_made);
+          is_linkable;
     }
 
 pub returns-clause-made : goal.returns-clause-made
 returns-clause-made g c =
     let same : length c.args.given.now ≡ length c.args.links.now = zip_length GivenFor c.args.links.now c.args.given.now c.requires.each in
-    subst (λ (given : List (List (Option (List ℕ)))). AllZip (IsMade c.args.options.now) given c.loop-at.texts)
+    subst (λ (given : List (List (Option (List ℕ)))). AllZip (IsMadeIf (IsTrusted g.S.Setting.dir g.D.CacheDisk.fits g.S.Setting.files) c.args.options.now) given c.loop-at.texts)
     (take_all c.loop-at.at c.args.given.now (omega (arith, same, c.loop-at-test.false))) c.loop-at.invariant.made
+
+pub returns-clause-linkable : goal.returns-clause-linkable
+returns-clause-linkable g c =
+    let same : length c.args.given.now ≡ length c.args.links.now = zip_length GivenFor c.args.links.now c.args.given.now c.requires.each in
+    subst (λ (links : List ListedLink). AreLinkable c.args.options.now links c.args.given.now) (take_all c.loop-at.at c.args.links.now (omega (arith, c.loop-at-test.false)))
+    (subst (λ (given : List (List (Option (List ℕ)))). AreLinkable c.args.options.now (take c.loop-at.at c.args.links.now) given) (take_all c.loop-at.at c.args.given.now (omega (arith, same, c.loop-at-test.false))) c.loop-at.invariant.linkable)

@@ -1,79 +1,96 @@
-use Rattle.std.proofs.Common.{◌≡◌, ◌∙◌, ℕ, List, Option, arith, length, ap, subst, sym}
+use Rattle.std.proofs.Common.{◌≡◌, ◌∙◌, ℕ, List, [], Option, Result, ap, arith, length, subst, sym}
 use Rattle.std.specs.List.{AllZip}
-use Rattle.std.specs.Prelude.{slice_index_or}
+use Rattle.std.specs.Prelude.{IfErr, IfOk}
 use Rattle.std.proofs.lemmas.Slice.Zip.{AllZip-long}
-use Rattle.lto_fault.specs.declared.refusal.Refusal.{Refusal}
-use Rattle.lto_outside.specs.Calls.{Call}
-use Rattle.lto_outside.specs.Cause.{Rose}
-use Rattle.lto_outside.specs.Seen.{files_seen}
+use Rattle.cache_slot.specs.Decoded.{decoded}
 use Rattle.command_files.specs.Links.{GivenFor}
 use Rattle.command_files.specs.declared.listing.ListedLink.{ListedLink}
-use Rattle.command_files.proofs.Fetches.{if_fault_map, no_put_more}
-use Rattle.run_program.specs.Causes.{Because}
+use Rattle.lto_fault.specs.declared.refusal.Refusal.{Refusal}
+use Rattle.lto_outside.specs.Calls.{Call}
+use Rattle.lto_outside.specs.Honest.{IsHonest}
+use Rattle.lto_outside.specs.Seen.{files_seen}
+use Rattle.run_program.specs.Causes.{Because, never}
 use Rattle.run_program.proofs.Causes.{because_map}
-use Rattle.thinlto_main.specs.Batching.{AreGiven, HasListed, batching}
-use Rattle.thinlto_main.specs.Linking.{IsMade}
-use Rattle.thinlto_main.proofs.Batching.{are_given, batch_stuck, did_batch, link_stops, links_stuck, list_no_put, listing_stops, name_at, unfetched_stops}
+use Rattle.thinlto_main.specs.Batching.{AreLinkable, FirstLink}
+use Rattle.thinlto_main.specs.Honest.{IsTrustedBy}
+use Rattle.thinlto_main.specs.Keys.{DiskKept, IsKeyAmong, IsKeyOfList}
+use Rattle.thinlto_main.specs.Linking.{IsMadeIf, IsUnlinkable}
+use Rattle.thinlto_main.specs.Modules.{FirstBad}
+use Rattle.thinlto_main.proofs.Batching.{batch_comes, fetching_stops, key_of_list, link_stops, puts_calls}
+use Rattle.thinlto_main.proofs.Disks.{same_kept, wider_kept}
 use Rattle.thinlto_main.proofs.batch.batch.Goals as goal
 
 pub returns-in-Err-clause-answer : goal.returns-in-Err-clause-answer
 returns-in-Err-clause-answer g c =
-    because_map (listing_stops c.args.options.now c.args.list.now (files_seen g.F.Files.did g.F.Files.held g.F.Files.faults c.args.files.now c.links_of.new.files)) c.in-Err.why c.in-Err.ensures.because
+    because_map (fetching_stops c.args.options.now c.args.list.now (IsTrustedBy c.args.options.now (IsHonest decoded g.D.CacheDisk.fits (g.D.CacheDisk.held c.args.disk))) (files_seen g.F.Files.did g.F.Files.held g.F.Files.faults c.args.files.now c.given_of.new.files)) c.in-Err.why c.in-Err.ensures.because
 
-pub returns-in-Err-fetch_links-clause-answer : goal.returns-in-Err-fetch_links-clause-answer
-returns-in-Err-fetch_links-clause-answer g c =
-    let listed : HasListed c.args.list.now c.as_slice-all.result.now (λ (calls : List Call). g.F.Files.did c.args.files.now calls c.links_of.new.files) =
-    subst (λ (l : List ListedLink). HasListed c.args.list.now l (λ (calls : List Call). g.F.Files.did c.args.files.now calls c.links_of.new.files)) (sym c.as_slice-all.ensures) c.in-Ok.ensures.listed in
-    subst (λ (why : Refusal). Because (batching c.args.options.now c.args.list.now (files_seen g.F.Files.did g.F.Files.held g.F.Files.faults c.args.files.now c.fetch_links.new.files)) why) (sym c.unfetched.ensures)
-    (unfetched_stops c.args.options.now c.args.list.now (files_seen g.F.Files.did g.F.Files.held g.F.Files.faults c.args.files.now c.fetch_links.new.files) c.in-Err-fetch_links.error
-    (if_fault_map c.in-Err-fetch_links.error _ _ (λ name f.
-    let rose : Rose (g.F.Files.faults c.args.files.now) (g.F.Files.faults c.fetch_links.new.files) = omega (arith, f.1, c.links_of.ensures.later) in
-    links_stuck g.F.Files.did g.met.F.Files.did_more c.args.files.now c.links_of.new.files c.fetch_links.new.files c.args.list.now c.as_slice-all.result.now listed (files_seen g.F.Files.did g.F.Files.held g.F.Files.faults c.args.files.now c.fetch_links.new.files) (λ calls did. did) rose name f.0) c.in-Err-fetch_links.ensures.failed)
-    (no_put_more g.F.Files.did g.met.F.Files.did_more c.args.files.now c.links_of.new.files c.fetch_links.new.files
-    (list_no_put g.F.Files.did g.met.F.Files.did_more c.args.files.now c.links_of.new.files c.fetch_links.new.files c.args.list.now c.as_slice-all.result.now listed) c.fetch_links.ensures.no_put))
+pub returns-in-Err-clause-disk : goal.returns-in-Err-clause-disk
+returns-in-Err-clause-disk g c =
+    ∣ same_kept g.D.CacheDisk.fits (IsKeyOfList c.args.options.now c.args.list.now (λ (calls : List Call). g.F.Files.did c.args.files.now calls c.given_of.new.files)) c.args.options.now.cache (g.D.CacheDisk.held c.args.disk) ∣₁
 
-pub all_made-requires-clause-each : goal.all_made-requires-clause-each
-all_made-requires-clause-each g c κs within = subst (λ (b : List (List (Option (List ℕ)))). AllZip GivenFor c.as_slice-all.result.now b) (sym c.as_slice.ensures) c.in-Ok-fetch_links.ensures.each
+pub put-requires : goal.put-requires
+put-requires g c =
+    let o = c.args.options.now in
+    let T = IsTrustedBy o (IsHonest decoded g.D.CacheDisk.fits (g.D.CacheDisk.held c.args.disk)) in
+    let made : AllZip (IsMadeIf T o) c.in-Ok.given.given c.in-Ok-answer.texts =
+    subst (λ (bs : List (List (Option (List ℕ)))). AllZip (IsMadeIf T o) bs c.in-Ok-answer.texts) c.as_slice-2.ensures
+    (subst (λ (r : Result (List (List ℕ)) Refusal). IfOk r (AllZip (IsMadeIf T o) c.as_slice-2.result.now)) c.in-Ok-answer.is c.all_made_on-answer.ensures.made) in
+    sym (AllZip-long GivenFor c.in-Ok.given.links c.in-Ok.given.given c.in-Ok.ensures.given.each) ∙ sym (AllZip-long (IsMadeIf T o) c.in-Ok.given.given c.in-Ok-answer.texts made)
+    ∙ ap (λ (ts : List (List ℕ)). length ts) (sym c.as_slice-in-Ok-answer.ensures)
 
-pub returns-in-Err-all_made-clause-answer : goal.returns-in-Err-all_made-clause-answer
-returns-in-Err-all_made-clause-answer g c =
-    let listed : HasListed c.args.list.now c.as_slice-all.result.now (λ (calls : List Call). g.F.Files.did c.args.files.now calls c.links_of.new.files) =
-    subst (λ (l : List ListedLink). HasListed c.args.list.now l (λ (calls : List Call). g.F.Files.did c.args.files.now calls c.links_of.new.files)) (sym c.as_slice-all.ensures) c.in-Ok.ensures.listed in
-    let given : AreGiven c.args.list.now c.as_slice-all.result.now c.in-Ok-fetch_links.given (λ (calls : List Call). g.F.Files.did c.args.files.now calls c.fetch_links.new.files) =
-    are_given g.F.Files.did g.met.F.Files.did_more c.args.files.now c.links_of.new.files c.fetch_links.new.files c.args.list.now c.as_slice-all.result.now c.in-Ok-fetch_links.given listed c.in-Ok-fetch_links.ensures.each c.in-Ok-fetch_links.ensures.fetched in
-    because_map (link_stops c.args.options.now c.args.list.now (files_seen g.F.Files.did g.F.Files.held g.F.Files.faults c.args.files.now c.fetch_links.new.files) c.as_slice-all.result.now c.as_slice.result.now
-    (subst (λ (b : List (List (Option (List ℕ)))). AreGiven c.args.list.now c.as_slice-all.result.now b (λ (calls : List Call). g.F.Files.did c.args.files.now calls c.fetch_links.new.files)) (sym c.as_slice.ensures) given))
-    c.in-Err-all_made.why c.in-Err-all_made.ensures.because
+pub returns-in-Ok-answer-clause-answer : goal.returns-in-Ok-answer-clause-answer
+returns-in-Ok-answer-clause-answer g c =
+    let o = c.args.options.now in
+    let T = IsTrustedBy o (IsHonest decoded g.D.CacheDisk.fits (g.D.CacheDisk.held c.args.disk)) in
+    let made : AllZip (IsMadeIf T o) c.in-Ok.given.given c.in-Ok-answer.texts =
+    subst (λ (bs : List (List (Option (List ℕ)))). AllZip (IsMadeIf T o) bs c.in-Ok-answer.texts) c.as_slice-2.ensures
+    (subst (λ (r : Result (List (List ℕ)) Refusal). IfOk r (AllZip (IsMadeIf T o) c.as_slice-2.result.now)) c.in-Ok-answer.is c.all_made_on-answer.ensures.made) in
+    let put_made : AllZip (IsMadeIf T o) c.in-Ok.given.given c.as_slice-in-Ok-answer.result.now = subst (AllZip (IsMadeIf T o) c.in-Ok.given.given) (sym c.as_slice-in-Ok-answer.ensures) made in
+    let linkable : AreLinkable o c.in-Ok.given.links c.in-Ok.given.given =
+    subst (λ (ls : List ListedLink). AreLinkable o ls c.in-Ok.given.given) c.as_slice.ensures
+    (subst (AreLinkable o c.as_slice.result.now) c.as_slice-2.ensures (subst (λ (r : Result (List (List ℕ)) Refusal). IfOk r (λ _. AreLinkable o c.as_slice.result.now c.as_slice-2.result.now)) c.in-Ok-answer.is c.all_made_on-answer.ensures.linkable)) in
+    batch_comes g.F.Files.did g.met.F.Files.did_more c.args.files.now c.given_of.new.files c.put.new.files c.args.list.now c.in-Ok.given.links o T c.in-Ok.given.given c.as_slice-in-Ok-answer.result.now c.in-Ok.ensures.given linkable put_made
+    (files_seen g.F.Files.did g.F.Files.held g.F.Files.faults c.args.files.now c.put.new.files) (λ calls did. did) (g.F.Files.faults c.given_of.new.files) (λ rose. omega (arith, c.given_of.ensures.later, rose)) c.put.result c.put.ensures.done c.put.ensures.failed
 
-pub put_all-requires : goal.put_all-requires
-put_all-requires g c =
-    sym (AllZip-long GivenFor c.as_slice-all.result.now c.in-Ok-fetch_links.given c.in-Ok-fetch_links.ensures.each) ∙ ap (λ (b : List (List (Option (List ℕ)))). length b) (sym c.as_slice.ensures)
-    ∙ sym (AllZip-long (IsMade c.args.options.now) c.as_slice.result.now c.in-Ok-all_made.texts c.in-Ok-all_made.ensures.made) ∙ ap (λ (ts : List (List ℕ)). length ts) (sym c.as_slice-2.ensures)
+pub returns-in-Ok-answer-clause-disk : goal.returns-in-Ok-answer-clause-disk
+returns-in-Ok-answer-clause-disk g c =
+    let o = c.args.options.now in
+    let T = IsTrustedBy o (IsHonest decoded g.D.CacheDisk.fits (g.D.CacheDisk.held c.args.disk)) in
+    let made : AllZip (IsMadeIf T o) c.in-Ok.given.given c.in-Ok-answer.texts =
+    subst (λ (bs : List (List (Option (List ℕ)))). AllZip (IsMadeIf T o) bs c.in-Ok-answer.texts) c.as_slice-2.ensures
+    (subst (λ (r : Result (List (List ℕ)) Refusal). IfOk r (AllZip (IsMadeIf T o) c.as_slice-2.result.now)) c.in-Ok-answer.is c.all_made_on-answer.ensures.made) in
+    let put_made : AllZip (IsMadeIf T o) c.in-Ok.given.given c.as_slice-in-Ok-answer.result.now = subst (AllZip (IsMadeIf T o) c.in-Ok.given.given) (sym c.as_slice-in-Ok-answer.ensures) made in
+    let linkable : AreLinkable o c.in-Ok.given.links c.in-Ok.given.given =
+    subst (λ (ls : List ListedLink). AreLinkable o ls c.in-Ok.given.given) c.as_slice.ensures
+    (subst (AreLinkable o c.as_slice.result.now) c.as_slice-2.ensures (subst (λ (r : Result (List (List ℕ)) Refusal). IfOk r (λ _. AreLinkable o c.as_slice.result.now c.as_slice-2.result.now)) c.in-Ok-answer.is c.all_made_on-answer.ensures.linkable)) in
+    let kept : ∥ DiskKept g.D.CacheDisk.fits (IsKeyAmong o c.in-Ok.given.given) o.cache (g.D.CacheDisk.held c.args.disk) (g.D.CacheDisk.held c.all_made_on-answer.result.disk) ∥₁ =
+    subst (λ (bs : List (List (Option (List ℕ)))). ∥ DiskKept g.D.CacheDisk.fits (IsKeyAmong o bs) o.cache (g.D.CacheDisk.held c.args.disk) (g.D.CacheDisk.held c.all_made_on-answer.result.disk) ∥₁) c.as_slice-2.ensures c.all_made_on-answer.ensures.disk in
+    wider_kept g.D.CacheDisk.fits (IsKeyAmong o c.in-Ok.given.given) o.cache (IsKeyOfList o c.args.list.now (λ (calls : List Call). g.F.Files.did c.args.files.now calls c.put.new.files))
+    (key_of_list g.F.Files.did g.met.F.Files.did_more c.args.files.now c.given_of.new.files c.put.new.files c.args.list.now c.in-Ok.given.links o c.in-Ok.given.given c.in-Ok.ensures.given
+    (puts_calls g.F.Files.did g.met.F.Files.did_more c.args.files.now c.given_of.new.files c.put.new.files c.args.list.now c.in-Ok.given.links o T c.in-Ok.given.given c.as_slice-in-Ok-answer.result.now c.in-Ok.ensures.given linkable put_made
+    (files_seen g.F.Files.did g.F.Files.held g.F.Files.faults c.args.files.now c.put.new.files) (λ calls did. did) (g.F.Files.faults c.given_of.new.files) c.put.result c.put.ensures.done c.put.ensures.failed))
+    (g.D.CacheDisk.held c.args.disk) (g.D.CacheDisk.held c.all_made_on-answer.result.disk) kept
 
-pub returns-in-Ok-put_all-clause-answer : goal.returns-in-Ok-put_all-clause-answer
-returns-in-Ok-put_all-clause-answer g c =
-    let listed : HasListed c.args.list.now c.as_slice-all.result.now (λ (calls : List Call). g.F.Files.did c.args.files.now calls c.links_of.new.files) =
-    subst (λ (l : List ListedLink). HasListed c.args.list.now l (λ (calls : List Call). g.F.Files.did c.args.files.now calls c.links_of.new.files)) (sym c.as_slice-all.ensures) c.in-Ok.ensures.listed in
-    let given : AreGiven c.args.list.now c.as_slice-all.result.now c.in-Ok-fetch_links.given (λ (calls : List Call). g.F.Files.did c.args.files.now calls c.fetch_links.new.files) =
-    are_given g.F.Files.did g.met.F.Files.did_more c.args.files.now c.links_of.new.files c.fetch_links.new.files c.args.list.now c.as_slice-all.result.now c.in-Ok-fetch_links.given listed c.in-Ok-fetch_links.ensures.each c.in-Ok-fetch_links.ensures.fetched in
-    let made : AllZip (IsMade c.args.options.now) c.in-Ok-fetch_links.given c.as_slice-2.result.now =
-    subst (λ (ts : List (List ℕ)). AllZip (IsMade c.args.options.now) c.in-Ok-fetch_links.given ts) (sym c.as_slice-2.ensures)
-    (subst (λ (b : List (List (Option (List ℕ)))). AllZip (IsMade c.args.options.now) b c.in-Ok-all_made.texts) c.as_slice.ensures c.in-Ok-all_made.ensures.made) in
-    did_batch g.F.Files.did g.met.F.Files.did_more c.args.files.now c.fetch_links.new.files c.put_all.new.files c.args.list.now c.as_slice-all.result.now c.args.options.now c.in-Ok-fetch_links.given c.as_slice-2.result.now given made
-    (files_seen g.F.Files.did g.F.Files.held g.F.Files.faults c.args.files.now c.put_all.new.files) (λ calls did. did) c.in-Ok-put_all.ensures.put
+pub returns-in-Err-answer-clause-answer : goal.returns-in-Err-answer-clause-answer
+returns-in-Err-answer-clause-answer g c =
+    let o = c.args.options.now in
+    let T = IsTrustedBy o (IsHonest decoded g.D.CacheDisk.fits (g.D.CacheDisk.held c.args.disk)) in
+    let stopped : List ListedLink → List (List (Option (List ℕ))) → Refusal → Type 0 = λ ls bs.
+    Because (record never {
+      refused = λ file line kind. FirstLink o (λ link bytes. FirstBad link.files bytes file line kind) ls bs;
+      unlinked = λ why. FirstLink o (λ link bytes. IsUnlinkable o link.files bytes why) ls bs;
+      memory = Unit {0};
+    }) in
+    because_map (link_stops o c.args.list.now T (files_seen g.F.Files.did g.F.Files.held g.F.Files.faults c.args.files.now c.given_of.new.files) c.in-Ok.given.links c.in-Ok.given.given c.in-Ok.ensures.given) c.in-Err-answer.why
+    (subst (λ (ls : List ListedLink). stopped ls c.in-Ok.given.given c.in-Err-answer.why) c.as_slice.ensures
+    (subst (λ (bs : List (List (Option (List ℕ)))). stopped c.as_slice.result.now bs c.in-Err-answer.why) c.as_slice-2.ensures
+    (subst (λ (r : Result (List (List ℕ)) Refusal). IfErr r (stopped c.as_slice.result.now c.as_slice-2.result.now)) c.in-Err-answer.is c.all_made_on-answer.ensures.because)))
 
-pub returns-in-Err-put_all-clause-answer : goal.returns-in-Err-put_all-clause-answer
-returns-in-Err-put_all-clause-answer g c =
-    let listed : HasListed c.args.list.now c.as_slice-all.result.now (λ (calls : List Call). g.F.Files.did c.args.files.now calls c.links_of.new.files) =
-    subst (λ (l : List ListedLink). HasListed c.args.list.now l (λ (calls : List Call). g.F.Files.did c.args.files.now calls c.links_of.new.files)) (sym c.as_slice-all.ensures) c.in-Ok.ensures.listed in
-    let given : AreGiven c.args.list.now c.as_slice-all.result.now c.in-Ok-fetch_links.given (λ (calls : List Call). g.F.Files.did c.args.files.now calls c.fetch_links.new.files) =
-    are_given g.F.Files.did g.met.F.Files.did_more c.args.files.now c.links_of.new.files c.fetch_links.new.files c.args.list.now c.as_slice-all.result.now c.in-Ok-fetch_links.given listed c.in-Ok-fetch_links.ensures.each c.in-Ok-fetch_links.ensures.fetched in
-    let made : AllZip (IsMade c.args.options.now) c.in-Ok-fetch_links.given c.as_slice-2.result.now =
-    subst (λ (ts : List (List ℕ)). AllZip (IsMade c.args.options.now) c.in-Ok-fetch_links.given ts) (sym c.as_slice-2.ensures)
-    (subst (λ (b : List (List (Option (List ℕ)))). AllZip (IsMade c.args.options.now) b c.in-Ok-all_made.texts) c.as_slice.ensures c.in-Ok-all_made.ensures.made) in
-    let items : c.into_vec.result.items ≡ c.as_slice-all.result.now = c.into_vec.ensures ∙ sym c.as_slice-all.ensures in
-    let here : c.swap_remove.result ≡ slice_index_or c.as_slice-all.result.now c.in-Err-put_all.at c.swap_remove.result = c.swap_remove.ensures.value ∙ ap (λ (l : List ListedLink). slice_index_or l c.in-Err-put_all.at c.swap_remove.result) items in
-    let link : c.swap_remove.result ≡ c.in-Err-put_all.ensures.failed.link = name_at c.as_slice-all.result.now c.in-Err-put_all.at c.in-Err-put_all.ensures.failed.link c.swap_remove.result c.in-Err-put_all.ensures.failed.of_link here in
-    let rose : Rose (g.F.Files.faults c.args.files.now) (g.F.Files.faults c.put_all.new.files) = omega (arith, c.in-Err-put_all.ensures.rose, c.links_of.ensures.later, c.fetch_links.ensures.later) in
-    batch_stuck g.F.Files.did g.met.F.Files.did_more c.args.files.now c.fetch_links.new.files c.put_all.new.files c.args.list.now c.as_slice-all.result.now c.args.options.now c.in-Ok-fetch_links.given c.as_slice-2.result.now given made
-    (files_seen g.F.Files.did g.F.Files.held g.F.Files.faults c.args.files.now c.put_all.new.files) (λ calls did. did) c.in-Err-put_all.at c.into_text.result c.in-Err-put_all.ensures.failed (c.into_text.ensures ∙ ap (λ (l : ListedLink). l.out) link) rose
+pub returns-in-Err-answer-clause-disk : goal.returns-in-Err-answer-clause-disk
+returns-in-Err-answer-clause-disk g c =
+    let o = c.args.options.now in
+    let kept : ∥ DiskKept g.D.CacheDisk.fits (IsKeyAmong o c.in-Ok.given.given) o.cache (g.D.CacheDisk.held c.args.disk) (g.D.CacheDisk.held c.all_made_on-answer.result.disk) ∥₁ =
+    subst (λ (bs : List (List (Option (List ℕ)))). ∥ DiskKept g.D.CacheDisk.fits (IsKeyAmong o bs) o.cache (g.D.CacheDisk.held c.args.disk) (g.D.CacheDisk.held c.all_made_on-answer.result.disk) ∥₁) c.as_slice-2.ensures c.all_made_on-answer.ensures.disk in
+    wider_kept g.D.CacheDisk.fits (IsKeyAmong o c.in-Ok.given.given) o.cache (IsKeyOfList o c.args.list.now (λ (calls : List Call). g.F.Files.did c.args.files.now calls c.given_of.new.files))
+    (key_of_list g.F.Files.did g.met.F.Files.did_more c.args.files.now c.given_of.new.files c.given_of.new.files c.args.list.now c.in-Ok.given.links o c.in-Ok.given.given c.in-Ok.ensures.given ([], g.met.F.Files.did_none c.given_of.new.files))
+    (g.D.CacheDisk.held c.args.disk) (g.D.CacheDisk.held c.all_made_on-answer.result.disk) kept

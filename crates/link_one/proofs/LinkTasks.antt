@@ -1,0 +1,110 @@
+-- The tasks of a link's modules, and the units that are made of them.
+use mathlib.Core.Logic.{∥∥₁_map₂}
+use Rattle.std.proofs.Common.{◌≡◌, ◌∙◌, ◌⊎◌, inl, inr, ◌+◌, ℕ, zero, suc, Bool, List, [], ◌∷◌, ◌++◌, All, Some, get_or, length, refl, sym, ap, subst, arith}
+use Rattle.std.specs.List.{AllZip}
+use Rattle.std.specs.Prelude.{slice_get}
+use Rattle.std.proofs.lemmas.List.{length_push}
+use Rattle.std.proofs.lemmas.Option.{slice_get-get_or}
+use Rattle.std.proofs.lemmas.Slice.Zip.{AllZip-long}
+use Rattle.lto_task.specs.Tasks.{TaskView, task_view}
+use Rattle.lto_task.specs.declared.piece.Piece.{Piece}
+use Rattle.lto_task.specs.declared.task.Task.{Task}
+use Rattle.ir_tree.specs.declared.module.GlobalValue.{GlobalValue}
+use Rattle.ir_tree.specs.declared.module.Module.{Module}
+use Rattle.ir_tree.specs.declared.operand.Symbol.{Symbol}
+use Rattle.combined_index.specs.Combined.{Combined}
+use Rattle.promote_rename.specs.Finals.{NoneTaken, final_names}
+use Rattle.promote_rename.specs.Promotions.{ArePromoted}
+use Rattle.thin_link.specs.Linking.{IsThinLink}
+use Rattle.merge_meaning.specs.Lives.{parts, parts_from}
+use Rattle.back_pool.specs.Making.{IsAnswer}
+use Rattle.link_one.specs.ModuleUnits.{AreTasks, AreUnits, AreUnitsOf, IsTaskInLink}
+use Rattle.link_one.specs.TaskUnits.{IsTaskUnit}
+
+-- where answers can be trusted, each is merely made of its task, and so all are
+pub all_made : (trusted : Type 0) (makes : TaskView → List Piece → Type 0) → trusted → (tasks : List Task) (units : List (List Piece))
+    → AllZip (λ t ps. IsAnswer trusted makes (task_view t) ps) tasks units → ∥ AllZip (λ t ps. makes (task_view t) ps) tasks units ∥₁
+all_made trusted makes sure [] [] z = ∣ tt ∣₁
+all_made trusted makes sure [] (ps ∷ units) z = absurd z
+all_made trusted makes sure (t ∷ tasks) [] z = absurd z
+all_made trusted makes sure (t ∷ tasks) (ps ∷ units) z = ∥∥₁_map₂ (z.0.made sure) (all_made trusted makes sure tasks units z.1) (λ one more. (one, more))
+
+-- what the second list has at a place belongs to what the first has there
+zip_at : {A B : Type 0} (R : A → B → Type 0) (xs : List A) (ys : List B) → AllZip R xs ys → (k : ℕ) (y : B) → slice_get ys k ≡ Some y → (x : A) × (slice_get xs k ≡ Some x) × R x y
+zip_at R [] [] z k y here = absurd (cc here)
+zip_at R [] (b ∷ ys) z k y here = absurd z
+zip_at R (a ∷ xs) [] z k y here = absurd z
+zip_at R (a ∷ xs) (b ∷ ys) z zero y here = (a, refl, subst (R a) (cc here) z.0)
+zip_at R (a ∷ xs) (b ∷ ys) z (suc k) y here = zip_at R xs ys z.1 k y here
+
+-- what stands at a place where one is added
+push_at : {X : Type 0} (xs : List X) (x : X) (k : ℕ) (y : X) → slice_get (xs ++ x ∷ []) k ≡ Some y → (slice_get xs k ≡ Some y) ⊎ ((k ≡ length xs) × (x ≡ y))
+push_at [] x zero y here = inr (refl, cc here)
+push_at [] x (suc k) y here = absurd (cc here)
+push_at (z ∷ xs) x zero y here = inl here
+push_at (z ∷ xs) x (suc k) y here = elim (push_at xs x k y here) [ inl there ↦ inl there | inr last ↦ inr (ap suc last.0, last.1) ]
+
+-- what holds of each place holds of one more
+pub each_more : {X : Type 0} (P : ℕ → X → Type 0) (xs after : List X) (x : X) (n : ℕ) → length xs ≡ n → ((k : ℕ) (y : X) → slice_get xs k ≡ Some y → P k y) → P n x → after ≡ xs ++ x ∷ []
+    → (length after ≡ n + 1) × ((k : ℕ) (y : X) → slice_get after k ≡ Some y → P k y)
+each_more {X} P xs after x n count each one pushed = (
+  ap length pushed ∙ length_push xs x ∙ ap (λ (m : ℕ). m + 1) count,
+  λ k y here. elim (push_at xs x k y (ap (λ (l : List X). slice_get l k) (sym pushed) ∙ here)) [
+    | inl there ↦ each k y there
+    | inr last ↦ subst (P k) last.1 (subst (λ (m : ℕ). P m x) (sym (last.0 ∙ count)) one)
+  ],
+)
+
+-- units of the tasks of modules are units of the modules
+pub units_made : (exports : List (List ℕ)) (limit : ℕ) (symbols : List Symbol) (suffixes imports promoted : List (List ℕ)) (parts : List (List GlobalValue)) (tasks : List Task) (units : List (List Piece))
+    → AreTasks exports limit symbols suffixes imports promoted parts tasks → AllZip (λ t ps. IsTaskUnit (task_view t) ps) tasks units → AreUnits exports limit symbols suffixes imports promoted parts units
+units_made exports limit symbols suffixes imports promoted parts tasks units are z = record {
+  count = AllZip-long (λ t ps. IsTaskUnit (task_view t) ps) tasks units z ∙ are.count;
+  each = λ k unit here.
+      let at = zip_at (λ (t : Task) (ps : List Piece). IsTaskUnit (task_view t) ps) tasks units z k unit here in
+      record { task = task_view at.0; is_task = are.each k at.0 at.1; made = at.2 };
+}
+
+-- ---- the tasks of a link
+
+module _ (exports : List (List ℕ)) (limit : ℕ) (suffixes : List (List ℕ)) (tasks : List Task) where
+  pub same_tasks : {symbols ss : List Symbol} {imports is promoted ps : List (List ℕ)} {parts gs : List (List GlobalValue)} → symbols ≡ ss → imports ≡ is → promoted ≡ ps → parts ≡ gs
+      → AreTasks exports limit symbols suffixes imports promoted parts tasks → AreTasks exports limit ss suffixes is ps gs tasks
+  same_tasks {symbols} {ss} {imports} {is} {promoted} {ps} {parts} {gs} a b c d are =
+      subst (λ (x : List Symbol). AreTasks exports limit x suffixes is ps gs tasks) a
+      (subst (λ (x : List (List ℕ)). AreTasks exports limit symbols suffixes x ps gs tasks) b
+      (subst (λ (x : List (List ℕ)). AreTasks exports limit symbols suffixes imports x gs tasks) c
+      (subst (λ (x : List (List GlobalValue)). AreTasks exports limit symbols suffixes imports promoted x tasks) d are)))
+
+parts_long : (all : List Module) (symbols : List Symbol) (live : List Bool) (suffixes : List (List ℕ)) (k : ℕ) (ms : List Module) → length (parts_from all symbols live suffixes k ms) ≡ length ms
+parts_long all symbols live suffixes k [] = refl
+parts_long all symbols live suffixes k (m ∷ ms) = ap suc (parts_long all symbols live suffixes (suc k) ms)
+
+module _ (exports : List (List ℕ)) (import_limit inline_limit : ℕ) (suffixes : List (List ℕ)) (ms : List Module) (index : Combined) (live : List Bool) (imports promoted : List (List ℕ))
+    (thin : IsThinLink ms exports import_limit index live imports) (named : NoneTaken (final_names suffixes index.symbols live)) (promoted_are : ArePromoted index imports promoted)
+    (tasks : List Task) (are : AreTasks exports inline_limit index.symbols suffixes imports promoted (parts ms index.symbols live suffixes) tasks) where
+  pub tasks_counted : length tasks ≡ length ms
+  tasks_counted = are.count ∙ parts_long ms index.symbols live suffixes 0 ms
+
+  -- what holds of each task of the link holds of these
+  pub all_tasks : (P : TaskView → Type 0) → ((t : TaskView) → IsTaskInLink exports import_limit inline_limit suffixes ms t → P t) → All (λ t. P (task_view t)) tasks
+  all_tasks P each k d below =
+      each (task_view (get_or tasks k d)) record {
+        index = index;
+        live = live;
+        imports = imports;
+        thin = thin;
+        named = named;
+        promoted = promoted;
+        promoted_are = promoted_are;
+        number = k;
+        within = omega (arith, below, tasks_counted);
+        task = are.each k (get_or tasks k d) (slice_get-get_or tasks k d below);
+      }
+
+  pub units_of_tasks : (units : List (List Piece)) → AllZip (λ t ps. IsTaskUnit (task_view t) ps) tasks units → AreUnitsOf exports inline_limit index suffixes imports (parts ms index.symbols live suffixes) units
+  units_of_tasks units made = record {
+    promoted = promoted;
+    promoted_are = promoted_are;
+    are = units_made exports inline_limit index.symbols suffixes imports promoted (parts ms index.symbols live suffixes) tasks units are made;
+  }
