@@ -2,13 +2,11 @@
 use Rattle.std.proofs.Common.{◌≡◌, ◌≢◌, ℕ, zero, suc, ◌+◌, ◌≤◌, ◌<◌, nat_eq, Bool, true, false, cond, ◌||◌, List, [], ◌∷◌, ◌++◌, length, get_or, drop, Option, Some, None, refl, sym, ◌∙◌, ap, subst, arith, if◌then◌else◌, append_assoc, append-nil}
 use Rattle.std.specs.Prelude.{◌&&◌, slice_get}
 use Rattle.std.proofs.lemmas.Bool.{eqb-true, eqb-false}
-use Rattle.std.proofs.lemmas.List.{drop_all, drop_more}
-use Rattle.ir_tree.specs.Flow.{targets}
+use Rattle.std.proofs.lemmas.List.{drop_more}
 use Rattle.ir_tree.specs.Formed.{Distinct, numbers}
 use Rattle.ir_tree.specs.declared.block.Block.{Block}
 use Rattle.ir_tree.specs.declared.function.Function.{Function}
 use Rattle.ir_better.proofs.Counting.{number_at, numbers_in}
-use Rattle.block_trim.specs.Counts.{counted, edges_counted}
 use Rattle.block_trim.specs.Merged.{IsMergeOf, IsOneOf}
 use Rattle.block_trim.specs.Working.{HasContents, IsContentOf, IsNumber, Joined, block_of, blocks_taken, left, may_go, naming, next, with_block, without}
 use Rattle.block_trim.specs.declared.joining.Content.{Content}
@@ -25,14 +23,6 @@ pub index_of : {X : Type 0} (xs : List X) (i : ℕ) (d x : X) → slice_get xs i
 index_of [] i d x e = absurd cc
 index_of (y ∷ xs) zero d x e = cc e
 index_of (y ∷ xs) (suc i) d x e = index_of xs i d x e
-
--- ---- counts
-
-pub edges_step : (bs : List Block) (i : ℕ) (b : Block) (n m k : ℕ) → i < length bs → b ≡ get_or bs i b → edges_counted n (drop i bs) m ≡ k → edges_counted n (drop (i + 1) bs) (counted n (targets b.end) m) ≡ k
-edges_step bs i b n m k lt is h = ap (λ (x : Block). edges_counted n (drop (i + 1) bs) (counted n (targets x.end) m)) is ∙ sym (ap (λ (l : List Block). edges_counted n l m) (drop_more bs i b lt)) ∙ h
-
-pub edges_done : (bs : List Block) (i n m k : ℕ) → length bs ≤ i → edges_counted n (drop i bs) m ≡ k → m ≡ k
-edges_done bs i n m k le h = sym (ap (λ (l : List Block). edges_counted n l m) (drop_all i bs le)) ∙ h
 
 -- ---- candidates
 

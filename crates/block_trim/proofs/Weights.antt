@@ -1,4 +1,4 @@
--- Edges that are counted, and edges from the blocks that are left.
+-- Edges from the blocks that are left.
 use Rattle.std.proofs.Common.{◌≡◌, ℕ, zero, suc, ◌+◌, nat_eq, Bool, true, false, List, [], ◌∷◌, ◌++◌, length, Option, Some, None, refl, sym, ◌∙◌, ap, arith, if◌then◌else◌, length-append}
 use Rattle.std.specs.Prelude.{slice_get}
 use Rattle.std.proofs.lemmas.Bool.{eq-eqb, eqb-true}
@@ -6,11 +6,15 @@ use Rattle.ir_tree.specs.Flow.{leading, repeated, targets}
 use Rattle.ir_tree.specs.Formed.{Distinct}
 use Rattle.ir_tree.specs.declared.block.Block.{Block}
 use Rattle.ir_better.proofs.Counting.{distinct_rest, not_again, number_at, numbers_in}
-use Rattle.block_trim.specs.Counts.{counted, edges_counted}
 use Rattle.block_trim.specs.Working.{IsNumber, blocks_of, with_block}
 use Rattle.block_trim.specs.declared.joining.Content.{Content}
 
 -- ---- counts
+
+-- the count after these numbers
+abbrev pub counted : ℕ → List ℕ → ℕ → ℕ
+counted n [] k = k
+counted n (t ∷ ts) k = counted n ts (if nat_eq t n then suc k else k)
 
 pub counted_is : (n p : ℕ) (ts : List ℕ) (k : ℕ) → counted n ts k ≡ k + length (repeated p n ts)
 counted_is n p [] k = omega arith
@@ -19,14 +23,6 @@ counted_is n p (t ∷ ts) k = by (nat_eq t n) (λ m. counted_is n p ts m)
     by : (b : Bool) → ((m : ℕ) → counted n ts m ≡ m + length (repeated p n ts)) → counted n ts (if b then suc k else k) ≡ k + length (if b then p ∷ repeated p n ts else repeated p n ts)
     by true h = let e : counted n ts (suc k) ≡ suc k + length (repeated p n ts) = h (suc k) in omega (arith, e)
     by false h = h k
-
-pub edges_counted_is : (n p : ℕ) (bs : List Block) (k : ℕ) → edges_counted n bs k ≡ k + length (leading n p bs)
-edges_counted_is n p [] k = omega arith
-edges_counted_is n p (b ∷ bs) k =
-    let first : counted n (targets b.end) k ≡ k + length (repeated p n (targets b.end)) = counted_is n p (targets b.end) k in
-    let rest : edges_counted n bs (counted n (targets b.end) k) ≡ counted n (targets b.end) k + length (leading n (suc p) bs) = edges_counted_is n (suc p) bs (counted n (targets b.end) k) in
-    let both : length (repeated p n (targets b.end) ++ leading n (suc p) bs) ≡ length (repeated p n (targets b.end)) + length (leading n (suc p) bs) = length-append (repeated p n (targets b.end)) (leading n (suc p) bs) in
-    omega (arith, first, rest, both)
 
 -- ---- sums over blocks
 

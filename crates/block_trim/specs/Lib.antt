@@ -2,7 +2,6 @@ pub mod Laws
 pub mod Places
 pub mod Staying
 pub mod Trimmed
-pub mod Counts
 pub mod MergeLaws
 pub mod Merged
 pub mod Unjoined

@@ -43,23 +43,26 @@ fn merged(alloc: Global, f: &Function, candidates: HashSet<u32>) -> Result<Funct
 /// name the taker. Blocks that stay keep their order and numbers.
 ///
 /// Where no two blocks have one number, as in every sound function, joins lead from the function to the result, each of the
-/// first block in block order that can take another one, and none is left. Refused for want of memory alone.
+/// first block in block order that can take another one, and none is left. Beside want of memory, a function of `2^32` blocks or
+/// more is refused as too large for it.
 pub fn merge(alloc: Global, f: &Function) -> Result<Function, AllocError>
     ensures merged { IfOk result (λ g. Distinct (numbers f.now) → IsMergeOf f.now g) }
     ensures better { IfOk result (λ g. Sound f.now → (p : Program) → IsFormed p → BetterThan p (2 ^ (length f.now.blocks - length g.blocks)) g f.now) }
     ensures sound { IfOk result (λ g. Sound f.now → Sound g) }
 {
-    let candidates = candidates(alloc, f.blocks.as_slice())?;
+    let candidates = candidates(alloc, f)?;
     let g = merged(alloc, f, candidates)?;
     Ok(g)
 }
 
 /// What [`merge`] makes of a function that is given up: the function itself where no block takes another one.
+///
+/// Refused as [`merge`] is.
 pub fn into_merged(alloc: Global, f: Function) -> Result<Function, AllocError>
     ensures merged { IfOk result (λ g. Distinct (numbers f) → IsMergeOf f g) }
     ensures sound { IfOk result (λ g. Sound f → Sound g) }
 {
-    let candidates = candidates(alloc, f.blocks.as_slice())?;
+    let candidates = candidates(alloc, &f)?;
     let stay = all_stay(&candidates, f.blocks.as_slice());
     if stay {
         return Ok(f);

@@ -12,7 +12,11 @@ use std::alloc::{AllocError, Global};
 use std::collections::HashSet;
 
 /// Adds a number where it is wanted.
-fn add_if(numbers: &mut HashSet<u32>, number: u32, wanted: bool) -> Result<(), AllocError>
+pub(crate) fn add_if(
+    numbers: &mut HashSet<u32>,
+    number: u32,
+    wanted: bool,
+) -> Result<(), AllocError>
     ensures { OnOk result ((n : ℕ) → hash.contains nat_eq numbers.new n ≡ (hash.contains nat_eq numbers.old n || (nat_eq number n && wanted))) }
 {
     if wanted {

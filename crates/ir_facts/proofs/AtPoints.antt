@@ -1,5 +1,5 @@
 -- Facts that hold at each use are put in place everywhere, the others at points: together that is a step.
-use Rattle.std.proofs.Common.{◌≡◌, ℕ, suc, ◌+◌, ◌≤◌, nat_eq, ◌==◌, inl, inr, Bool, true, false, List, [], ◌∷◌, ◌++◌, Option, Some, None, length, map, option_map, take, refl, sym, ◌∙◌, ap, subst, arith, if◌then◌else◌}
+use Rattle.std.proofs.Common.{◌≡◌, ℕ, suc, ◌+◌, ◌≤◌, nat_eq, ◌==◌, inl, inr, Bool, true, false, List, [], ◌∷◌, ◌++◌, Option, Some, None, length, map, take, refl, sym, ◌∙◌, ap, subst, arith, if◌then◌else◌}
 use Rattle.std.specs.Prelude.{slice_get, ◌&&◌}
 use Rattle.std.proofs.lemmas.Bool.{and_from, and_parts, cases_eq, eq-eqb, eqb-true, false≢true, ne_eqb, or_cases}
 use Rattle.std.proofs.lemmas.List.{take_all}
@@ -9,7 +9,6 @@ use Rattle.ir_tree.specs.Flow.{locals}
 use Rattle.ir_tree.specs.Formed.{Distinct, numbers}
 use Rattle.ir_tree.specs.Rules.{IsNoPhi, place}
 use Rattle.ir_tree.specs.declared.block.Block.{Block}
-use Rattle.ir_tree.specs.declared.block.Case.{Case}
 use Rattle.ir_tree.specs.declared.block.Terminator.{Terminator}
 use Rattle.ir_tree.specs.declared.block.Terminator.TheVariants.{Branch, Jump, Return, Switch, Unreachable}
 use Rattle.ir_tree.specs.declared.function.Function.{Function}
@@ -24,13 +23,13 @@ use Rattle.ir_tree.specs.declared.operand.Operand.TheVariants.{Local, Null, Numb
 use Rattle.ir_meaning.specs.Act.{find_block}
 use Rattle.ir_better.specs.Facts.{Facts, Has, behind_lines, behind_local, block_replaced, blocks_replaced, edges_replaced, end_replaced, is_local, lines_replaced, phis_replaced, replaced, replaced_local, with_fact, without}
 use Rattle.ir_better.specs.Needed.{AllKept, EndReads, IsKept, Reads}
-use Rattle.ir_tree.specs.Edited.{argument_edited, case_edited, edited, end_edited, incoming_edited, instr_edited, line_edited, phi_edited, with_operands}
+use Rattle.ir_tree.specs.Edited.{argument_edited, edited, end_edited, incoming_edited, instr_edited, line_edited, phi_edited, with_operands}
 use Rattle.ir_edit.specs.Substituted.{operand_replaced, or_local}
 use Rattle.ir_facts.specs.Agreement.{marks_of}
-use Rattle.ir_facts.specs.AtPoints.{block_at, blocks_at, edges_at, end_at, function_at, last_point, lines_at, phis_at, standing, standing_behind}
+use Rattle.point_edit.specs.AtPoints.{block_at, blocks_at, edges_at, end_at, function_at, last_point, lines_at, phis_at, standing, standing_behind}
 use Rattle.ir_facts.specs.Points.{EachIsFact, IsFact, held_along, held_behind}
 use Rattle.ir_facts.specs.Steps.{IsSolution, IsStep, end_of, ends_of, substituted_by}
-use Rattle.ir_facts.specs.declared.fact.Fact.{Fact}
+use Rattle.point_edit.specs.declared.fact.Fact.{Fact}
 use Rattle.ir_facts.proofs.Agreeing.{AreMarks, Flows, Marks, along_marks, are_marks, behind_marks, flow_of, solves}
 use Rattle.ir_facts.proofs.Blocks.{find_at}
 use Rattle.ir_facts.proofs.Covers.{BlockCovered, Covers, EdgesCovered, LinesCovered, PhisCovered, TakenAt, behind, closing, closing_is, opening, with_named}
@@ -39,6 +38,7 @@ use Rattle.ir_facts.proofs.Holding.{AreSafe, Held, Known, LinesSafe, SafeFrom, f
 use Rattle.ir_facts.proofs.OneFunction.{AreIn, both, both_solve, edge_in, left_in, right_in, without_in}
 use Rattle.ir_facts.proofs.Places.{base, base_next, last_of, last_same, long_as, point_of}
 use Rattle.ir_facts.proofs.RightSources.{AreSources}
+use Rattle.point_edit.proofs.Staying.{cases_stay, local_stays}
 use Rattle.ir_facts.proofs.Substituting.{one_place}
 
 abbrev pub pairs : List Fact → Facts
@@ -175,22 +175,14 @@ instr_twice s h g d e (Address inbounds shape o is) n k = λ i. Address inbounds
 instr_twice s h g d e (Call result o args) n k = λ i. Call result (e o k.0 i) (each_twice s h g d e args k.1 i)
 instr_twice s h g d e (StrayPhi reg es) n k = absurd n
 
-cases_once : (cs : List Case) → map (case_edited (λ x. x)) cs ≡ cs
-cases_once [] = refl
-cases_once (d ∷ cs) = ap (λ (more : List Case). d ∷ more) (cases_once cs)
-
 end_twice : (s : ℕ → Bool) (h : Operand → Operand) (ts : List Fact) (n : ℕ) (fs : Facts) → ((o : Operand) → IsKept s o → standing ts n (h o) ≡ replaced fs o) → (t : Terminator) → EndReads s t
     → end_at ts n (end_edited (λ x. x) h t) ≡ end_replaced fs t
 end_twice s h ts n fs e (Return None) k = refl
 end_twice s h ts n fs e (Return (Some a)) k = λ i. Return (Some (record { reg = a.reg; operand = e a.operand k i }))
 end_twice s h ts n fs e (Jump target) k = refl
 end_twice s h ts n fs e (Branch o yes' no') k = λ i. Branch (e o k i) yes' no'
-end_twice s h ts n fs e (Switch w o default cases) k = λ i. Switch w (e o k i) default (cases_once cases i)
+end_twice s h ts n fs e (Switch w o default cases) k = λ i. Switch w (e o k i) default (cases_stay cases i)
 end_twice s h ts n fs e Unreachable k = refl
-
-own_twice : (o : Option ℕ) → option_map (λ x. x) o ≡ o
-own_twice None = refl
-own_twice (Some x) = refl
 
 -- ---- facts by themselves are a solution
 
@@ -393,7 +385,7 @@ module _ (c cf : ℕ → Option Operand) (sub : (x : ℕ) (v : Operand) → cf x
   lines_same [] s fs n held known run safe' cov' = refl
   lines_same (l ∷ ls) s fs n held known run safe' cov' =
       λ i. record {
-        local = own_twice l.local i;
+        local = local_stays l.local i;
         instr = instr_twice s (operand_replaced cf) (standing ts n) (replaced fs) (same_point s fs n held known (runs_here c f cov.once n (l ∷ ls) fs ts run)) l.instr cov'.0 cov'.1 i;
       }
       ∷ lines_same ls (with_named s l.local) (behind_local c l.local fs) (suc n) (held_more c cf sub s l.local fs held safe'.0) (known_one c l.local fs known) (runs_on c f cov.once n l ls fs ts own run) safe'.1 cov'.2 i

@@ -3,7 +3,7 @@ use Rattle.std.proofs.Common.{◌≡◌, ℕ, suc, Bool, false, ◌||◌, List, 
 use Rattle.std.specs.Prelude.{◌&&◌, not}
 use Rattle.ir_tree.specs.declared.block.Block.{Block}
 use Rattle.ir_tree.specs.declared.instr.Line.{Line}
-use Rattle.ir_better.specs.Facts.{Facts, is_phi}
+use Rattle.ir_better.specs.Facts.{is_phi}
 use Rattle.fact_sources.specs.Candidates.{block_candidates, phi_candidates}
 use Rattle.fact_sources.specs.Apart.{defined}
 use Rattle.ir_facts.specs.Clear.{all_over, any_among, block_clear, inner_keys, is_over, keys_among, lines_clear, phis_barred, with_given}
@@ -29,9 +29,9 @@ block_is bars place p own b is sourced taken read clear free e s t r c =
     not (any_among (λ x. is x i) (phi_candidates b.phis b.phis))
     && (not (phis_barred bars place b.phis || end_names (bars p) b.end) && lines_clear (bars p) (λ x. is x i) (λ x. is_phi x b.phis) b.lines))
 
-pub inner_is : (among own : ℕ → Bool) (b : Block) (found : Facts) → ((x : ℕ) → own x ≡ defined b x) → found ≡ block_candidates b → keys_among (beside among own) found ≡ inner_keys among b
+pub inner_is : (among own : ℕ → Bool) (b : Block) → ((x : ℕ) → own x ≡ defined b x) → keys_among (beside among own) (block_candidates b) ≡ inner_keys among b
 unfolding inner_keys
-inner_is among own b found is e = λ i. keys_among (beside among (λ x. is x i)) (e i)
+inner_is among own b is = λ i. keys_among (beside among (λ x. is x i)) (block_candidates b)
 
 pub over_pushed : (at : ℕ → Option ℕ) (above : ℕ → ℕ → Bool) (p next : ℕ) (b : Block) (rest more : List Block) (old new : List ℕ) → more ≡ b ∷ rest → next ≡ suc p
     → new ≡ old ++ keys_among (is_over at above p) (block_candidates b) → new ++ all_over at above next rest ≡ old ++ all_over at above p more

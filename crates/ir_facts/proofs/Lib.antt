@@ -1,5 +1,3 @@
-mod Staying
-pub mod Walking
 pub mod Agreeing
 pub mod AnySolution
 pub mod AtPoints

@@ -1,7 +1,6 @@
 -- A function that names none of some locals is as before with these locals replaced.
-use Rattle.std.proofs.Common.{◌≡◌, ℕ, ◌==◌, Bool, false, ◌||◌, List, [], ◌∷◌, Option, Some, None, map, option_map, refl, sym, ◌∙◌, ap, if◌then◌else◌}
+use Rattle.std.proofs.Common.{◌≡◌, ℕ, ◌==◌, Bool, false, ◌||◌, List, [], ◌∷◌, Option, Some, None, map, refl, sym, ◌∙◌, ap, if◌then◌else◌}
 use Rattle.ir_tree.specs.declared.block.Block.{Block}
-use Rattle.ir_tree.specs.declared.block.Case.{Case}
 use Rattle.ir_tree.specs.declared.block.Terminator.{Terminator}
 use Rattle.ir_tree.specs.declared.block.Terminator.TheVariants.{Branch, Jump, Return, Switch, Unreachable}
 use Rattle.ir_tree.specs.declared.function.Function.{Function}
@@ -14,7 +13,7 @@ use Rattle.ir_tree.specs.declared.operand.Argument.{Argument}
 use Rattle.ir_tree.specs.declared.operand.Operand.{Operand}
 use Rattle.ir_tree.specs.declared.operand.Operand.TheVariants.{Local, Null, Number as Constant, Poison as PoisonOf, Symbol as Named}
 use Rattle.ir_better.specs.Facts.{Facts}
-use Rattle.ir_tree.specs.Edited.{argument_edited, case_edited, edited, end_edited, incoming_edited, instr_edited, line_edited, phi_edited}
+use Rattle.ir_tree.specs.Edited.{argument_edited, edited, end_edited, incoming_edited, instr_edited, line_edited, phi_edited}
 use Rattle.ir_edit.specs.Numbered.{later_or}
 use Rattle.ir_edit.specs.Substituted.{operand_replaced, or_local, replacement}
 use Rattle.fact_sources.specs.Membership.{is_member}
@@ -22,6 +21,7 @@ use Rattle.fact_sources.specs.Naming.{arguments_name, block_names, blocks_name, 
 use Rattle.fact_sources.proofs.Neither.{neither}
 use Rattle.ir_facts.proofs.Editing.{block_by}
 use Rattle.ir_facts.proofs.Holding.{params_kept}
+use Rattle.point_edit.proofs.Staying.{cases_stay, local_stays}
 
 pub no_key : (fs : Facts) (x : ℕ) → is_key x fs ≡ false → replacement fs x ≡ None
 no_key [] x h = refl
@@ -68,15 +68,11 @@ module _ (among : ℕ → Bool) (g : Operand → Operand) (operand_stays : (o : 
   instr_same (Call result o args) h = let two = neither (is_member among o) (arguments_name among args) h in λ i. Call result (operand_stays o two.0 i) (arguments_same args two.1 i)
   instr_same (StrayPhi reg es) h = ap (λ (l : List Incoming). StrayPhi reg l) (entries_same es h)
 
-  pub own : (o : Option ℕ) → option_map (λ x. x) o ≡ o
-  own None = refl
-  own (Some x) = refl
-
   lines_same : (ls : List Line) → lines_name among ls ≡ false → map (line_edited (λ x. x) g) ls ≡ ls
   lines_same [] h = refl
   lines_same (l ∷ ls) h =
       let two = neither (instr_names among l.instr) (lines_name among ls) h in
-      λ i. record { local = own l.local i; instr = instr_same l.instr two.0 i } ∷ lines_same ls two.1 i
+      λ i. record { local = local_stays l.local i; instr = instr_same l.instr two.0 i } ∷ lines_same ls two.1 i
 
   pub phis_same : (ps : List Phi) → phis_name among ps ≡ false → map (phi_edited (λ x. x) g) ps ≡ ps
   phis_same [] h = refl
@@ -84,16 +80,12 @@ module _ (among : ℕ → Bool) (g : Operand → Operand) (operand_stays : (o : 
       let two = neither (entries_name among p.incoming) (phis_name among ps) h in
       λ i. record { local = p.local; reg = p.reg; incoming = entries_same p.incoming two.0 i } ∷ phis_same ps two.1 i
 
-  cases_same : (cs : List Case) → map (case_edited (λ x. x)) cs ≡ cs
-  cases_same [] = refl
-  cases_same (d ∷ cs) = ap (λ (more : List Case). d ∷ more) (cases_same cs)
-
   pub end_same : (t : Terminator) → end_names among t ≡ false → end_edited (λ x. x) g t ≡ t
   end_same (Return None) h = refl
   end_same (Return (Some a)) h = ap (λ (b : Argument). Return (Some b)) (argument_same a h)
   end_same (Jump target) h = refl
   end_same (Branch t yes' no') h = ap (λ (o : Operand). Branch o yes' no') (operand_stays t h)
-  end_same (Switch w o default cases) h = λ i. Switch w (operand_stays o h i) default (cases_same cases i)
+  end_same (Switch w o default cases) h = λ i. Switch w (operand_stays o h i) default (cases_stay cases i)
   end_same Unreachable h = refl
 
   pub block_same : (b : Block) → block_names among b ≡ false → block_by g b ≡ b

@@ -1,4 +1,3 @@
-pub mod AtPoints
 pub mod Agreement
 pub mod Blocks
 pub mod Clear

@@ -1,15 +1,15 @@
 //! Uses replaced in their places: lines, phis and terminators none of whose uses is replaced stay as they are.
 ghost use Rattle.std.specs.Prelude.{◌≡◌, false, map, IfOk, OnOk};
-ghost use Rattle.ir_tree.specs.Edited.{block_edited, end_edited, line_edited, phi_edited};
+ghost use Rattle.ir_tree.specs.Edited.{block_edited, end_edited, instr_edited, line_edited, phi_edited};
 ghost use Rattle.ir_edit.specs.Substituted.{operand_replaced, replacement};
 ghost use Rattle.fact_sources.specs.Substitutions.{value_in};
 ghost use Rattle.fact_sources.specs.Askable.{BlocksHaveWidths};
 ghost use Rattle.fact_sources.specs.Candidates.{blocks_candidates};
 ghost use Rattle.ir_facts.specs.Blocks.{with_blocks};
 
-use crate::{end_edited, instr_edited, phis_edited};
 use fact_sources::{Substitution, end_names, instr_names, phis_name, push_blocks};
-use ir_tree::{Block, Duplicate, Function, Line, Phi, Rows, Terminator};
+use ir_tree::{Block, Duplicate, Function, Instr, Line, Phi, Rows, Terminator};
+use point_edit::{end_edited, instr_edited, phis_edited};
 use std::alloc::{AllocError, Global};
 use std::mem::replace;
 
@@ -53,6 +53,23 @@ fn replace_in_phis(
     Ok(())
 }
 
+/// Each use in an instruction replaced.
+fn replace_in_instr(
+    alloc: Global,
+    instr: &mut Instr,
+    substitution: &Substitution<'_>,
+) -> Result<(), AllocError>
+    ensures { OnOk result (instr.new ≡ instr_edited (λ x. x) (operand_replaced (value_in substitution.now)) instr.old) }
+{
+    let named = instr_names(substitution, instr);
+    if !named {
+        return Ok(());
+    }
+    let made = instr_edited(alloc, substitution, instr)?;
+    *instr = made;
+    Ok(())
+}
+
 /// Each use in a line replaced.
 fn replace_in_line(
     alloc: Global,
@@ -61,12 +78,7 @@ fn replace_in_line(
 ) -> Result<(), AllocError>
     ensures { OnOk result (line.new ≡ line_edited (λ x. x) (operand_replaced (value_in substitution.now)) line.old) }
 {
-    let named = instr_names(substitution, &line.instr);
-    if !named {
-        return Ok(());
-    }
-    let made = instr_edited(alloc, substitution, &line.instr)?;
-    line.instr = made;
+    replace_in_instr(alloc, &mut line.instr, substitution)?;
     Ok(())
 }
 

@@ -13,12 +13,12 @@ ghost use Rattle.ir_facts.specs.Blocks.{with_blocks};
 ghost use Rattle.ir_facts.specs.Steps.{AreRounds, IsApplied, IsRound, IsStep, candidate_of};
 
 use crate::clear::is_clear;
-use crate::function_at;
 use crate::in_place::{forward, with_blocks};
 use crate::points::facts_of;
 use fact_sources::{Substitution, any_choice_in, apart, candidates, firm, resting, settled};
 use ir_edit::substitute;
 use ir_tree::{Block, Duplicate, Function, Operand, Rows};
+use point_edit::function_at;
 use std::alloc::{AllocError, Global};
 use std::collections::HashSet;
 use std::mem::replace;

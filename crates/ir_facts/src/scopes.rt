@@ -123,6 +123,22 @@ fn push_keys<L: Locals>(
     Ok(())
 }
 
+/// The same of the facts of a block's locals.
+fn push_among<L: Locals>(
+    alloc: Global,
+    keys: &mut Vec<u32>,
+    block: &Block,
+    among: &L,
+) -> Result<(), AllocError>
+    requires sized { LinesHaveWidths block.now.lines }
+    ensures { OnOk result (keys.new.items ≡ keys.old.items ++ keys_among (L.members among.now) (block_candidates block.now)) }
+{
+    let mut found = Vec::new(alloc);
+    push_block(alloc, &mut found, block)?;
+    push_keys(keys, &found, among)?;
+    Ok(())
+}
+
 fn push_inner(
     alloc: Global,
     keys: &mut Vec<u32>,
@@ -133,13 +149,11 @@ fn push_inner(
     ensures { OnOk result (keys.new.items ≡ keys.old.items ++ inner_keys (contains nat_eq outside.now) block.now) }
 {
     let own = defined(alloc, block)?;
-    let mut found = Vec::new(alloc);
-    push_block(alloc, &mut found, block)?;
     let among = Beside {
         set: outside,
         but: &own,
     };
-    push_keys(keys, &found, &among)?;
+    push_among(alloc, keys, block, &among)?;
     Ok(())
 }
 
@@ -172,21 +186,6 @@ fn inner_of(
     Ok(set)
 }
 
-fn push_over(
-    alloc: Global,
-    keys: &mut Vec<u32>,
-    under: &Under<'_>,
-    block: &Block,
-) -> Result<(), AllocError>
-    requires sized { LinesHaveWidths block.now.lines }
-    ensures { OnOk result (keys.new.items ≡ keys.old.items ++ keys_among (is_over (get nat_cmp under.now.places.now) (stands_above (dominance under.now.above.now)) under.now.place) (block_candidates block.now)) }
-{
-    let mut found = Vec::new(alloc);
-    push_block(alloc, &mut found, block)?;
-    push_keys(keys, &found, under)?;
-    Ok(())
-}
-
 fn push_all_over(
     alloc: Global,
     keys: &mut Vec<u32>,
@@ -207,7 +206,7 @@ fn push_all_over(
             above,
             place,
         };
-        push_over(alloc, keys, &under, block)?;
+        push_among(alloc, keys, block, &under)?;
         place = place + 1;
     }
     Ok(())

@@ -216,7 +216,7 @@ fn push_steps<N: ByteOut>(out: &mut N, steps: u64) -> bool
     push_three(out, b"thinlto: out of steps after ", number, b"\n")
 }
 
-fn push_refusal<N: ByteOut>(out: &mut N, refusal: &Refusal) -> bool
+pub(crate) fn push_refusal<N: ByteOut>(out: &mut N, refusal: &Refusal) -> bool
     ensures pushed { Pushes (stream_seen N.sent N.faults out.old out.new) (refusal_text refusal.now) result }
     ensures later { N.faults out.old ≤ N.faults out.new }
 {

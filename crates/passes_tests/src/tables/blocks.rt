@@ -2,6 +2,29 @@
 use crate::rows::{Pass, Row, failing};
 use std::alloc::AllocError;
 
+/// Blocks 7, 5 and 3 follow one another against the text, and block 12 follows block 9, which has a phi.
+const CHAIN: &[u8] = b"define i32 @f(i1 %0) {
+  %2 = freeze i32 11
+  br i1 %0, label %9, label %7
+3:
+  %4 = freeze i32 13
+  br label %9
+5:
+  %6 = freeze i32 15
+  br label %3
+7:
+  %8 = freeze i32 17
+  br label %5
+9:
+  %10 = phi i32 [ %2, %1 ], [ %4, %3 ]
+  %11 = freeze i32 19
+  br label %12
+12:
+  %13 = freeze i32 23
+  ret i32 %10
+}
+";
+
 const BLOCKS: [Row; 7] = [
     (
         "a switch on a constant, a branch on poison and one on true",
@@ -112,27 +135,7 @@ const BLOCKS: [Row; 7] = [
     (
         "a chain against the text, before a phi",
         Pass::Merge,
-        b"define i32 @f(i1 %0) {
-  %2 = freeze i32 11
-  br i1 %0, label %9, label %7
-3:
-  %4 = freeze i32 13
-  br label %9
-5:
-  %6 = freeze i32 15
-  br label %3
-7:
-  %8 = freeze i32 17
-  br label %5
-9:
-  %10 = phi i32 [ %2, %1 ], [ %4, %3 ]
-  %11 = freeze i32 19
-  br label %12
-12:
-  %13 = freeze i32 23
-  ret i32 %10
-}
-",
+        CHAIN,
         b"define i32 @f(i1 %0) {
   %2 = freeze i32 11
   br i1 %0, label %9, label %7
@@ -178,27 +181,7 @@ const BLOCKS: [Row; 7] = [
     (
         "numbers follow the text of what was joined",
         Pass::Joined,
-        b"define i32 @f(i1 %0) {
-  %2 = freeze i32 11
-  br i1 %0, label %9, label %7
-3:
-  %4 = freeze i32 13
-  br label %9
-5:
-  %6 = freeze i32 15
-  br label %3
-7:
-  %8 = freeze i32 17
-  br label %5
-9:
-  %10 = phi i32 [ %2, %1 ], [ %4, %3 ]
-  %11 = freeze i32 19
-  br label %12
-12:
-  %13 = freeze i32 23
-  ret i32 %10
-}
-",
+        CHAIN,
         b"define i32 @f(i1 %0) {
   %2 = freeze i32 11
   br i1 %0, label %7, label %3

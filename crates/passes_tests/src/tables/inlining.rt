@@ -2,6 +2,16 @@
 use crate::rows::{Pass, Row, failing};
 use std::alloc::AllocError;
 
+/// A function that calls the second, which returns its parameter.
+const CALL_AND_CALLEE: &[u8] = b"define i32 @f() {
+  %1 = call i32 @g(i32 1)
+  ret i32 %1
+}
+define i32 @g(i32 %0) {
+  ret i32 %0
+}
+";
+
 const INLINED: [Row; 8] = [
     (
         "two returns meet in a phi",
@@ -226,14 +236,7 @@ define i32 @g(i32 %0) {
     (
         "a callee that returns its parameter",
         Pass::Inline(1),
-        b"define i32 @f() {
-  %1 = call i32 @g(i32 1)
-  ret i32 %1
-}
-define i32 @g(i32 %0) {
-  ret i32 %0
-}
-",
+        CALL_AND_CALLEE,
         b"define i32 @f() {
   br label %2
 2:
@@ -258,40 +261,19 @@ const NOT_INLINED: [Row; 6] = [
     (
         "there is no place 0",
         Pass::Inline(0),
-        b"define i32 @f() {
-  %1 = call i32 @g(i32 1)
-  ret i32 %1
-}
-define i32 @g(i32 %0) {
-  ret i32 %0
-}
-",
+        CALL_AND_CALLEE,
         ONE_CALL,
     ),
     (
         "a terminator is no call",
         Pass::Inline(2),
-        b"define i32 @f() {
-  %1 = call i32 @g(i32 1)
-  ret i32 %1
-}
-define i32 @g(i32 %0) {
-  ret i32 %0
-}
-",
+        CALL_AND_CALLEE,
         ONE_CALL,
     ),
     (
         "behind the last place is none",
         Pass::Inline(3),
-        b"define i32 @f() {
-  %1 = call i32 @g(i32 1)
-  ret i32 %1
-}
-define i32 @g(i32 %0) {
-  ret i32 %0
-}
-",
+        CALL_AND_CALLEE,
         ONE_CALL,
     ),
     (

@@ -1,9 +1,6 @@
-use Rattle.std.proofs.Common.{◌∙◌, sym, ap, nat_eq, List}
+use Rattle.std.proofs.Common.{◌∙◌, sym, ap, nat_eq}
 use Rattle.std.specs.HashSet.{contains}
-use Rattle.ir_tree.specs.declared.block.Block.{Block}
 use Rattle.block_trim.specs.Unjoined.{all_stay}
-use Rattle.block_trim.specs.Working.{has_one_edge, may_go}
-use Rattle.block_trim.specs.Merged.{behind_entry}
 use Rattle.block_trim.proofs.NoneTakes.{none_takes}
 use Rattle.ir_better.proofs.Entries.{apart}
 use Rattle.block_trim.proofs.JoinedSound.{is_sound}
@@ -14,8 +11,8 @@ returns-then-stay c =
     let goes = contains nat_eq c.in_ok-candidates.candidates in
     record {
       merged = λ once.
-          none_takes c.args.f goes (λ n. c.in_ok-candidates.ensures n ∙ ap (λ (bs : List Block). may_go (has_one_edge bs) (behind_entry bs) n) c.as_slice.ensures)
-          (ap (all_stay goes) (sym c.as_slice-2.ensures) ∙ sym c.all_stay-stay.ensures ∙ c.if-stay.true);
+          none_takes c.args.f goes c.in_ok-candidates.ensures
+          (ap (all_stay goes) (sym c.as_slice.ensures) ∙ sym c.all_stay-stay.ensures ∙ c.if-stay.true);
       sound = λ h. h;
     }
 

@@ -1,20 +1,6 @@
-use Rattle.std.proofs.Common.{ℕ, sym, ◌∙◌}
-use Rattle.std.specs.Prelude.{is_some}
-use Rattle.ir_edit.specs.Substituted.{operand_replaced}
-use Rattle.fact_sources.specs.Substitutions.{value_in}
-use Rattle.ir_facts.proofs.Unnamed.{instr_same, operand_same, own}
-use Rattle.ir_facts.proofs.Unused.{nothing}
+use Rattle.std.proofs.Common.{sym}
+use Rattle.point_edit.proofs.Staying.{local_stays}
 use Rattle.ir_facts.proofs.in_place.replace_in_line.Goals as goal
 
-pub returns-then-not-named : goal.returns-then-not-named
-returns-then-not-named c =
-    let value = value_in c.args.substitution.now in
-    let among = λ (x : ℕ). is_some (value x) in
-    let same = instr_same among (operand_replaced value) (operand_same among value (λ x out. nothing (value x) out)) c.args.line.now.instr (sym c.instr_names-named.ensures ∙ c.if-not-named.true) in
-    λ i. record { local = sym (own among (operand_replaced value) (operand_same among value (λ x out. nothing (value x) out)) c.args.line.now.local) i; instr = sym same i }
-
 pub returns : goal.returns
-returns c =
-    let value = value_in c.args.substitution.now in
-    let among = λ (x : ℕ). is_some (value x) in
-    λ i. record { local = sym (own among (operand_replaced value) (operand_same among value (λ x out. nothing (value x) out)) c.args.line.now.local) i; instr = c.in_ok-made.ensures i }
+returns c = λ i. record { local = sym (local_stays c.args.line.now.local) i; instr = c.in_ok-replace_in_instr.ensures i }

@@ -22,6 +22,6 @@ loop-block-preserved c =
       at = (let same = c.loop-block.invariant.at in omega (arith, same));
       keys =
           over_pushed (get nat_cmp c.args.places.now) (is_above (dominance c.args.above.now)) c.loop-block.place (c.loop-block.place + 1) block (drop (i + 1) blocks) (drop i blocks)
-          c.loop-block.keys.items c.push_over.new.keys.items cut next c.in_ok-push_over.ensures
+          c.loop-block.keys.items c.push_among.new.keys.items cut next c.in_ok-push_among.ensures
           ∙ c.loop-block.invariant.keys;
     }
