@@ -59,7 +59,9 @@ fn an_entry_is_saved_and_loaded(rt: HostRuntime) {
     let mut disk: RealDisk<'_, _, Anything> = RealDisk::new(&rt);
     assert!(rt; saves_the_second(rt.alloc(), &mut disk));
     assert!(rt; !fs::exists(&rt, "./e.part").expect(&rt, "a directory"));
-    assert!(rt; disk.save("absent", "e", b"").is_err());
+    // a directory that isn't there is made, and a file is none
+    assert!(rt; disk.save("made", "e", b"xyz").is_ok());
+    assert!(rt; disk.save("e", "e", b"").is_err());
     assert_eq!(rt; disk.faults(), 1);
 }
 
