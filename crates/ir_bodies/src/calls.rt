@@ -14,7 +14,7 @@ ghost use Rattle.ir_instructions.specs.Adding.{pushed_at};
 ghost use Rattle.ir_bodies.specs.Adding.{joined_at};
 ghost use Rattle.ir_bodies.specs.Listed.{kept_in, listed_at};
 ghost use Rattle.ir_bodies.specs.Calls.{same_reg, is_type, marker_refusal, called};
-ghost use Rattle.ir_bodies.specs.CallsAt.{CONVENTIONS, convention_at, conventions_at, written_type_at, further_type_at, types_behind_at, some_types_at, listed_types_at, types_at, argument_behind_at, argument_at, further_argument_at, some_arguments_at, any_arguments_at, type_again_at, argument_of_at, further_of_at, some_of_at, arguments_of_at, arguments_at, called_value_at, marker_at, unmarked_at, unmarked_value_at, callee_at, maybe_types_at, called_at, calling_with_at, calling_of_at, calling_at, tail_calling_at};
+ghost use Rattle.ir_bodies.specs.CallsAt.{CONVENTIONS, convention_at, conventions_at, written_type_at, further_type_at, types_behind_at, some_types_at, listed_types_at, types_at, argument_behind_at, argument_at, further_argument_at, some_arguments_at, any_arguments_at, type_again_at, argument_of_at, further_of_at, some_of_at, arguments_of_at, arguments_at, called_value_at, marker_at, unmarked_at, unmarked_value_at, callee_at, maybe_types_at, called_at, calling_of_at, calling_at, tail_calling_at};
 
 use ir_instructions::{Listing, address_at, operand_at, push};
 use ir_lex::{Head, Token};
@@ -509,23 +509,7 @@ fn called_into<'a>(
     attachments_at(alloc, tokens)
 }
 
-/// Reads what follows the callee of a call: arguments of the types that are written, where they are.
-fn calling_with_into<'a>(
-    alloc: Global,
-    reg: Option<Reg>,
-    types: &Option<Rows<Name>>,
-    callee: Option<Operand<'a>>,
-    list: &mut Listing<'a>,
-    tokens: &mut Tokens<'_, 'a>,
-) -> Result<(), ReadError>
-    ensures { Gives (λ _. (list.new.lines.items, tokens.new)) result (listed_at list.old (calling_with_at reg types.now callee.entry) tokens.old) }
-{
-    expect(Head::OpenParen, tokens)?;
-    let arguments = arguments_at(alloc, types, tokens)?;
-    called_into(alloc, reg, callee, arguments, list, tokens)
-}
-
-/// Reads what follows the result of a call.
+/// Reads what follows the result of a call: arguments of the types that are written, where they are.
 fn calling_of_into<'a>(
     alloc: Global,
     named: bool,
@@ -537,7 +521,9 @@ fn calling_of_into<'a>(
 {
     let types = maybe_types_at(alloc, tokens)?;
     let callee = callee_at(alloc, named, reg, tokens)?;
-    calling_with_into(alloc, reg, &types, callee, list, tokens)
+    expect(Head::OpenParen, tokens)?;
+    let arguments = arguments_at(alloc, &types, tokens)?;
+    called_into(alloc, reg, callee, arguments, list, tokens)
 }
 
 /// Reads what follows `call`, with the name of a result before it or not. Where the callee is a lifetime
