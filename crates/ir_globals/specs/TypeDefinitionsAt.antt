@@ -24,6 +24,14 @@ defined_at = pick (among tokens OPAQUE)
       typed ← memory_shape_at
       done (Some typed))
 
+-- what stands before what it stands for
+abbrev pub type_name_at : Reader Tok Tok
+type_name_at = do
+  name ← local_at
+  _ ← the_at heads.Equals
+  _ ← the_at heads.Type
+  done name
+
 unfoldable pub type_line_at : Reader Tok Item
 type_line_at = do
   name ← local_at

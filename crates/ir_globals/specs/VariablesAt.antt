@@ -81,6 +81,15 @@ tail_at = do
   all ← star_at (among tokens COMMA) further_at
   done (fold with_align None all)
 
+-- what stands before the shape: the name, the linkage that is written, and whether it is constant
+abbrev pub headed_at : Reader Tok (Tok × (Option Linkage × Bool))
+headed_at = do
+  name ← variable_name_at
+  _ ← the_at heads.Equals
+  l ← linked_at
+  constant ← one_of_at KINDS is_constant
+  done (name, (l, constant))
+
 unfoldable pub behind_kind_at : Tok → Option Linkage → Bool → Reader Tok Item
 behind_kind_at name l constant = do
   typed ← memory_shape_at

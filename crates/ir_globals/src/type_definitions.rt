@@ -3,11 +3,11 @@
 ghost use Rattle.std.specs.Prelude.{◌≡◌};
 ghost use Rattle.lto_forms.specs.Readers.{Gives};
 ghost use Rattle.ir_instructions.specs.Adding.{pushed_at};
-ghost use Rattle.ir_globals.specs.TypeDefinitionsAt.{defined_at, type_line_at};
+ghost use Rattle.ir_globals.specs.TypeDefinitionsAt.{defined_at, type_line_at, type_name_at};
 
 use ir_instructions::{memory_shape_at, push};
 use ir_lex::Head;
-use ir_read::{Item, Tokens, Typed, expect, local_at};
+use ir_read::{Item, Name, Tokens, Typed, done, expect, local_at};
 use lto_forms::ReadError;
 use std::alloc::Global;
 
@@ -24,13 +24,23 @@ fn defined_at<'a>(
         Ok(None)
     } else {
         let shape = memory_shape_at(alloc, tokens)?;
-        Ok(Some(shape.typed))
+        done(Some(shape.typed))
     }
+}
+
+/// Reads what stands before what a type name stands for: the name.
+fn type_name_at<'a>(tokens: &mut Tokens<'_, 'a>) -> Result<Name<'a>, ReadError>
+    ensures { Gives (λ x. (x, tokens.new)) result (type_name_at tokens.old) }
+{
+    let name = local_at(tokens)?;
+    expect(Head::Equals, tokens)?;
+    expect(Head::Type, tokens)?;
+    Ok(name)
 }
 
 /// Reads a type definition, `%pair = type { i32, ptr }`, and adds it. A type name that is a number is
 /// one below `2^32`, and the shape is one of memory.
-#[tactic(auto, unfolding(crate::specs::TypeDefinitionsAt::type_line_at))]
+#[tactic(auto, using(crate::proofs::Grouping::type_line_is))]
 pub fn type_line_into<'a>(
     alloc: Global,
     items: &mut Vec<Item<'a>>,
@@ -38,9 +48,7 @@ pub fn type_line_into<'a>(
 ) -> Result<(), ReadError>
     ensures { Gives (λ _. (items.new.items, tokens.new)) result (pushed_at items.old.items type_line_at tokens.old) }
 {
-    let name = local_at(tokens)?;
-    expect(Head::Equals, tokens)?;
-    expect(Head::Type, tokens)?;
+    let name = type_name_at(tokens)?;
     let typed = defined_at(alloc, tokens)?;
     push(items, Item::Type(name, typed))
 }

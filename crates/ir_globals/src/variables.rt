@@ -11,13 +11,13 @@ ghost use Rattle.ir_read.specs.FunctionHeads.{LINKAGES, linkage_word, name_refus
 ghost use Rattle.ir_read.specs.Operands.{IsReg, global_named};
 ghost use Rattle.ir_instructions.specs.Adding.{pushed_at};
 ghost use Rattle.ir_globals.specs.Variables.{KINDS, NAMES, is_constant, is_declared, with_align};
-ghost use Rattle.ir_globals.specs.VariablesAt.{variable_name_at, linkage_at, qualifiers_at, linked_at, value_at, comdat_name_at, in_comdat_at, aligned_at, marked_at, further_at, tail_at, variable_line_at};
+ghost use Rattle.ir_globals.specs.VariablesAt.{variable_name_at, linkage_at, qualifiers_at, linked_at, value_at, comdat_name_at, in_comdat_at, aligned_at, marked_at, further_at, headed_at, tail_at, variable_line_at};
 
 use crate::initialisers::{initialiser_at, scalar_of, shape_at};
 use ir_instructions::push;
 use ir_lex::{Head, Token};
 use ir_read::{
-    Init, Item, Name, Tokens, Variable, alignment_at, attached_at, comes_qualifier, expect,
+    Init, Item, Name, Tokens, Variable, alignment_at, attached_at, comes_qualifier, done, expect,
     global_named, linkage_by, name_refusal, qualifier_word_at, refusal, with_linkage,
 };
 use ir_tree::{Linkage, Reg};
@@ -181,7 +181,7 @@ fn value_at<'a>(
         return Ok(None);
     }
     let init = initialiser_at(alloc, scalar, tokens)?;
-    Ok(Some(init))
+    done(Some(init))
 }
 
 /// Takes the name of a comdat in brackets.
@@ -255,11 +255,35 @@ fn tail_at(alloc: Global, tokens: &mut Tokens) -> Result<Option<u64>, ReadError>
     Ok(align)
 }
 
+/// What stands before the shape of a variable: its name, the linkage that is written, and whether it is
+/// constant.
+#[derive(Drop)]
+struct Headed<'a> {
+    name: Name<'a>,
+    linkage: Option<Linkage>,
+    constant: bool,
+}
+
+/// Reads what stands before the shape of a variable.
+fn headed_at<'a>(tokens: &mut Tokens<'_, 'a>) -> Result<Headed<'a>, ReadError>
+    ensures { Gives (λ x. ((x.name, (x.linkage, x.constant)), tokens.new)) result (headed_at tokens.old) }
+{
+    let name = variable_name_at(tokens)?;
+    expect(Head::Equals, tokens)?;
+    let linkage = linked_at(tokens)?;
+    let constant = kind_at(tokens)?;
+    Ok(Headed {
+        name,
+        linkage,
+        constant,
+    })
+}
+
 /// Reads a variable, `@g = internal constant [2 x i8] c"a\00", align 1`, and adds it.
 ///
 /// An initialiser stands exactly where `external` isn't written. Words of visibility, comdats and
 /// metadata are dropped, and of several alignments the last one stands.
-#[tactic(auto, unfolding(crate::specs::VariablesAt::variable_line_at, crate::specs::VariablesAt::behind_kind_at))]
+#[tactic(auto, unfolding(crate::specs::VariablesAt::behind_kind_at), using(crate::proofs::Grouping::variable_line_is))]
 pub fn variable_line_into<'a>(
     alloc: Global,
     items: &mut Vec<Item<'a>>,
@@ -267,20 +291,22 @@ pub fn variable_line_into<'a>(
 ) -> Result<(), ReadError>
     ensures { Gives (λ _. (items.new.items, tokens.new)) result (pushed_at items.old.items variable_line_at tokens.old) }
 {
-    let name = variable_name_at(tokens)?;
-    expect(Head::Equals, tokens)?;
-    let linkage = linked_at(tokens)?;
-    let constant = kind_at(tokens)?;
+    let headed = headed_at(tokens)?;
     let typed = shape_at(alloc, tokens)?;
-    let init = value_at(alloc, is_declared(linkage), scalar_of(&typed.shape), tokens)?;
+    let init = value_at(
+        alloc,
+        is_declared(headed.linkage),
+        scalar_of(&typed.shape),
+        tokens,
+    )?;
     let align = tail_at(alloc, tokens)?;
-    let line = name.line();
+    let line = headed.name.line();
     push(
         items,
         Item::Variable(Variable {
-            name,
-            linkage: with_linkage(Linkage::External, linkage),
-            constant,
+            name: headed.name,
+            linkage: with_linkage(Linkage::External, headed.linkage),
+            constant: headed.constant,
             typed,
             init,
             align,
