@@ -9,7 +9,7 @@ ghost use Rattle.ir_bodies.specs.BlocksAt.{heading_at, braced_at, definition_at}
 
 use crate::blocks::{Blocks, blocks_into};
 use ir_lex::Head;
-use ir_read::{Block, Kept, Role, Tokens, definition_attributes_at, expect, head_at};
+use ir_read::{Block, Kept, Role, Tokens, definition_attributes_at, done, expect, head_at};
 use ir_tree::Rows;
 use lto_forms::ReadError;
 use std::alloc::Global;
@@ -63,7 +63,7 @@ fn heading_at<'a>(
     expect(Head::Define, tokens)?;
     let head = head_at(alloc, Role::Definition, room, tokens)?;
     let kept = definition_attributes_at(alloc, tokens)?;
-    Ok(with_kept(head, kept))
+    done(with_kept(head, kept))
 }
 
 /// Reads the blocks of a function, in their braces, and adds them.
@@ -93,7 +93,7 @@ pub fn definition_at<'a>(
     let head = heading_at(alloc, room, tokens)?;
     let mut blocks = Blocks::new(alloc);
     braced_into(alloc, &mut blocks, tokens)?;
-    Ok(Defined {
+    done(Defined {
         head,
         blocks: blocks.rows(),
     })

@@ -12,7 +12,7 @@ ghost use Rattle.ir_globals.specs.ConstantsAt.{single_at, constant_at};
 
 use ir_instructions::address_at;
 use ir_lex::{Head, Token};
-use ir_read::{InitHead, Name, Operand, Tokens, literal, named, refusal};
+use ir_read::{InitHead, Name, Operand, Tokens, done, literal, named, refusal};
 use ir_tree::Reg;
 use lto_forms::{Fault, FaultKind, ReadError};
 use std::alloc::Global;
@@ -107,7 +107,7 @@ pub fn constant_at<'a>(
 {
     if tokens.comes(Head::GetElementPtr) {
         let address = address_at(alloc, tokens)?;
-        Ok(InitHead::Plain(address))
+        done(InitHead::Plain(address))
     } else {
         single_at(scalar, tokens)
     }

@@ -18,7 +18,7 @@ use crate::pairs::beside;
 use ir_instructions::{brace_behind_angle_at, memory_shape_at};
 use ir_lex::Head;
 use ir_read::{
-    Init, InitHead, InitPart, Name, Shape, ShapeNode, Tokens, Typed, expect, memory_refusal,
+    Init, InitHead, InitPart, Name, Shape, ShapeNode, Tokens, Typed, done, expect, memory_refusal,
     refusal,
 };
 use ir_tree::{Reg, Rows};
@@ -88,7 +88,7 @@ fn bytes_at<'a>(tokens: &mut Tokens<'_, 'a>) -> Result<InitHead<'a>, ReadError>
         })),
         Some(t) => {
             if t.head.is(Head::CStr) {
-                Ok(InitHead::Bytes(Name::of(t)))
+                done(InitHead::Bytes(Name::of(t)))
             } else {
                 Err(ReadError::Fault(Fault {
                     left,
@@ -132,7 +132,7 @@ fn aggregate_begin_at<'a>(tokens: &mut Tokens<'_, 'a>) -> Result<InitHead<'a>, R
     ensures { Gives (λ x. (x, tokens.new)) result (aggregate_begin_at tokens.old) }
 {
     let aggregate = opening_at(tokens)?;
-    Ok(opening(aggregate))
+    done(opening(aggregate))
 }
 
 /// Reads an initialiser up to its parts, for a scalar of this type, or for what is no scalar.
@@ -311,7 +311,7 @@ fn piece_at<'a>(
     };
     if comes_closing(inner, tokens) {
         closing_at(false, inner, tokens)?;
-        Ok(Piece {
+        done(Piece {
             part: InitPart::End,
             first: false,
         })
@@ -404,7 +404,7 @@ fn parts_at<'a>(
     let mut parts = listed_at(alloc, tokens)?;
     closing_at(is_none(&parts), whole, tokens)?;
     parts.push(InitPart::End)?;
-    Ok(parts)
+    done(parts)
 }
 
 /// Reads the parts behind the beginning of an initialiser, where it has parts.
@@ -434,7 +434,7 @@ pub fn initialiser_at<'a>(
     let root = beginning_at(alloc, scalar, tokens)?;
     let parts = behind_at(alloc, aggregate_of(&root), tokens);
     let (root, parts) = beside(root, parts)?;
-    Ok(Init {
+    done(Init {
         root,
         parts: Rows::of(parts),
     })

@@ -21,8 +21,8 @@ use crate::shapes::{Measured, counted, memory_shape_at};
 use crate::values::{operand_at, pointer_at, stepping_at};
 use ir_lex::{Head, Token};
 use ir_read::{
-    Argument, Instr, Operand, Shape, ShapeNode, Tokens, Typed, attached_at, expect, integer_at,
-    refusal, reg_at,
+    Argument, Instr, Operand, Shape, ShapeNode, Tokens, Typed, attached_at, done, expect,
+    integer_at, refusal, reg_at,
 };
 use ir_tree::{Reg, Rows};
 use lto_forms::{Fault, FaultKind, ReadError};
@@ -267,7 +267,7 @@ fn based_at<'a>(alloc: Global, tokens: &mut Tokens<'_, 'a>) -> Result<Based<'a>,
     expect(Head::Comma, tokens)?;
     pointer_at(tokens)?;
     let base = operand_at(alloc, Reg::Ptr, tokens)?;
-    Ok(Based {
+    done(Based {
         typed: shape.typed,
         base,
     })

@@ -12,7 +12,7 @@ use crate::adding::push;
 use crate::listing::Listing;
 use crate::values::operand_at;
 use ir_lex::Head;
-use ir_read::{Incoming, Instr, Tokens, attached_at, expect, local_at, reg_at};
+use ir_read::{Incoming, Instr, Tokens, attached_at, done, expect, local_at, reg_at};
 use ir_tree::{Reg, Rows};
 use lto_forms::ReadError;
 use std::alloc::Global;
@@ -32,7 +32,7 @@ fn incoming_at<'a>(
     expect(Head::Comma, tokens)?;
     let from = local_at(tokens)?;
     expect(Head::CloseBracket, tokens)?;
-    Ok(Incoming { value, from })
+    done(Incoming { value, from })
 }
 
 /// Reads what follows a comma behind an entry, or behind an attachment: an entry, which is added, or an

@@ -12,12 +12,13 @@ ghost use Rattle.ir_instructions.specs.TerminatorsAt.{returning_at, target_at, c
 use crate::values::operand_at;
 use ir_lex::{Head, Token};
 use ir_read::{
-    Argument, Case, Name, Terminator, Tokens, attachments_at, bit_at, expect, integer_at, literal,
-    local_at, refusal, reg_at, result_at, type_refusal,
+    Argument, Case, Name, Terminator, Tokens, attachments_at, bit_at, done, expect, integer_at,
+    literal, local_at, refusal, reg_at, result_at, type_refusal,
 };
 use ir_tree::{Reg, Rows};
 use lto_forms::{Fault, FaultKind, ReadError};
 use std::alloc::Global;
+use std::mem::replace;
 
 /// What a terminator begins with.
 #[derive(Clone, Copy)]
@@ -53,7 +54,7 @@ pub struct Matched {
 fn put<'a>(place: &mut Terminator<'a>, terminator: Terminator<'a>)
     ensures { place.new ≡ terminator.entry }
 {
-    *place = terminator;
+    drop(replace(place, terminator));
 }
 
 /// Reads what follows `ret`.
@@ -183,7 +184,7 @@ fn case_at<'a>(tokens: &mut Tokens<'_, 'a>) -> Result<Case<'a>, ReadError>
     let matched = constant_at(reg, tokens)?;
     expect(Head::Comma, tokens)?;
     let target = target_at(tokens)?;
-    Ok(Case {
+    done(Case {
         reg,
         width: matched.width,
         bits: matched.bits,
@@ -322,7 +323,7 @@ pub fn terminator_at<'a>(alloc: Global, tokens: &mut Tokens<'_, 'a>) -> Result<E
     let mut terminator = Terminator::Unreachable;
     behind_end_into(alloc, ending.end, &mut terminator, tokens)?;
     attachments_at(alloc, tokens)?;
-    Ok(Ended {
+    done(Ended {
         terminator,
         line: ending.line,
     })

@@ -18,8 +18,8 @@ use crate::adding::push;
 use crate::shapes::memory_shape_at;
 use ir_lex::{Head, Token};
 use ir_read::{
-    Address, Index, Level, Name, Operand, Steps, Tokens, Typed, expect, global_named, integer_at,
-    literal, refusal, simple_at, type_refusal,
+    Address, Index, Level, Name, Operand, Steps, Tokens, Typed, done, expect, global_named,
+    integer_at, literal, refusal, simple_at, type_refusal,
 };
 use ir_tree::{Reg, Rows};
 use lto_forms::{Fault, FaultKind, ReadError};
@@ -159,7 +159,7 @@ fn closing_one_at<'a>(
 {
     let indices = indices_at(alloc, tokens)?;
     expect(Head::CloseParen, tokens)?;
-    Ok(Level {
+    done(Level {
         typed,
         indices: Rows::of(indices),
     })
@@ -257,7 +257,8 @@ pub fn address_at<'a>(alloc: Global, tokens: &mut Tokens<'_, 'a>) -> Result<Oper
         name,
         levels: Rows::of(levels),
     };
-    Ok(Operand::Address(Address::of(alloc, steps)?))
+    let address = Address::of(alloc, steps)?;
+    done(Operand::Address(address))
 }
 
 /// Reads an operand of a type. A number is a literal of it; `true` and `false` are those of `i1`.

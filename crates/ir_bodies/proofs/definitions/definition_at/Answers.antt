@@ -24,5 +24,6 @@ returns-in_err-braced_into c =
 pub returns : goal.returns
 returns c =
     let b = sym (joined_alone (braced_at c.heading_at.new.tokens)) ∙ ap (λ front. joined_at front braced_at c.heading_at.new.tokens) (sym c.new-blocks.ensures) ∙ c.in_ok-braced_into.ensures in
-    definition_is c.args.room c.args.tokens.now ∙ ap (λ r. follow r defined_by) c.in_ok-head.ensures ∙ ap (λ r. follow r (λ bs. done (Definition c.in_ok-head.head bs))) b
-    ∙ ap (λ (bs : List Block). Ok (Definition c.in_ok-head.head bs, c.braced_into.new.tokens)) (sym c.rows.ensures)
+    rw c.done.ensures
+    (definition_is c.args.room c.args.tokens.now ∙ ap (λ r. follow r defined_by) c.in_ok-head.ensures ∙ ap (λ r. follow r (λ bs. done (Definition c.in_ok-head.head bs))) b
+    ∙ ap (λ (bs : List Block). Ok (Definition c.in_ok-head.head bs, c.braced_into.new.tokens)) (sym c.rows.ensures))
