@@ -5,7 +5,7 @@ use Rattle.lto_forms.specs.Chained.{chain_at, stops_here}
 use Rattle.lto_forms.specs.declared.fault.Fault.{Fault}
 use Rattle.lto_forms.specs.declared.fault.ReadError.{ReadError}
 use Rattle.lto_forms.specs.declared.fault.ReadError.TheVariants as errors
-use Rattle.lto_forms.specs.Readers.{Reader, Fails, done, follow, ◌>>=◌, folded}
+use Rattle.lto_forms.specs.Readers.{Reader, Fails, done, follow, folded}
 use Rattle.lto_forms.proofs.Composed.{reads_is}
 
 -- what fails first fails

@@ -13,7 +13,6 @@ use Rattle.lto_forms.specs.Alphabet.{among, contains, is_number, AllReal}
 use Rattle.lto_forms.specs.declared.fault.FaultKind.{FaultKind}
 use Rattle.lto_forms.specs.declared.fault.FaultKind.TheVariants.{Syntax, Profile, Number, Limit}
 use Rattle.lto_forms.specs.Lawful.{Lawful, SameRefusal}
-use Rattle.lto_forms.specs.Forms as form
 use Rattle.lto_forms.specs.Readers.{Reader, fault_at, pick, token_at, token_means}
 use Rattle.lto_forms.specs.Rules.{Rule, IsWithin, in_range, is_class, is_valued}
 use Rattle.lto_forms.proofs.Composed.{Begun, token_lawful, widened}

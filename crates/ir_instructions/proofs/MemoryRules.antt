@@ -1,5 +1,5 @@
 -- The readers of loads and stores read them.
-use Rattle.std.proofs.Common.{◌≡◌, ℕ, true, false, None, List, [], ◌∷◌, refl}
+use Rattle.std.proofs.Common.{ℕ, true, false, None, List, [], ◌∷◌, refl}
 use Rattle.ir_lex.specs.declared.head.Head.TheVariants as heads
 use Rattle.ir_lex.specs.Heads.{number}
 use Rattle.ir_tree.specs.declared.operand.Reg.TheVariants.{Ptr}

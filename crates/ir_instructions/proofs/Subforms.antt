@@ -1,5 +1,5 @@
 -- A form within another, part by part.
-use Rattle.std.proofs.Common.{◌≡◌, ℕ, List, [], ◌∷◌, inl, inr}
+use Rattle.std.proofs.Common.{List, inl, inr}
 use Rattle.lto_forms.specs.Forms.{Form, ◌>>=◌, either}
 
 -- what the first spells the second spells

@@ -1,5 +1,5 @@
 -- The readers of constant addresses and operands read them.
-use Rattle.std.proofs.Common.{◌≡◌, ℕ, Bool, true, false, cond, ◌||◌, nat_eq, Some, None, option_map, List, [], ◌∷◌, refl, sym, ap, ◌∙◌, reverse, arith}
+use Rattle.std.proofs.Common.{◌≡◌, ℕ, Bool, true, false, cond, ◌||◌, nat_eq, Some, None, option_map, List, [], ◌∷◌, refl, sym, ap, reverse, arith}
 use Rattle.std.specs.Prelude.{codes}
 use Rattle.ir_lex.specs.Bytes.{has}
 use Rattle.ir_lex.specs.declared.head.Head.TheVariants as heads
@@ -10,7 +10,6 @@ use Rattle.ir_lex.specs.Quotes.{is_zero_name, content}
 use Rattle.ir_lex.specs.Rows.{best_fit, rest_fit, label_len, number_len, word_len, name_len, meta_len, dots_len, other_len, string_len}
 use Rattle.ir_lex.specs.Tok.{Tok}
 use Rattle.ir_tree.specs.declared.operand.Reg.{Reg}
-use Rattle.ir_tree.specs.declared.operand.Reg.TheVariants.{Ptr}
 use Rattle.lto_forms.specs.Alphabet.{among, contains}
 use Rattle.lto_forms.specs.Forms.{Star}
 use Rattle.lto_forms.specs.Rules.{Rule, Opens, IsWithin, is_class}

@@ -1,5 +1,5 @@
 -- What the readers of `alloca` and `getelementptr` give.
-use Rattle.std.specs.Prelude.{ℕ, max, Bool, true, false, ◌&&◌, not, if◌then◌else◌, Option, Some, None, Result, Err, List, [], ◌∷◌}
+use Rattle.std.specs.Prelude.{ℕ, max, Bool, true, false, ◌&&◌, not, if◌then◌else◌, Option, Some, None, Result, Err, List, []}
 use Rattle.std.specs.List.{fold}
 use Rattle.ir_lex.specs.declared.head.Head.TheVariants as heads
 use Rattle.ir_lex.specs.Tok.{Tok}

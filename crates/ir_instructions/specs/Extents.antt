@@ -1,6 +1,6 @@
 -- Sizes and alignments of shapes, as on x86-64, and the room that is left for a shape (LangRef, "Data Layout"). A type
 -- name takes no bytes here: what it stands for isn't known yet.
-use Rattle.std.specs.Prelude.{◌≡◌, ℕ, zero, suc, ◌+◌, ◌-◌, ◌*◌, ◌/◌, ◌≤◌, nat_eq, nat_le, Bool, true, false, ◌&&◌, if◌then◌else◌}
+use Rattle.std.specs.Prelude.{ℕ, zero, suc, ◌+◌, ◌-◌, ◌*◌, ◌/◌, ◌≤◌, nat_eq, nat_le, Bool, true, false, ◌&&◌, if◌then◌else◌}
 use Rattle.ir_instructions.specs.declared.extents.Align.{Align}
 use Rattle.ir_instructions.specs.declared.extents.Align.TheVariants.{One, Two, Four, Eight}
 use Rattle.ir_instructions.specs.declared.extents.Extent.{Extent}

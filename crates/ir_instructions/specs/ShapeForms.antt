@@ -1,6 +1,6 @@
 -- Shapes (LangRef, "Structure Type", "Array Type", "Opaque Structure Types"): how deep they may nest and how much room
 -- they have is handed down, so that no reading goes on with the first token that passes a limit.
-use Rattle.std.specs.Prelude.{◌≡◌, ℕ, zero, suc, Bool, true, false, ◌&&◌, not, nat_eq, nat_lt, if◌then◌else◌, Option, Some, None, option_map, Result, Ok, Err, List, [], ◌∷◌, drop}
+use Rattle.std.specs.Prelude.{ℕ, zero, suc, Bool, true, false, ◌&&◌, not, nat_eq, nat_lt, if◌then◌else◌, Option, Some, None, option_map, Result, Ok, Err, List, [], ◌∷◌, drop}
 use Rattle.ir_lex.specs.declared.head.Head.TheVariants as heads
 use Rattle.ir_lex.specs.Heads.{number}
 use Rattle.ir_lex.specs.Rows.{begins}

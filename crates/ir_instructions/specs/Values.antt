@@ -1,5 +1,5 @@
 -- Operands, with constant addresses among them (LangRef, "Constant Expressions"), over what spells a shape.
-use Rattle.std.specs.Prelude.{ℕ, Bool, true, false, ◌||◌, nat_eq, Option, option_map, List, [], ◌∷◌, reverse}
+use Rattle.std.specs.Prelude.{ℕ, Bool, false, ◌||◌, nat_eq, Option, option_map, List, [], ◌∷◌, reverse}
 use Rattle.std.specs.List.{fold}
 use Rattle.ir_lex.specs.declared.head.Head.TheVariants as heads
 use Rattle.ir_lex.specs.Heads.{number}

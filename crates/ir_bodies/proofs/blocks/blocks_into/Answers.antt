@@ -1,4 +1,4 @@
-use Rattle.std.proofs.Common.{◌≡◌, sym, ap, subst, ◌∙◌, arith}
+use Rattle.std.proofs.Common.{sym, ap, subst, ◌∙◌, arith}
 use Rattle.lto_forms.specs.Readers.{Fails, follow}
 use Rattle.ir_instructions.proofs.Levels.{gives_as}
 use Rattle.ir_bodies.specs.Adding.{joined_at}

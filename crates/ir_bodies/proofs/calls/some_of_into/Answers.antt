@@ -1,8 +1,8 @@
-use Rattle.std.proofs.Common.{◌≡◌, ◌+◌, ◌++◌, List, [], ◌∷◌, drop, sym, ap, ◌∙◌, arith}
+use Rattle.std.proofs.Common.{◌≡◌, ◌+◌, List, drop, sym, ap, ◌∙◌, arith}
 use Rattle.std.proofs.lemmas.List.{append-nil, drop_all}
 use Rattle.std.specs.Prelude.{Ok}
 use Rattle.ir_lex.specs.Tok.{Tok}
-use Rattle.lto_forms.specs.Readers.{Fails, done, follow}
+use Rattle.lto_forms.specs.Readers.{Fails, follow}
 use Rattle.lto_forms.proofs.Loops.{with_front}
 use Rattle.ir_read.specs.declared.raw.Argument.{Argument}
 use Rattle.ir_instructions.proofs.Additions.{first_fails, pushed_fails, pushed_read}

@@ -1,4 +1,4 @@
-use Rattle.std.proofs.Common.{◌≡◌, List, [], ◌∷◌, ◌++◌, sym, ap, ◌∙◌, arith}
+use Rattle.std.proofs.Common.{List, [], ◌∷◌, ◌++◌, sym, ap, ◌∙◌, arith}
 use Rattle.lto_forms.specs.Alphabet.{among}
 use Rattle.lto_forms.specs.Readers.{Fails, done, folded, follow, ◌>>=◌}
 use Rattle.lto_forms.proofs.Stars.{behind, takes, folds_fail, folds_on, folds_none}
