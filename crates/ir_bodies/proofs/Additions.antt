@@ -8,7 +8,7 @@ use Rattle.lto_forms.specs.Readers.{Reader, Fails, done, follow, ◌>>=◌, opti
 use Rattle.lto_forms.proofs.Composed.{reads_is}
 use Rattle.lto_forms.proofs.Loops.{with_front}
 use Rattle.lto_forms.proofs.Stars.{behind}
-use Rattle.ir_instructions.proofs.Levels.{fold_behind}
+use Rattle.ir_operands.proofs.Levels.{fold_behind}
 use Rattle.ir_bodies.specs.Blocks.{keep}
 
 -- ---- what is kept

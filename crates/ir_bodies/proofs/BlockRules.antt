@@ -19,7 +19,7 @@ use Rattle.ir_instructions.specs.Addressing.{any_slots}
 use Rattle.ir_read.specs.Classes.{tokens, NUMERALS, refusal, the, itself}
 use Rattle.ir_read.specs.declared.function_heads.Role.TheVariants as roles
 use Rattle.ir_read.specs.Operands.{named}
-use Rattle.ir_instructions.specs.ShapeForms.{any_shape}
+use Rattle.ir_operands.specs.ShapeForms.{any_shape}
 use Rattle.ir_instructions.specs.Terminators.{ENDS}
 use Rattle.ir_read.proofs.AttributeRules.{definition_attributes_rule}
 use Rattle.ir_read.proofs.FunctionHeadRules.{head_rule}

@@ -18,13 +18,13 @@ use Rattle.ir_read.specs.FunctionHeads.{end_of_none}
 use Rattle.ir_read.specs.FunctionHeadsAt.{end_of_none_at}
 use Rattle.ir_read.specs.MetadataAt.{COMMA, PAREN}
 use Rattle.ir_read.specs.Operands.{REG, RESULT, POINTER_OPERAND, type_refusal, reg_of, operand_of}
-use Rattle.ir_instructions.specs.ShapeForms.{any_shape, memory_shape}
-use Rattle.ir_instructions.specs.ValuesAt.{ADDRESS}
+use Rattle.ir_operands.specs.ShapeForms.{any_shape, memory_shape}
+use Rattle.ir_operands.specs.ValuesAt.{ADDRESS}
 use Rattle.ir_read.proofs.AttributeRules.{parameter_attribute_rule, parameter_attribute_opens, parameter_attributes_rule, call_attributes_rule}
 use Rattle.ir_read.proofs.Nodes.{attachments_rule}
 use Rattle.ir_read.proofs.OperandRules.{type_not_number, type_not_limit, operand_within, reg_rule, result_rule}
 use Rattle.ir_read.proofs.Singles.{word, mark, not_number, not_limit, the_opens, comma_rule, open_paren_rule, close_paren_rule, close_paren_real}
-use Rattle.ir_instructions.proofs.ValueRules.{OPERAND, address_rule, operand_rule}
+use Rattle.ir_operands.proofs.ValueRules.{OPERAND, address_rule, operand_rule}
 use Rattle.ir_read.proofs.Words.{int_32_real, null_real}
 use Rattle.ir_bodies.specs.Calls.{convention, conventions, written_type, further_type, some_types, listed_types, types, argument_behind, argument, further_argument, some_arguments, any_arguments, is_type, type_again, argument_of, further_of, each_further, some_of, arguments_of, arguments, called_value, marker, marker_refusal, unmarked, unmarked_value, callee, called, calling, tail_calling}
 use Rattle.ir_bodies.specs.CallsAt.{CONVENTION, CONVENTIONS, MARKER, convention_at, conventions_at, written_type_at, further_type_at, types_behind_at, some_types_at, listed_types_at, types_at, argument_behind_at, argument_at, further_argument_at, arguments_behind_at, some_arguments_at, any_arguments_at, type_again_at, argument_of_at, further_of_at, each_further_at, each_behind_at, some_of_at, arguments_of_at, arguments_at, called_value_at, marker_at, unmarked_at, unmarked_value_at, callee_at, calling_at, tail_calling_at}

@@ -17,7 +17,7 @@ use Rattle.ir_read.specs.Decimals.{decimal}
 use Rattle.ir_instructions.specs.Instructions.{PREDICATES}
 use Rattle.ir_read.specs.Operands.{LOCAL, REG, local, named, is_numeral}
 use Rattle.ir_read.specs.OperandsAt.{local_at}
-use Rattle.ir_instructions.specs.ShapeForms.{any_shape, memory_shape}
+use Rattle.ir_operands.specs.ShapeForms.{any_shape, memory_shape}
 use Rattle.ir_instructions.proofs.AddressingRules.{STEPPED, reserving_rule, addressing_rule}
 use Rattle.ir_instructions.proofs.InstructionRules.{on_two_rule, wrapping_rule, dividing_rule, joining_rule, comparing_rule, casting_rule, extending_rule, narrowing_rule, selecting_rule, freezing_rule}
 use Rattle.ir_instructions.proofs.MemoryRules.{loading_rule, storing_rule}

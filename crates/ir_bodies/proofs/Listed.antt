@@ -6,8 +6,8 @@ use Rattle.lto_forms.specs.Readers.{Reader, done, follow, ◌>>=◌}
 use Rattle.ir_read.specs.declared.raw.Instr.{Instr}
 use Rattle.ir_read.specs.declared.raw.Line.{Line}
 use Rattle.ir_read.specs.MetadataAt.{attachments_at}
-use Rattle.ir_instructions.specs.declared.listing.Listing.{Listing}
-use Rattle.ir_instructions.specs.Listing.{put, put_at}
+use Rattle.ir_operands.specs.declared.listing.Listing.{Listing}
+use Rattle.ir_operands.specs.Listing.{put, put_at}
 use Rattle.ir_bodies.specs.Blocks.{keep}
 use Rattle.ir_bodies.specs.LinesAt.{attended_at, some_at}
 use Rattle.ir_bodies.specs.Lines.{lined}

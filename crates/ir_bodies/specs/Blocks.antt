@@ -21,7 +21,7 @@ use Rattle.ir_read.specs.declared.raw.Line.{Line}
 use Rattle.ir_instructions.specs.declared.terminators.Ended.{Ended}
 use Rattle.ir_read.specs.FunctionHeads.{head, any_head}
 use Rattle.ir_read.specs.Operands.{LOCAL, local, named}
-use Rattle.ir_instructions.specs.ShapeForms.{any_shape, memory_shape}
+use Rattle.ir_operands.specs.ShapeForms.{any_shape, memory_shape}
 use Rattle.ir_instructions.specs.Terminators.{terminator}
 use Rattle.ir_bodies.specs.Lines.{line}
 use Rattle.ir_bodies.specs.Successive.{Successive}

@@ -19,7 +19,7 @@ use Rattle.ir_read.specs.declared.shape.Typed.{Typed}
 use Rattle.ir_read.specs.FunctionHeads.{end_of_none}
 use Rattle.ir_read.specs.Metadata.{attachments}
 use Rattle.ir_read.specs.Operands.{REG, type_refusal, reg_of, reg, result, classes_of, operand_of}
-use Rattle.ir_instructions.specs.Values.{address, operand}
+use Rattle.ir_operands.specs.Values.{address, operand}
 
 -- ---- before the result
 

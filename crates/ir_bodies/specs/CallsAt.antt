@@ -17,7 +17,7 @@ use Rattle.ir_read.specs.FunctionHeadsAt.{end_of_none_at}
 use Rattle.ir_read.specs.MetadataAt.{COMMA, PAREN, attachments_at}
 use Rattle.ir_read.specs.Operands.{REG, type_refusal, reg_of, classes_of, operand_of}
 use Rattle.ir_read.specs.OperandsAt.{reg_at, result_at}
-use Rattle.ir_instructions.specs.ValuesAt.{ADDRESS, address_at, operand_at}
+use Rattle.ir_operands.specs.ValuesAt.{ADDRESS, address_at, operand_at}
 use Rattle.ir_bodies.specs.Calls.{is_type, marker_refusal, called}
 
 abbrev pub CONVENTION : List ℕ

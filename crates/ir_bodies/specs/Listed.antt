@@ -4,7 +4,7 @@ use Rattle.ir_lex.specs.Tok.{Tok}
 use Rattle.lto_forms.specs.Readers.{Reader, ◌>>=◌, done}
 use Rattle.ir_read.specs.declared.raw.Instr.{Instr}
 use Rattle.ir_read.specs.declared.raw.Line.{Line}
-use Rattle.ir_instructions.specs.declared.listing.Listing.{Listing}
+use Rattle.ir_operands.specs.declared.listing.Listing.{Listing}
 use Rattle.ir_bodies.specs.Adding.{kept_at}
 use Rattle.ir_bodies.specs.Blocks.{keep}
 use Rattle.ir_bodies.specs.Lines.{lined}

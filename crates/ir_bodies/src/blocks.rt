@@ -15,7 +15,8 @@ ghost use Rattle.ir_bodies.specs.BlocksAt.{BLOCK, label_at, maybe_label_at, line
 ghost use Rattle.ir_bodies.specs.LinesAt.{LINE};
 
 use crate::lines::line_into;
-use ir_instructions::{Listing, push, terminator_at};
+use ir_instructions::terminator_at;
+use ir_operands::{Listing, push};
 use ir_lex::{Head, Token};
 use ir_read::{Block, Line, Name, Tokens, named, refusal};
 use ir_tree::Rows;

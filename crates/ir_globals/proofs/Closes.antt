@@ -7,7 +7,7 @@ use Rattle.lto_forms.specs.Forms as form
 use Rattle.ir_read.specs.declared.raw.Init.{Init}
 use Rattle.ir_read.specs.declared.raw.InitPart.{InitPart}
 use Rattle.ir_read.specs.declared.raw.InitPart.TheVariants as init_parts
-use Rattle.ir_instructions.specs.ShapeForms.{memory_shape}
+use Rattle.ir_operands.specs.ShapeForms.{memory_shape}
 use Rattle.ir_globals.specs.Closed.{deeper, Close, IsClosed}
 use Rattle.ir_globals.specs.Initialisers.{aggregate_of, Spot, entered, begun, closed, piece, outermost, parts, behind, initialiser}
 use Rattle.ir_globals.specs.declared.initialisers.Aggregate.{Aggregate}

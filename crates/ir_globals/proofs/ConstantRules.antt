@@ -14,11 +14,11 @@ use Rattle.lto_forms.proofs.Rules as rules
 use Rattle.ir_read.specs.Classes.{tokens, refusal, NUMERALS}
 use Rattle.ir_read.specs.declared.raw.Operand.TheVariants as operands
 use Rattle.ir_read.specs.Literals.{literal}
-use Rattle.ir_instructions.specs.ShapeForms.{any_shape, memory_shape}
-use Rattle.ir_instructions.specs.ValuesAt.{ADDRESS}
+use Rattle.ir_operands.specs.ShapeForms.{any_shape, memory_shape}
+use Rattle.ir_operands.specs.ValuesAt.{ADDRESS}
 use Rattle.ir_read.proofs.OperandRules.{zero_below, zero_global, zero_global_named, numbered_real, definition_real}
 use Rattle.ir_read.proofs.Singles.{sample, word, not_number, not_limit}
-use Rattle.ir_instructions.proofs.ValueRules.{address_rule}
+use Rattle.ir_operands.proofs.ValueRules.{address_rule}
 use Rattle.ir_read.proofs.Words.{null_real, zero_real}
 use Rattle.ir_globals.specs.Constants.{CONSTANTS, plain, constant_by, constant_of, single, constant}
 use Rattle.ir_globals.specs.ConstantsAt.{single_at, constant_at}

@@ -9,7 +9,7 @@ use Rattle.ir_read.specs.Classes.{one_of_at, the_at}
 use Rattle.ir_read.specs.declared.raw.Item.{Item}
 use Rattle.ir_read.specs.declared.raw.Item.TheVariants as items
 use Rattle.ir_read.specs.OperandsAt.{local_at}
-use Rattle.ir_instructions.specs.Adding.{pushed_at}
+use Rattle.ir_operands.specs.Adding.{pushed_at}
 use Rattle.ir_globals.specs.TypeDefinitionsAt.{defined_at, type_line_at, type_name_at}
 use Rattle.ir_globals.specs.Variables.{KINDS, is_constant}
 use Rattle.ir_globals.specs.VariablesAt.{behind_kind_at, headed_at, linked_at, variable_line_at, variable_name_at}

@@ -27,10 +27,10 @@ use Rattle.ir_read.specs.declared.raw.InitHead.TheVariants as inits
 use Rattle.ir_read.specs.declared.raw.InitPart.{InitPart}
 use Rattle.ir_read.specs.declared.raw.InitPart.TheVariants as init_parts
 use Rattle.ir_read.specs.MetadataAt.{COMMA}
-use Rattle.ir_instructions.specs.ShapeForms.{any_shape, memory_shape, OPEN_BRACKET, OPEN_BRACE}
-use Rattle.ir_instructions.proofs.LeafRules.{brace_behind_angle_rule}
+use Rattle.ir_operands.specs.ShapeForms.{any_shape, memory_shape, OPEN_BRACKET, OPEN_BRACE}
+use Rattle.ir_operands.proofs.LeafRules.{brace_behind_angle_rule}
 use Rattle.ir_read.proofs.OperandRules.{memory_not_number, memory_not_limit}
-use Rattle.ir_instructions.proofs.ShapeRules.{memory_shape_rule}
+use Rattle.ir_operands.proofs.ShapeRules.{memory_shape_rule}
 use Rattle.ir_read.proofs.Singles.{sample, word, not_number, not_limit, the_rule, one_rule, comma_rule, open_bracket_rule, open_brace_rule, open_angle_rule, close_angle_rule, close_bracket_real, close_brace_real}
 use Rattle.ir_read.proofs.Singles as singles
 use Rattle.ir_globals.specs.Initialisers.{BYTES, zeros, bytes, array_begin, structure_begin, packed_begin, aggregate_begin, beginning, aggregate_of, scalar_of, closing_refusal, mark, angle, brace, closing, Spot, part_shape, part, begun, closed, piece, outermost, listed, is_none, parts, behind, initialiser}

@@ -8,17 +8,17 @@ use Rattle.lto_forms.specs.declared.fault.FaultKind.{FaultKind}
 use Rattle.lto_forms.specs.Forms as form
 use Rattle.lto_forms.specs.Rules.{in_range, is_valued}
 use Rattle.ir_read.specs.Classes.{tokens}
-use Rattle.ir_instructions.specs.declared.extents.Extent.{Extent}
-use Rattle.ir_instructions.specs.declared.extents.Room.{Room}
+use Rattle.ir_operands.specs.declared.extents.Extent.{Extent}
+use Rattle.ir_operands.specs.declared.extents.Room.{Room}
 use Rattle.ir_read.specs.declared.shape.Typed.{Typed}
-use Rattle.ir_instructions.specs.Extents.{shared, left, whole}
+use Rattle.ir_operands.specs.Extents.{shared, left, whole}
 use Rattle.ir_read.specs.Literals.{IsWidth}
 use Rattle.ir_read.specs.Operands as operands
 use Rattle.ir_read.specs.Operands.{IsReg, LOCAL, SCALAR, memory_refusal, width}
-use Rattle.ir_instructions.specs.ShapeForms.{typed, is_pointer, scalar_typed, has_room, is_leaf, leaf, elements, array_of, structure_of, packed_behind, packed_of, shape_over, shape, memory_shape}
-use Rattle.ir_instructions.specs.ShapeFormsAt.{memory_shape_at}
+use Rattle.ir_operands.specs.ShapeForms.{typed, is_pointer, scalar_typed, has_room, is_leaf, leaf, elements, array_of, structure_of, packed_behind, packed_of, shape_over, shape, memory_shape}
+use Rattle.ir_operands.specs.ShapeFormsAt.{memory_shape_at}
 use Rattle.ir_read.specs.Shapes.{int, pointer, named}
-use Rattle.ir_instructions.proofs.ShapeRules.{memory_shape_rule}
+use Rattle.ir_operands.proofs.ShapeRules.{memory_shape_rule}
 use Rattle.ir_globals.specs.Initialisers.{scalar_of}
 
 abbrev Registered : Typed → Type 0

@@ -11,9 +11,9 @@ use Rattle.lto_forms.specs.Rules.{Rule, is_class}
 use Rattle.lto_forms.proofs.Rules as rules
 use Rattle.ir_read.specs.Classes.{tokens, IsReal, the, the_at}
 use Rattle.ir_read.specs.Operands.{LOCAL}
-use Rattle.ir_instructions.specs.ShapeForms.{any_shape, memory_shape}
+use Rattle.ir_operands.specs.ShapeForms.{any_shape, memory_shape}
 use Rattle.ir_read.proofs.OperandRules.{local_rule}
-use Rattle.ir_instructions.proofs.ShapeRules.{SHAPE, memory_shape_rule}
+use Rattle.ir_operands.proofs.ShapeRules.{SHAPE, memory_shape_rule}
 use Rattle.ir_read.proofs.Singles.{word, the_rule, equals_rule}
 use Rattle.ir_globals.specs.TypeDefinitions.{defined, type_line}
 use Rattle.ir_globals.specs.TypeDefinitionsAt.{OPAQUE, defined_at, type_line_at}

@@ -23,12 +23,12 @@ use Rattle.ir_read.specs.FunctionHeads.{LINKAGES, linkage_word, QUALIFIERS, noth
 use Rattle.ir_instructions.specs.InstructionsAt.{ALIGN}
 use Rattle.ir_read.specs.MetadataAt.{COMMA, PAREN}
 use Rattle.ir_read.specs.Operands.{global_named}
-use Rattle.ir_instructions.specs.ShapeForms.{any_shape, memory_shape}
+use Rattle.ir_operands.specs.ShapeForms.{any_shape, memory_shape}
 use Rattle.ir_read.proofs.AttributeRules.{alignment_rule}
 use Rattle.ir_read.proofs.FunctionHeadRules.{external_real, hidden_real, named_rule}
 use Rattle.ir_read.proofs.Nodes.{attached_rule}
 use Rattle.ir_read.proofs.OperandRules.{global_is}
-use Rattle.ir_instructions.proofs.ShapeRules.{SHAPE, memory_shape_rule}
+use Rattle.ir_operands.proofs.ShapeRules.{SHAPE, memory_shape_rule}
 use Rattle.ir_read.proofs.Singles.{sample, word, the_rule, the_opens, one_rule, one_opens, comma_rule, equals_rule, open_paren_rule, close_paren_rule, align_rule}
 use Rattle.ir_globals.specs.Initialisers.{scalar_of}
 use Rattle.ir_globals.specs.Variables.{NAMES, variable_name, any_variable_name, qualifiers, linked, KINDS, is_constant, is_declared, value, comdat_name, in_comdat, aligned, marked, further, tail, behind_kind, variable_line}

@@ -5,7 +5,7 @@ use Rattle.ir_tree.specs.declared.operand.Reg.{Reg}
 use Rattle.ir_read.specs.declared.raw.Init.{Init}
 use Rattle.ir_read.specs.declared.raw.InitPart.{InitPart}
 use Rattle.ir_read.specs.declared.raw.InitPart.TheVariants as init_parts
-use Rattle.ir_instructions.specs.ShapeForms.{memory_shape}
+use Rattle.ir_operands.specs.ShapeForms.{memory_shape}
 use Rattle.ir_globals.specs.Initialisers.{aggregate_of, initialiser}
 use Rattle.ir_globals.specs.declared.initialisers.Aggregate.{Aggregate}
 

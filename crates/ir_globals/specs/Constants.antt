@@ -16,7 +16,7 @@ use Rattle.ir_read.specs.declared.raw.Operand.TheVariants as operands
 use Rattle.ir_read.specs.declared.shape.Typed.{Typed}
 use Rattle.ir_read.specs.Literals.{literal}
 use Rattle.ir_read.specs.Operands.{named}
-use Rattle.ir_instructions.specs.Values.{address}
+use Rattle.ir_operands.specs.Values.{address}
 
 abbrev pub CONSTANTS : List ℕ
 CONSTANTS = number heads.Number ∷ number heads.True ∷ number heads.False ∷ number heads.Null ∷ number heads.Poison ∷ number heads.Global ∷ number heads.NumberedGlobal ∷ number heads.NumberedDefinition ∷ []

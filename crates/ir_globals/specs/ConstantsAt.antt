@@ -7,7 +7,7 @@ use Rattle.lto_forms.specs.Readers.{Reader, ◌>>=◌, done, pick, token_at}
 use Rattle.lto_forms.specs.Rules.{is_valued}
 use Rattle.ir_read.specs.Classes.{tokens, refusal}
 use Rattle.ir_read.specs.declared.raw.InitHead.{InitHead}
-use Rattle.ir_instructions.specs.ValuesAt.{ADDRESS, address_at}
+use Rattle.ir_operands.specs.ValuesAt.{ADDRESS, address_at}
 use Rattle.ir_globals.specs.Constants.{CONSTANTS, plain, constant_of}
 
 abbrev pub single_at : Option Reg → Reader Tok InitHead

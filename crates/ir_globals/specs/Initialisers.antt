@@ -20,7 +20,7 @@ use Rattle.ir_read.specs.declared.raw.InitPart.{InitPart}
 use Rattle.ir_read.specs.declared.raw.InitPart.TheVariants as init_parts
 use Rattle.ir_read.specs.declared.shape.Typed.{Typed}
 use Rattle.ir_read.specs.Operands.{memory_refusal}
-use Rattle.ir_instructions.specs.ShapeForms.{brace_behind_angle}
+use Rattle.ir_operands.specs.ShapeForms.{brace_behind_angle}
 use Rattle.ir_read.specs.Shapes.{Written, int, pointer, array, structure, named}
 use Rattle.ir_globals.specs.Constants.{constant}
 use Rattle.ir_globals.specs.declared.initialisers.Aggregate.{Aggregate}

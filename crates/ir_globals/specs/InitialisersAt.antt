@@ -19,8 +19,8 @@ use Rattle.ir_read.specs.declared.raw.InitPart.TheVariants as init_parts
 use Rattle.ir_read.specs.declared.shape.Typed.{Typed}
 use Rattle.ir_read.specs.MetadataAt.{COMMA}
 use Rattle.ir_read.specs.Operands.{LOCAL, SCALAR}
-use Rattle.ir_instructions.specs.ShapeForms.{OPEN_BRACKET, OPEN_BRACE}
-use Rattle.ir_instructions.specs.ShapeFormsAt.{brace_behind_angle_at, memory_shape_at}
+use Rattle.ir_operands.specs.ShapeForms.{OPEN_BRACKET, OPEN_BRACE}
+use Rattle.ir_operands.specs.ShapeFormsAt.{brace_behind_angle_at, memory_shape_at}
 use Rattle.ir_globals.specs.ConstantsAt.{constant_at}
 use Rattle.ir_globals.specs.Initialisers.{scalar_of, BYTES, aggregate_of, closing_refusal, Spot, entered, outermost, is_none}
 use Rattle.ir_globals.specs.declared.initialisers.Aggregate.{Aggregate}

@@ -10,7 +10,7 @@ use Rattle.ir_read.specs.declared.raw.Item.{Item}
 use Rattle.ir_read.specs.declared.raw.Item.TheVariants as items
 use Rattle.ir_read.specs.declared.shape.Typed.{Typed}
 use Rattle.ir_read.specs.OperandsAt.{local_at}
-use Rattle.ir_instructions.specs.ShapeFormsAt.{memory_shape_at}
+use Rattle.ir_operands.specs.ShapeFormsAt.{memory_shape_at}
 
 abbrev pub OPAQUE : List ℕ
 OPAQUE = number heads.Opaque ∷ []

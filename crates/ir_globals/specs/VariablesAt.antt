@@ -17,7 +17,7 @@ use Rattle.ir_read.specs.FunctionHeads.{LINKAGES, linkage_word, QUALIFIERS, noth
 use Rattle.ir_instructions.specs.InstructionsAt.{ALIGN}
 use Rattle.ir_read.specs.MetadataAt.{COMMA, PAREN, attached_at}
 use Rattle.ir_read.specs.Operands.{global_named}
-use Rattle.ir_instructions.specs.ShapeFormsAt.{memory_shape_at}
+use Rattle.ir_operands.specs.ShapeFormsAt.{memory_shape_at}
 use Rattle.ir_globals.specs.Initialisers.{scalar_of}
 use Rattle.ir_globals.specs.InitialisersAt.{initialiser_at}
 use Rattle.ir_globals.specs.Variables.{NAMES, KINDS, is_constant, is_declared, with_align, variable}

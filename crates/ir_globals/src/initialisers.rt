@@ -8,14 +8,14 @@ ghost use Rattle.lto_forms.specs.Chained.{stops_here};
 ghost use Rattle.lto_forms.specs.Readers.{Gives, next_is};
 ghost use Rattle.ir_read.specs.Classes.{tokens};
 ghost use Rattle.ir_read.specs.Operands.{IsReg};
-ghost use Rattle.ir_instructions.specs.ShapeFormsAt.{memory_shape_at};
+ghost use Rattle.ir_operands.specs.ShapeFormsAt.{memory_shape_at};
 ghost use Rattle.ir_globals.specs.Initialisers.{scalar_of, aggregate_of, opening, closing_refusal, entered, outermost, is_none};
 ghost use Rattle.ir_globals.specs.declared.initialisers.Aggregate.{Aggregate};
 ghost use Rattle.ir_globals.specs.InitialisersAt.{bytes_at, aggregate_begin_at, beginning_at, mark_at, closing_at, part_shape_at, begun_at, piece_at, CLOSER, SHAPE, PART, begins_there, listed_at, parts_at, behind_at, initialiser_at};
 
 use crate::constants::constant_at;
 use crate::pairs::beside;
-use ir_instructions::{brace_behind_angle_at, memory_shape_at};
+use ir_operands::{brace_behind_angle_at, memory_shape_at};
 use ir_lex::Head;
 use ir_read::{
     Init, InitHead, InitPart, Name, Shape, ShapeNode, Tokens, Typed, done, expect, memory_refusal,

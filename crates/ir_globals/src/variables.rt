@@ -9,12 +9,12 @@ ghost use Rattle.lto_forms.specs.Rules.{is_valued};
 ghost use Rattle.ir_read.specs.Classes.{tokens, one_of_at};
 ghost use Rattle.ir_read.specs.FunctionHeads.{LINKAGES, linkage_word, name_refusal};
 ghost use Rattle.ir_read.specs.Operands.{IsReg, global_named};
-ghost use Rattle.ir_instructions.specs.Adding.{pushed_at};
+ghost use Rattle.ir_operands.specs.Adding.{pushed_at};
 ghost use Rattle.ir_globals.specs.Variables.{KINDS, NAMES, is_constant, is_declared, with_align};
 ghost use Rattle.ir_globals.specs.VariablesAt.{variable_name_at, linkage_at, qualifiers_at, linked_at, value_at, comdat_name_at, in_comdat_at, aligned_at, marked_at, further_at, headed_at, tail_at, variable_line_at};
 
 use crate::initialisers::{initialiser_at, scalar_of, shape_at};
-use ir_instructions::push;
+use ir_operands::push;
 use ir_lex::{Head, Token};
 use ir_read::{
     Init, Item, Name, Tokens, Variable, alignment_at, attached_at, comes_qualifier, done, expect,

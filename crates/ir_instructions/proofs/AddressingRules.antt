@@ -26,15 +26,15 @@ use Rattle.ir_read.specs.Metadata.{META}
 use Rattle.ir_read.specs.MetadataAt.{COMMA, PAREN}
 use Rattle.ir_read.specs.Operands.{INTEGER, REG}
 use Rattle.ir_instructions.specs.Phis.{anywhere}
-use Rattle.ir_instructions.specs.ShapeForms.{any_shape, memory_shape, NUMBER, counted, count_of}
+use Rattle.ir_operands.specs.ShapeForms.{any_shape, memory_shape, NUMBER, counted, count_of}
 use Rattle.ir_read.specs.Shapes.{Written, pointer}
-use Rattle.ir_instructions.proofs.Barred.{barred_here}
+use Rattle.ir_operands.proofs.Barred.{barred_here}
 use Rattle.ir_instructions.proofs.MemoryRules.{AFTER, aligned_rule, alignment_rest_rule}
 use Rattle.ir_read.proofs.Nodes.{attached_rule}
 use Rattle.ir_read.proofs.OperandRules.{integer_rule}
-use Rattle.ir_instructions.proofs.ShapeRules.{SHAPE, memory_shape_rule}
+use Rattle.ir_operands.proofs.ShapeRules.{SHAPE, memory_shape_rule}
 use Rattle.ir_read.proofs.Singles.{sample, not_number, not_limit, comma_rule, number_real}
-use Rattle.ir_instructions.proofs.ValueRules.{operand_rule, argument_rule, pointer_rule, stepping_rule}
+use Rattle.ir_operands.proofs.ValueRules.{operand_rule, argument_rule, pointer_rule, stepping_rule}
 
 -- ---- alloca
 

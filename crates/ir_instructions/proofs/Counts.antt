@@ -9,7 +9,7 @@ use Rattle.lto_forms.specs.Rules.{in_range, is_valued}
 use Rattle.ir_instructions.specs.Addressing.{fitting}
 use Rattle.ir_instructions.specs.AddressingAt.{passes, count_means}
 use Rattle.ir_read.specs.Classes.{tokens, refusal}
-use Rattle.ir_instructions.specs.ShapeForms.{NUMBER, counted, count_of}
+use Rattle.ir_operands.specs.ShapeForms.{NUMBER, counted, count_of}
 
 abbrev pub judged : (ℕ → Bool) → Option ℕ → Result ℕ FaultKind
 judged fits None = Err Number

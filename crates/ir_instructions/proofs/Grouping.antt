@@ -13,13 +13,9 @@ use Rattle.ir_read.specs.declared.raw.Operand.{Operand}
 use Rattle.ir_read.specs.declared.shape.Typed.{Typed}
 use Rattle.ir_instructions.specs.AddressingAt.{addressing_at, based_at, stepped_at, stepping_by_at}
 use Rattle.ir_instructions.specs.PhisAt.{incoming_at, entries_at, all_entries_at, phi_of_at}
-use Rattle.ir_instructions.specs.ShapeFormsAt.{memory_shape_at}
-use Rattle.ir_instructions.specs.ValuesAt.{address_at, address_behind_at, all_openings_at, opening_at, openings_at, operand_at, pointer_at, reached_at, stepping_at}
-
--- one reader, and two behind it
-pub grouped : {A B C : Type 0} (f : A → Reader Tok B) (g : B → Reader Tok C) (r : Result (A × List Tok) Fault) → follow r (λ a. f a >>= g) ≡ follow (follow r f) g
-grouped f g (Ok x) = refl
-grouped f g (Err e) = refl
+use Rattle.ir_operands.specs.ShapeFormsAt.{memory_shape_at}
+use Rattle.ir_operands.specs.ValuesAt.{address_at, address_behind_at, all_openings_at, opening_at, openings_at, operand_at, pointer_at, reached_at, stepping_at}
+use Rattle.ir_operands.proofs.Grouping.{grouped}
 
 pub phi_of_is : (r : Reg) (ts : List Tok) → phi_of_at r ts ≡ follow (all_entries_at r ts) (λ is. done (instrs.Phi r is))
 unfolding phi_of_at
@@ -52,15 +48,3 @@ addressing_is ts = by_flags (stepping_at ts)
     by_flags : (r : Result (Bool × List Tok) Fault) → follow r (λ i. memory_shape_at >>= stepping_by_at i) ≡ follow r (λ i. based_at >>= stepped_from i)
     by_flags (Ok x) = by_shape x.0 (memory_shape_at x.1)
     by_flags (Err e) = refl
-
-pub address_is : (ts : List Tok) → address_at ts ≡ follow (all_openings_at ts) reached_at
-unfolding address_at address_behind_at
-address_is ts = by_first (opening_at ts)
-  where
-    by_inner : (first : Typed) (r : Result (List Typed × List Tok) Fault) → follow r (λ inner. reached_at (first ∷ inner)) ≡ follow (follow r (λ inner. done (first ∷ inner))) reached_at
-    by_inner first (Ok x) = refl
-    by_inner first (Err e) = refl
-
-    by_first : (r : Result (Typed × List Tok) Fault) → follow r (λ first. openings_at >>= λ inner. reached_at (first ∷ inner)) ≡ follow (follow r (λ first. openings_at >>= λ inner. done (first ∷ inner))) reached_at
-    by_first (Ok x) = by_inner x.0 (openings_at x.1)
-    by_first (Err e) = refl

@@ -14,10 +14,10 @@ use Rattle.ir_read.specs.Classes.{tokens, one_of, one_of_at}
 use Rattle.ir_instructions.specs.Instructions.{is_nuw, PREDICATES, predicate_of, wraps, on_two, wrapping, dividing, joining, comparing, casting, extending, narrowing, selecting, freezing}
 use Rattle.ir_instructions.specs.InstructionsAt.{wraps_at, on_two_at, wrapping_at, dividing_at, joining_at, comparing_at, casting_at, extending_at, narrowing_at, selecting_at, freezing_at}
 use Rattle.ir_read.specs.Operands.{INTEGER, REG}
-use Rattle.ir_instructions.specs.ShapeForms.{any_shape, memory_shape}
+use Rattle.ir_operands.specs.ShapeForms.{any_shape, memory_shape}
 use Rattle.ir_read.proofs.Singles.{word, one_rule, one_opens, comma_rule}
 use Rattle.ir_read.proofs.OperandRules.{reg_rule, integer_rule, bit_rule, maybe_exact_rule, maybe_disjoint_rule, maybe_samesign_rule, maybe_nneg_rule}
-use Rattle.ir_instructions.proofs.ValueRules.{operand_rule, argument_rule}
+use Rattle.ir_operands.proofs.ValueRules.{operand_rule, argument_rule}
 use Rattle.ir_read.proofs.Words.{no_wrap_real, equal_real, to_rule}
 
 -- ---- flags

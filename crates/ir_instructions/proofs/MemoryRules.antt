@@ -10,12 +10,12 @@ use Rattle.ir_instructions.specs.Instructions.{aligned, align, loading, storing}
 use Rattle.ir_instructions.specs.InstructionsAt.{ALIGN, aligned_at, align_at, loading_at, storing_at}
 use Rattle.ir_read.specs.MetadataAt.{COMMA}
 use Rattle.ir_read.specs.Operands.{SCALAR}
-use Rattle.ir_instructions.specs.ShapeForms.{any_shape, memory_shape}
+use Rattle.ir_operands.specs.ShapeForms.{any_shape, memory_shape}
 use Rattle.ir_read.proofs.AttributeRules.{alignment_rule}
 use Rattle.ir_read.proofs.Nodes.{attached_rule, attachments_rule}
 use Rattle.ir_read.proofs.OperandRules.{scalar_rule}
 use Rattle.ir_read.proofs.Singles.{comma_rule, align_rule}
-use Rattle.ir_instructions.proofs.ValueRules.{pointer_rule, operand_rule}
+use Rattle.ir_operands.proofs.ValueRules.{pointer_rule, operand_rule}
 
 abbrev pub AFTER : List ℕ
 AFTER = number heads.OpenParen ∷ number heads.Comma ∷ []

@@ -16,11 +16,11 @@ use Rattle.ir_read.specs.MetadataAt.{COMMA, PAREN}
 use Rattle.ir_read.specs.Operands.{REG}
 use Rattle.ir_instructions.specs.Phis.{anywhere, incoming, attaching, entering, behind_comma, further, entries, phi_of, phi}
 use Rattle.ir_instructions.specs.PhisAt.{begins, incoming_at, attaching_at, entering_at, behind_comma_at, further_at, entries_at, phi_of_at, phi_at}
-use Rattle.ir_instructions.specs.ShapeForms.{any_shape, memory_shape}
+use Rattle.ir_operands.specs.ShapeForms.{any_shape, memory_shape}
 use Rattle.ir_read.proofs.Nodes.{attached_rule}
 use Rattle.ir_read.proofs.OperandRules.{reg_rule, local_rule}
 use Rattle.ir_read.proofs.Singles.{comma_rule, open_bracket_rule, close_bracket_rule}
-use Rattle.ir_instructions.proofs.ValueRules.{operand_rule}
+use Rattle.ir_operands.proofs.ValueRules.{operand_rule}
 
 abbrev pub BRACKET : List ℕ
 BRACKET = number heads.OpenBracket ∷ []

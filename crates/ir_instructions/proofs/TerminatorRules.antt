@@ -25,9 +25,9 @@ use Rattle.ir_instructions.specs.Terminators.{WORDS_OF_BITS, ENDS, case_classes,
 use Rattle.ir_instructions.specs.TerminatorsAt.{LABEL, returned_at, returning_at, target_at, branching_at, constant_at, case_of_at, case_at, cases_at, end_of_cases_at, switching_at, behind_end_at, terminator_at}
 use Rattle.ir_read.proofs.Nodes.{attachments_rule}
 use Rattle.ir_read.proofs.OperandRules.{type_not_number, type_not_limit, zero_below, reg_rule, integer_rule, bit_rule, result_rule, local_rule}
-use Rattle.ir_instructions.specs.ShapeForms.{any_shape, memory_shape}
+use Rattle.ir_operands.specs.ShapeForms.{any_shape, memory_shape}
 use Rattle.ir_read.proofs.Singles.{sample, mark, word, not_number, not_limit, one_rule, comma_rule, open_bracket_rule, close_bracket_real}
-use Rattle.ir_instructions.proofs.ValueRules.{OPERAND, operand_rule}
+use Rattle.ir_operands.proofs.ValueRules.{OPERAND, operand_rule}
 use Rattle.ir_read.proofs.Words.{zero_real, label_rule}
 
 pub returned_rule : (r : Option Reg) → Rule tokens (returned memory_shape r) (returned any_shape r) (returned_at r) OPERAND [] true

@@ -14,14 +14,14 @@ use Rattle.ir_read.specs.declared.raw.Argument.{Argument}
 use Rattle.ir_read.specs.declared.raw.Instr.{Instr}
 use Rattle.ir_read.specs.declared.raw.Instr.TheVariants as instrs
 use Rattle.ir_read.specs.declared.shape.Typed.{Typed}
-use Rattle.ir_instructions.specs.Extents.{extent_of, nests_within}
+use Rattle.ir_operands.specs.Extents.{extent_of, nests_within}
 use Rattle.ir_instructions.specs.Instructions.{aligned, align}
 use Rattle.ir_read.specs.Metadata.{attached}
 use Rattle.ir_read.specs.Operands.{integer}
 use Rattle.ir_instructions.specs.Phis as phis
-use Rattle.ir_instructions.specs.ShapeForms.{NUMBER, count_of}
+use Rattle.ir_operands.specs.ShapeForms.{NUMBER, count_of}
 use Rattle.ir_read.specs.Shapes.{Written}
-use Rattle.ir_instructions.specs.Values.{pointer, stepping, operand, argument}
+use Rattle.ir_operands.specs.Values.{pointer, stepping, operand, argument}
 
 -- ---- alloca
 

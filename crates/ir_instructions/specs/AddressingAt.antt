@@ -23,9 +23,9 @@ use Rattle.ir_read.specs.Metadata.{META}
 use Rattle.ir_read.specs.MetadataAt.{COMMA, attached_at}
 use Rattle.ir_read.specs.OperandsAt.{integer_at}
 use Rattle.ir_instructions.specs.Phis as phis
-use Rattle.ir_instructions.specs.ShapeForms.{NUMBER, count_of}
-use Rattle.ir_instructions.specs.ShapeFormsAt.{memory_shape_at}
-use Rattle.ir_instructions.specs.ValuesAt.{pointer_at, stepping_at, operand_at, argument_at}
+use Rattle.ir_operands.specs.ShapeForms.{NUMBER, count_of}
+use Rattle.ir_operands.specs.ShapeFormsAt.{memory_shape_at}
+use Rattle.ir_operands.specs.ValuesAt.{pointer_at, stepping_at, operand_at, argument_at}
 
 abbrev pub passes : (ℕ → Bool) → Option ℕ → Bool
 passes fits None = false

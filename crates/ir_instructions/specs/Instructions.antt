@@ -22,7 +22,7 @@ use Rattle.ir_read.specs.declared.raw.Instr.TheVariants as instrs
 use Rattle.ir_read.specs.Metadata.{attached, attachments}
 use Rattle.ir_read.specs.declared.shape.Typed.{Typed}
 use Rattle.ir_read.specs.Operands.{reg, integer, bit, scalar, maybe}
-use Rattle.ir_instructions.specs.Values.{pointer, operand, argument}
+use Rattle.ir_operands.specs.Values.{pointer, operand, argument}
 
 -- ---- flags
 

@@ -22,7 +22,7 @@ use Rattle.ir_read.specs.declared.raw.Operand.{Operand}
 use Rattle.ir_instructions.specs.Instructions.{is_nuw, flags, with_wrap, no_flags, PREDICATES, predicate_of}
 use Rattle.ir_read.specs.MetadataAt.{COMMA, attached_at, attachments_at}
 use Rattle.ir_read.specs.OperandsAt.{reg_at, integer_at, bit_at, scalar_at, maybe_at}
-use Rattle.ir_instructions.specs.ValuesAt.{pointer_at, operand_at, argument_at}
+use Rattle.ir_operands.specs.ValuesAt.{pointer_at, operand_at, argument_at}
 
 abbrev pub ALIGN : List ℕ
 ALIGN = number heads.Align ∷ []

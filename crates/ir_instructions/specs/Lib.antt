@@ -1,15 +1,8 @@
-pub mod Adding
-pub mod Listing
 pub mod Instructions
 pub mod InstructionsAt
 pub mod Terminators
 pub mod TerminatorsAt
 pub mod Phis
 pub mod PhisAt
-pub mod Extents
-pub mod ShapeForms
-pub mod ShapeFormsAt
-pub mod Values
-pub mod ValuesAt
 pub mod Addressing
 pub mod AddressingAt

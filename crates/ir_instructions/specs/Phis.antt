@@ -13,7 +13,7 @@ use Rattle.ir_read.specs.declared.raw.Instr.TheVariants as instrs
 use Rattle.ir_read.specs.Metadata.{attached}
 use Rattle.ir_read.specs.declared.shape.Typed.{Typed}
 use Rattle.ir_read.specs.Operands.{reg, local}
-use Rattle.ir_instructions.specs.Values.{operand}
+use Rattle.ir_operands.specs.Values.{operand}
 
 -- [ operand , Local ]
 unfoldable pub incoming : Form Tok Typed → Reg → Form Tok Incoming

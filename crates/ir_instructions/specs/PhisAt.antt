@@ -14,7 +14,7 @@ use Rattle.ir_read.specs.declared.raw.Instr.TheVariants as instrs
 use Rattle.ir_read.specs.Metadata.{META}
 use Rattle.ir_read.specs.MetadataAt.{COMMA, attached_at}
 use Rattle.ir_read.specs.OperandsAt.{reg_at, local_at}
-use Rattle.ir_instructions.specs.ValuesAt.{operand_at}
+use Rattle.ir_operands.specs.ValuesAt.{operand_at}
 use Rattle.ir_instructions.specs.Phis.{anywhere, keep}
 
 unfoldable pub incoming_at : Reg → Reader Tok Incoming

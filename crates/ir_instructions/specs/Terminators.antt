@@ -23,7 +23,7 @@ use Rattle.ir_instructions.specs.declared.terminators.Matched.{Matched}
 use Rattle.ir_read.specs.Literals.{literal}
 use Rattle.ir_read.specs.Metadata.{attachments}
 use Rattle.ir_read.specs.Operands.{type_refusal, reg, integer, bit, result, local}
-use Rattle.ir_instructions.specs.Values.{operand}
+use Rattle.ir_operands.specs.Values.{operand}
 
 -- reg operand, where the type was read; nothing behind void
 abbrev pub returned : Form Tok Typed → Option Reg → Form Tok Terminator

@@ -20,7 +20,7 @@ use Rattle.ir_instructions.specs.declared.terminators.Matched.{Matched}
 use Rattle.ir_read.specs.MetadataAt.{attachments_at}
 use Rattle.ir_read.specs.Operands.{REG, type_refusal}
 use Rattle.ir_read.specs.OperandsAt.{reg_at, integer_at, bit_at, result_at, local_at}
-use Rattle.ir_instructions.specs.ValuesAt.{operand_at}
+use Rattle.ir_operands.specs.ValuesAt.{operand_at}
 use Rattle.ir_instructions.specs.Terminators.{case_classes, matched_of, ENDS, ending_of}
 
 abbrev pub LABEL : List ℕ

@@ -4,22 +4,19 @@ ghost use Rattle.std.specs.Prelude.{◌≡◌, ◌*◌, nat_le, true};
 ghost use Rattle.ir_lex.specs.Tok.{tok};
 ghost use Rattle.lto_forms.specs.Alphabet.{among};
 ghost use Rattle.lto_forms.specs.Readers.{Gives};
-ghost use Rattle.ir_instructions.specs.Adding.{gathered_at};
+ghost use Rattle.ir_operands.specs.Adding.{gathered_at};
 ghost use Rattle.ir_instructions.specs.Addressing.{keep, slots_fit};
 ghost use Rattle.ir_instructions.specs.AddressingAt.{addressing_at, based_at, behind_comma_at, count_in_at, count_means, further_at, indices_at, many_slots_at, one_slot_at, reserving_at, slots_at, slots_behind_at};
 ghost use Rattle.ir_read.specs.Classes.{tokens};
-ghost use Rattle.ir_instructions.specs.Extents.{all_nest_within, extent_of, nests_within};
+ghost use Rattle.ir_operands.specs.Extents.{all_nest_within, extent_of, nests_within};
 ghost use Rattle.ir_read.specs.Literals.{IsWidth};
-ghost use Rattle.ir_instructions.specs.Listing.{put_at};
-ghost use Rattle.ir_instructions.specs.ShapeForms.{NUMBER};
+ghost use Rattle.ir_operands.specs.Listing.{put_at};
+ghost use Rattle.ir_operands.specs.ShapeForms.{NUMBER};
 ghost use Rattle.ir_read.specs.Shapes.{parts_of};
 
-use crate::adding::push;
 use crate::instructions::{align_at, aligned_at};
-use crate::listing::Listing;
-use crate::shapes::{Measured, counted, memory_shape_at};
-use crate::values::{operand_at, pointer_at, stepping_at};
 use ir_lex::{Head, Token};
+use ir_operands::{Listing, Measured, counted, memory_shape_at, operand_at, pointer_at, push, stepping_at};
 use ir_read::{
     Argument, Instr, Operand, Shape, ShapeNode, Tokens, Typed, attached_at, done, expect,
     integer_at, refusal, reg_at,
@@ -199,7 +196,7 @@ pub fn reserving_into<'a>(
 
 /// Reads what follows a comma behind an index, or behind an attachment: an index, which is added, or an
 /// attachment, behind which only attachments follow. Gives whether it is an attachment.
-#[tactic(auto, unfolding(crate::specs::AddressingAt::attaching_at, crate::specs::AddressingAt::indexing_at, crate::specs::ValuesAt::argument_at))]
+#[tactic(auto, unfolding(crate::specs::AddressingAt::attaching_at, crate::specs::AddressingAt::indexing_at, ir_operands::specs::ValuesAt::argument_at))]
 fn behind_comma_into<'a>(
     alloc: Global,
     attached: bool,

@@ -8,12 +8,11 @@ ghost use Rattle.lto_forms.specs.Rules.{is_among};
 ghost use Rattle.ir_read.specs.Ahead.{WRAPS};
 ghost use Rattle.ir_read.specs.Classes.{tokens, refusal, one_of_at};
 ghost use Rattle.ir_instructions.specs.Instructions.{is_nuw, with_wrap, no_flags, PREDICATES, predicate_of};
-ghost use Rattle.ir_instructions.specs.Listing.{put_at};
+ghost use Rattle.ir_operands.specs.Listing.{put_at};
 ghost use Rattle.ir_instructions.specs.InstructionsAt.{wraps_at, on_two_at, wrapping_at, dividing_at, joining_at, comparing_at, casting_at, extending_at, narrowing_at, selecting_at, freezing_at, aligned_at, align_at, loading_at, storing_at};
 
-use crate::listing::Listing;
-use crate::values::{operand_at, pointer_at};
 use ir_lex::{Head, Token};
+use ir_operands::{Listing, operand_at, pointer_at};
 use ir_read::{
     Argument, Instr, Tokens, alignment_at, attached_at, attachments_at, bit_at, expect, integer_at,
     maybe_at, refusal, reg_at, scalar_at,
@@ -264,7 +263,7 @@ pub fn narrowing_into<'a>(
 }
 
 /// Reads what follows `select`.
-#[tactic(auto, unfolding(crate::specs::InstructionsAt::selecting_at, crate::specs::ValuesAt::argument_at))]
+#[tactic(auto, unfolding(crate::specs::InstructionsAt::selecting_at, ir_operands::specs::ValuesAt::argument_at))]
 pub fn selecting_into<'a>(
     alloc: Global,
     list: &mut Listing<'a>,

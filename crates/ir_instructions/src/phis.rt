@@ -3,15 +3,13 @@
 ghost use Rattle.std.specs.Prelude.{◌≡◌};
 ghost use Rattle.lto_forms.specs.Readers.{Gives};
 ghost use Rattle.ir_read.specs.Operands.{IsReg};
-ghost use Rattle.ir_instructions.specs.Adding.{gathered_at};
-ghost use Rattle.ir_instructions.specs.Listing.{put_at};
+ghost use Rattle.ir_operands.specs.Adding.{gathered_at};
+ghost use Rattle.ir_operands.specs.Listing.{put_at};
 ghost use Rattle.ir_instructions.specs.Phis.{keep};
 ghost use Rattle.ir_instructions.specs.PhisAt.{incoming_at, behind_comma_at, further_at, all_entries_at, phi_at};
 
-use crate::adding::push;
-use crate::listing::Listing;
-use crate::values::operand_at;
 use ir_lex::Head;
+use ir_operands::{Listing, operand_at, push};
 use ir_read::{Incoming, Instr, Tokens, attached_at, done, expect, local_at, reg_at};
 use ir_tree::{Reg, Rows};
 use lto_forms::ReadError;

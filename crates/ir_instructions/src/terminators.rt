@@ -9,8 +9,8 @@ ghost use Rattle.ir_read.specs.Operands.{IsReg};
 ghost use Rattle.ir_instructions.specs.Terminators.{case_classes, matched_of, number_matched, ENDS, ending_of};
 ghost use Rattle.ir_instructions.specs.TerminatorsAt.{returning_at, target_at, choosing_at, branching_at, constant_at, case_of_at, case_at, cases_at, end_of_cases_at, switching_at, behind_end_at, terminator_at};
 
-use crate::values::operand_at;
 use ir_lex::{Head, Token};
+use ir_operands::operand_at;
 use ir_read::{
     Argument, Case, Name, Terminator, Tokens, attachments_at, bit_at, done, expect, integer_at,
     literal, local_at, refusal, reg_at, result_at, type_refusal,

@@ -5,7 +5,7 @@ use Rattle.std.specs.Prelude.{IfSome}
 use Rattle.std.proofs.lemmas.List.Elements.{All-from_recursion}
 use Rattle.ir_lex.specs.Tok.{Tok}
 use Rattle.ir_instructions.specs.Addressing.{addressing, attaching, behind_comma, further, indexing, indices, keep, many_slots, one_slot, reserving, slots_behind, slots_fit}
-use Rattle.ir_instructions.specs.ShapeForms.{memory_shape}
+use Rattle.ir_operands.specs.ShapeForms.{memory_shape}
 use Rattle.ir_instructions.specs.declared.addressing.Slots.{Slots}
 use Rattle.ir_tree.specs.declared.operand.Reg.TheVariants.{Ptr}
 use Rattle.ir_parse.specs.Written.{AlignWritten, ArgumentWritten}

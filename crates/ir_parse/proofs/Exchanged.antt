@@ -21,7 +21,7 @@ use Rattle.ir_read.specs.Classes.{tokens, IsReal}
 use Rattle.ir_read.specs.FunctionHeads.{GLOBAL}
 use Rattle.ir_read.specs.Operands.{REG}
 use Rattle.ir_read.specs.Targets.{STRING}
-use Rattle.ir_instructions.specs.ShapeForms.{OPEN_ANGLE, OPEN_BRACE}
+use Rattle.ir_operands.specs.ShapeForms.{OPEN_ANGLE, OPEN_BRACE}
 use Rattle.ir_parse.specs.Refusals.{MEMORY, WORD, last_is}
 
 -- the classes of the tokens that one of this class stands for, directly behind `<` or not; a string stands for each other

@@ -21,7 +21,7 @@ use Rattle.ir_read.specs.Literals.{literal}
 use Rattle.ir_read.specs.Metadata.{META}
 use Rattle.ir_read.specs.MetadataAt.{COMMA}
 use Rattle.ir_instructions.specs.Phis as phis
-use Rattle.ir_instructions.specs.ShapeForms.{any_shape, NUMBER, counted, count_of}
+use Rattle.ir_operands.specs.ShapeForms.{any_shape, NUMBER, counted, count_of}
 use Rattle.ir_read.specs.Shapes.{Written, pointer}
 use Rattle.ir_read.specs.declared.raw.Argument.{Argument}
 use Rattle.ir_read.proofs.Singles.{sample, number_real}

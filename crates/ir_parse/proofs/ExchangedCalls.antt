@@ -22,8 +22,8 @@ use Rattle.ir_read.specs.Metadata.{attachments}
 use Rattle.ir_read.specs.MetadataAt.{COMMA, PAREN, attachments_at}
 use Rattle.ir_read.specs.Operands.{REG, RESULT, POINTER_OPERAND, result, type_refusal, reg_of, operand_of}
 use Rattle.ir_read.specs.OperandsAt.{reg_at}
-use Rattle.ir_instructions.specs.ShapeForms.{any_shape}
-use Rattle.ir_instructions.specs.ValuesAt.{ADDRESS}
+use Rattle.ir_operands.specs.ShapeForms.{any_shape}
+use Rattle.ir_operands.specs.ValuesAt.{ADDRESS}
 use Rattle.ir_read.specs.declared.raw.Operand.{Operand}
 use Rattle.ir_read.specs.declared.raw.Operand.TheVariants as operands
 use Rattle.ir_read.proofs.OperandRules.{type_not_number, type_not_limit}

@@ -17,7 +17,7 @@ use Rattle.lto_forms.specs.declared.fault.FaultKind.TheVariants.{Syntax}
 use Rattle.lto_forms.specs.declared.fault.FaultKind.{FaultKind}
 use Rattle.lto_forms.specs.Rules.{disjoint}
 use Rattle.ir_read.specs.Classes.{tokens}
-use Rattle.ir_instructions.specs.ShapeForms.{OPEN_BRACE}
+use Rattle.ir_operands.specs.ShapeForms.{OPEN_BRACE}
 use Rattle.ir_parse.proofs.Exchanged.{Exchanges, OutcomeAt, Place, Stays, Swaps, angled_behind, apart, is_angled, never_angled, nowhere, same_at, Goes, Outcome, Stuck, fair, alike, ends_in_front, err_ends, err_too, fair_at, fair_of, fewer, in_front, joined, ok_too, stands_for, without}
 
 and_parts : (a b : Bool) → a && b ≡ true → (a ≡ true) × (b ≡ true)

@@ -6,8 +6,8 @@ use Rattle.ir_lex.specs.declared.head.Head.TheVariants as heads
 use Rattle.ir_tree.specs.declared.operand.Reg.{Reg}
 use Rattle.lto_forms.specs.Rules.{is_valued}
 use Rattle.ir_read.specs.Classes.{tokens, refusal}
-use Rattle.ir_instructions.specs.ShapeForms.{any_shape}
-use Rattle.ir_instructions.specs.ValuesAt.{ADDRESS}
+use Rattle.ir_operands.specs.ShapeForms.{any_shape}
+use Rattle.ir_operands.specs.ValuesAt.{ADDRESS}
 use Rattle.ir_read.specs.declared.raw.Operand.TheVariants as operands
 use Rattle.ir_read.proofs.Singles.{word}
 use Rattle.ir_read.proofs.Words.{null_real}

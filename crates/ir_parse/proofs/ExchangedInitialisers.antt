@@ -23,17 +23,17 @@ use Rattle.lto_forms.specs.declared.fault.FaultKind.TheVariants.{Syntax, Profile
 use Rattle.lto_forms.specs.declared.fault.FaultKind.{FaultKind}
 use Rattle.ir_read.specs.Ahead.{BRACKETS}
 use Rattle.ir_read.specs.Classes.{tokens, IsReal, refusal, the, the_at}
-use Rattle.ir_instructions.specs.Extents.{left, shared, whole}
+use Rattle.ir_operands.specs.Extents.{left, shared, whole}
 use Rattle.ir_read.specs.Operands.{memory_refusal}
-use Rattle.ir_instructions.specs.ShapeForms.{any_shape, OPEN_BRACKET, OPEN_BRACE, OPEN_ANGLE}
-use Rattle.ir_instructions.specs.ShapeFormsAt.{array_at, innermost_at, leaf_at, memory_shape_at, packed_at, shape_at, shape_over_at, structure_at}
-use Rattle.ir_instructions.specs.declared.extents.Extent.{Extent}
-use Rattle.ir_instructions.specs.declared.extents.Room.{Room}
+use Rattle.ir_operands.specs.ShapeForms.{any_shape, OPEN_BRACKET, OPEN_BRACE, OPEN_ANGLE}
+use Rattle.ir_operands.specs.ShapeFormsAt.{array_at, innermost_at, leaf_at, memory_shape_at, packed_at, shape_at, shape_over_at, structure_at}
+use Rattle.ir_operands.specs.declared.extents.Extent.{Extent}
+use Rattle.ir_operands.specs.declared.extents.Room.{Room}
 use Rattle.ir_read.specs.declared.raw.InitHead.TheVariants as inits
 use Rattle.ir_read.specs.declared.raw.InitPart.TheVariants as init_parts
 use Rattle.ir_read.specs.declared.raw.InitPart.{InitPart}
 use Rattle.ir_read.specs.declared.shape.Typed.{Typed}
-use Rattle.ir_instructions.proofs.LeafRules.{LEAF}
+use Rattle.ir_operands.proofs.LeafRules.{LEAF}
 use Rattle.ir_read.proofs.Singles.{sample, word, the_rule}
 use Rattle.ir_globals.specs.Initialisers.{BYTES, zeros, bytes, array_begin, structure_begin, packed_begin, aggregate_begin, beginning, aggregate_of, scalar_of, mark, angle, brace, closing, part_shape, part, begun, closed, piece, outermost, listed, is_none, parts, behind, initialiser, Spot, entered}
 use Rattle.ir_globals.specs.InitialisersAt.{ZEROS, zeros_at, bytes_at, array_begin_at, structure_begin_at, packed_begin_at, aggregate_begin_at, beginning_at, mark_at, angle_at, brace_at, closing_at, part_shape_at, part_at, begun_at, closed_at, CLOSER, piece_at, BEGINNINGS, begins_there, there_at, listed_at, parts_at, behind_at, initialiser_at, SHAPE}

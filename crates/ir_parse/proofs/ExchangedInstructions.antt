@@ -10,7 +10,7 @@ use Rattle.ir_read.specs.Ahead.{WRAPS}
 use Rattle.ir_read.specs.Classes.{one_of, one_of_at}
 use Rattle.ir_instructions.specs.Instructions.{is_nuw, PREDICATES, predicate_of, wraps, on_two, wrapping, dividing, joining, comparing, casting, extending, narrowing, selecting, freezing}
 use Rattle.ir_instructions.specs.InstructionsAt.{wraps_at, on_two_at, wrapping_at, dividing_at, joining_at, comparing_at, casting_at, extending_at, narrowing_at, selecting_at, freezing_at}
-use Rattle.ir_instructions.specs.ShapeForms.{any_shape}
+use Rattle.ir_operands.specs.ShapeForms.{any_shape}
 use Rattle.ir_instructions.proofs.InstructionRules.{wrap_rule}
 use Rattle.ir_read.proofs.Singles.{word}
 use Rattle.ir_read.proofs.Words.{equal_real}

@@ -27,7 +27,7 @@ use Rattle.ir_read.specs.Classes.{tokens, IsReal, refusal, the, the_at}
 use Rattle.ir_read.specs.FunctionHeads.{name_refusal}
 use Rattle.ir_read.specs.Metadata.{META}
 use Rattle.ir_read.specs.Operands.{LOCAL, REG, global_named}
-use Rattle.ir_instructions.specs.ShapeForms.{OPEN_BRACE, any_shape}
+use Rattle.ir_operands.specs.ShapeForms.{OPEN_BRACE, any_shape}
 use Rattle.ir_read.specs.Targets.{STRING, layout_line, triple_line}
 use Rattle.ir_read.specs.TargetsAt.{comdat_line_at, source_line_at, target_line_at, LAYOUT, layout_line_at, triple_line_at}
 use Rattle.ir_read.specs.declared.function_heads.Role.TheVariants as roles
@@ -42,9 +42,9 @@ use Rattle.ir_globals.specs.TypeDefinitionsAt.{type_line_at}
 use Rattle.ir_globals.specs.Variables.{NAMES}
 use Rattle.ir_globals.specs.VariablesAt.{variable_line_at, variable_name_at}
 use Rattle.ir_bodies.specs.Blocks.{any_definition}
-use Rattle.ir_items.specs.Items.{left_out, kept, unnamed, attribute_behind, placed, metadata_there, plainly, beside, attached_before, declaration, any_declaration, any_naming, other, any_named, any_piece, anywhere, at_place, Found}
-use Rattle.ir_items.specs.ItemsAt.{SOURCE, TARGET, COMDAT, DECLARE, NAMING, left_out_at, kept_at, unnamed_at, attribute_behind_at, placed_at, metadata_there_at, plainly_at, beside_at, attached_before_at, declaration_at, other_at, ITEM}
-use Rattle.ir_items.proofs.ItemRules.{there_rule}
+use Rattle.ir_parse.specs.ItemForms.{left_out, kept, unnamed, attribute_behind, placed, metadata_there, plainly, beside, attached_before, declaration, any_declaration, any_naming, other, any_named, any_piece, anywhere, at_place, Found}
+use Rattle.ir_parse.specs.ItemFormsAt.{SOURCE, TARGET, COMDAT, DECLARE, NAMING, left_out_at, kept_at, unnamed_at, attribute_behind_at, placed_at, metadata_there_at, plainly_at, beside_at, attached_before_at, declaration_at, other_at, ITEM}
+use Rattle.ir_parse.proofs.ItemRules.{there_rule}
 use Rattle.ir_parse.specs.Refusals.{MEMORY, WORD}
 use Rattle.ir_parse.specs.NamedCalls.{in_definition}
 use Rattle.ir_parse.proofs.Exchanged.{Exchanges, Goes, Place, Swapping, Swaps, alt_loosely, is_angled, loosely, value_loosely, nowhere, alt, alt_by, seq_from, fair, nothing, same_reader, seq, star, taken, tested, Outcome, outcome_too, stands_for, apart, passed, taken_first, IsTold, Stuck, is_target, target_is, placed_of}

@@ -13,7 +13,7 @@ use Rattle.ir_instructions.specs.Addressing.{any_slots}
 use Rattle.ir_read.specs.Classes.{one_of, refusal, the, tokens}
 use Rattle.ir_read.specs.Operands.{LOCAL, named}
 use Rattle.ir_read.specs.OperandsAt.{local_at}
-use Rattle.ir_instructions.specs.ShapeForms.{any_shape}
+use Rattle.ir_operands.specs.ShapeForms.{any_shape}
 use Rattle.ir_read.proofs.Singles.{word}
 use Rattle.ir_bodies.specs.Blocks.{any_local}
 use Rattle.ir_bodies.specs.Calls.{calling, tail_calling}

@@ -29,12 +29,12 @@ use Rattle.ir_read.specs.declared.raw.Item.{Item}
 use Rattle.ir_bodies.specs.BlocksAt.{definition_at}
 use Rattle.ir_globals.specs.Variables.{NAMES}
 use Rattle.ir_globals.specs.VariablesAt.{variable_line_at}
-use Rattle.ir_items.specs.Items.{any_items, any_piece, anywhere, at_place, keep}
-use Rattle.ir_items.specs.ItemsAt.{DECLARE, ITEM, NAMING, beginnings, begins_there, beside_at, declaration_at, first_place, items_at, kept_at, metadata_there_at, named_at, naming_at, other_at, piece_at, plainly_at, there_at}
-use Rattle.ir_items.specs.Modules.{FURTHER_PARAMETERS, GLOBAL_NAMES, any_module, item_refusal, module_of}
-use Rattle.ir_items.proofs.ItemRules.{ANY, items_rule, there_rule}
+use Rattle.ir_parse.specs.ItemForms.{any_items, any_piece, anywhere, at_place, keep}
+use Rattle.ir_parse.specs.ItemFormsAt.{DECLARE, ITEM, NAMING, beginnings, begins_there, beside_at, declaration_at, first_place, items_at, kept_at, metadata_there_at, named_at, naming_at, other_at, piece_at, plainly_at, there_at}
+use Rattle.ir_parse.specs.Modules.{FURTHER_PARAMETERS, GLOBAL_NAMES, any_module, item_refusal, module_of}
+use Rattle.ir_parse.proofs.ItemRules.{ANY, items_rule, there_rule}
 use Rattle.ir_parse.specs.NamedCalls.{in_module}
-use Rattle.ir_instructions.specs.ShapeForms.{OPEN_BRACE}
+use Rattle.ir_operands.specs.ShapeForms.{OPEN_BRACE}
 use Rattle.ir_parse.proofs.Exchanged.{Goes, IsTold, NotTold, Outcome, OutcomeAt, Stays, is_angled, SOMEWHERE, STAND_INS, Stuck, Swaps, placed_too, value_loosely, taken, apart, passed, taken_first}
 use Rattle.ir_parse.proofs.ExchangedItems.{NUMBERED_NAME, STARTS, TYPES, all_items_at, all_items_exchanged, in_items, named_with, naming_with, numbered_is, numbered_told, piece_exchanged, piece_there, piece_with, starts_there, unnamed_refuses, within_at}
 

@@ -11,7 +11,7 @@ use Rattle.ir_read.specs.MetadataAt.{COMMA}
 use Rattle.ir_instructions.specs.Phis as phis
 use Rattle.ir_instructions.specs.Phis.{incoming, attaching, entering, behind_comma, further, entries, phi_of, phi}
 use Rattle.ir_instructions.specs.PhisAt.{begins, incoming_at, attaching_at, entering_at, behind_comma_at, further_at, entries_at, phi_of_at, phi_at}
-use Rattle.ir_instructions.specs.ShapeForms.{any_shape}
+use Rattle.ir_operands.specs.ShapeForms.{any_shape}
 use Rattle.ir_read.specs.declared.raw.Incoming.{Incoming}
 use Rattle.ir_parse.proofs.Exchanged.{Exchanges, alt, nothing, seq, token_begins}
 use Rattle.ir_parse.proofs.ExchangedChains.{chain}

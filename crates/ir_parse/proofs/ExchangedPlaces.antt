@@ -13,8 +13,8 @@ use Rattle.ir_read.specs.Classes.{IsReal, tokens}
 use Rattle.ir_read.specs.FunctionHeads.{GLOBAL, NUMBERED}
 use Rattle.ir_read.specs.Operands.{REG}
 use Rattle.ir_read.specs.Targets.{STRING}
-use Rattle.ir_instructions.specs.ShapeForms.{OPEN_BRACE}
-use Rattle.ir_items.specs.Modules.{any_module, module_of}
+use Rattle.ir_operands.specs.ShapeForms.{OPEN_BRACE}
+use Rattle.ir_parse.specs.Modules.{any_module, module_of}
 use Rattle.ir_parse.specs.NamedCalls.{in_module}
 use Rattle.ir_parse.specs.Refusals.{BeginsVector, GoesOn, INTEGER, LeftOut, MARKER, MEMORY, NoneGoesOn, REFUSED_EVERYWHERE, SomeGoesOn, StringGoesOn, TARGET, TYPE, WORD, everywhere, of_integer, of_marker, of_name, of_target, of_type, of_vector}
 use Rattle.ir_parse.proofs.Exchanged.{Goes, IsTold, NotTold, Outcome, SOMEWHERE, Stuck, is_angled}

@@ -20,19 +20,19 @@ use Rattle.lto_forms.specs.declared.fault.FaultKind.{FaultKind}
 use Rattle.ir_lex.specs.declared.head.Head.{Head}
 use Rattle.ir_read.specs.Ahead.{BRACKETS}
 use Rattle.ir_read.specs.Classes.{tokens, IsReal, refusal, the, the_at}
-use Rattle.ir_instructions.specs.Extents.{extent_of, grown, left, no_bytes, room_for, shared, whole}
+use Rattle.ir_operands.specs.Extents.{extent_of, grown, left, no_bytes, room_for, shared, whole}
 use Rattle.ir_read.specs.MetadataAt.{COMMA}
 use Rattle.ir_read.specs.Operands.{SCALAR, memory_refusal}
-use Rattle.ir_instructions.specs.ShapeForms.{NUMBER, OPEN_ANGLE, OPEN_BRACE, OPEN_BRACKET, angle_refusal, anywhere, any_shape, array_of, brace_behind_angle, count, count_of, elements, further, has_room, is_leaf, leaf, leaf_means, line_of, members, more_members, packed_behind, packed_of, scalar_align, scalar_typed, shape_over, structure_of, type_name}
-use Rattle.ir_instructions.specs.ShapeFormsAt.{CLOSE_BRACE, leaf_at, innermost_at, count_at, elements_at, array_at, further_at, begins, more_members_at, members_at, structure_at, brace_behind_angle_at, packed_behind_at, packed_at, shape_over_at, shape_at, memory_shape_at}
+use Rattle.ir_operands.specs.ShapeForms.{NUMBER, OPEN_ANGLE, OPEN_BRACE, OPEN_BRACKET, angle_refusal, anywhere, any_shape, array_of, brace_behind_angle, count, count_of, elements, further, has_room, is_leaf, leaf, leaf_means, line_of, members, more_members, packed_behind, packed_of, scalar_align, scalar_typed, shape_over, structure_of, type_name}
+use Rattle.ir_operands.specs.ShapeFormsAt.{CLOSE_BRACE, leaf_at, innermost_at, count_at, elements_at, array_at, further_at, begins, more_members_at, members_at, structure_at, brace_behind_angle_at, packed_behind_at, packed_at, shape_over_at, shape_at, memory_shape_at}
 use Rattle.ir_read.specs.Shapes.{Written}
-use Rattle.ir_instructions.specs.declared.extents.Align.TheVariants.{One, Two, Four, Eight}
-use Rattle.ir_instructions.specs.declared.extents.Align.{Align}
-use Rattle.ir_instructions.specs.declared.extents.Extent.{Extent}
-use Rattle.ir_instructions.specs.declared.extents.Room.{Room}
+use Rattle.ir_operands.specs.declared.extents.Align.TheVariants.{One, Two, Four, Eight}
+use Rattle.ir_operands.specs.declared.extents.Align.{Align}
+use Rattle.ir_operands.specs.declared.extents.Extent.{Extent}
+use Rattle.ir_operands.specs.declared.extents.Room.{Room}
 use Rattle.ir_read.specs.declared.shape.Typed.{Typed}
-use Rattle.ir_instructions.proofs.LeafRules.{LEAF, brace_behind_angle_rule, count_rule, leaf_rule, times_rule}
-use Rattle.ir_instructions.proofs.ShapeRules.{nested}
+use Rattle.ir_operands.proofs.LeafRules.{LEAF, brace_behind_angle_rule, count_rule, leaf_rule, times_rule}
+use Rattle.ir_operands.proofs.ShapeRules.{nested}
 use Rattle.ir_read.proofs.Singles.{mark, open_angle_real, open_brace_real, open_bracket_real, word}
 use Rattle.ir_read.proofs.Words.{int_32_real}
 use Rattle.ir_parse.specs.Refusals.{MEMORY}

@@ -23,7 +23,7 @@ use Rattle.ir_read.specs.Targets.{STRING, fits_item, has_64_bits, fits_layout, i
 use Rattle.ir_read.specs.TargetsAt.{LAYOUT, layout_line_at, triple_line_at, target_line_at, source_line_at, comdat_line_at}
 use Rattle.ir_read.specs.declared.raw.Item.TheVariants.{Datalayout, Triple}
 use Rattle.ir_read.proofs.Singles.{sample, word, the_rule, string_real}
-use Rattle.ir_instructions.specs.ShapeForms.{OPEN_ANGLE}
+use Rattle.ir_operands.specs.ShapeForms.{OPEN_ANGLE}
 use Rattle.ir_parse.specs.Refusals.{MEMORY}
 use Rattle.ir_parse.proofs.Exchanged.{Exchanges, Says, alt, nothing, seq, single, apart}
 use Rattle.ir_parse.proofs.ExchangedTokens.{elsewhere, i8_real, one_sample, plain_class, not_bound}

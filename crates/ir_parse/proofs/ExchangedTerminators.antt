@@ -16,7 +16,7 @@ use Rattle.lto_forms.specs.declared.fault.FaultKind.TheVariants.{Syntax}
 use Rattle.ir_read.specs.Classes.{IsReal}
 use Rattle.ir_read.specs.Operands.{reg_of}
 use Rattle.ir_read.specs.OperandsAt.{reg_at}
-use Rattle.ir_instructions.specs.ShapeForms.{any_shape}
+use Rattle.ir_operands.specs.ShapeForms.{any_shape}
 use Rattle.ir_instructions.specs.Terminators.{ENDS, case_classes, matched_of, ending_of, returned, returning, target, branching, constant, case_of, case, switching, behind_end, terminator}
 use Rattle.ir_instructions.specs.TerminatorsAt.{LABEL, returned_at, returning_at, target_at, branching_at, constant_at, case_of_at, case_at, switching_at, behind_end_at, terminator_at}
 use Rattle.ir_read.specs.declared.raw.Terminator.TheVariants as terminators

@@ -22,7 +22,7 @@ use Rattle.ir_read.specs.Classes.{tokens, IsReal, refusal, the, the_at, one_of, 
 use Rattle.ir_read.specs.FunctionHeads.{name_refusal}
 use Rattle.ir_read.specs.Operands.{REG, memory_refusal, type_refusal}
 use Rattle.ir_read.specs.Targets.{STRING}
-use Rattle.ir_instructions.specs.ShapeForms.{OPEN_ANGLE, angle_refusal}
+use Rattle.ir_operands.specs.ShapeForms.{OPEN_ANGLE, angle_refusal}
 use Rattle.ir_read.proofs.FunctionHeadRules.{name_not_number, name_not_limit}
 use Rattle.ir_read.proofs.OperandRules.{type_not_number, type_not_limit, memory_not_number, memory_not_limit}
 use Rattle.ir_read.proofs.Singles.{word, not_number, not_limit}

@@ -9,7 +9,7 @@ use Rattle.ir_lex.specs.Rows.{best_fit, rest_fit, label_len, number_len, word_le
 use Rattle.ir_lex.specs.declared.head.Head.TheVariants as heads
 use Rattle.lto_forms.specs.Rules.{is_class}
 use Rattle.ir_read.specs.Classes.{IsReal, the, the_at}
-use Rattle.ir_instructions.specs.ShapeForms.{any_shape}
+use Rattle.ir_operands.specs.ShapeForms.{any_shape}
 use Rattle.ir_read.proofs.Singles.{word, the_rule}
 use Rattle.ir_globals.specs.TypeDefinitions.{defined, type_line}
 use Rattle.ir_globals.specs.TypeDefinitionsAt.{OPAQUE, defined_at, type_line_at}

@@ -15,13 +15,13 @@ use Rattle.ir_read.specs.Ahead.{STEPPING}
 use Rattle.ir_read.specs.Classes.{tokens, IsReal, the, the_at, one_of, one_of_at}
 use Rattle.ir_read.specs.MetadataAt.{COMMA}
 use Rattle.ir_read.specs.Operands.{global_named, type_refusal}
-use Rattle.ir_instructions.specs.ShapeForms.{any_shape}
-use Rattle.ir_instructions.specs.Values.{is_inbounds, stepping, NUMBER, index_of, index_number, index, GLOBAL, global, closing_one, closing, opened, opening, reached, address_behind, address, operand, argument, pointer}
-use Rattle.ir_instructions.specs.ValuesAt.{ADDRESS, pointer_at, stepping_at, index_number_at, index_at, indices_at, closing_one_at, closing_at, opened_at, opening_at, openings_at, global_at, reached_at, address_behind_at, address_at, operand_at, argument_at}
+use Rattle.ir_operands.specs.ShapeForms.{any_shape}
+use Rattle.ir_operands.specs.Values.{is_inbounds, stepping, NUMBER, index_of, index_number, index, GLOBAL, global, closing_one, closing, opened, opening, reached, address_behind, address, operand, argument, pointer}
+use Rattle.ir_operands.specs.ValuesAt.{ADDRESS, pointer_at, stepping_at, index_number_at, index_at, indices_at, closing_one_at, closing_at, opened_at, opening_at, openings_at, global_at, reached_at, address_behind_at, address_at, operand_at, argument_at}
 use Rattle.ir_read.specs.declared.shape.Typed.{Typed}
 use Rattle.ir_read.proofs.OperandRules.{type_not_number, type_not_limit}
 use Rattle.ir_read.proofs.Singles.{word, the_rule}
-use Rattle.ir_instructions.proofs.ValueRules.{flag_rule, global_rule, index_number_rule, index_rule, opening_rule}
+use Rattle.ir_operands.proofs.ValueRules.{flag_rule, global_rule, index_number_rule, index_rule, opening_rule}
 use Rattle.ir_read.proofs.Words.{pointer_real}
 use Rattle.ir_parse.proofs.Exchanged.{Exchanges, alt, nothing, seq, star, taken}
 use Rattle.ir_parse.proofs.ExchangedOperands.{integer_exchanged, reg_exchanged, simple_exchanged}

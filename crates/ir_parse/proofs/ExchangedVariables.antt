@@ -22,7 +22,7 @@ use Rattle.ir_read.specs.FunctionHeads.{LINKAGES, linkage_word, QUALIFIERS, noth
 use Rattle.ir_instructions.specs.InstructionsAt.{ALIGN}
 use Rattle.ir_read.specs.MetadataAt.{COMMA, PAREN}
 use Rattle.ir_read.specs.Operands.{global_named}
-use Rattle.ir_instructions.specs.ShapeForms.{any_shape}
+use Rattle.ir_operands.specs.ShapeForms.{any_shape}
 use Rattle.ir_read.proofs.FunctionHeadRules.{external_real, named_rule, global_real}
 use Rattle.ir_read.proofs.OperandRules.{global_is}
 use Rattle.ir_read.proofs.Singles.{sample, word, the_rule}

@@ -10,7 +10,7 @@ use Rattle.ir_lex.specs.declared.head.Head.{Head}
 use Rattle.ir_lex.specs.declared.head.Head.TheVariants as heads
 use Rattle.ir_read.proofs.LiteralRange.{literal_fits}
 use Rattle.ir_read.specs.Literals.{literal}
-use Rattle.ir_instructions.specs.ShapeForms.{memory_shape}
+use Rattle.ir_operands.specs.ShapeForms.{memory_shape}
 use Rattle.ir_read.specs.Shapes as written
 use Rattle.ir_read.specs.Shapes.{Written}
 use Rattle.ir_read.specs.declared.raw.InitHead.{InitHead}

@@ -3,14 +3,14 @@ use Rattle.std.proofs.Common.{ℕ, zero, suc, nat_eq, if◌then◌else◌, Bool,
 use Rattle.std.specs.List.{AllByRecursion as Each}
 use Rattle.std.specs.Prelude.{IfSome}
 use Rattle.std.proofs.lemmas.List.Elements.{All-nil, All-from_recursion, recursion_from_All}
-use Rattle.ir_items.specs.Items.{Found, attribute_behind, beside, declaration, declared, items, keep, kept, left_out, metadata_there, named, named_within, naming, other, piece, placed, plainly, unnamed}
-use Rattle.ir_items.specs.Modules.{FURTHER_PARAMETERS, GLOBAL_NAMES, whole_module}
+use Rattle.ir_parse.specs.ItemForms.{Found, attribute_behind, beside, declaration, declared, items, keep, kept, left_out, metadata_there, named, named_within, naming, other, piece, placed, plainly, unnamed}
+use Rattle.ir_parse.specs.Modules.{FURTHER_PARAMETERS, GLOBAL_NAMES, whole_module}
 use Rattle.ir_lex.specs.Heads.{number}
 use Rattle.ir_lex.specs.Tok.{Tok}
 use Rattle.ir_lex.specs.declared.head.Head.TheVariants as heads
 use Rattle.lto_forms.specs.Forms.{Form}
 use Rattle.ir_read.specs.Attributes.{attribute_group}
-use Rattle.ir_instructions.specs.ShapeForms.{memory_shape}
+use Rattle.ir_operands.specs.ShapeForms.{memory_shape}
 use Rattle.ir_read.specs.Targets.{layout_line, target_line, triple_line}
 use Rattle.ir_read.specs.declared.function_heads.Role.TheVariants as roles
 use Rattle.ir_read.specs.declared.places.Before.{Before}

@@ -1,3 +1,6 @@
+pub mod ItemLoops
+pub mod ItemRules
+pub mod Putting
 mod Gives
 mod Marked
 mod KnownFunctions

@@ -14,7 +14,7 @@ use Rattle.lto_forms.specs.Alphabet.{contains}
 use Rattle.lto_forms.specs.Forms.{Form}
 use Rattle.ir_instructions.specs.Addressing.{slots_fit}
 use Rattle.ir_instructions.specs.Instructions.{flags, no_flags, storing}
-use Rattle.ir_instructions.specs.ShapeForms.{memory_shape}
+use Rattle.ir_operands.specs.ShapeForms.{memory_shape}
 use Rattle.ir_read.specs.declared.raw.Instr.{Instr}
 use Rattle.ir_tree.specs.Formed.{FlagsFormed}
 use Rattle.ir_tree.specs.declared.instr.CastOp.TheVariants as casts

@@ -28,8 +28,8 @@ use Rattle.ir_read.specs.FunctionHeadsAt.{end_of_none_at, head_at}
 use Rattle.ir_read.specs.MetadataAt.{COMMA, PAREN}
 use Rattle.ir_read.specs.Operands.{LOCAL, POINTER_OPERAND, REG, RESULT, named, operand_of, result, result_of, reg_of, type_refusal}
 use Rattle.ir_read.specs.OperandsAt.{local_at, result_at}
-use Rattle.ir_instructions.specs.ShapeForms.{any_shape}
-use Rattle.ir_instructions.specs.ValuesAt.{ADDRESS, address_at}
+use Rattle.ir_operands.specs.ShapeForms.{any_shape}
+use Rattle.ir_operands.specs.ValuesAt.{ADDRESS, address_at}
 use Rattle.ir_read.specs.declared.function_heads.Role.TheVariants as roles
 use Rattle.ir_instructions.specs.Terminators.{ENDS}
 use Rattle.ir_read.specs.declared.places.Before.TheVariants as befores
@@ -59,10 +59,10 @@ use Rattle.ir_bodies.proofs.LineRules as line_rules
 use Rattle.ir_bodies.proofs.Samples.{add_real, call_word_rule, define_word_rule, label_real}
 use Rattle.ir_globals.specs.Variables.{NAMES}
 use Rattle.ir_globals.specs.VariablesAt.{variable_line_at}
-use Rattle.ir_items.specs.Items.{any_items, anywhere}
-use Rattle.ir_items.specs.ItemsAt.{DECLARE, NAMING, beginnings, begins_there, declaration_at, first_place, items_at, kept_at, named_at, named_within_at, naming_at, other_at, piece_at, there_at}
-use Rattle.ir_items.specs.Modules.{FURTHER_PARAMETERS, GLOBAL_NAMES, item_refusal, module_of}
-use Rattle.ir_items.proofs.ItemRules.{MORE, there_rule}
+use Rattle.ir_parse.specs.ItemForms.{any_items, anywhere}
+use Rattle.ir_parse.specs.ItemFormsAt.{DECLARE, NAMING, beginnings, begins_there, declaration_at, first_place, items_at, kept_at, named_at, named_within_at, naming_at, other_at, piece_at, there_at}
+use Rattle.ir_parse.specs.Modules.{FURTHER_PARAMETERS, GLOBAL_NAMES, item_refusal, module_of}
+use Rattle.ir_parse.proofs.ItemRules.{MORE, there_rule}
 use Rattle.ir_parse.specs.NamedCalls.{before_callee, before_named_callee, in_block, in_blocks, in_definition, in_lines, in_module}
 use Rattle.ir_parse.proofs.Leads.{Leads, Opening, Reading, chain_leads, chain_opening, first_leads, leads_after, leads_behind, leads_one, leads_other, many_leads, opening_first, opening_within, reading, star_opening, successive_leads}
 

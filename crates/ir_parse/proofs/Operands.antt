@@ -10,7 +10,7 @@ use Rattle.lto_forms.specs.Forms.{Form}
 use Rattle.ir_read.specs.Literals.{literal}
 use Rattle.ir_read.proofs.LiteralRange.{literal_fits}
 use Rattle.ir_read.specs.Operands.{SCALAR, bit, bits_of, integer, named, operand_by, reg, reg_of, result, result_of, scalar, simple, width}
-use Rattle.ir_instructions.specs.Values.{address, address_behind, argument, operand, reached}
+use Rattle.ir_operands.specs.Values.{address, address_behind, argument, operand, reached}
 use Rattle.ir_read.specs.declared.raw.Operand.{Operand}
 use Rattle.ir_read.specs.declared.raw.Operand.TheVariants as operands
 use Rattle.ir_read.specs.declared.shape.Typed.{Typed}

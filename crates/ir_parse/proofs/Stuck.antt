@@ -15,9 +15,9 @@ use Rattle.lto_forms.proofs.Whole as whole
 use Rattle.ir_read.specs.Classes.{tokens}
 use Rattle.ir_read.specs.declared.raw.Item.{Item}
 use Rattle.ir_read.proofs.FunctionHeadRules.{name_not_number}
-use Rattle.ir_items.specs.ItemsAt.{ITEM, items_at}
-use Rattle.ir_items.specs.Modules.{FURTHER_PARAMETERS, GLOBAL_NAMES, any_module, item_refusal, last_tokens, module_of, whole_module}
-use Rattle.ir_items.proofs.ItemRules.{ANY, items_rule}
+use Rattle.ir_parse.specs.ItemFormsAt.{ITEM, items_at}
+use Rattle.ir_parse.specs.Modules.{FURTHER_PARAMETERS, GLOBAL_NAMES, any_module, item_refusal, last_tokens, module_of, whole_module}
+use Rattle.ir_parse.proofs.ItemRules.{ANY, items_rule}
 use Rattle.ir_parse.specs.Answers.{IsStopped, stopped_kind}
 use Rattle.ir_parse.specs.FirstFault.{IsStuck, IsTold, Stuck, end_kind, line_of}
 use Rattle.ir_parse.specs.declared.fault.FaultKind as told

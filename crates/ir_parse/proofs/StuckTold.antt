@@ -14,7 +14,7 @@ use Rattle.lto_forms.proofs.Rules.{apart_from}
 use Rattle.ir_read.specs.Classes.{tokens}
 use Rattle.ir_read.specs.FunctionHeads.{NUMBERED}
 use Rattle.ir_read.specs.Targets.{STRING}
-use Rattle.ir_items.specs.Modules.{any_module, module_of, whole_module}
+use Rattle.ir_parse.specs.Modules.{any_module, module_of, whole_module}
 use Rattle.ir_parse.specs.Kinds.{grammar_fault}
 use Rattle.ir_parse.specs.Refusals.{BeginsVector, GoesOn, INTEGER, IsRefusedFor, LeftOut, MARKER, NumberGoesOn, REFUSED_EVERYWHERE, TARGET, TYPE, WithinRange, everywhere, of_integer, of_marker, of_name, of_target, of_type, of_vector}
 use Rattle.ir_parse.specs.declared.fault.FaultKind as told_kind

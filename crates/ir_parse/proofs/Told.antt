@@ -24,8 +24,8 @@ use Rattle.ir_read.specs.Decimals.{ALIGNMENTS, alignment_of, decimal, is_alignme
 use Rattle.ir_read.specs.FunctionHeads.{NUMBERED, name_refusal}
 use Rattle.ir_read.specs.Metadata.{ended_by, line_step, open_behind}
 use Rattle.ir_read.specs.Operands.{REFUSED_TYPES, memory_refusal, type_refusal}
-use Rattle.ir_instructions.specs.ShapeForms.{OPEN_ANGLE, angle_refusal}
-use Rattle.ir_instructions.specs.ShapeFormsAt.{brace_behind_angle_at}
+use Rattle.ir_operands.specs.ShapeForms.{OPEN_ANGLE, angle_refusal}
+use Rattle.ir_operands.specs.ShapeFormsAt.{brace_behind_angle_at}
 use Rattle.ir_read.specs.declared.brackets.Bracket.{Bracket}
 use Rattle.ir_parse.specs.Refusals.{BeginsVector, INTEGER, MARKER, REFUSED_EVERYWHERE, TARGET, TYPE, last_is}
 

@@ -17,7 +17,7 @@ use Rattle.ir_read.specs.MetadataAt.{COMMA}
 use Rattle.ir_parse.proofs.ToldMetadata.{attached_told}
 use Rattle.ir_parse.proofs.ToldOperands.{integer_told}
 use Rattle.ir_instructions.specs.Phis as phis
-use Rattle.ir_instructions.specs.ShapeForms.{NUMBER}
+use Rattle.ir_operands.specs.ShapeForms.{NUMBER}
 use Rattle.ir_parse.proofs.ToldShapeForms.{memory_shape_told}
 use Rattle.ir_parse.proofs.ToldValues.{pointer_told, stepping_told, operand_told, argument_told}
 use Rattle.ir_instructions.specs.AddressingAt.{too_many, count_means, count_in_at, many_slots_at, one_slot_at, slots_behind_at, reserving_at, indexing_at, attaching_at, behind_comma_at, further_at, begins, indices_at, stepped_at, stepping_by_at, addressing_at}

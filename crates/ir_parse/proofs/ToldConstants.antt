@@ -4,7 +4,7 @@ use Rattle.std.specs.Prelude.{Option}
 use Rattle.ir_tree.specs.declared.operand.Reg.{Reg}
 use Rattle.lto_forms.specs.Alphabet.{among}
 use Rattle.ir_read.specs.Classes.{tokens, refusal}
-use Rattle.ir_instructions.specs.ValuesAt.{ADDRESS}
+use Rattle.ir_operands.specs.ValuesAt.{ADDRESS}
 use Rattle.ir_parse.proofs.ToldValues.{address_told}
 use Rattle.ir_globals.specs.Constants.{CONSTANTS, constant_of}
 use Rattle.ir_globals.specs.ConstantsAt.{single_at, constant_at}

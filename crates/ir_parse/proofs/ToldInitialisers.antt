@@ -9,7 +9,7 @@ use Rattle.lto_forms.specs.Alphabet.{among}
 use Rattle.ir_read.specs.Ahead.{BRACKETS}
 use Rattle.ir_read.specs.Classes.{tokens}
 use Rattle.ir_read.specs.declared.raw.InitHead.TheVariants as inits
-use Rattle.ir_instructions.specs.ShapeForms.{OPEN_ANGLE, OPEN_BRACKET, OPEN_BRACE}
+use Rattle.ir_operands.specs.ShapeForms.{OPEN_ANGLE, OPEN_BRACKET, OPEN_BRACE}
 use Rattle.ir_parse.proofs.ToldShapeForms.{memory_shape_told}
 use Rattle.ir_parse.proofs.ToldConstants.{constant_told}
 use Rattle.ir_globals.specs.Initialisers.{scalar_of, BYTES, aggregate_of, closing_refusal, Spot, outermost, is_none}

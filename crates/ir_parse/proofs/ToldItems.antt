@@ -17,7 +17,7 @@ use Rattle.ir_read.specs.AttributesAt.{HEAD, attribute_group_at}
 use Rattle.ir_parse.proofs.ToldAttributes.{head_attribute_told, attribute_group_told}
 use Rattle.ir_read.specs.Classes.{tokens}
 use Rattle.ir_parse.proofs.ToldFunctionHeads.{head_told}
-use Rattle.ir_items.specs.Items.{anywhere}
+use Rattle.ir_parse.specs.ItemForms.{anywhere}
 use Rattle.ir_read.specs.Metadata.{META}
 use Rattle.ir_read.specs.MetadataAt.{metadata_line_at}
 use Rattle.ir_parse.proofs.ToldMetadata.{attached_told, metadata_line_told}
@@ -31,9 +31,9 @@ use Rattle.ir_read.specs.declared.places.Before.{Before}
 use Rattle.ir_read.specs.declared.places.Before.TheVariants as befores
 use Rattle.ir_read.specs.declared.places.Position.{Position}
 use Rattle.ir_read.specs.declared.raw.Item.{Item}
-use Rattle.ir_items.specs.ItemsAt.{SOURCE, TARGET, COMDAT, DECLARE, NAMING, left_out_at, kept_at, unnamed_at, attribute_behind_at, placed_at, metadata_there_at, plainly_at, beside_at, attached_before_at, declaration_at, naming_at, other_at, named_at, piece_at, begins_there, there_at, first_place, items_at}
+use Rattle.ir_parse.specs.ItemFormsAt.{SOURCE, TARGET, COMDAT, DECLARE, NAMING, left_out_at, kept_at, unnamed_at, attribute_behind_at, placed_at, metadata_there_at, plainly_at, beside_at, attached_before_at, declaration_at, naming_at, other_at, named_at, piece_at, begins_there, there_at, first_place, items_at}
 use Rattle.std.proofs.Common.{Bool, true, false, cond, nat_eq, refl}
-use Rattle.ir_items.proofs.ItemRules.{there_rule}
+use Rattle.ir_parse.proofs.ItemRules.{there_rule}
 
 pub left_out_told : (f : Reader Tok (Unit {0})) → Tells f → Tells (left_out_at f)
 unfolding left_out_at

@@ -8,13 +8,13 @@ use Rattle.lto_forms.specs.Readers.{Reader}
 use Rattle.lto_forms.specs.Rules.{is_valued}
 use Rattle.ir_read.specs.Ahead.{BRACKETS}
 use Rattle.ir_read.specs.Classes.{tokens, refusal}
-use Rattle.ir_instructions.specs.declared.extents.Extent.{Extent}
-use Rattle.ir_instructions.specs.declared.extents.Room.{Room}
+use Rattle.ir_operands.specs.declared.extents.Extent.{Extent}
+use Rattle.ir_operands.specs.declared.extents.Room.{Room}
 use Rattle.ir_read.specs.declared.shape.Typed.{Typed}
-use Rattle.ir_instructions.specs.Extents.{extent_of, grown, left, no_bytes, shared, whole}
-use Rattle.ir_instructions.specs.ShapeForms.{line_of, leaf_means, NUMBER, count_of, OPEN_BRACKET, OPEN_BRACE, OPEN_ANGLE, anywhere, is_leaf, too_large, has_room, scalar_typed, type_name}
+use Rattle.ir_operands.specs.Extents.{extent_of, grown, left, no_bytes, shared, whole}
+use Rattle.ir_operands.specs.ShapeForms.{line_of, leaf_means, NUMBER, count_of, OPEN_BRACKET, OPEN_BRACE, OPEN_ANGLE, anywhere, is_leaf, too_large, has_room, scalar_typed, type_name}
 use Rattle.ir_read.specs.Shapes.{Written}
-use Rattle.ir_instructions.specs.ShapeFormsAt.{CLOSE_BRACE, leaf_at, innermost_at, count_at, elements_at, array_at, further_at, begins, more_members_at, members_at, structure_at, packed_behind_at, packed_at, shape_over_at, shape_at, memory_shape_at}
+use Rattle.ir_operands.specs.ShapeFormsAt.{CLOSE_BRACE, leaf_at, innermost_at, count_at, elements_at, array_at, further_at, begins, more_members_at, members_at, structure_at, packed_behind_at, packed_at, shape_over_at, shape_at, memory_shape_at}
 use Rattle.std.proofs.Common.{Ok, Err, cond, ◌&&◌, ◌≡◌, refl}
 use Rattle.lto_forms.specs.declared.fault.FaultKind.TheVariants.{Limit as limit}
 use Rattle.ir_read.specs.Operands.{SCALAR, LOCAL, memory_refusal}

@@ -12,8 +12,8 @@ use Rattle.ir_read.specs.MetadataAt.{COMMA}
 use Rattle.ir_read.specs.Operands.{type_refusal, global_named}
 use Rattle.ir_parse.proofs.ToldOperands.{reg_told, integer_told, simple_told}
 use Rattle.ir_parse.proofs.ToldShapeForms.{memory_shape_told}
-use Rattle.ir_instructions.specs.Values.{is_inbounds, NUMBER, index_of, GLOBAL}
-use Rattle.ir_instructions.specs.ValuesAt.{ADDRESS, pointer_at, stepping_at, index_number_at, index_at, indices_at, closing_one_at, closing_at, opened_at, opening_at, openings_at, global_at, reached_at, address_behind_at, address_at, operand_at, argument_at}
+use Rattle.ir_operands.specs.Values.{is_inbounds, NUMBER, index_of, GLOBAL}
+use Rattle.ir_operands.specs.ValuesAt.{ADDRESS, pointer_at, stepping_at, index_number_at, index_at, indices_at, closing_one_at, closing_at, opened_at, opening_at, openings_at, global_at, reached_at, address_behind_at, address_at, operand_at, argument_at}
 use Rattle.std.proofs.Common.{refl}
 
 pub pointer_told : Tells pointer_at

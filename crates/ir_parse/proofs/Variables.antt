@@ -6,7 +6,7 @@ use Rattle.ir_globals.specs.Variables.{aligned, behind_kind, further, in_comdat,
 use Rattle.ir_lex.specs.Tok.{Tok}
 use Rattle.ir_names.specs.Types.{shape_if}
 use Rattle.ir_read.specs.FunctionHeads.{with_linkage}
-use Rattle.ir_instructions.specs.ShapeForms.{memory_shape}
+use Rattle.ir_operands.specs.ShapeForms.{memory_shape}
 use Rattle.ir_read.specs.declared.raw.Init.{Init}
 use Rattle.ir_tree.specs.Formed.{IsResult}
 use Rattle.ir_tree.specs.declared.function.Linkage.{Linkage}

@@ -6,7 +6,7 @@ use Rattle.ir_lex.specs.Tok.{Tok}
 use Rattle.ir_names.specs.declared.fault.Fault as names
 use Rattle.ir_read.specs.Classes.{tokens}
 use Rattle.ir_read.specs.declared.raw.Item.{Item}
-use Rattle.ir_items.specs.Modules.{whole_module}
+use Rattle.ir_parse.specs.Modules.{whole_module}
 use Rattle.ir_parse.specs.declared.fault.FaultKind.{FaultKind}
 use Rattle.ir_parse.specs.declared.fault.FaultKind.TheVariants as kinds
 use Rattle.ir_parse.specs.Kinds.{name_fault}

@@ -1,3 +1,7 @@
+pub mod ItemForms
+pub mod ItemFormsAt
+pub mod Modules
+pub mod Putting
 pub mod Targets
 pub mod Values
 pub mod Stages

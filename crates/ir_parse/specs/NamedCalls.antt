@@ -9,13 +9,13 @@ use Rattle.ir_instructions.specs.Addressing.{any_slots}
 use Rattle.ir_read.specs.Attributes.{definition_attributes}
 use Rattle.ir_read.specs.Classes.{the}
 use Rattle.ir_read.specs.FunctionHeads.{any_head}
-use Rattle.ir_instructions.specs.ShapeForms.{any_shape}
+use Rattle.ir_operands.specs.ShapeForms.{any_shape}
 use Rattle.ir_read.specs.declared.function_heads.Role.TheVariants as roles
 use Rattle.ir_bodies.specs.Blocks.{INSTRUCTIONS, any_block, any_label, any_local, at_will}
 use Rattle.ir_bodies.specs.Calls.{conventions, types}
 use Rattle.ir_bodies.specs.Lines.{line}
-use Rattle.ir_items.specs.Items.{any_items}
-use Rattle.ir_items.specs.Modules.{GLOBAL_NAMES}
+use Rattle.ir_parse.specs.ItemForms.{any_items}
+use Rattle.ir_parse.specs.Modules.{GLOBAL_NAMES}
 
 -- {fastcc / ccc / pattr} void [( [reg {, reg}] )]
 unfoldable pub before_callee : Form Tok (Unit {0})

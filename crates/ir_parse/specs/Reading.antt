@@ -4,7 +4,7 @@ use Rattle.ir_lex.specs.Lexing.{AreTokens}
 use Rattle.ir_lex.specs.Tok.{Tok}
 use Rattle.ir_read.specs.declared.raw.Item.{Item}
 use Rattle.ir_tree.specs.declared.module.Module.{Module}
-use Rattle.ir_items.specs.Modules.{whole_module}
+use Rattle.ir_parse.specs.Modules.{whole_module}
 use Rattle.ir_stages.specs.Lines.{lines_of}
 use Rattle.ir_parse.specs.Stages.{module_in}
 

@@ -9,8 +9,8 @@ use Rattle.ir_read.specs.Classes.{IsReal, tokens}
 use Rattle.ir_read.specs.FunctionHeads.{GLOBAL, NUMBERED}
 use Rattle.ir_read.specs.Operands.{REG}
 use Rattle.ir_read.specs.Targets.{STRING}
-use Rattle.ir_instructions.specs.ShapeForms.{OPEN_ANGLE, OPEN_BRACE}
-use Rattle.ir_items.specs.Modules.{any_module, whole_module}
+use Rattle.ir_operands.specs.ShapeForms.{OPEN_ANGLE, OPEN_BRACE}
+use Rattle.ir_parse.specs.Modules.{any_module, whole_module}
 use Rattle.ir_parse.specs.NamedCalls.{in_module}
 use Rattle.ir_parse.specs.declared.fault.FaultKind.{FaultKind}
 use Rattle.ir_parse.specs.declared.fault.FaultKind.TheVariants as kinds

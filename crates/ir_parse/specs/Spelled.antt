@@ -1,13 +1,13 @@
 -- What the grammar makes of shapes, of operands, and of whole modules.
 use Rattle.std.specs.Prelude.{◌≡◌, ℕ, List, All, Ok}
-use Rattle.ir_items.specs.Modules.{whole_module}
+use Rattle.ir_parse.specs.Modules.{whole_module}
 use Rattle.ir_lex.specs.Lexing.{AreTokens, Stands}
 use Rattle.ir_lex.specs.Tok.{Tok}
 use Rattle.ir_names.specs.Marks.{marks_of}
 use Rattle.ir_names.specs.TypeNames.{type_names}
 use Rattle.ir_names.specs.Types.{Types}
-use Rattle.ir_instructions.specs.ShapeForms.{memory_shape}
-use Rattle.ir_instructions.specs.Values.{argument, operand}
+use Rattle.ir_operands.specs.ShapeForms.{memory_shape}
+use Rattle.ir_operands.specs.Values.{argument, operand}
 use Rattle.ir_read.specs.declared.raw.Argument.{Argument}
 use Rattle.ir_read.specs.declared.raw.Item.{Item}
 use Rattle.ir_read.specs.declared.raw.Operand.{Operand}

@@ -2,13 +2,13 @@
 ghost use Rattle.std.specs.Prelude.{◌≡◌, ◌-◌, IfOk, IfErr, true, drop, length};
 ghost use Rattle.ir_lex.specs.Tok.{tok, toks};
 ghost use Rattle.lto_forms.specs.Readers.{Gives};
-ghost use Rattle.ir_items.specs.Modules.{whole_module, module_of, last_tokens};
+ghost use Rattle.ir_parse.specs.Modules.{whole_module, module_of, last_tokens};
 ghost use Rattle.ir_parse.specs.Answers.{IfFault, IsStopped};
 ghost use Rattle.ir_parse.specs.FirstFault.{Stuck, end_kind};
 ghost use Rattle.ir_parse.specs.Kinds.{refused_kind, grammar_fault};
 
 use crate::fault::{FaultKind, ReadError, ReadFault};
-use ir_items::items_at;
+use crate::items::items_at;
 use ir_lex::{Head, Lexed, Token};
 use ir_read::{Item, Tokens, name_refusal};
 use ir_tree::Text;
@@ -22,7 +22,7 @@ const FURTHER_PARAMETERS: usize = 65534;
 const GLOBAL_NAMES: usize = 65535;
 
 /// The items that these tokens are read as.
-#[tactic(auto, unfolding(ir_items::specs::Modules::module_of, ir_items::specs::Modules::FURTHER_PARAMETERS, ir_items::specs::Modules::GLOBAL_NAMES))]
+#[tactic(auto, unfolding(crate::specs::Modules::module_of, crate::specs::Modules::FURTHER_PARAMETERS, crate::specs::Modules::GLOBAL_NAMES))]
 fn items_of<'a>(alloc: Global, all: &[Token<'a>]) -> Result<Vec<Item<'a>>, GrammarError>
     ensures { Gives (λ v. v.items) result (module_of (toks all.now)) }
 {

@@ -5,8 +5,8 @@
 //! grammar alone, and so is why the token there is refused (`specs/Refusals.antt`); behind it the first stage that finds a
 //! fault tells it (`specs/FirstFault.antt`).
 //!
-//! Below stand tokens (`ir_lex`), items (`ir_items`), the stages with functions and variables (`ir_stages`), and names
-//! (`ir_names`). Beside the reader stand laws: what resolves is formed (`resolved`), and what that asks of a text holds of all
+//! Below stand tokens (`ir_lex`), the parts of items (`ir_read`), definitions of functions (`ir_bodies`), variables and type
+//! definitions (`ir_globals`), the stages with functions and variables (`ir_stages`), and names (`ir_names`). Beside the reader stand laws: what resolves is formed (`resolved`), and what that asks of a text holds of all
 //! that the grammar spells (`spelled`). Its promise: exactly what `specs/Reading.antt` reads is answered, and each other text
 //! is refused for its first fault, unless memory runs out.
 //! Reading is linear in the text, but for chains of type names that stand for each other. Tokens and items borrow the text;
@@ -15,6 +15,7 @@
 
 mod fault;
 mod grammar;
+mod items;
 mod laws;
 mod reading;
 mod resolved;

@@ -3,7 +3,7 @@ use Rattle.std.proofs.Common.{Bool, true, false, [], refl}
 use Rattle.std.specs.List.{AllByRecursion as Each}
 use Rattle.std.specs.Prelude.{IfSome}
 use Rattle.ir_instructions.specs.Addressing.{addressing, attaching, behind_comma, further, indexing, indices, keep}
-use Rattle.ir_instructions.specs.ShapeForms.{memory_shape}
+use Rattle.ir_operands.specs.ShapeForms.{memory_shape}
 use Rattle.ir_tree.specs.declared.operand.Reg.TheVariants.{Ptr}
 use Rattle.read_again.specs.Spelled.{ArgumentSpelled, InstrSpelled}
 use Rattle.read_again.proofs.Means.{Means, chain_means, either_means, follow, kept_means, nothing, skip}

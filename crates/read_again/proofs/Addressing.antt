@@ -15,8 +15,8 @@ use Rattle.ir_instructions.specs.Addressing.{one_slot, slots_behind, reserving, 
 use Rattle.ir_read.specs.Ahead.{STEPPING}
 use Rattle.ir_read.specs.Classes.{refusal, one_of}
 use Rattle.ir_instructions.specs.Phis.{anywhere}
-use Rattle.ir_instructions.specs.ShapeForms.{memory_shape}
-use Rattle.ir_instructions.specs.Values.{is_inbounds, or_inbounds, stepping}
+use Rattle.ir_operands.specs.ShapeForms.{memory_shape}
+use Rattle.ir_operands.specs.Values.{is_inbounds, or_inbounds, stepping}
 use Rattle.ir_tree.specs.Formed.{IsAlignment}
 use Rattle.ir_tree.specs.Forms.{Form}
 use Rattle.ir_tree.specs.declared.instr.Instr.TheVariants.{Alloca, Address}

@@ -12,7 +12,7 @@ use Rattle.ir_print.specs.Blocks.{phis, phi_line, content, labelled, further_blo
 use Rattle.ir_print.specs.Instructions.{lines}
 use Rattle.ir_instructions.specs.Addressing.{slots_fit}
 use Rattle.ir_read.specs.Operands.{local}
-use Rattle.ir_instructions.specs.ShapeForms.{memory_shape}
+use Rattle.ir_operands.specs.ShapeForms.{memory_shape}
 use Rattle.ir_read.specs.declared.raw.Block as raw_block
 use Rattle.ir_read.specs.declared.raw.Line as raw_line
 use Rattle.ir_tree.specs.declared.block.Block.{Block}

@@ -14,8 +14,8 @@ use Rattle.ir_print.specs.Types.{result}
 use Rattle.ir_read.specs.Attributes.{parameter_attributes, call_attributes}
 use Rattle.ir_read.specs.Classes.{tokens, refusal}
 use Rattle.ir_read.specs.Operands.{type_refusal, classes_of, operand_of, simple}
-use Rattle.ir_instructions.specs.ShapeForms.{memory_shape}
-use Rattle.ir_instructions.specs.Values as values
+use Rattle.ir_operands.specs.ShapeForms.{memory_shape}
+use Rattle.ir_operands.specs.Values as values
 use Rattle.ir_read.specs.declared.raw.Operand as raw_operand
 use Rattle.ir_tree.specs.declared.instr.Instr.TheVariants.{Call}
 use Rattle.ir_tree.specs.declared.operand.Argument.{Argument}

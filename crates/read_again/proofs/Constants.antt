@@ -14,8 +14,8 @@ use Rattle.ir_print.specs.Tokens.{word, global}
 use Rattle.ir_read.specs.Classes.{tokens, refusal}
 use Rattle.ir_read.specs.Literals.{literal}
 use Rattle.ir_read.specs.Operands.{simple}
-use Rattle.ir_instructions.specs.ShapeForms.{memory_shape}
-use Rattle.ir_instructions.specs.Values as values
+use Rattle.ir_operands.specs.ShapeForms.{memory_shape}
+use Rattle.ir_operands.specs.Values as values
 use Rattle.ir_read.specs.declared.raw.InitHead as raw_head
 use Rattle.ir_read.specs.declared.raw.Operand.TheVariants as ro
 use Rattle.ir_tree.specs.Names.{quoted}

@@ -1,7 +1,7 @@
 -- Printed declarations of functions are read, and none is dropped (LangRef, "Functions").
 use Rattle.std.proofs.Common.{◌≡◌, ℕ, cond, nat_eq, Some, None, List, [], refl, ap, ◌∙◌}
-use Rattle.ir_items.specs.Items as read
-use Rattle.ir_items.specs.Items.{attached_before, declared}
+use Rattle.ir_parse.specs.ItemForms as read
+use Rattle.ir_parse.specs.ItemForms.{attached_before, declared}
 use Rattle.ir_lex.specs.Heads.{number, head_of}
 use Rattle.ir_lex.specs.declared.head.Head as class
 use Rattle.ir_lex.specs.declared.head.Head.TheVariants as heads

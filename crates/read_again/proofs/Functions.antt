@@ -3,7 +3,7 @@ use Rattle.std.proofs.Common.{◌≡◌, ℕ, Option, Some, None, List, [], ◌�
 use Rattle.std.specs.List.{AllByRecursion as Each}
 use Rattle.std.specs.Prelude.{All, Contains, slice_index_or}
 use Rattle.std.proofs.lemmas.List.Elements.{recursion_from_All}
-use Rattle.ir_items.specs.Modules.{FURTHER_PARAMETERS}
+use Rattle.ir_parse.specs.Modules.{FURTHER_PARAMETERS}
 use Rattle.ir_tree.specs.Formed.{ArgumentFormed, Formed, IsBlock, IsReg, ItemFormed, OperandFormed, ResultFormed}
 use Rattle.ir_tree.specs.Items.{Item, phi_item, line_item, end_item, items, operands, taken}
 use Rattle.ir_tree.specs.Rules.{Sound}

@@ -4,7 +4,7 @@ use Rattle.std.specs.List.{AllByRecursion as Each}
 use Rattle.std.specs.Prelude.{filter_map}
 use Rattle.std.specs.List.{cons_option}
 use Rattle.std.proofs.lemmas.List.Elements.{recursion_from_All}
-use Rattle.ir_items.specs.Modules.{FURTHER_PARAMETERS}
+use Rattle.ir_parse.specs.Modules.{FURTHER_PARAMETERS}
 use Rattle.ir_lex.specs.Tok.{Tok}
 use Rattle.ir_names.specs.Blocks.{function_in}
 use Rattle.ir_names.specs.Groups.{any_of, no_groups, is_optnone}

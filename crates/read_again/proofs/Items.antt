@@ -1,7 +1,7 @@
 -- Each entry of a printed module is read as an item that is kept (LangRef, "Module Structure").
 use Rattle.std.proofs.Common.{◌≡◌, ℕ, suc, ◌-◌, Option, List, [], ◌∷◌, codes, refl, sym, ap, subst}
-use Rattle.ir_items.specs.Items as read
-use Rattle.ir_items.specs.Items.{Found, unnamed, beside, naming, at_place, other, named, piece}
+use Rattle.ir_parse.specs.ItemForms as read
+use Rattle.ir_parse.specs.ItemForms.{Found, unnamed, beside, naming, at_place, other, named, piece}
 use Rattle.ir_lex.specs.Pieces.{Piece}
 use Rattle.ir_print.specs.Functions as functions
 use Rattle.ir_print.specs.Modules as printed

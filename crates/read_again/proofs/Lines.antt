@@ -18,7 +18,7 @@ use Rattle.ir_instructions.specs.Addressing.{slots_fit}
 use Rattle.ir_read.specs.Classes.{refusal, one_of}
 use Rattle.ir_instructions.specs.Instructions.{casting}
 use Rattle.ir_read.specs.Operands.{local}
-use Rattle.ir_instructions.specs.ShapeForms.{memory_shape}
+use Rattle.ir_operands.specs.ShapeForms.{memory_shape}
 use Rattle.ir_read.specs.declared.raw.Instr as raw_instr
 use Rattle.ir_tree.specs.Formed.{IsReg}
 use Rattle.ir_tree.specs.declared.instr.BinaryOp.{BinaryOp}

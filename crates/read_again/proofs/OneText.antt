@@ -1,8 +1,8 @@
 -- Modules with one printed text are one, however many global names they have.
 use Rattle.std.proofs.Common.{◌≡◌, ◌∙◌, ◌+◌, ◌≤◌, ℕ, Ok, List, [], length, arith, sym, ap, subst}
-use Rattle.ir_items.specs.Items.{items}
-use Rattle.ir_items.specs.Modules.{FURTHER_PARAMETERS}
-use Rattle.ir_items.proofs.ItemRules.{items_rule}
+use Rattle.ir_parse.specs.ItemForms.{items}
+use Rattle.ir_parse.specs.Modules.{FURTHER_PARAMETERS}
+use Rattle.ir_parse.proofs.ItemRules.{items_rule}
 use Rattle.ir_lex.specs.Lexing.{AreTokens}
 use Rattle.ir_lex.specs.Tok.{Tok}
 use Rattle.ir_lex.proofs.Unique.{same_list}

@@ -22,7 +22,7 @@ use Rattle.ir_instructions.specs.Instructions as read
 use Rattle.ir_instructions.specs.Instructions.{is_nuw, with_wrap, no_flags, on_two, wrapping, dividing, joining, PREDICATES, predicate_by, predicate_of, comparing, casting, extending, narrowing, selecting, freezing, align, aligned, loading, storing, wraps}
 use Rattle.ir_read.specs.Metadata.{attachments}
 use Rattle.ir_read.specs.Operands.{maybe}
-use Rattle.ir_instructions.specs.ShapeForms.{memory_shape}
+use Rattle.ir_operands.specs.ShapeForms.{memory_shape}
 use Rattle.ir_read.specs.declared.raw.Instr.{Instr}
 use Rattle.ir_tree.specs.Formed.{IsWidth, IsReg, IsScalar, IsAlignment, FlagsFormed}
 use Rattle.ir_tree.specs.declared.instr.BinaryOp.{BinaryOp}

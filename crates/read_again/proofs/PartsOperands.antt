@@ -15,10 +15,10 @@ use Rattle.ir_read.specs.Operands.{global_by, global_named}
 use Rattle.ir_read.specs.Classes.{tokens, refusal}
 use Rattle.ir_read.specs.Literals.{literal}
 use Rattle.ir_read.specs.Operands.{classes_of, operand_by, operand_of, simple}
-use Rattle.ir_instructions.specs.ShapeForms.{memory_shape}
+use Rattle.ir_operands.specs.ShapeForms.{memory_shape}
 use Rattle.ir_read.specs.Shapes as written
-use Rattle.ir_instructions.specs.Values as read
-use Rattle.ir_instructions.specs.Values.{GLOBAL, NUMBER, stepping, opened, opening, index_number, index_of, closing_one, reached, address_behind, argument}
+use Rattle.ir_operands.specs.Values as read
+use Rattle.ir_operands.specs.Values.{GLOBAL, NUMBER, stepping, opened, opening, index_number, index_of, closing_one, reached, address_behind, argument}
 use Rattle.ir_read.specs.declared.address.Index.{Index}
 use Rattle.ir_read.specs.declared.address.Level.{Level}
 use Rattle.ir_read.specs.declared.address.Steps.{Steps}

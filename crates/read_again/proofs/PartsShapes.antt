@@ -10,18 +10,18 @@ use Rattle.ir_print.specs.Tokens.{tight, space, mark, width, natural, word}
 use Rattle.ir_print.specs.Types as printed
 use Rattle.ir_read.specs.Classes.{refusal, one_of}
 use Rattle.ir_read.specs.Decimals as read_decimal
-use Rattle.ir_instructions.specs.Extents.{align_by, extent_of, grown, left as left_room, no_bytes, room_for, shared, whole}
+use Rattle.ir_operands.specs.Extents.{align_by, extent_of, grown, left as left_room, no_bytes, room_for, shared, whole}
 use Rattle.ir_read.specs.Literals.{literal}
 use Rattle.ir_read.specs.Operands as operands
 use Rattle.ir_read.specs.Operands.{SCALAR}
-use Rattle.ir_instructions.specs.ShapeForms as read
-use Rattle.ir_instructions.specs.ShapeForms.{NUMBER, OPEN_BRACKET, OPEN_BRACE, OPEN_ANGLE, anywhere, angle_refusal, array_of, brace_behind_angle, count, count_of, counted, elements, has_room, is_leaf, is_pointer, leaf, line_of, memory_shape, more_members, packed_behind, packed_of, scalar_align, scalar_typed, shape_over, structure_of}
+use Rattle.ir_operands.specs.ShapeForms as read
+use Rattle.ir_operands.specs.ShapeForms.{NUMBER, OPEN_BRACKET, OPEN_BRACE, OPEN_ANGLE, anywhere, angle_refusal, array_of, brace_behind_angle, count, count_of, counted, elements, has_room, is_leaf, is_pointer, leaf, line_of, memory_shape, more_members, packed_behind, packed_of, scalar_align, scalar_typed, shape_over, structure_of}
 use Rattle.ir_read.specs.Shapes as written
 use Rattle.ir_read.specs.Shapes.{Written, parts_of}
-use Rattle.ir_instructions.specs.declared.extents.Align.{Align}
-use Rattle.ir_instructions.specs.declared.extents.Align.TheVariants.{Eight}
-use Rattle.ir_instructions.specs.declared.extents.Extent.{Extent}
-use Rattle.ir_instructions.specs.declared.extents.Room.{Room}
+use Rattle.ir_operands.specs.declared.extents.Align.{Align}
+use Rattle.ir_operands.specs.declared.extents.Align.TheVariants.{Eight}
+use Rattle.ir_operands.specs.declared.extents.Extent.{Extent}
+use Rattle.ir_operands.specs.declared.extents.Room.{Room}
 use Rattle.ir_read.specs.declared.shape.Typed.{Typed}
 use Rattle.ir_tree.specs.Formed.{IsStored}
 use Rattle.ir_tree.specs.Forms.{Form, Forms, int, pointer, array, structure, no_parts, part}

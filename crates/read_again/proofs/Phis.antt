@@ -5,7 +5,7 @@ use Rattle.ir_print.specs.Instructions as printed
 use Rattle.ir_print.specs.Tokens.{space}
 use Rattle.ir_print.specs.Types.{register}
 use Rattle.ir_instructions.specs.Phis.{incoming, entering, anywhere, further, keep, entries, phi_of, phi}
-use Rattle.ir_instructions.specs.ShapeForms.{memory_shape}
+use Rattle.ir_operands.specs.ShapeForms.{memory_shape}
 use Rattle.ir_tree.specs.Formed.{IsReg}
 use Rattle.ir_tree.specs.declared.instr.Incoming.{Incoming}
 use Rattle.ir_tree.specs.declared.instr.Instr.TheVariants.{Phi}

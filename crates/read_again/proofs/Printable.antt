@@ -3,7 +3,7 @@ use Rattle.std.proofs.Common.{◌≡◌, ℕ, suc, Option, Some, None, List, [],
 use Rattle.std.specs.List.{AllByRecursion as Each}
 use Rattle.std.specs.Prelude.{All}
 use Rattle.std.proofs.lemmas.List.Elements.{All-from_recursion}
-use Rattle.ir_items.specs.Modules.{FURTHER_PARAMETERS}
+use Rattle.ir_parse.specs.Modules.{FURTHER_PARAMETERS}
 use Rattle.ir_tree.specs.Forms.{Form}
 use Rattle.ir_tree.specs.Initials.{Initial, Initials, plain, zeros, bytes, elements, members, no_initials, initial}
 use Rattle.ir_tree.specs.Items.{Item, phi_item, line_item, end_item, items, items_from, block_items, lines_from, operands, reads, phi_reads, end_reads, taken_as}

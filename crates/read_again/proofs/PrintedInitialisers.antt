@@ -16,7 +16,7 @@ use Rattle.ir_print.specs.Variables.{level_of, opening, closing_brace, value, pa
 use Rattle.ir_print.specs.declared.level.Level.{Level}
 use Rattle.ir_print.specs.declared.level.Level.TheVariants as levels
 use Rattle.ir_read.specs.Classes.{refusal, the}
-use Rattle.ir_instructions.specs.ShapeForms.{memory_shape, angle_refusal, brace_behind_angle}
+use Rattle.ir_operands.specs.ShapeForms.{memory_shape, angle_refusal, brace_behind_angle}
 use Rattle.ir_read.specs.Shapes.{Written}
 use Rattle.ir_read.specs.declared.raw.InitHead as raw_head
 use Rattle.ir_read.specs.declared.raw.InitHead.TheVariants as rh

@@ -1,8 +1,8 @@
 -- Whole modules are read: the entries of a printed module one behind another (LangRef, "Module Structure").
 use Rattle.std.proofs.Common.{ℕ, zero, suc, ◌-◌, ◌≤◌, Option, List, [], ◌∷◌, ◌++◌, map, length, codes, refl, sym, subst, append-nil, arith}
 use Rattle.std.specs.List.{fold, AllByRecursion as Each}
-use Rattle.ir_items.specs.Items.{items, piece, anywhere, keep}
-use Rattle.ir_items.specs.Modules.{FURTHER_PARAMETERS, GLOBAL_NAMES, whole_module}
+use Rattle.ir_parse.specs.ItemForms.{items, piece, anywhere, keep}
+use Rattle.ir_parse.specs.Modules.{FURTHER_PARAMETERS, GLOBAL_NAMES, whole_module}
 use Rattle.ir_lex.specs.Lexing.{AreTokens}
 use Rattle.ir_lex.specs.Pieces.{Piece}
 use Rattle.ir_lex.specs.Tok.{Tok}

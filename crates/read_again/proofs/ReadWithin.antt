@@ -4,7 +4,7 @@ use Rattle.std.specs.List.{AllByRecursion as Each}
 use Rattle.std.specs.Prelude.{filter_map, IfSome}
 use Rattle.std.proofs.lemmas.List.Elements.{All-from_recursion}
 use Rattle.ir_bodies.specs.Blocks.{FURTHER_BLOCKS, INSTRUCTIONS}
-use Rattle.ir_items.specs.Modules.{FURTHER_PARAMETERS, GLOBAL_NAMES}
+use Rattle.ir_parse.specs.Modules.{FURTHER_PARAMETERS, GLOBAL_NAMES}
 use Rattle.ir_lex.specs.Quotes.{content}
 use Rattle.ir_lex.specs.Tok.{Tok}
 use Rattle.ir_names.specs.Blocks.{block_of, block_in, behind_block, blocks_in, blocks_of, body_in, body_of, function_in, params_from}

@@ -1,14 +1,14 @@
 -- A shape that is laid out in 2^31 bytes has room, and so has each shape within.
 use Rattle.std.proofs.Common.{◌≡◌, ℕ, zero, suc, ◌+◌, ◌-◌, ◌*◌, ◌/◌, ◌≤◌, ◌^◌, nat_eq, nat_lt, nat_le, Bool, true, false, cond, List, refl, sym, subst, arith, mul_comm, le-div_iff_mul-le}
-use Rattle.ir_instructions.specs.Extents.{wider, bytes, rounded, multiples, extent, extent_of, members_extent, no_bytes, placed, grown, padded, align_by, room_for, share, shared, between, behind, left_for, left, whole, Fits, IsRoom}
+use Rattle.ir_operands.specs.Extents.{wider, bytes, rounded, multiples, extent, extent_of, members_extent, no_bytes, placed, grown, padded, align_by, room_for, share, shared, between, behind, left_for, left, whole, Fits, IsRoom}
 use Rattle.ir_read.specs.Shapes as written
 use Rattle.ir_read.specs.Shapes.{WrittenParts}
-use Rattle.ir_instructions.specs.declared.extents.Align.{Align}
-use Rattle.ir_instructions.specs.declared.extents.Align.TheVariants.{One, Two, Four, Eight}
-use Rattle.ir_instructions.specs.declared.extents.Extent.{Extent}
-use Rattle.ir_instructions.specs.declared.extents.Room.{Room}
-use Rattle.ir_instructions.specs.ShapeForms.{memory_shape}
-use Rattle.ir_instructions.proofs.ExtentLaws.{grown_fits, elements_fit, most_for, left_room, shared_room}
+use Rattle.ir_operands.specs.declared.extents.Align.{Align}
+use Rattle.ir_operands.specs.declared.extents.Align.TheVariants.{One, Two, Four, Eight}
+use Rattle.ir_operands.specs.declared.extents.Extent.{Extent}
+use Rattle.ir_operands.specs.declared.extents.Room.{Room}
+use Rattle.ir_operands.specs.ShapeForms.{memory_shape}
+use Rattle.ir_operands.proofs.ExtentLaws.{grown_fits, elements_fit, most_for, left_room, shared_room}
 use Rattle.ir_print.specs.Types.{shape}
 use Rattle.ir_tree.specs.Formed.{AreStored, AllStored, nesting, deepest}
 use Rattle.ir_tree.specs.Forms.{Form, Forms, int, pointer, array, structure, no_parts, part}

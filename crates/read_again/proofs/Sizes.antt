@@ -1,10 +1,10 @@
 -- The extent of a printed shape is its size and its alignment (LangRef, "Data Layout").
 use Rattle.std.proofs.Common.{◌≡◌, ℕ, ◌+◌, ◌*◌, ◌/◌, ◌≤◌, max, Bool, true, false, refl, sym, ap, subst, ◌∙◌, arith, inl, inr, mul_left_comm}
-use Rattle.ir_instructions.specs.Extents as read
-use Rattle.ir_instructions.specs.Extents.{wider, bytes, extent, extent_of, members_extent, no_bytes, grown, padded, align_by}
-use Rattle.ir_instructions.specs.declared.extents.Align.{Align}
-use Rattle.ir_instructions.specs.declared.extents.Align.TheVariants.{One, Two, Four, Eight}
-use Rattle.ir_instructions.specs.declared.extents.Extent.{Extent}
+use Rattle.ir_operands.specs.Extents as read
+use Rattle.ir_operands.specs.Extents.{wider, bytes, extent, extent_of, members_extent, no_bytes, grown, padded, align_by}
+use Rattle.ir_operands.specs.declared.extents.Align.{Align}
+use Rattle.ir_operands.specs.declared.extents.Align.TheVariants.{One, Two, Four, Eight}
+use Rattle.ir_operands.specs.declared.extents.Extent.{Extent}
 use Rattle.ir_tree.specs.Formed.{IsStored, AreStored, AllStored}
 use Rattle.ir_tree.specs.Forms.{Form, Forms, int, pointer, array, structure, no_parts, part}
 use Rattle.ir_tree.proofs.Layouts.{max_widest}

@@ -3,7 +3,7 @@ use Rattle.std.proofs.Common.{◌≡◌, ℕ, suc, ◌+◌, ◌<◌, ◌≤◌, 
 use Rattle.std.specs.List.{AllByRecursion as Each}
 use Rattle.std.proofs.lemmas.List.{length-append}
 use Rattle.ir_bodies.specs.Blocks.{FURTHER_BLOCKS, INSTRUCTIONS}
-use Rattle.ir_items.specs.Modules.{FURTHER_PARAMETERS}
+use Rattle.ir_parse.specs.Modules.{FURTHER_PARAMETERS}
 use Rattle.ir_names.specs.declared.locals.Sort.{Sort}
 use Rattle.ir_tree.specs.Formed.{IsBlock, IsLocal}
 use Rattle.ir_tree.specs.declared.block.Block.{Block}

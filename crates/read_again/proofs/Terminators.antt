@@ -13,7 +13,7 @@ use Rattle.ir_print.specs.Tokens.{space, indent, word, mark, comma, width}
 use Rattle.ir_read.specs.Classes.{refusal, one_of}
 use Rattle.ir_read.specs.Literals.{literal}
 use Rattle.ir_read.specs.Operands.{type_refusal}
-use Rattle.ir_instructions.specs.ShapeForms.{memory_shape}
+use Rattle.ir_operands.specs.ShapeForms.{memory_shape}
 use Rattle.ir_instructions.specs.Terminators as read
 use Rattle.ir_instructions.specs.Terminators.{ENDS, ending_of, end_by, behind_end, returned, returning, branching, case_classes, matched, matched_by, matched_of, case_of, case, end_of_cases, switching}
 use Rattle.ir_instructions.specs.declared.terminators.End.{End}

@@ -8,7 +8,7 @@ use Rattle.ir_print.specs.Tokens.{space, word, width}
 use Rattle.ir_print.specs.Types.{register, result}
 use Rattle.ir_read.specs.Operands as read
 use Rattle.ir_read.specs.Operands.{INTEGER, REG, SCALAR, RESULT, type_refusal, memory_refusal, reg_of, is_bit, result_of}
-use Rattle.ir_instructions.specs.Values.{pointer}
+use Rattle.ir_operands.specs.Values.{pointer}
 use Rattle.ir_tree.specs.Formed.{IsWidth, IsReg, IsResult, IsStored, IsScalar}
 use Rattle.ir_tree.specs.declared.operand.Reg.{Reg}
 use Rattle.ir_tree.specs.declared.operand.Reg.TheVariants.{Int, Ptr}

@@ -4,7 +4,7 @@ use Rattle.std.specs.List.{AllByRecursion as Each}
 use Rattle.std.specs.Prelude.{IfSome}
 use Rattle.ir_bodies.specs.Calls.{any_arguments, argument, argument_behind, argument_of, arguments, arguments_of, called, called_value, callee, calling, each_further, further_argument, further_of, marker, some_arguments, some_of, unmarked, unmarked_value}
 use Rattle.ir_lex.specs.Tok.{Tok}
-use Rattle.ir_instructions.specs.ShapeForms.{memory_shape}
+use Rattle.ir_operands.specs.ShapeForms.{memory_shape}
 use Rattle.ir_read.specs.declared.raw.Argument.{Argument}
 use Rattle.ir_read.specs.declared.raw.Instr.{Instr}
 use Rattle.ir_read.specs.declared.raw.Operand.{Operand}

@@ -6,7 +6,7 @@ use Rattle.ir_lex.specs.declared.head.Head.TheVariants as heads
 use Rattle.ir_lex.specs.declared.token.Kind.{Kind}
 use Rattle.ir_lex.specs.declared.token.Kind.TheVariants as kinds
 use Rattle.lto_forms.specs.Alphabet.{contains}
-use Rattle.ir_instructions.specs.Values.{GLOBAL}
+use Rattle.ir_operands.specs.Values.{GLOBAL}
 
 -- no class of a name
 record Other (h : Head) : Type 0 where

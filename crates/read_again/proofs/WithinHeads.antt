@@ -1,12 +1,12 @@
 -- Heads of functions that the grammar spells, and names of variables: names can be written, and there are so many parameters.
 use Rattle.std.proofs.Common.{◌≡◌, ℕ, suc, ◌≤◌, nat_eq, if◌then◌else◌, ◌||◌, ◌++◌, Bool, true, false, List, length, refl, arith}
 use Rattle.ir_globals.specs.Variables.{variable_name}
-use Rattle.ir_items.specs.Modules.{FURTHER_PARAMETERS}
+use Rattle.ir_parse.specs.Modules.{FURTHER_PARAMETERS}
 use Rattle.ir_lex.specs.Heads.{number}
 use Rattle.ir_lex.specs.Tok.{Tok}
 use Rattle.ir_lex.specs.declared.head.Head.TheVariants as heads
 use Rattle.ir_read.specs.FunctionHeads.{GLOBAL as function_names, NUMBERED, function_name, head, is_local, listed_params, params, some_params}
-use Rattle.ir_instructions.specs.Values.{GLOBAL}
+use Rattle.ir_operands.specs.Values.{GLOBAL}
 use Rattle.ir_read.specs.declared.function_heads.Role.{Role}
 use Rattle.ir_read.specs.declared.function_heads.Role.TheVariants as roles
 use Rattle.ir_read.specs.declared.raw.Head.{Head}

@@ -11,7 +11,7 @@ use Rattle.ir_lex.specs.Tok.{Tok}
 use Rattle.ir_lex.specs.declared.head.Head.{Head}
 use Rattle.ir_lex.specs.declared.head.Head.TheVariants as heads
 use Rattle.ir_read.specs.Literals.{literal}
-use Rattle.ir_instructions.specs.ShapeForms.{memory_shape}
+use Rattle.ir_operands.specs.ShapeForms.{memory_shape}
 use Rattle.ir_read.specs.Shapes as shapes
 use Rattle.ir_read.specs.Shapes.{Written}
 use Rattle.ir_read.specs.declared.raw.InitPart.TheVariants as init_parts

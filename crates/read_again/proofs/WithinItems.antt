@@ -5,8 +5,8 @@ use Rattle.std.specs.Prelude.{IfSome}
 use Rattle.ir_bodies.specs.Blocks.{definition}
 use Rattle.ir_globals.specs.TypeDefinitions.{defined, type_line}
 use Rattle.ir_globals.specs.Variables.{behind_kind, is_declared, variable_line, variable_name}
-use Rattle.ir_items.specs.Items as whole
-use Rattle.ir_items.specs.Modules.{FURTHER_PARAMETERS, GLOBAL_NAMES, whole_module}
+use Rattle.ir_parse.specs.ItemForms as whole
+use Rattle.ir_parse.specs.Modules.{FURTHER_PARAMETERS, GLOBAL_NAMES, whole_module}
 use Rattle.ir_lex.specs.Heads.{number}
 use Rattle.ir_lex.specs.Quotes.{content}
 use Rattle.ir_lex.specs.Tok.{Tok}
@@ -14,7 +14,7 @@ use Rattle.ir_lex.specs.declared.head.Head.TheVariants as heads
 use Rattle.ir_names.specs.Types.{shape_if}
 use Rattle.ir_read.specs.Attributes.{attribute_group}
 use Rattle.ir_read.specs.Classes.{refusal}
-use Rattle.ir_instructions.specs.ShapeForms.{memory_shape}
+use Rattle.ir_operands.specs.ShapeForms.{memory_shape}
 use Rattle.ir_read.specs.Targets.{fits_layout, is_layout, layout_line, target_line, triple_line}
 use Rattle.ir_read.specs.declared.function_heads.Role.TheVariants as roles
 use Rattle.ir_read.specs.declared.places.Before.{Before}

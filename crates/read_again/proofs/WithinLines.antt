@@ -14,7 +14,7 @@ use Rattle.ir_instructions.specs.Addressing.{slots_fit}
 use Rattle.ir_instructions.specs.Addressing.{fitting, many_slots, one_slot, reserving, slots_behind}
 use Rattle.ir_instructions.specs.Instructions as instr
 use Rattle.ir_read.specs.Operands.{width}
-use Rattle.ir_instructions.specs.ShapeForms.{memory_shape, count_of}
+use Rattle.ir_operands.specs.ShapeForms.{memory_shape, count_of}
 use Rattle.ir_instructions.specs.declared.addressing.Slots.{Slots}
 use Rattle.ir_read.specs.declared.raw.Instr.{Instr}
 use Rattle.ir_tree.specs.declared.instr.BinaryOp.{BinaryOp}

@@ -19,7 +19,7 @@ use Rattle.ir_lex.specs.declared.token.Kind.{Kind}
 use Rattle.ir_lex.specs.declared.token.Kind.TheVariants as kinds
 use Rattle.ir_names.specs.Keys.{is_numeral}
 use Rattle.ir_names.specs.Symbols.{symbol_name, trimmed}
-use Rattle.ir_instructions.specs.Values.{GLOBAL}
+use Rattle.ir_operands.specs.Values.{GLOBAL}
 use Rattle.lto_forms.specs.Alphabet.{contains}
 use Rattle.ir_tree.specs.Names.{AllBytes}
 use Rattle.read_again.specs.Classes.{IsOrdinary}

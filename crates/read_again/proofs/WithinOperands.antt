@@ -9,8 +9,8 @@ use Rattle.lto_forms.specs.Alphabet.{contains}
 use Rattle.lto_forms.specs.Rules.{is_exact}
 use Rattle.ir_read.specs.Literals.{literal}
 use Rattle.ir_read.specs.Operands.{INTEGER, bit, bits_of, is_bit, named, operand_by, simple, type_refusal, width}
-use Rattle.ir_instructions.specs.ShapeForms.{memory_shape}
-use Rattle.ir_instructions.specs.Values.{address, address_behind, argument, operand, reached, steps}
+use Rattle.ir_operands.specs.ShapeForms.{memory_shape}
+use Rattle.ir_operands.specs.Values.{address, address_behind, argument, operand, reached, steps}
 use Rattle.ir_read.specs.declared.address.Steps.{Steps}
 use Rattle.ir_read.specs.declared.raw.Operand.{Operand}
 use Rattle.ir_read.specs.declared.raw.Operand.TheVariants as operands

@@ -3,7 +3,7 @@ use Rattle.std.proofs.Common.{Bool, true, false, List, [], ◌∷◌, ◌++◌, 
 use Rattle.std.specs.List.{AllByRecursion as Each, fold}
 use Rattle.std.specs.Prelude.{IfSome}
 use Rattle.ir_instructions.specs.Phis.{attaching, behind_comma, entering, entries, further, incoming, keep, phi, phi_of}
-use Rattle.ir_instructions.specs.ShapeForms.{memory_shape}
+use Rattle.ir_operands.specs.ShapeForms.{memory_shape}
 use Rattle.ir_read.specs.declared.raw.Incoming.{Incoming}
 use Rattle.ir_tree.specs.declared.operand.Reg.{Reg}
 use Rattle.read_again.specs.Spelled.{HasIncoming, IncomingSpelled, InstrSpelled}

@@ -8,15 +8,15 @@ use Rattle.ir_lex.specs.Rows.{begins}
 use Rattle.ir_lex.specs.Tok.{Tok}
 use Rattle.ir_read.specs.Classes.{tokens}
 use Rattle.ir_read.specs.Decimals.{decimal}
-use Rattle.ir_instructions.specs.Extents.{left, shared, grown, no_bytes, extent_of, whole}
+use Rattle.ir_operands.specs.Extents.{left, shared, grown, no_bytes, extent_of, whole}
 use Rattle.ir_read.specs.Literals.{literal, negated, unsigned}
 use Rattle.ir_read.specs.Operands.{LOCAL, SCALAR, memory_refusal, named, width}
-use Rattle.ir_instructions.specs.ShapeForms as shapes
-use Rattle.ir_instructions.specs.ShapeForms.{array_of, count, counted, elements, further, has_room, is_leaf, leaf, members, memory_shape, more_members, packed_behind, packed_of, scalar_typed, shape, shape_over, structure_of, type_name, typed}
+use Rattle.ir_operands.specs.ShapeForms as shapes
+use Rattle.ir_operands.specs.ShapeForms.{array_of, count, counted, elements, further, has_room, is_leaf, leaf, members, memory_shape, more_members, packed_behind, packed_of, scalar_typed, shape, shape_over, structure_of, type_name, typed}
 use Rattle.ir_read.specs.Shapes as written
 use Rattle.ir_read.specs.Shapes.{Written, parts_of}
-use Rattle.ir_instructions.specs.declared.extents.Extent.{Extent}
-use Rattle.ir_instructions.specs.declared.extents.Room.{Room}
+use Rattle.ir_operands.specs.declared.extents.Extent.{Extent}
+use Rattle.ir_operands.specs.declared.extents.Room.{Room}
 use Rattle.ir_read.specs.declared.shape.Typed.{Typed}
 use Rattle.lto_forms.specs.Alphabet.{contains}
 use Rattle.lto_forms.specs.Forms.{Form}

@@ -13,7 +13,7 @@ use Rattle.ir_instructions.specs.Addressing.{reserving, addressing, slots_fit}
 use Rattle.ir_read.specs.Classes.{the}
 use Rattle.ir_instructions.specs.Instructions.{wrapping, dividing, joining, on_two, no_flags, comparing, extending, narrowing, selecting, freezing, loading, storing}
 use Rattle.ir_instructions.specs.Phis.{phi}
-use Rattle.ir_instructions.specs.ShapeForms.{memory_shape}
+use Rattle.ir_operands.specs.ShapeForms.{memory_shape}
 use Rattle.ir_read.specs.declared.raw.Instr as raw
 use Rattle.read_again.specs.Classes.{binary_class, cast_class}
 

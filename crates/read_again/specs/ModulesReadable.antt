@@ -2,7 +2,7 @@
 -- define and declare as many names as the grammar takes (LangRef, "Module Structure", "Data Layout").
 use Rattle.std.specs.Prelude.{◌≡◌, ℕ, ◌≤◌, true, List, [], ◌∷◌, length}
 use Rattle.std.specs.List.{AllByRecursion as Each}
-use Rattle.ir_items.specs.Modules.{FURTHER_PARAMETERS, GLOBAL_NAMES}
+use Rattle.ir_parse.specs.Modules.{FURTHER_PARAMETERS, GLOBAL_NAMES}
 use Rattle.ir_read.specs.Targets.{fits_layout}
 use Rattle.ir_tree.specs.Names.{AllBytes}
 use Rattle.ir_tree.specs.declared.block.Block.{Block}

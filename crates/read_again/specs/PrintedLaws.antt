@@ -1,7 +1,7 @@
 -- What holds of the tokens of a text of bytes, and of the items that they spell.
 use Rattle.std.specs.Prelude.{ℕ, List}
 use Rattle.std.specs.List.{AllByRecursion as Each}
-use Rattle.ir_items.specs.Modules.{whole_module}
+use Rattle.ir_parse.specs.Modules.{whole_module}
 use Rattle.ir_lex.specs.Lexing.{AreTokens}
 use Rattle.ir_lex.specs.Quotes.{content}
 use Rattle.ir_lex.specs.Tok.{Tok}

@@ -4,7 +4,7 @@
 use Rattle.std.specs.Prelude.{◌≡◌, ◌⊎◌, ℕ, suc, ◌+◌, ◌<◌, ◌≤◌, ◌^◌, true, Option, Some, None, List, [], ◌∷◌, length}
 use Rattle.std.specs.List.{AllByRecursion as Each}
 use Rattle.ir_bodies.specs.Blocks.{FURTHER_BLOCKS, INSTRUCTIONS}
-use Rattle.ir_items.specs.Modules.{FURTHER_PARAMETERS, GLOBAL_NAMES}
+use Rattle.ir_parse.specs.Modules.{FURTHER_PARAMETERS, GLOBAL_NAMES}
 use Rattle.ir_lex.specs.Quotes.{content}
 use Rattle.ir_lex.specs.Tok.{Tok}
 use Rattle.ir_names.specs.Symbols.{symbol_name}

@@ -3,7 +3,7 @@ use Rattle.std.specs.Prelude.{◌≡◌, ℕ, true, List}
 use Rattle.ir_lex.specs.Heads.{number}
 use Rattle.ir_lex.specs.Tok.{Tok}
 use Rattle.ir_names.specs.Symbols.{symbol_name}
-use Rattle.ir_instructions.specs.Values.{GLOBAL}
+use Rattle.ir_operands.specs.Values.{GLOBAL}
 use Rattle.ir_tree.specs.Names.{AllBytes}
 use Rattle.lto_forms.specs.Alphabet.{contains}
 use Rattle.read_again.specs.Classes.{IsOrdinary}

@@ -3,7 +3,7 @@
 use Rattle.std.specs.Prelude.{suc, ◌≤◌, ◌<◌, ◌^◌, List, [], ◌∷◌, length, All}
 use Rattle.std.specs.List.{AllByRecursion as Each}
 use Rattle.ir_bodies.specs.Blocks.{FURTHER_BLOCKS, INSTRUCTIONS}
-use Rattle.ir_items.specs.Modules.{FURTHER_PARAMETERS, GLOBAL_NAMES}
+use Rattle.ir_parse.specs.Modules.{FURTHER_PARAMETERS, GLOBAL_NAMES}
 use Rattle.ir_tree.specs.Items.{Item, phi_item, line_item, end_item, items, operands}
 use Rattle.ir_tree.specs.Wholes.{init_operands, symbols}
 use Rattle.ir_tree.specs.declared.function.Function.{Function}

@@ -1,6 +1,6 @@
 //! What the grammar spells is within its limits, and what stands in it can be written again.
 //!
-//! Laws that tie the grammar's forms (`ir_read`, `ir_bodies`, `ir_globals`, `ir_items`) to what a
+//! Laws that tie the grammar's forms (`ir_read`, `ir_bodies`, `ir_globals`, `ir_parse`) to what a
 //! printer needs. They go over the tokens of a text of bytes: each of them is bytes, and the name
 //! that one of a global's class stands for is bytes without a zero byte and isn't kept for LLVM
 //! itself. From a whole module on down: each item that the grammar spells has such names, counts

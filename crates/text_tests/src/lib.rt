@@ -1,6 +1,6 @@
 //! Tests of text and of what is read of it, on small examples worked out by hand: trees, tokens, printed forms, edits and data
-//! flow (`ir_tree`, `ir_lex`, `ir_print`, `ir_edit`, `ir_flow`); numbers that digits write (`ir_read`), first faults of
-//! items (`ir_items`); whole modules, as they are printed or refused (`ir_parse`),
+//! flow (`ir_tree`, `ir_lex`, `ir_print`, `ir_edit`, `ir_flow`); numbers that digits write (`ir_read`); first faults of
+//! items, and whole modules, as they are printed or refused (`ir_parse`),
 //! some of them read again from their print (`ir_stages`); the circles of one graph (`ir_names`); and the verifier
 //! (`ir_verify`).
 //!

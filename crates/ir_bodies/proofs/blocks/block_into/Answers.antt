@@ -1,6 +1,6 @@
 use Rattle.std.proofs.Common.{sym, ap, subst, ◌∙◌, arith}
 use Rattle.lto_forms.specs.Readers.{Fails, follow}
-use Rattle.ir_instructions.proofs.Levels.{gives_as}
+use Rattle.ir_operands.proofs.Levels.{gives_as}
 use Rattle.ir_bodies.specs.Adding.{added_at}
 use Rattle.ir_bodies.specs.BlocksAt.{block_at, block_behind_at}
 use Rattle.ir_bodies.proofs.Additions.{added_to, first_fails}

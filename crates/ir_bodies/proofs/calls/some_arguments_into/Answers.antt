@@ -5,7 +5,7 @@ use Rattle.lto_forms.proofs.Stars.{behind, takes, folds_fail, folds_on, folds_no
 use Rattle.ir_read.specs.Classes.{tokens}
 use Rattle.ir_read.specs.declared.raw.Argument.{Argument}
 use Rattle.ir_read.specs.MetadataAt.{COMMA}
-use Rattle.ir_instructions.proofs.Additions.{first_fails, pushed_fails, pushed_read}
+use Rattle.ir_operands.proofs.Additions.{first_fails, pushed_fails, pushed_read}
 use Rattle.ir_bodies.specs.Adding.{joined_at}
 use Rattle.ir_bodies.specs.CallsAt.{argument_at, arguments_behind_at, further_argument_at, some_arguments_at}
 use Rattle.ir_bodies.proofs.Additions.{folded_joined, joined_to}

@@ -5,8 +5,8 @@ use Rattle.ir_lex.specs.Tok.{Tok}
 use Rattle.lto_forms.specs.Readers.{Fails, follow}
 use Rattle.lto_forms.proofs.Loops.{with_front}
 use Rattle.ir_read.specs.declared.raw.Argument.{Argument}
-use Rattle.ir_instructions.proofs.Additions.{first_fails, pushed_fails, pushed_read}
-use Rattle.ir_instructions.proofs.Levels.{turn_fails, turns_on}
+use Rattle.ir_operands.proofs.Additions.{first_fails, pushed_fails, pushed_read}
+use Rattle.ir_operands.proofs.Levels.{turn_fails, turns_on}
 use Rattle.ir_bodies.specs.Adding.{joined_at}
 use Rattle.ir_bodies.specs.CallsAt.{argument_of_at, further_of_at, each_further_at, each_behind_at, some_of_at}
 use Rattle.ir_bodies.proofs.Additions.{front_one, joined_to}

@@ -5,7 +5,7 @@ use Rattle.lto_forms.specs.Readers.{folded, star_at}
 use Rattle.lto_forms.proofs.Stars.{behind, takes, folds_on, folds_none}
 use Rattle.ir_read.specs.Classes.{tokens}
 use Rattle.ir_read.specs.MetadataAt.{COMMA}
-use Rattle.ir_instructions.proofs.Levels.{first_and_others}
+use Rattle.ir_operands.proofs.Levels.{first_and_others}
 use Rattle.ir_bodies.specs.CallsAt.{further_type_at, types_behind_at}
 use Rattle.ir_bodies.proofs.CallRules.{further_type_rule}
 use Rattle.ir_bodies.proofs.calls.types_behind_at.Goals as goal

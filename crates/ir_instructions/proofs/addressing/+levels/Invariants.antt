@@ -1,5 +1,5 @@
 use Rattle.std.proofs.Common.{◌≡◌, ◌+◌, ◌*◌, drop}
-use Rattle.ir_instructions.specs.Extents.{all_nest_within}
+use Rattle.ir_operands.specs.Extents.{all_nest_within}
 use Rattle.ir_read.specs.Shapes.{parts_of}
 use Rattle.ir_instructions.proofs.addressing.+levels.Given as goal
 

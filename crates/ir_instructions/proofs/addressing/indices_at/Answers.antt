@@ -12,7 +12,7 @@ use Rattle.ir_read.specs.Classes.{tokens}
 use Rattle.ir_read.specs.declared.raw.Argument.{Argument}
 use Rattle.ir_read.specs.MetadataAt.{COMMA}
 use Rattle.ir_instructions.specs.Phis.{anywhere}
-use Rattle.ir_instructions.proofs.Additions.{chain_fails, gathered_fails, gathered_read}
+use Rattle.ir_operands.proofs.Additions.{chain_fails, gathered_fails, gathered_read}
 use Rattle.ir_instructions.proofs.AddressingRules.{further_rule}
 use Rattle.ir_instructions.proofs.addressing.indices_at.Goals as goal
 

@@ -11,7 +11,7 @@ use Rattle.ir_read.specs.declared.raw.Incoming.{Incoming}
 use Rattle.ir_read.specs.MetadataAt.{COMMA}
 use Rattle.ir_instructions.specs.Phis.{anywhere, keep}
 use Rattle.ir_instructions.specs.PhisAt.{all_entries_at, begins, further_at, entries_at}
-use Rattle.ir_instructions.proofs.Additions.{chain_fails, gathered_fails, gathered_read}
+use Rattle.ir_operands.proofs.Additions.{chain_fails, gathered_fails, gathered_read}
 use Rattle.ir_instructions.proofs.PhiRules.{further_rule}
 use Rattle.ir_instructions.proofs.phis.all_entries_at.Goals as goal
 

@@ -1,4 +1,0 @@
-pub mod ItemLoops
-pub mod ItemRules
-pub mod ModuleRules
-pub mod Putting

@@ -1,7 +1,0 @@
-use Rattle.std.proofs.Common.{sym, ◌∙◌}
-use Rattle.ir_items.specs.ItemsAt.{NAMING}
-use Rattle.ir_read.proofs.Heads.{next_head}
-use Rattle.ir_items.proofs.items.comes_naming.Goals as goal
-
-pub returns-in-Some : goal.returns-in-Some
-returns-in-Some c = c.begins_naming.ensures ∙ sym (next_head NAMING c.args.rest.now c.in-Some.head c.in-Some.ensures)

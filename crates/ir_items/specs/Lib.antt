@@ -1,4 +1,0 @@
-pub mod Items
-pub mod ItemsAt
-pub mod Modules
-pub mod Putting

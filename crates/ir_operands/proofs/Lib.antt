@@ -1,0 +1,9 @@
+pub mod Grouping
+pub mod Additions
+pub mod Barred
+pub mod ExtentLaws
+pub mod LeafRules
+pub mod Levels
+pub mod ShapeRules
+pub mod Subforms
+pub mod ValueRules

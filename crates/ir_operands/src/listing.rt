@@ -1,0 +1,32 @@
+//! The lines of a block while they are read.
+
+ghost use Rattle.std.specs.Prelude.{◌≡◌, IfErr, OnOk};
+ghost use Rattle.lto_forms.specs.declared.fault.ReadError.TheVariants.{NoMemory};
+ghost use Rattle.ir_operands.specs.Listing.{put};
+
+use crate::adding::push;
+use ir_read::{Instr, Line, Name};
+use lto_forms::ReadError;
+
+/// The lines of a block so far, and what stands before the next instruction: the name of its result,
+/// where it has one, and the line of its first token.
+///
+/// The readers of instructions put them here, so that none is handed from reader to reader.
+#[derive(Drop)]
+pub struct Listing<'a> {
+    pub lines: Vec<Line<'a>>,
+    pub name: Option<Name<'a>>,
+    pub line: u32,
+}
+
+impl<'a> Listing<'a> {
+    /// Adds the line of this instruction. The name before it is used up.
+    pub fn put(&mut self, instr: Instr<'a>) -> Result<(), ReadError>
+        ensures put { OnOk result (self.new.lines.items ≡ put self.old instr.entry) }
+        ensures memory { IfErr result (λ e. e ≡ NoMemory) }
+    {
+        let name = self.name.take();
+        let line = self.line;
+        push(&mut self.lines, Line { name, instr, line })
+    }
+}

@@ -1,0 +1,466 @@
+//! Reads shapes (LangRef, "Structure Type", "Array Type", "Opaque Structure Types"). How deep a shape
+//! may nest and how large it may be is handed down to its parts, so the first token that passes a
+//! limit is refused.
+
+ghost use Rattle.std.specs.Prelude.{◌≡◌, [], ◌∷◌, IfOk, true, false};
+ghost use Rattle.ir_lex.specs.Heads.{number};
+ghost use Rattle.ir_lex.specs.Tok.{tok};
+ghost use Rattle.lto_forms.specs.Readers.{Gives, view_result};
+ghost use Rattle.lto_forms.specs.Rules.{is_valued};
+ghost use Rattle.ir_read.specs.Classes.{tokens, refusal, one_of_at};
+ghost use Rattle.ir_operands.specs.Extents.{Fits, IsRoom, extent_of, grown, left, members_extent, no_bytes, scalar_extent, shared, whole};
+ghost use Rattle.ir_read.specs.Literals.{IsWidth};
+ghost use Rattle.ir_operands.specs.ShapeForms.{angle_refusal, line_of, scalar_align, scalar_typed, leaf_means, counted, count_of, NUMBER};
+ghost use Rattle.ir_operands.specs.ShapeFormsAt.{array_at, brace_behind_angle_at, count_at, further_at, innermost_at, leaf_at, members_at, memory_shape_at, more_members_at, packed_at, shape_at, shape_over_at, structure_at};
+ghost use Rattle.ir_read.specs.Shapes.{parts_of};
+
+use crate::extents::{Align, Extent, Room};
+use ir_lex::{Head, Token};
+use ir_read::{
+    Shape, Tokens, Typed, decimal, expect, literal, memory_refusal, named, refusal, width,
+};
+use lto_forms::{Fault, FaultKind, ReadError};
+use std::alloc::Global;
+
+/// A shape with the line of its first token, and its extent, to which type names add no bytes.
+#[derive(Drop)]
+pub struct Measured<'a> {
+    pub typed: Typed<'a>,
+    pub extent: Extent,
+}
+
+/// The scalar that a token writes.
+fn scalar_of<'a>(t: &Token<'a>) -> Measured<'a>
+    ensures exact { result.typed ≡ scalar_typed (tok t.now) }
+    ensures align { result.extent ≡ scalar_extent (scalar_align (tok t.now)) }
+    ensures measured { result.extent ≡ extent_of result.typed.shape }
+{
+    let line = t.line;
+    if t.head.is(Head::Ptr) {
+        Measured {
+            typed: Typed {
+                shape: Shape::ptr(),
+                line,
+            },
+            extent: Extent::scalar(Align::Eight),
+        }
+    } else {
+        let width = width(t);
+        Measured {
+            typed: Typed {
+                shape: Shape::int(width),
+                line,
+            },
+            extent: Extent::scalar(Align::of_width(width)),
+        }
+    }
+}
+
+/// What a token means where a scalar or a type name may stand.
+#[tactic(auto, unfolding(crate::specs::ShapeForms::leaf_means, crate::specs::ShapeForms::is_leaf, lto_forms::specs::Rules::is_valued))]
+fn leaf_means<'a>(room: Room, t: &Token<'a>) -> Result<Measured<'a>, FaultKind>
+    requires { IsRoom room }
+    ensures exact { view_result (λ x. x.typed) result ≡ leaf_means room (tok t.now) }
+    ensures measured { IfOk result (λ x. x.extent ≡ extent_of x.typed.shape) }
+    ensures fits { IfOk result (λ x. Fits room x.extent) }
+{
+    match t.head {
+        Head::MemoryInteger | Head::Ptr => {
+            let scalar = scalar_of(t);
+            if room.room_for(scalar.extent.align) > 1 {
+                Ok(scalar)
+            } else {
+                Err(FaultKind::Limit)
+            }
+        }
+        Head::Local => match named(t) {
+            None => Err(FaultKind::Number),
+            Some(name) => Ok(Measured {
+                typed: Typed {
+                    shape: Shape::named(name),
+                    line: t.line,
+                },
+                extent: Extent::no_bytes(),
+            }),
+        },
+        head => Err(memory_refusal(head)),
+    }
+}
+
+/// Takes a scalar or a type name.
+pub fn leaf_at<'a>(room: Room, tokens: &mut Tokens<'_, 'a>) -> Result<Measured<'a>, ReadError>
+    requires { IsRoom room }
+    ensures exact { Gives (λ x. (x.typed, tokens.new)) result (leaf_at room tokens.old) }
+    ensures measured { IfOk result (λ x. x.extent ≡ extent_of x.typed.shape) }
+    ensures fits { IfOk result (λ x. Fits room x.extent) }
+{
+    let left = tokens.left();
+    match tokens.take() {
+        None => Err(ReadError::Fault(Fault {
+            left,
+            kind: FaultKind::Syntax,
+        })),
+        Some(t) => match leaf_means(room, &t) {
+            Ok(x) => Ok(x),
+            Err(kind) => Err(ReadError::Fault(Fault { left, kind })),
+        },
+    }
+}
+
+/// Takes a scalar or a type name where no array and no structure may begin.
+#[tactic(auto, unfolding(crate::specs::ShapeFormsAt::innermost_at))]
+fn innermost_at<'a>(room: Room, tokens: &mut Tokens<'_, 'a>) -> Result<Measured<'a>, ReadError>
+    requires { IsRoom room }
+    ensures exact { Gives (λ x. (x.typed, tokens.new)) result (innermost_at room tokens.old) }
+    ensures measured { IfOk result (λ x. x.extent ≡ extent_of x.typed.shape) }
+    ensures fits { IfOk result (λ x. Fits room x.extent) }
+{
+    if tokens.comes_bracket() {
+        Err(ReadError::Fault(Fault {
+            left: tokens.left(),
+            kind: FaultKind::Limit,
+        }))
+    } else {
+        leaf_at(room, tokens)
+    }
+}
+
+/// A literal of so many bits that isn't negative.
+#[tactic(auto, unfolding(crate::specs::ShapeForms::counted))]
+pub fn counted(width: u8, text: &[u8]) -> Option<u64>
+    requires { IsWidth width }
+    ensures { result ≡ counted width text.now }
+{
+    match text {
+        [b'-', digits @ ..] => match decimal(digits) {
+            Some(0) => Some(0),
+            _ => None,
+        },
+        _ => literal(width, text),
+    }
+}
+
+#[tactic(auto, unfolding(lto_forms::specs::Rules::is_valued))]
+fn count_means(t: &Token) -> Result<u64, FaultKind>
+    ensures { result ≡ is_valued tokens refusal NUMBER (count_of 64) (tok t.now) }
+{
+    if t.head.is(Head::Number) {
+        match counted(64, t.text) {
+            None => Err(FaultKind::Number),
+            Some(n) => Ok(n),
+        }
+    } else {
+        Err(refusal(t.head))
+    }
+}
+
+/// Takes a count, from 0 to `2^64 - 1`.
+pub fn count_at(tokens: &mut Tokens) -> Result<u64, ReadError>
+    ensures { Gives (λ x. (x, tokens.new)) result (count_at tokens.old) }
+{
+    let left = tokens.left();
+    match tokens.take() {
+        None => Err(ReadError::Fault(Fault {
+            left,
+            kind: FaultKind::Syntax,
+        })),
+        Some(t) => match count_means(&t) {
+            Ok(x) => Ok(x),
+            Err(kind) => Err(ReadError::Fault(Fault { left, kind })),
+        },
+    }
+}
+
+/// Takes a token of this class; the answer is its line.
+#[tactic(auto, unfolding(lto_forms::specs::Rules::is_among))]
+pub fn line_at(wanted: Head, tokens: &mut Tokens) -> Result<u32, ReadError>
+    ensures { Gives (λ x. (x, tokens.new)) result (one_of_at (number wanted ∷ []) line_of tokens.old) }
+{
+    let left = tokens.left();
+    match tokens.take() {
+        None => Err(ReadError::Fault(Fault {
+            left,
+            kind: FaultKind::Syntax,
+        })),
+        Some(t) => {
+            if t.head.is(wanted) {
+                Ok(t.line)
+            } else {
+                Err(ReadError::Fault(Fault {
+                    left,
+                    kind: refusal(t.head),
+                }))
+            }
+        }
+    }
+}
+
+/// Why a token can't stand behind a `<`: a number would begin a vector, which is left out.
+pub fn angle_refusal(head: Head) -> FaultKind
+    ensures { result ≡ angle_refusal (number head) }
+{
+    match head {
+        Head::Number => FaultKind::Profile,
+        _ => refusal(head),
+    }
+}
+
+/// Takes the `{` behind a `<`.
+#[tactic(auto, unfolding(lto_forms::specs::Rules::is_class))]
+pub fn brace_behind_angle_at(tokens: &mut Tokens) -> Result<(), ReadError>
+    ensures { Gives (λ x. (tt, tokens.new)) result (brace_behind_angle_at tokens.old) }
+{
+    let left = tokens.left();
+    match tokens.take() {
+        None => Err(ReadError::Fault(Fault {
+            left,
+            kind: FaultKind::Syntax,
+        })),
+        Some(t) => {
+            if t.head.is(Head::OpenBrace) {
+                Ok(())
+            } else {
+                Err(ReadError::Fault(Fault {
+                    left,
+                    kind: angle_refusal(t.head),
+                }))
+            }
+        }
+    }
+}
+
+/// The members of a structure, and their extent without the padding behind them.
+#[derive(Drop)]
+struct Members<'a> {
+    shapes: Vec<Shape<'a>>,
+    extent: Extent,
+}
+
+/// A member of a structure, and the extent of the members up to it.
+#[derive(Drop)]
+struct Member<'a> {
+    shape: Shape<'a>,
+    extent: Extent,
+}
+
+/// Reads `[ N x shape ]`, the elements of at most so many levels.
+#[cycle(shapes)]
+#[tactic(auto, unfolding(crate::specs::ShapeFormsAt::array_at, crate::specs::ShapeFormsAt::elements_at), using(crate::proofs::ExtentLaws::elements_fit, crate::proofs::ExtentLaws::fits_most))]
+fn array_at<'a>(
+    alloc: Global,
+    depth: u8,
+    room: Room,
+    tokens: &mut Tokens<'_, 'a>,
+) -> Result<Measured<'a>, ReadError>
+    requires { IsRoom room }
+    ensures exact { Gives (λ x. (x.typed, tokens.new)) result (array_at (λ n. shape_at depth (shared n room)) tokens.old) }
+    ensures measured { IfOk result (λ x. x.extent ≡ extent_of x.typed.shape) }
+    ensures fits { IfOk result (λ x. Fits room x.extent) }
+{
+    let line = line_at(Head::OpenBracket, tokens)?;
+    let count = count_at(tokens)?;
+    expect(Head::Times, tokens)?;
+    let element = shape_at(alloc, depth, room.shared(count), tokens)?;
+    expect(Head::CloseBracket, tokens)?;
+    let shape = Shape::array(alloc, count, element.typed.shape)?;
+    Ok(Measured {
+        typed: Typed { shape, line },
+        extent: element.extent.repeated(count),
+    })
+}
+
+/// Reads a comma and a member of a structure behind others.
+#[cycle(shapes)]
+#[tactic(auto, unfolding(crate::specs::ShapeFormsAt::further_at), using(crate::proofs::ExtentLaws::grown_fits, crate::proofs::ExtentLaws::fits_most))]
+fn member_at<'a>(
+    alloc: Global,
+    packed: bool,
+    depth: u8,
+    room: Room,
+    before: Extent,
+    tokens: &mut Tokens<'_, 'a>,
+) -> Result<Member<'a>, ReadError>
+    requires room { IsRoom room }
+    requires before { Fits room before }
+    ensures exact { Gives (λ x. ((x.shape, x.extent), tokens.new)) result (further_at packed (λ s. shape_at depth (left packed room s)) before tokens.old) }
+    ensures measured { IfOk result (λ x. x.extent ≡ grown packed before (extent_of x.shape)) }
+    ensures fits { IfOk result (λ x. Fits room x.extent) }
+{
+    expect(Head::Comma, tokens)?;
+    let member = shape_at(alloc, depth, room.left(packed, before), tokens)?;
+    Ok(Member {
+        shape: member.typed.shape,
+        extent: before.grown(packed, member.extent),
+    })
+}
+
+/// Reads the members behind the first, and the brace behind them.
+#[cycle(shapes)]
+#[tactic(auto, unfolding(crate::specs::ShapeFormsAt::more_members_at), using(crate::proofs::ExtentLaws::grown_fits, crate::proofs::ExtentLaws::fits_most))]
+fn more_members_at<'a>(
+    alloc: Global,
+    packed: bool,
+    depth: u8,
+    room: Room,
+    first: Member<'a>,
+    tokens: &mut Tokens<'_, 'a>,
+) -> Result<Members<'a>, ReadError>
+    requires room { IsRoom room }
+    requires measured { first.extent ≡ grown packed no_bytes (extent_of first.shape) }
+    requires fits { Fits room first.extent }
+    ensures exact { Gives (λ x. (x.shapes.items, tokens.new)) result (more_members_at packed (λ s. shape_at depth (left packed room s)) first.entry.shape tokens.old) }
+    ensures measured { IfOk result (λ x. x.extent ≡ members_extent packed no_bytes (parts_of x.shapes.items)) }
+    ensures fits { IfOk result (λ x. Fits room x.extent) }
+{
+    let mut extent = first.extent;
+    let mut shapes = Vec::new(alloc);
+    shapes.push(first.shape)?;
+    'each: while tokens.comes(Head::Comma) {
+        let member = member_at(alloc, packed, depth, room, extent, tokens)?;
+        extent = member.extent;
+        shapes.push(member.shape)?;
+    }
+    expect(Head::CloseBrace, tokens)?;
+    Ok(Members { shapes, extent })
+}
+
+/// Reads the members of a structure, and the brace behind them.
+#[cycle(shapes)]
+#[tactic(auto, unfolding(crate::specs::ShapeFormsAt::members_at), using(crate::proofs::ExtentLaws::grown_fits, crate::proofs::ExtentLaws::fits_most))]
+fn members_at<'a>(
+    alloc: Global,
+    packed: bool,
+    depth: u8,
+    room: Room,
+    tokens: &mut Tokens<'_, 'a>,
+) -> Result<Members<'a>, ReadError>
+    requires { IsRoom room }
+    ensures exact { Gives (λ x. (x.shapes.items, tokens.new)) result (members_at packed (λ s. shape_at depth (left packed room s)) tokens.old) }
+    ensures measured { IfOk result (λ x. x.extent ≡ members_extent packed no_bytes (parts_of x.shapes.items)) }
+    ensures fits { IfOk result (λ x. Fits room x.extent) }
+{
+    let none = Extent::no_bytes();
+    if tokens.comes(Head::CloseBrace) {
+        expect(Head::CloseBrace, tokens)?;
+        return Ok(Members {
+            shapes: Vec::new(alloc),
+            extent: none,
+        });
+    }
+    let first = shape_at(alloc, depth, room.left(packed, none), tokens)?;
+    let first = Member {
+        shape: first.typed.shape,
+        extent: none.grown(packed, first.extent),
+    };
+    more_members_at(alloc, packed, depth, room, first, tokens)
+}
+
+/// Reads `{ .. }`, the members of at most so many levels.
+#[cycle(shapes)]
+#[tactic(auto, unfolding(crate::specs::ShapeFormsAt::structure_at), using(crate::proofs::ExtentLaws::padded_fits, crate::proofs::ExtentLaws::fits_most))]
+fn structure_at<'a>(
+    alloc: Global,
+    depth: u8,
+    room: Room,
+    tokens: &mut Tokens<'_, 'a>,
+) -> Result<Measured<'a>, ReadError>
+    requires { IsRoom room }
+    ensures exact { Gives (λ x. (x.typed, tokens.new)) result (structure_at (λ s. shape_at depth (left false room s)) tokens.old) }
+    ensures measured { IfOk result (λ x. x.extent ≡ extent_of x.typed.shape) }
+    ensures fits { IfOk result (λ x. Fits room x.extent) }
+{
+    let line = line_at(Head::OpenBrace, tokens)?;
+    let members = members_at(alloc, false, depth, room, tokens)?;
+    Ok(Measured {
+        typed: Typed {
+            shape: Shape::structure(false, members.shapes),
+            line,
+        },
+        extent: members.extent.padded(),
+    })
+}
+
+/// Reads `< { .. } >`, the members of at most so many levels.
+#[cycle(shapes)]
+#[tactic(auto, unfolding(crate::specs::ShapeFormsAt::packed_at, crate::specs::ShapeFormsAt::packed_behind_at), using(crate::proofs::ExtentLaws::padded_fits, crate::proofs::ExtentLaws::fits_most))]
+fn packed_at<'a>(
+    alloc: Global,
+    depth: u8,
+    room: Room,
+    tokens: &mut Tokens<'_, 'a>,
+) -> Result<Measured<'a>, ReadError>
+    requires { IsRoom room }
+    ensures exact { Gives (λ x. (x.typed, tokens.new)) result (packed_at (λ s. shape_at depth (left true room s)) tokens.old) }
+    ensures measured { IfOk result (λ x. x.extent ≡ extent_of x.typed.shape) }
+    ensures fits { IfOk result (λ x. Fits room x.extent) }
+{
+    let line = line_at(Head::OpenAngle, tokens)?;
+    brace_behind_angle_at(tokens)?;
+    let members = members_at(alloc, true, depth, room, tokens)?;
+    expect(Head::CloseAngle, tokens)?;
+    Ok(Measured {
+        typed: Typed {
+            shape: Shape::structure(true, members.shapes),
+            line,
+        },
+        extent: members.extent.padded(),
+    })
+}
+
+/// Reads a shape whose parts have at most so many levels.
+#[cycle(shapes)]
+#[tactic(auto, unfolding(crate::specs::ShapeFormsAt::shape_over_at))]
+fn outer_at<'a>(
+    alloc: Global,
+    depth: u8,
+    room: Room,
+    tokens: &mut Tokens<'_, 'a>,
+) -> Result<Measured<'a>, ReadError>
+    requires { IsRoom room }
+    ensures exact { Gives (λ x. (x.typed, tokens.new)) result (shape_over_at (λ n. shape_at depth (shared n room)) (λ packed s. shape_at depth (left packed room s)) (leaf_at room) tokens.old) }
+    ensures measured { IfOk result (λ x. x.extent ≡ extent_of x.typed.shape) }
+    ensures fits { IfOk result (λ x. Fits room x.extent) }
+{
+    if tokens.comes(Head::OpenBracket) {
+        array_at(alloc, depth, room, tokens)
+    } else if tokens.comes(Head::OpenBrace) {
+        structure_at(alloc, depth, room, tokens)
+    } else if tokens.comes(Head::OpenAngle) {
+        packed_at(alloc, depth, room, tokens)
+    } else {
+        leaf_at(room, tokens)
+    }
+}
+
+/// Reads a shape of at most so many levels.
+#[cycle(shapes)]
+fn shape_at<'a>(
+    alloc: Global,
+    depth: u8,
+    room: Room,
+    tokens: &mut Tokens<'_, 'a>,
+) -> Result<Measured<'a>, ReadError>
+    requires { IsRoom room }
+    ensures exact { Gives (λ x. (x.typed, tokens.new)) result (shape_at depth room tokens.old) }
+    ensures measured { IfOk result (λ x. x.extent ≡ extent_of x.typed.shape) }
+    ensures fits { IfOk result (λ x. Fits room x.extent) }
+{
+    if depth == 0 {
+        innermost_at(room, tokens)
+    } else {
+        outer_at(alloc, depth - 1, room, tokens)
+    }
+}
+
+/// Reads a shape of at most 32 levels and `2^31` bytes, where type names count as neither.
+#[tactic(auto, unfolding(crate::specs::ShapeFormsAt::memory_shape_at))]
+pub fn memory_shape_at<'a>(
+    alloc: Global,
+    tokens: &mut Tokens<'_, 'a>,
+) -> Result<Measured<'a>, ReadError>
+    ensures exact { Gives (λ x. (x.typed, tokens.new)) result (memory_shape_at tokens.old) }
+    ensures measured { IfOk result (λ x. x.extent ≡ extent_of x.typed.shape) }
+    ensures fits { IfOk result (λ x. Fits whole x.extent) }
+{
+    shape_at(alloc, 32, Room::whole(), tokens)
+}

@@ -1,0 +1,13 @@
+use Rattle.lto_forms.specs.Alphabet.{among}
+use Rattle.lto_forms.specs.Readers.{dropped}
+use Rattle.lto_forms.proofs.Stars.{takes, folds_on}
+use Rattle.ir_read.specs.Classes.{tokens}
+use Rattle.ir_read.specs.Metadata.{META}
+use Rattle.ir_read.proofs.Nodes.{attached_rule}
+use Rattle.ir_parse.proofs.items.attached_before_at.Goals as goal
+
+pub each-smaller : goal.each-smaller
+each-smaller c = takes tokens (among tokens META) attached_rule.law _ _ _ c.in_ok-attached_at.ensures
+
+pub each-preserved : goal.each-preserved
+each-preserved c = folds_on tokens (among tokens META) attached_rule.law dropped tt _ _ _ _ c.each-test.ensures c.in_ok-attached_at.ensures c.each.invariant

@@ -1,0 +1,13 @@
+use Rattle.std.proofs.Common.{◌≡◌, length}
+use Rattle.lto_forms.specs.Alphabet.{among}
+use Rattle.lto_forms.specs.Readers.{star_at, folded, dropped}
+use Rattle.ir_read.specs.Classes.{tokens}
+use Rattle.ir_read.specs.Metadata.{META}
+use Rattle.ir_read.specs.MetadataAt.{attached_at}
+use Rattle.ir_parse.proofs.items.attached_before_at.Given as goal
+
+abbrev pub invariant-each : goal.invariant-each
+invariant-each l = folded dropped tt (star_at (among tokens META) attached_at l.tokens) ≡ folded dropped tt (star_at (among tokens META) attached_at l.fn.tokens)
+
+abbrev pub decreases-each : goal.decreases-each
+decreases-each l = length l.tokens

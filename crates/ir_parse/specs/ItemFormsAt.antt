@@ -1,0 +1,143 @@
+-- What the readers of items give.
+use Rattle.std.specs.Prelude.{ℕ, ◌-◌, Bool, nat_eq, if◌then◌else◌, Option, Some, None, List, [], ◌∷◌, ◌++◌}
+use Rattle.std.specs.List.{fold}
+use Rattle.ir_lex.specs.declared.head.Head.TheVariants as heads
+use Rattle.ir_lex.specs.Heads.{number}
+use Rattle.ir_lex.specs.Tok.{Tok}
+use Rattle.lto_forms.specs.Alphabet.{among}
+use Rattle.lto_forms.specs.Chained.{chain_at}
+use Rattle.lto_forms.specs.declared.fault.FaultKind.TheVariants.{Limit}
+use Rattle.lto_forms.specs.Readers.{Reader, ◌>>=◌, done, fault_at, pick, star_at}
+use Rattle.ir_bodies.specs.BlocksAt.{DEFINE, definition_at}
+use Rattle.ir_globals.specs.TypeDefinitionsAt.{type_line_at}
+use Rattle.ir_globals.specs.Variables.{NAMES}
+use Rattle.ir_globals.specs.VariablesAt.{variable_line_at}
+use Rattle.ir_read.specs.AttributesAt.{HEAD, head_attribute_at, attribute_group_at}
+use Rattle.ir_read.specs.Classes.{tokens, the_at}
+use Rattle.ir_read.specs.FunctionHeadsAt.{head_at}
+use Rattle.ir_parse.specs.ItemForms.{Found, declared, at_place, anywhere, keep}
+use Rattle.ir_read.specs.Metadata.{META}
+use Rattle.ir_read.specs.MetadataAt.{attached_at, metadata_line_at}
+use Rattle.ir_read.specs.MetadataBehindAt.{metadata_behind_at, node_yet_at}
+use Rattle.ir_read.specs.Operands.{LOCAL}
+use Rattle.ir_read.specs.TargetsAt.{target_line_at, source_line_at, comdat_line_at}
+use Rattle.ir_read.specs.declared.function_heads.Role.TheVariants as roles
+use Rattle.ir_read.specs.declared.places.Before.{Before}
+use Rattle.ir_read.specs.declared.places.Before.TheVariants as befores
+use Rattle.ir_read.specs.declared.places.Position.{Position}
+use Rattle.ir_read.specs.declared.raw.Item.{Item}
+
+-- what items begin with
+abbrev pub SOURCE : List ℕ
+SOURCE = number heads.SourceFilename ∷ []
+
+abbrev pub TARGET : List ℕ
+TARGET = number heads.Target ∷ []
+
+abbrev pub COMDAT : List ℕ
+COMDAT = number heads.ComdatName ∷ []
+
+abbrev pub UNNAMED : List ℕ
+UNNAMED = number heads.SourceFilename ∷ number heads.Target ∷ number heads.ComdatName ∷ number heads.Local ∷ number heads.Attributes ∷ []
+
+abbrev pub DECLARE : List ℕ
+DECLARE = number heads.Declare ∷ []
+
+abbrev pub NAMING : List ℕ
+NAMING = NAMES ++ (DECLARE ++ DEFINE)
+
+abbrev pub ITEM : List ℕ
+ITEM = META ++ UNNAMED ++ NAMING
+
+-- what may begin there
+abbrev pub beginnings : Before → List ℕ
+beginnings befores.Item = ITEM
+beginnings befores.Declaration = HEAD ++ ITEM
+beginnings befores.Name = ITEM
+
+unfoldable pub left_out_at : Reader Tok (Unit {0}) → Reader Tok Found
+left_out_at f = do
+  _ ← f
+  done (None, befores.Item)
+
+unfoldable pub kept_at : Reader Tok Item → Reader Tok Found
+kept_at f = do
+  i ← f
+  done (Some i, befores.Item)
+
+unfoldable pub unnamed_at : Reader Tok Found
+unnamed_at = pick (among tokens SOURCE) (left_out_at source_line_at)
+    (pick (among tokens TARGET) (kept_at target_line_at)
+    (pick (among tokens COMDAT) (left_out_at comdat_line_at)
+    (pick (among tokens LOCAL) (kept_at type_line_at)
+    (kept_at attribute_group_at))))
+
+unfoldable pub attribute_behind_at : Reader Tok Found
+attribute_behind_at = do
+  _ ← head_attribute_at
+  done (None, befores.Declaration)
+
+unfoldable pub placed_at : Reader Tok Before → Reader Tok Found
+placed_at f = do
+  before ← f
+  done (None, before)
+
+abbrev pub metadata_there_at : Before → Reader Tok Found
+metadata_there_at befores.Item = left_out_at metadata_line_at
+metadata_there_at befores.Declaration = placed_at metadata_behind_at
+metadata_there_at befores.Name = placed_at node_yet_at
+
+abbrev pub plainly_at : Before → Reader Tok Found
+plainly_at befores.Item = unnamed_at
+plainly_at befores.Declaration = pick (among tokens HEAD) attribute_behind_at unnamed_at
+plainly_at befores.Name = unnamed_at
+
+unfoldable pub beside_at : Before → Reader Tok Found
+beside_at before = pick (among tokens META) (metadata_there_at before) (plainly_at before)
+
+unfoldable pub attached_before_at : Reader Tok (Unit {0})
+attached_before_at = do
+  _ ← star_at (among tokens META) attached_at
+  done tt
+
+unfoldable pub declaration_at : ℕ → Reader Tok Found
+declaration_at room = do
+  _ ← the_at heads.Declare
+  _ ← attached_before_at
+  h ← head_at roles.Declaration room
+  done (declared h, befores.Declaration)
+
+abbrev pub naming_at : ℕ → Reader Tok Found
+naming_at room = pick (among tokens NAMES) (kept_at variable_line_at)
+    (pick (among tokens DECLARE) (declaration_at room)
+    (kept_at (definition_at room)))
+
+unfoldable pub other_at : Before → ℕ → Reader Tok (Option Item × Position)
+other_at before names = do
+  x ← beside_at before
+  done (at_place names x)
+
+unfoldable pub named_at : ℕ → ℕ → Reader Tok (Option Item × Position)
+named_at room names = do
+  x ← naming_at room
+  done (at_place (names - 1) x)
+
+abbrev pub named_within_at : ℕ → ℕ → Reader Tok (Option Item × Position)
+named_within_at room names = if nat_eq names 0 then fault_at Limit else named_at room names
+
+unfoldable pub piece_at : ℕ → Before → ℕ → Reader Tok (Option Item × Position)
+piece_at room before names = pick (among tokens NAMING) (named_within_at room names) (other_at before names)
+
+abbrev pub begins_there : Position → Tok → Bool
+begins_there at = among tokens (beginnings at.before)
+
+abbrev pub there_at : ℕ → Position → Reader Tok (Option Item × Position)
+there_at room at = piece_at room at.before at.names
+
+abbrev pub first_place : ℕ → Position
+first_place names = record { before = befores.Item; names = names }
+
+unfoldable pub items_at : ℕ → ℕ → Reader Tok (List Item)
+items_at room names = do
+  all ← chain_at anywhere begins_there (there_at room) (first_place names)
+  done (fold keep [] all)

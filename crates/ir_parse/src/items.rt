@@ -1,0 +1,453 @@
+//! Reads the items of a module one behind another (LangRef, "Module Structure").
+
+ghost use Rattle.std.specs.Prelude.{◌≡◌, ◌∷◌, ◌++◌, [], OnOk, IfErr, None};
+ghost use Rattle.ir_lex.specs.Heads.{number};
+ghost use Rattle.lto_forms.specs.Alphabet.{contains, among};
+ghost use Rattle.lto_forms.specs.declared.fault.ReadError.TheVariants.{NoMemory};
+ghost use Rattle.lto_forms.specs.Readers.{Gives, next_is};
+ghost use Rattle.ir_read.specs.AttributesAt.{HEAD, attribute_group_at};
+ghost use Rattle.ir_read.specs.declared.raw.Item.TheVariants.{Definition};
+ghost use Rattle.ir_read.specs.TargetsAt.{layout_line_at, target_line_at, triple_line_at};
+ghost use Rattle.ir_read.specs.Classes.{tokens};
+ghost use Rattle.ir_bodies.specs.BlocksAt.{definition_at};
+ghost use Rattle.ir_globals.specs.TypeDefinitionsAt.{type_line_at};
+ghost use Rattle.ir_globals.specs.Variables.{NAMES};
+ghost use Rattle.ir_globals.specs.VariablesAt.{variable_line_at};
+ghost use Rattle.ir_parse.specs.ItemForms.{declared, keep};
+ghost use Rattle.ir_parse.specs.ItemFormsAt.{ITEM, NAMING, beginnings, kept_at, unnamed_at, attribute_behind_at, metadata_there_at, plainly_at, beside_at, attached_before_at, declaration_at, naming_at, named_within_at, there_at, items_at};
+ghost use Rattle.ir_parse.specs.Putting.{behind_at, Puts};
+
+use ir_bodies::{Defined, definition_at};
+use ir_globals::{type_line_into, variable_line_into};
+use ir_operands::push;
+use ir_lex::Head;
+use ir_read::{
+    Before, Item, Position, Role, Tokens, attached_at, attribute_group_at, comdat_line_at, expect,
+    head_at, head_attribute_at, is_attribute_word, layout_line_at, metadata_behind_at,
+    metadata_line_at, node_yet_at, source_line_at, triple_line_at,
+};
+use lto_forms::{Fault, FaultKind, ReadError};
+use std::alloc::Global;
+
+/// Adds what was read, where it was. Behind it another item may stand.
+fn put<T: Drop>(list: &mut Vec<T>, read: Result<T, ReadError>) -> Result<Before, ReadError>
+    ensures { Puts list.old.items read list.new.items result }
+{
+    let value = read?;
+    push(list, value)?;
+    Ok(Before::Item)
+}
+
+/// Reads the layout of the target, and adds it.
+#[tactic(auto, unfolding(crate::specs::Putting::behind_at, crate::specs::ItemsAt::kept_at))]
+fn layout_into<'a>(
+    alloc: Global,
+    items: &mut Vec<Item<'a>>,
+    tokens: &mut Tokens<'_, 'a>,
+) -> Result<Before, ReadError>
+    ensures { Gives (λ b. ((items.new.items, b), tokens.new)) result (behind_at items.old.items (kept_at layout_line_at) tokens.old) }
+{
+    let layout = layout_line_at(alloc, tokens)?;
+    push(items, Item::Datalayout(layout))?;
+    Ok(Before::Item)
+}
+
+/// Reads the triple of the target, and adds it.
+#[tactic(auto, unfolding(crate::specs::Putting::behind_at, crate::specs::ItemsAt::kept_at))]
+fn triple_into<'a>(
+    items: &mut Vec<Item<'a>>,
+    tokens: &mut Tokens<'_, 'a>,
+) -> Result<Before, ReadError>
+    ensures { Gives (λ b. ((items.new.items, b), tokens.new)) result (behind_at items.old.items (kept_at triple_line_at) tokens.old) }
+{
+    let triple = triple_line_at(tokens)?;
+    push(items, Item::Triple(triple))?;
+    Ok(Before::Item)
+}
+
+/// Reads a line on the target, and adds it: `target triple = "x86_64-pc-linux-gnu"`.
+#[tactic(auto, unfolding(crate::specs::Putting::behind_at, crate::specs::ItemsAt::kept_at, ir_read::specs::TargetsAt::target_line_at))]
+fn target_into<'a>(
+    alloc: Global,
+    items: &mut Vec<Item<'a>>,
+    tokens: &mut Tokens<'_, 'a>,
+) -> Result<Before, ReadError>
+    ensures { Gives (λ b. ((items.new.items, b), tokens.new)) result (behind_at items.old.items (kept_at target_line_at) tokens.old) }
+{
+    expect(Head::Target, tokens)?;
+    if tokens.comes(Head::Datalayout) {
+        layout_into(alloc, items, tokens)
+    } else {
+        triple_into(items, tokens)
+    }
+}
+
+/// Reads the definition of a type, and adds it.
+#[tactic(auto, unfolding(crate::specs::Putting::behind_at, crate::specs::ItemsAt::kept_at))]
+fn type_into<'a>(
+    alloc: Global,
+    items: &mut Vec<Item<'a>>,
+    tokens: &mut Tokens<'_, 'a>,
+) -> Result<Before, ReadError>
+    ensures { Gives (λ b. ((items.new.items, b), tokens.new)) result (behind_at items.old.items (kept_at type_line_at) tokens.old) }
+{
+    type_line_into(alloc, items, tokens)?;
+    Ok(Before::Item)
+}
+
+/// Reads a group of attributes, and adds it.
+fn group_into<'a>(
+    alloc: Global,
+    items: &mut Vec<Item<'a>>,
+    tokens: &mut Tokens<'_, 'a>,
+) -> Result<Before, ReadError>
+    ensures { Gives (λ b. ((items.new.items, b), tokens.new)) result (behind_at items.old.items (kept_at attribute_group_at) tokens.old) }
+{
+    put(items, attribute_group_at(alloc, tokens))
+}
+
+/// Reads a variable, and adds it.
+#[tactic(auto, unfolding(crate::specs::Putting::behind_at, crate::specs::ItemsAt::kept_at))]
+fn variable_into<'a>(
+    alloc: Global,
+    items: &mut Vec<Item<'a>>,
+    tokens: &mut Tokens<'_, 'a>,
+) -> Result<Before, ReadError>
+    ensures { Gives (λ b. ((items.new.items, b), tokens.new)) result (behind_at items.old.items (kept_at variable_line_at) tokens.old) }
+{
+    variable_line_into(alloc, items, tokens)?;
+    Ok(Before::Item)
+}
+
+/// Adds the definition of a function.
+fn push_definition<'a>(items: &mut Vec<Item<'a>>, defined: Defined<'a>) -> Result<(), ReadError>
+    ensures pushed { OnOk result (items.new.items ≡ items.old.items ++ Definition defined.entry.head defined.entry.blocks ∷ []) }
+    ensures memory { IfErr result (λ e. e ≡ NoMemory) }
+{
+    push(items, Item::Definition(defined.head, defined.blocks))
+}
+
+/// Reads the definition of a function, and adds it.
+#[tactic(auto, unfolding(crate::specs::Putting::behind_at, crate::specs::ItemsAt::kept_at))]
+fn definition_into<'a>(
+    alloc: Global,
+    room: usize,
+    items: &mut Vec<Item<'a>>,
+    tokens: &mut Tokens<'_, 'a>,
+) -> Result<Before, ReadError>
+    ensures { Gives (λ b. ((items.new.items, b), tokens.new)) result (behind_at items.old.items (kept_at (definition_at room)) tokens.old) }
+{
+    let defined = definition_at(alloc, room, tokens)?;
+    push_definition(items, defined)?;
+    Ok(Before::Item)
+}
+
+/// Reads an item that defines and declares no global name, and is no metadata; it is added, where it
+/// is kept.
+#[tactic(auto, unfolding(crate::specs::Putting::behind_at, crate::specs::ItemsAt::unnamed_at, crate::specs::ItemsAt::left_out_at))]
+fn unnamed_at<'a>(
+    alloc: Global,
+    items: &mut Vec<Item<'a>>,
+    tokens: &mut Tokens<'_, 'a>,
+) -> Result<Before, ReadError>
+    ensures { Gives (λ b. ((items.new.items, b), tokens.new)) result (behind_at items.old.items unnamed_at tokens.old) }
+{
+    if tokens.comes(Head::SourceFilename) {
+        source_line_at(tokens)?;
+        Ok(Before::Item)
+    } else if tokens.comes(Head::Target) {
+        target_into(alloc, items, tokens)
+    } else if tokens.comes(Head::ComdatName) {
+        comdat_line_at(tokens)?;
+        Ok(Before::Item)
+    } else if tokens.comes(Head::Local) {
+        type_into(alloc, items, tokens)
+    } else {
+        group_into(alloc, items, tokens)
+    }
+}
+
+#[tactic(auto, unfolding(crate::specs::ItemsAt::attribute_behind_at))]
+fn attribute_behind_at(alloc: Global, tokens: &mut Tokens) -> Result<Before, ReadError>
+    ensures { Gives (λ b. ((None, b), tokens.new)) result (attribute_behind_at tokens.old) }
+{
+    head_attribute_at(alloc, tokens)?;
+    Ok(Before::Declaration)
+}
+
+/// Whether a token of this class begins an attribute behind the head of a declaration.
+fn begins_head_attribute(head: Head) -> bool
+    ensures { result ≡ contains HEAD (number head) }
+{
+    head.is(Head::Group) || head.is(Head::Align) || head.is(Head::Str) || is_attribute_word(head)
+}
+
+/// Whether an attribute comes that may stand behind the head of a declaration.
+fn comes_head_attribute(rest: &Tokens) -> bool
+    ensures { result ≡ next_is (among tokens HEAD) rest.now }
+{
+    match rest.head() {
+        Some(head) => begins_head_attribute(head),
+        None => false,
+    }
+}
+
+/// Reads metadata, by what stands before it.
+#[tactic(auto, unfolding(crate::specs::ItemsAt::left_out_at, crate::specs::ItemsAt::placed_at))]
+fn metadata_there_at(
+    alloc: Global,
+    before: Before,
+    tokens: &mut Tokens,
+) -> Result<Before, ReadError>
+    ensures { Gives (λ b. ((None, b), tokens.new)) result (metadata_there_at before tokens.old) }
+{
+    match before {
+        Before::Item => {
+            metadata_line_at(alloc, tokens)?;
+            Ok(Before::Item)
+        }
+        Before::Declaration => Ok(metadata_behind_at(alloc, tokens)?),
+        Before::Name => Ok(node_yet_at(alloc, tokens)?),
+    }
+}
+
+/// Reads an item that defines and declares no global name and is no metadata, or an attribute behind
+/// the head of a declaration.
+#[tactic(auto, unfolding(crate::specs::Putting::behind_at))]
+fn plainly_at<'a>(
+    alloc: Global,
+    before: Before,
+    items: &mut Vec<Item<'a>>,
+    tokens: &mut Tokens<'_, 'a>,
+) -> Result<Before, ReadError>
+    ensures { Gives (λ b. ((items.new.items, b), tokens.new)) result (behind_at items.old.items (plainly_at before) tokens.old) }
+{
+    match before {
+        Before::Item => unnamed_at(alloc, items, tokens),
+        Before::Declaration => {
+            if comes_head_attribute(tokens) {
+                Ok(attribute_behind_at(alloc, tokens)?)
+            } else {
+                unnamed_at(alloc, items, tokens)
+            }
+        }
+        Before::Name => unnamed_at(alloc, items, tokens),
+    }
+}
+
+/// Reads what defines and declares no global name, by what stands before it.
+#[tactic(auto, unfolding(crate::specs::Putting::behind_at, crate::specs::ItemsAt::beside_at))]
+fn beside_at<'a>(
+    alloc: Global,
+    before: Before,
+    items: &mut Vec<Item<'a>>,
+    tokens: &mut Tokens<'_, 'a>,
+) -> Result<Before, ReadError>
+    ensures { Gives (λ b. ((items.new.items, b), tokens.new)) result (behind_at items.old.items (beside_at before) tokens.old) }
+{
+    if tokens.comes_meta() {
+        Ok(metadata_there_at(alloc, before, tokens)?)
+    } else {
+        plainly_at(alloc, before, items, tokens)
+    }
+}
+
+/// Reads metadata that stands before the head of a declaration, and drops it.
+#[tactic(auto, unfolding(crate::specs::ItemsAt::attached_before_at))]
+fn attached_before_at(alloc: Global, tokens: &mut Tokens) -> Result<(), ReadError>
+    ensures { Gives (λ x. (tt, tokens.new)) result (attached_before_at tokens.old) }
+{
+    'each: while tokens.comes_meta() {
+        attached_at(alloc, tokens)?;
+    }
+    Ok(())
+}
+
+/// Adds what a head declares; a lifetime marker isn't kept.
+fn push_declared<'a>(items: &mut Vec<Item<'a>>, head: ir_read::Head<'a>) -> Result<(), ReadError>
+    ensures pushed { OnOk result (items.new.items ≡ keep items.old.items (declared head.entry)) }
+    ensures memory { IfErr result (λ e. e ≡ NoMemory) }
+{
+    if head.name.token().head.is(Head::LifetimeMarker) {
+        Ok(())
+    } else {
+        push(items, Item::Declaration(head))
+    }
+}
+
+/// Reads a declaration up to the end of its parameters: `declare !dbg !5 i32 @f(ptr)`.
+#[tactic(auto, unfolding(crate::specs::Putting::behind_at, crate::specs::ItemsAt::declaration_at))]
+fn declaration_at<'a>(
+    alloc: Global,
+    room: usize,
+    items: &mut Vec<Item<'a>>,
+    tokens: &mut Tokens<'_, 'a>,
+) -> Result<Before, ReadError>
+    ensures { Gives (λ b. ((items.new.items, b), tokens.new)) result (behind_at items.old.items (declaration_at room) tokens.old) }
+{
+    expect(Head::Declare, tokens)?;
+    attached_before_at(alloc, tokens)?;
+    let head = head_at(alloc, Role::Declaration, room, tokens)?;
+    push_declared(items, head)?;
+    Ok(Before::Declaration)
+}
+
+/// Whether a token of this class names a variable.
+fn begins_variable(head: Head) -> bool
+    ensures { result ≡ contains NAMES (number head) }
+{
+    matches!(head, Head::Global | Head::NumberedDefinition)
+}
+
+/// Whether a variable comes.
+fn comes_variable(rest: &Tokens) -> bool
+    ensures { result ≡ next_is (among tokens NAMES) rest.now }
+{
+    match rest.head() {
+        Some(head) => begins_variable(head),
+        None => false,
+    }
+}
+
+/// Whether a token of this class begins an item that defines or declares a global name.
+fn begins_naming(head: Head) -> bool
+    ensures { result ≡ contains NAMING (number head) }
+{
+    matches!(
+        head,
+        Head::Global | Head::NumberedDefinition | Head::Declare | Head::Define
+    )
+}
+
+/// Whether an item comes that defines or declares a global name.
+fn comes_naming(rest: &Tokens) -> bool
+    ensures { result ≡ next_is (among tokens NAMING) rest.now }
+{
+    match rest.head() {
+        Some(head) => begins_naming(head),
+        None => false,
+    }
+}
+
+/// Reads an item that defines or declares a global name.
+#[tactic(auto, unfolding(crate::specs::Putting::behind_at))]
+fn naming_at<'a>(
+    alloc: Global,
+    room: usize,
+    items: &mut Vec<Item<'a>>,
+    tokens: &mut Tokens<'_, 'a>,
+) -> Result<Before, ReadError>
+    ensures { Gives (λ b. ((items.new.items, b), tokens.new)) result (behind_at items.old.items (naming_at room) tokens.old) }
+{
+    if comes_variable(tokens) {
+        variable_into(alloc, items, tokens)
+    } else if tokens.comes(Head::Declare) {
+        declaration_at(alloc, room, items, tokens)
+    } else {
+        definition_into(alloc, room, items, tokens)
+    }
+}
+
+fn named_at<'a>(
+    alloc: Global,
+    room: usize,
+    names: usize,
+    items: &mut Vec<Item<'a>>,
+    tokens: &mut Tokens<'_, 'a>,
+) -> Result<Position, ReadError>
+    ensures { Gives (λ at. ((items.new.items, at), tokens.new)) result (behind_at items.old.items (named_within_at room names) tokens.old) }
+{
+    if names == 0 {
+        return Err(ReadError::Fault(Fault {
+            left: tokens.left(),
+            kind: FaultKind::Limit,
+        }));
+    }
+    let before = naming_at(alloc, room, items, tokens)?;
+    Ok(Position {
+        before,
+        names: names - 1,
+    })
+}
+
+/// Reads an item at its place. Behind the first parameter of a function `room` others may stand.
+fn piece_at<'a>(
+    alloc: Global,
+    room: usize,
+    at: Position,
+    items: &mut Vec<Item<'a>>,
+    tokens: &mut Tokens<'_, 'a>,
+) -> Result<Position, ReadError>
+    ensures { Gives (λ next. ((items.new.items, next), tokens.new)) result (behind_at items.old.items (there_at room at) tokens.old) }
+{
+    if comes_naming(tokens) {
+        named_at(alloc, room, at.names, items, tokens)
+    } else {
+        let before = beside_at(alloc, at.before, items, tokens)?;
+        Ok(Position {
+            before,
+            names: at.names,
+        })
+    }
+}
+
+/// Whether a token of this class begins an item.
+fn begins_item(head: Head) -> bool
+    ensures { result ≡ contains ITEM (number head) }
+{
+    matches!(
+        head,
+        Head::Meta
+            | Head::Bang
+            | Head::SourceFilename
+            | Head::Target
+            | Head::ComdatName
+            | Head::Local
+            | Head::Attributes
+            | Head::Global
+            | Head::NumberedDefinition
+            | Head::Declare
+            | Head::Define
+    )
+}
+
+fn begins_there(before: Before, head: Head) -> bool
+    ensures { result ≡ contains (beginnings before) (number head) }
+{
+    match before {
+        Before::Item => begins_item(head),
+        Before::Declaration => begins_head_attribute(head) || begins_item(head),
+        Before::Name => begins_item(head),
+    }
+}
+
+/// Whether an item, or an attribute behind the head of a declaration, comes.
+fn comes_there(before: Before, rest: &Tokens) -> bool
+    ensures { result ≡ next_is (among tokens (beginnings before)) rest.now }
+{
+    match rest.head() {
+        Some(head) => begins_there(before, head),
+        None => false,
+    }
+}
+
+/// Reads items one behind another: of global names `names` at most, and behind the first parameter of
+/// each function `room` at most.
+pub(crate) fn items_at<'a>(
+    alloc: Global,
+    room: usize,
+    names: usize,
+    tokens: &mut Tokens<'_, 'a>,
+) -> Result<Vec<Item<'a>>, ReadError>
+    ensures { Gives (λ x. (x.items, tokens.new)) result (items_at room names tokens.old) }
+{
+    let mut items = Vec::new(alloc);
+    let mut at = Position {
+        before: Before::Item,
+        names,
+    };
+    'each: while comes_there(at.before, tokens) {
+        at = piece_at(alloc, room, at, &mut items, tokens)?;
+    }
+    Ok(items)
+}
