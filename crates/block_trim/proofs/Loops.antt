@@ -40,10 +40,16 @@ may_step one bs i b n old new wanted all lt is new_is wanted_is h =
 
 -- ---- contents
 
-pub three_steps : (f s : Bool) (v g : Option Content) → cond f v (cond f None (cond s None g)) ≡ (if f then v else if s then None else g)
-three_steps true s v g = refl
-three_steps false true v g = refl
-three_steps false false v g = refl
+-- one is taken away and put there again
+pub two_steps : (f : Bool) (v g : Option Content) → cond f v (cond f None g) ≡ (if f then v else g)
+two_steps true v g = refl
+two_steps false v g = refl
+
+-- behind another that was taken away
+pub one_step : (f s : Bool) (v g : Option Content) → (if f then v else cond s None g) ≡ (if f then v else if s then None else g)
+one_step true s v g = refl
+one_step false true v g = refl
+one_step false false v g = refl
 
 pub contents_step : (bs : List Block) (i : ℕ) (b : Block) → i < length bs → b ≡ get_or bs i b → Distinct (numbers_in bs) → (old new : ℕ → Option Content) (c : Content) → IsContentOf b c
     → ((q : ℕ) → new q ≡ cond (nat_eq b.number q) (Some c) (old q)) → HasContents i bs old → HasContents (i + 1) bs new

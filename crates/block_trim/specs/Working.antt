@@ -1,5 +1,5 @@
 -- Blocks while they are joined.
-use Rattle.std.specs.Prelude.{◌≡◌, ◌≢◌, ℕ, ◌<◌, nat_eq, Bool, false, ◌&&◌, ◌||◌, not, is_some, if◌then◌else◌, List, [], ◌∷◌, ◌++◌, length, map, slice_get, Option, Some, None}
+use Rattle.std.specs.Prelude.{◌≡◌, ◌≢◌, ℕ, ◌<◌, ◌≤◌, nat_eq, Bool, false, ◌&&◌, ◌||◌, not, is_some, if◌then◌else◌, List, [], ◌∷◌, ◌++◌, length, map, slice_get, Option, Some, None}
 use Rattle.std.specs.HashMap as hash_map
 use Rattle.std.specs.HashSet as hash_set
 use Rattle.ir_tree.specs.Flow.{leading}
@@ -96,6 +96,14 @@ abbrev pub IsTurnOf : Function → Joining → ℕ → Type 0
 IsTurnOf f j n = (i : ℕ) (b : Block) → i < place f.blocks n → slice_get f.blocks i ≡ Some b → next j b.number ≡ None
 
 -- ---- one join
+
+-- a block has the second content behind the first, and the others have theirs
+pub record IsGrown {S : Type 0} (old new : hash_map.HashMap ℕ Content S) (number : ℕ) (a b : Content) : Type 0 where
+  pub content : Content
+  pub lines : content.lines ≡ a.lines ++ b.lines
+  pub end : content.end ≡ b.end
+  pub as_many : hash_map.hash_map_len new ≤ hash_map.hash_map_len old
+  pub left : (n : ℕ) → hash_map.get nat_eq new n ≡ (if nat_eq number n then Some content else hash_map.get nat_eq old n)
 
 pub record IsJoined (old new : Joining) (first second : ℕ) (a b : Content) : Type 0 where
   pub candidates : new.candidates ≡ old.candidates

@@ -1,12 +1,12 @@
 //! Blocks while they are joined.
-ghost use Rattle.std.specs.Prelude.{◌≡◌, ◌≢◌, ℕ, nat_eq, map, length, IfOk, OnOk, None, Some};
+ghost use Rattle.std.specs.Prelude.{◌≡◌, ◌≢◌, ◌++◌, ℕ, nat_eq, map, length, IfOk, OnOk, None, Some};
 ghost use Rattle.std.specs.HashMap.{get};
 ghost use Rattle.std.specs.HashSet.{contains};
 ghost use Rattle.ir_tree.specs.Formed.{Distinct, numbers};
 ghost use Rattle.ir_tree.specs.declared.block.Block.{Block};
 ghost use Rattle.ir_tree.specs.declared.function.Function.{Function};
 ghost use Rattle.block_trim.specs.Merged.{IsOneOf, behind_entry};
-ghost use Rattle.block_trim.specs.Working.{HasContents, IsContentOf, IsJoined, IsTurnOf, Joined, blocks_taken, can_go, has_one_edge, left, may_go, naming, next};
+ghost use Rattle.block_trim.specs.Working.{HasContents, IsContentOf, IsGrown, IsJoined, IsTurnOf, Joined, block_of, blocks_taken, can_go, has_one_edge, left, may_go, name_in, naming, next};
 ghost use Rattle.block_trim.specs.declared.joining.Content.{Content};
 
 use crate::names::Names;
@@ -70,6 +70,54 @@ fn rows_of(alloc: Global, mut lines: LinkedList<Line>) -> Result<Rows<Line>, All
     Ok(rows)
 }
 
+/// What two blocks have, the second behind the first.
+fn together(content: Content, gone: Content) -> Result<Content, AllocError>
+    ensures { IfOk result (λ c. (c.lines ≡ content.lines ++ gone.lines) × (c.end ≡ gone.end)) }
+{
+    let Content { mut lines, end: _ } = content;
+    let Content {
+        lines: mut more,
+        end,
+    } = gone;
+    lines.append(&mut more)?;
+    Ok(Content { lines, end })
+}
+
+/// Puts what a block had behind what this one has.
+fn put_behind(
+    contents: &mut HashMap<u32, Content>,
+    number: u32,
+    gone: Content,
+) -> Result<(), AllocError>
+    ensures { OnOk result ((a : Content) → get nat_eq contents.old number ≡ Some a → IsGrown contents.old contents.new number a gone) }
+{
+    if let Some(content) = contents.remove(&number) {
+        let whole = together(content, gone)?;
+        contents.insert(number, whole)?;
+    }
+    Ok(())
+}
+
+/// The block that is left with these contents, and with the phis of the old one under their new names.
+fn kept(
+    alloc: Global,
+    names: &Names,
+    block: &Block,
+    content: Content,
+) -> Result<Block, AllocError>
+    ensures { IfOk result (λ b. b ≡ block_of (name_in names.now) block.now content) }
+{
+    let Content { lines, end } = content;
+    let phis = names.phis(alloc, block.phis.as_slice())?;
+    let lines = rows_of(alloc, lines)?;
+    Ok(Block {
+        number: block.number,
+        phis,
+        lines,
+        end,
+    })
+}
+
 impl Joining {
     /// These blocks, of which none has been joined, and those that can go.
     pub(crate) fn of(
@@ -114,19 +162,8 @@ impl Joining {
         ensures { OnOk result ((a b : Content) → first ≢ second → left self.old first ≡ Some a → left self.old second ≡ Some b → IsJoined self.old self.new first second a b) }
     {
         if let Some(gone) = self.contents.remove(&second) {
-            if let Some(content) = self.contents.remove(&first) {
-                let mut lines = content.lines;
-                let mut more = gone.lines;
-                lines.append(&mut more)?;
-                self.contents.insert(
-                    first,
-                    Content {
-                        lines,
-                        end: gone.end,
-                    },
-                )?;
-                self.joins.push(Join { first, second })?;
-            }
+            put_behind(&mut self.contents, first, gone)?;
+            self.joins.push(Join { first, second })?;
         }
         Ok(())
     }
@@ -167,16 +204,7 @@ impl Joining {
         for block in blocks {
             match self.contents.remove(&block.number) {
                 None => {}
-                Some(content) => {
-                    let phis = names.phis(alloc, block.phis.as_slice())?;
-                    let lines = rows_of(alloc, content.lines)?;
-                    rows.push(Block {
-                        number: block.number,
-                        phis,
-                        lines,
-                        end: content.end,
-                    })?;
-                }
+                Some(content) => rows.push(kept(alloc, &names, block, content)?)?,
             }
         }
         Ok(rows)

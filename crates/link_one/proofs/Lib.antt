@@ -48,3 +48,4 @@ mod TaskParts
 mod OneTask
 mod UnitNames
 mod LinkTasks
+mod Preparing

@@ -37,6 +37,7 @@ mod outside;
 mod passes;
 mod piece;
 mod pool;
+mod prepare;
 mod referable;
 mod setting;
 mod table;
