@@ -11,9 +11,10 @@ ghost use Rattle.ir_read.specs.Operands.{named};
 ghost use Rattle.ir_instructions.specs.Terminators.{ENDS};
 ghost use Rattle.ir_bodies.specs.Blocks.{LABEL};
 ghost use Rattle.ir_bodies.specs.Adding.{added_at, joined_at};
-ghost use Rattle.ir_bodies.specs.BlocksAt.{BLOCK, label_at, maybe_label_at, lines_from_at, ended_at, block_behind_at, block_at, blocks_from_at, blocks_at};
+ghost use Rattle.ir_bodies.specs.BlocksAt.{BLOCK, label_at, maybe_label_at, lines_at, lines_from_at, ended_at, block_behind_at, block_at, blocks_from_at, blocks_at};
 ghost use Rattle.ir_bodies.specs.LinesAt.{LINE};
 
+use crate::keeping::with_read;
 use crate::lines::line_into;
 use ir_instructions::terminator_at;
 use ir_operands::{Listing, push};
@@ -209,9 +210,23 @@ fn ended_into<'a>(
     Ok(left)
 }
 
+/// Reads the lines of a block, of which there may be `room`. Gives how many more there may be.
+#[tactic(auto, unfolding(crate::specs::BlocksAt::lines_at))]
+fn lines_at<'a>(
+    alloc: Global,
+    room: usize,
+    tokens: &mut Tokens<'_, 'a>,
+) -> Result<(Vec<Line<'a>>, usize), ReadError>
+    ensures { Gives (λ x. ((x.0.items, x.1), tokens.new)) result (lines_at room tokens.old) }
+{
+    let mut list = no_lines(alloc);
+    let left = lines_into(alloc, room, &mut list, tokens)?;
+    Ok((list.lines, left))
+}
+
 /// Reads a block behind its label, and adds it. Gives how many instructions the function may still
 /// have.
-#[tactic(auto, unfolding(crate::specs::BlocksAt::block_behind_at, crate::specs::BlocksAt::lines_at))]
+#[tactic(auto, unfolding(crate::specs::BlocksAt::block_behind_at))]
 fn block_behind_into<'a>(
     alloc: Global,
     room: usize,
@@ -221,9 +236,9 @@ fn block_behind_into<'a>(
 ) -> Result<usize, ReadError>
     ensures { Gives (λ left. ((blocks.new.list.items, left), tokens.new)) result (added_at blocks.old.list.items (block_behind_at room label.entry) tokens.old) }
 {
-    let mut list = no_lines(alloc);
-    let left = lines_into(alloc, room, &mut list, tokens)?;
-    ended_into(alloc, label, list.lines, left, blocks, tokens)
+    let read = lines_at(alloc, room, tokens);
+    let (label, (lines, left)) = with_read(label, read)?;
+    ended_into(alloc, label, lines, left, blocks, tokens)
 }
 
 /// Reads the label of a block, where it has one.

@@ -8,6 +8,7 @@ ghost use Rattle.ir_bodies.specs.Blocks.{FURTHER_BLOCKS, INSTRUCTIONS, with_kept
 ghost use Rattle.ir_bodies.specs.BlocksAt.{heading_at, braced_at, definition_at};
 
 use crate::blocks::{Blocks, blocks_into};
+use crate::keeping::with_read;
 use ir_lex::Head;
 use ir_read::{Block, Kept, Role, Tokens, definition_attributes_at, done, expect, head_at};
 use ir_tree::Rows;
@@ -80,6 +81,15 @@ fn braced_into<'a>(
     expect(Head::CloseBrace, tokens)
 }
 
+/// Reads the blocks of a function, in their braces.
+fn braced_at<'a>(alloc: Global, tokens: &mut Tokens<'_, 'a>) -> Result<Rows<Block<'a>>, ReadError>
+    ensures { Gives (λ blocks. (blocks, tokens.new)) result (braced_at tokens.old) }
+{
+    let mut blocks = Blocks::new(alloc);
+    braced_into(alloc, &mut blocks, tokens)?;
+    done(blocks.rows())
+}
+
 /// Reads a definition of a function, `define i32 @f(i32 %x) { .. }`. Behind the first parameter `room`
 /// others may stand; there may be 65,535 blocks, and 200,000 instructions, phis and dropped calls among
 /// them and terminators not.
@@ -91,10 +101,7 @@ pub fn definition_at<'a>(
     ensures { Gives (λ x. (Definition x.head x.blocks, tokens.new)) result (definition_at room tokens.old) }
 {
     let head = heading_at(alloc, room, tokens)?;
-    let mut blocks = Blocks::new(alloc);
-    braced_into(alloc, &mut blocks, tokens)?;
-    done(Defined {
-        head,
-        blocks: blocks.rows(),
-    })
+    let read = braced_at(alloc, tokens);
+    let (head, blocks) = with_read(head, read)?;
+    done(Defined { head, blocks })
 }

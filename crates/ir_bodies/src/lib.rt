@@ -9,6 +9,7 @@
 mod blocks;
 mod calls;
 mod definitions;
+mod keeping;
 mod laws;
 mod lines;
 mod opcodes;
