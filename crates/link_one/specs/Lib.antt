@@ -7,9 +7,7 @@ pub mod Refusing
 pub mod Answers
 pub mod LinkedLaws
 pub mod Laws
-pub mod Tables
 pub mod Units
-pub mod Tasks
 pub mod TaskLaws
 pub mod TaskUnits
 pub mod ModuleUnits

@@ -11,7 +11,7 @@ use Rattle.merge_meaning.specs.Lives.{is_live, parts}
 use Rattle.combined_index.specs.Combined.{Combined}
 use Rattle.promote_rename.specs.Promotions.{ArePromoted}
 use Rattle.back_pool.specs.Making.{IsReady}
-use Rattle.link_one.specs.ModuleUnits.{AreTasks}
+use Rattle.importer.specs.ModuleTasks.{AreTasks}
 use Rattle.link_one.specs.TaskUnits.{HasVerifiedModules, IsTaskUnit}
 use Rattle.link_one.proofs.LinkTasks.{all_tasks, same_tasks, tasks_counted, units_of_tasks}
 use Rattle.link_one.proofs.linked.compiled.Goals as goal
