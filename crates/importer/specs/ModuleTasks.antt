@@ -1,4 +1,4 @@
--- The tasks of the modules of a link.
+-- The tasks of the modules of a link, by number.
 use Rattle.std.specs.Prelude.{◌≡◌, ℕ, List, [], Some, length, slice_get, slice_index_or}
 use Rattle.ir_tree.specs.declared.module.GlobalValue.{GlobalValue}
 use Rattle.ir_tree.specs.declared.operand.Symbol.{Symbol}

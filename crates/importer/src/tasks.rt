@@ -10,8 +10,8 @@ ghost use Rattle.importer.specs.ModuleTasks.{AreTasks, IsTaskAt};
 ghost use Rattle.importer.specs.Tables.{values};
 ghost use Rattle.importer.specs.Tasks.{name_of};
 
-use crate::names::{borrowed, copies, set_of, sort_names};
 use crate::finals::push_names;
+use crate::names::{borrowed, copies, set_of, sort_names};
 use crate::setting::{Setting, list_at, part_at};
 use crate::table::{push_all, table_of};
 use ir_better::symbol_of;

@@ -1,4 +1,4 @@
--- A part stands among all parts; what is kept of the pieces of parts, place by place.
+-- What is kept of the pieces of parts, place by place.
 use Rattle.std.proofs.Common.{◌≡◌, ◌+◌, ℕ, zero, suc, List, [], ◌∷◌, Option, Some, length, refl, subst, arith}
 use Rattle.std.specs.Prelude.{slice_get, slice_index_or}
 use Rattle.std.specs.List.{AllZip}

@@ -1,5 +1,5 @@
 -- The names by which others may refer to values, one value further.
-use Rattle.std.proofs.Common.{◌≡◌, ◌∙◌, ◌+◌, not, ℕ, Bor, Bool, true, false, cond, List, [], ◌∷◌, ◌++◌, ap, refl, filter, map}
+use Rattle.std.proofs.Common.{◌≡◌, ◌∙◌, not, ℕ, Bor, Bool, true, false, cond, List, [], ◌∷◌, ◌++◌, ap, refl, filter, map}
 use Rattle.std.proofs.lemmas.List.{map-append}
 use Rattle.ir_tree.specs.Linkages.{is_local}
 use Rattle.ir_tree.specs.declared.module.GlobalValue.{GlobalValue}

@@ -1,4 +1,4 @@
--- Tasks of a link: what they have is of its parts, and they are verified.
+-- Tasks of a link: both modules of each are verified.
 use Rattle.std.proofs.Common.{◌≡◌, ◌∙◌, inl, inr, ◌<◌, ℕ, Bool, List, [], ◌++◌, map, length, Some, None, slice_get, refl, sym, ap, subst, arith}
 use Rattle.std.proofs.lemmas.Bool.{cases_lt}
 use Rattle.std.proofs.lemmas.List.{get_or_past, map-append}
@@ -38,8 +38,6 @@ use Rattle.link_one.specs.TaskLaws.{TasksAreVerified}
 use Rattle.link_one.proofs.Finals.{one_symbol}
 use Rattle.link_one.proofs.Imported.{imported_lives, imported_within}
 use Rattle.link_one.proofs.Linkable.{all_whole, parts_sound_in}
-
--- ---- verified
 
 module _ (by_module : LiveByModule) (outside : OutsideIsDeclared) (sound : PartsAreSound) (known : LiveIsKnown) (declares : DeclarationsAreSound)
     (exports : List (List ℕ)) (import_limit : ℕ) (suffixes : List (List ℕ)) (ms : List Module) (index : Combined) (live : List Bool) (imports : List (List ℕ)) (verified : All IsVerified ms)

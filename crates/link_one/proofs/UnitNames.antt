@@ -1,5 +1,5 @@
 -- What a task is compiled to is a unit: the names of its pieces rise.
-use Rattle.std.proofs.Common.{◌≡◌, ◌∙◌, ◌+◌, ◌<◌, ℕ, Bool, true, false, List, [], ◌∷◌, All, None, Option, Some, map, length, get_or, refl, sym, ap, ap₂, subst, arith}
+use Rattle.std.proofs.Common.{◌≡◌, ◌∙◌, ◌+◌, ◌<◌, ℕ, Bool, false, List, [], ◌∷◌, All, None, Option, Some, map, length, get_or, refl, sym, ap, ap₂, subst, arith}
 use Rattle.std.proofs.lemmas.Bool.{false≢true}
 use Rattle.std.proofs.lemmas.Cmp.{nat_list_cmp_total}
 use Rattle.std.proofs.lemmas.List.{get_or-map, length-map}
@@ -19,7 +19,6 @@ use Rattle.ir_tree.specs.Wholes.{IsVerified, global_symbol, symbols}
 use Rattle.ir_tree.specs.declared.function.Function.{Function}
 use Rattle.ir_tree.specs.declared.module.GlobalValue.{GlobalValue}
 use Rattle.ir_tree.specs.declared.operand.Symbol.{Symbol}
-use Rattle.ir_better.specs.Programs.{symbol_of}
 use Rattle.merge_meaning.proofs.Looked.{same_symbol}
 use Rattle.back_end.specs.Laws.{MadeHasInterface}
 use Rattle.emit.specs.Joins.{piece_cmp}
@@ -28,7 +27,7 @@ use Rattle.lto_task.specs.Tasks.{TaskView, module_of}
 use Rattle.lto_task.specs.Units.{IsUnit, IsWritten}
 use Rattle.lto_task.specs.declared.piece.Piece.{Piece}
 use Rattle.importer.specs.Tasks.{name_of}
-use Rattle.importer.proofs.Members.{Stands, image_stands, of_each}
+use Rattle.importer.proofs.Members.{image_stands, of_each}
 use Rattle.importer.proofs.OnceNamed.{distinct_kept, moved_once, names_once}
 use Rattle.link_one.specs.TaskUnits.{IsTaskUnit, bodies_in_task, definitions, is_defined}
 use Rattle.link_one.specs.Units.{IsLinkedPiece}

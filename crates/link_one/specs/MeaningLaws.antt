@@ -1,7 +1,6 @@
 -- What is true of an index and of the program that its modules mean.
 use Rattle.std.specs.Prelude.{◌≡◌, ◌≢◌, ℕ, Bool, true, IsTrue, List, Contains, slice_get, None, Some, is_some}
 use Rattle.std.specs.List.{AllZip}
-use Rattle.ir_tree.specs.Wholes.{symbols}
 use Rattle.ir_tree.specs.declared.module.GlobalValue.{GlobalValue}
 use Rattle.ir_tree.specs.declared.module.Module.{Module}
 use Rattle.ir_tree.specs.declared.operand.Symbol.{Symbol}

@@ -1,5 +1,5 @@
 -- The units of the modules of a link: what is made of their tasks.
-use Rattle.std.specs.Prelude.{◌≡◌, ◌<◌, ℕ, Bool, List, [], Some, length, slice_get}
+use Rattle.std.specs.Prelude.{◌≡◌, ◌<◌, ℕ, Bool, List, Some, length, slice_get}
 use Rattle.ir_tree.specs.declared.module.GlobalValue.{GlobalValue}
 use Rattle.ir_tree.specs.declared.module.Module.{Module}
 use Rattle.ir_tree.specs.declared.operand.Symbol.{Symbol}

@@ -1,4 +1,4 @@
-use Rattle.std.proofs.Common.{◌≡◌, ℕ, List, All, ap, arith, length, subst}
+use Rattle.std.proofs.Common.{◌≡◌, All, ap, arith, length, subst}
 use Rattle.ir_tree.specs.Names.{AllBytes}
 use Rattle.link_one.proofs.writable.is_written.Goals as goal
 

@@ -1,5 +1,3 @@
-use Rattle.std.proofs.Common.{◌≡◌, ◌+◌, ℕ, List, Some, ap, arith, length, subst}
-use Rattle.std.specs.Prelude.{slice_get}
 use Rattle.lto_task.specs.Tasks.{task_view}
 use Rattle.lto_task.specs.declared.task.Task.{Task}
 use Rattle.importer.specs.ModuleTasks.{IsTaskAt}
