@@ -35,3 +35,4 @@ mod Referables
 mod TaskParts
 mod UnitNames
 mod LinkTasks
+mod Preparing

@@ -1,6 +1,6 @@
 -- The tasks of a link's modules, and the units that are made of them.
 use mathlib.Core.Logic.{∥∥₁_map₂}
-use Rattle.std.proofs.Common.{◌≡◌, ◌∙◌, ℕ, zero, suc, Bool, List, [], ◌∷◌, All, Some, get_or, length, refl, ap, subst, arith}
+use Rattle.std.proofs.Common.{◌≡◌, ◌∙◌, ◌<◌, ℕ, zero, suc, Bool, List, [], ◌∷◌, All, Some, get_or, length, refl, ap, subst, arith}
 use Rattle.std.specs.List.{AllZip}
 use Rattle.std.specs.Prelude.{slice_get}
 use Rattle.std.proofs.lemmas.Option.{slice_get-get_or}
@@ -11,14 +11,10 @@ use Rattle.lto_task.specs.declared.task.Task.{Task}
 use Rattle.ir_tree.specs.declared.module.GlobalValue.{GlobalValue}
 use Rattle.ir_tree.specs.declared.module.Module.{Module}
 use Rattle.ir_tree.specs.declared.operand.Symbol.{Symbol}
-use Rattle.combined_index.specs.Combined.{Combined}
-use Rattle.promote_rename.specs.Finals.{NoneTaken, final_names}
-use Rattle.promote_rename.specs.Promotions.{ArePromoted}
-use Rattle.thin_link.specs.Linking.{IsThinLink}
-use Rattle.merge_meaning.specs.Lives.{parts, parts_from}
+use Rattle.merge_meaning.specs.Lives.{parts_from}
 use Rattle.back_pool.specs.Making.{IsAnswer}
-use Rattle.importer.specs.ModuleTasks.{AreTasks}
-use Rattle.link_one.specs.ModuleUnits.{AreUnits, AreUnitsOf, IsTaskInLink}
+use Rattle.importer.specs.ModuleTasks.{AreTasks, IsTaskOfNumber}
+use Rattle.link_one.specs.ModuleUnits.{AreUnits}
 use Rattle.link_one.specs.TaskUnits.{IsTaskUnit}
 
 -- where answers can be trusted, each is merely made of its task, and so all are
@@ -58,35 +54,13 @@ module _ (exports : List (List ℕ)) (limit : ℕ) (suffixes : List (List ℕ)) 
       (subst (λ (x : List (List ℕ)). AreTasks exports limit symbols suffixes imports x gs tasks) c
       (subst (λ (x : List (List GlobalValue)). AreTasks exports limit symbols suffixes imports promoted x tasks) d are)))
 
-parts_long : (all : List Module) (symbols : List Symbol) (live : List Bool) (suffixes : List (List ℕ)) (k : ℕ) (ms : List Module) → length (parts_from all symbols live suffixes k ms) ≡ length ms
+pub parts_long : (all : List Module) (symbols : List Symbol) (live : List Bool) (suffixes : List (List ℕ)) (k : ℕ) (ms : List Module) → length (parts_from all symbols live suffixes k ms) ≡ length ms
 parts_long all symbols live suffixes k [] = refl
 parts_long all symbols live suffixes k (m ∷ ms) = ap suc (parts_long all symbols live suffixes (suc k) ms)
 
-module _ (exports : List (List ℕ)) (import_limit inline_limit : ℕ) (suffixes : List (List ℕ)) (ms : List Module) (index : Combined) (live : List Bool) (imports promoted : List (List ℕ))
-    (thin : IsThinLink ms exports import_limit index live imports) (named : NoneTaken (final_names suffixes index.symbols live)) (promoted_are : ArePromoted index imports promoted)
-    (tasks : List Task) (are : AreTasks exports inline_limit index.symbols suffixes imports promoted (parts ms index.symbols live suffixes) tasks) where
-  pub tasks_counted : length tasks ≡ length ms
-  tasks_counted = are.count ∙ parts_long ms index.symbols live suffixes 0 ms
-
-  -- what holds of each task of the link holds of these
-  pub all_tasks : (P : TaskView → Type 0) → ((t : TaskView) → IsTaskInLink exports import_limit inline_limit suffixes ms t → P t) → All (λ t. P (task_view t)) tasks
-  all_tasks P each k d below =
-      each (task_view (get_or tasks k d)) record {
-        index = index;
-        live = live;
-        imports = imports;
-        thin = thin;
-        named = named;
-        promoted = promoted;
-        promoted_are = promoted_are;
-        number = k;
-        within = omega (arith, below, tasks_counted);
-        task = are.each k (get_or tasks k d) (slice_get-get_or tasks k d below);
-      }
-
-  pub units_of_tasks : (units : List (List Piece)) → AllZip (λ t ps. IsTaskUnit (task_view t) ps) tasks units → AreUnitsOf exports inline_limit index suffixes imports (parts ms index.symbols live suffixes) units
-  units_of_tasks units made = record {
-    promoted = promoted;
-    promoted_are = promoted_are;
-    are = units_made exports inline_limit index.symbols suffixes imports promoted (parts ms index.symbols live suffixes) tasks units are made;
-  }
+-- what holds of the task of each part holds of all tasks
+pub all_tasks : (exports : List (List ℕ)) (limit : ℕ) (symbols : List Symbol) (suffixes imports promoted : List (List ℕ)) (parts : List (List GlobalValue)) (tasks : List Task)
+    → AreTasks exports limit symbols suffixes imports promoted parts tasks → (P : TaskView → Type 0)
+    → ((k : ℕ) (t : TaskView) → k < length parts → IsTaskOfNumber exports limit symbols suffixes imports promoted parts k t → P t) → All (λ t. P (task_view t)) tasks
+all_tasks exports limit symbols suffixes imports promoted parts tasks are P each k d below =
+    each k (task_view (get_or tasks k d)) (omega (arith, below, are.count)) (are.each k (get_or tasks k d) (slice_get-get_or tasks k d below))

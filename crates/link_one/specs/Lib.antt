@@ -6,6 +6,7 @@ pub mod Linking
 pub mod Refusing
 pub mod Answers
 pub mod LinkedLaws
+pub mod Preparing
 pub mod Laws
 pub mod Units
 pub mod TaskLaws

@@ -33,6 +33,7 @@ mod naming;
 mod passes;
 mod piece;
 mod pool;
+mod prepare;
 mod referable;
 mod target;
 mod task_laws;

@@ -1,7 +1,8 @@
 //! From modules to text.
 ghost use Rattle.std.specs.List.{AllZip};
-ghost use Rattle.std.specs.Prelude.{◌≡◌, ◌≢◌, ◌<◌, ◌≤◌, ◌^◌, ℕ, List, IfOk, IfErr, length, map};
+ghost use Rattle.std.specs.Prelude.{◌≡◌, ◌≢◌, ◌<◌, ◌≤◌, ◌^◌, ℕ, List, All, IfOk, IfErr, length, map};
 ghost use mathlib.Core.List.{IsPrefix};
+ghost use Rattle.ir_tree.specs.Wholes.{IsVerified};
 ghost use Rattle.cache_turn.specs.Places.{IsAt, seen_by};
 ghost use Rattle.lto_fault.specs.declared.refusal.Refusal.TheVariants.{NoMemory};
 ghost use Rattle.lto_task.specs.Tasks.{IsWrittenTask, TaskView, task_text};
@@ -15,9 +16,10 @@ ghost use Rattle.link_one.specs.TaskUnits.{IsTaskUnit};
 
 use crate::laws::linked_is_one;
 use crate::linked::linked;
-use crate::linked_laws::linked_refines;
-use crate::naming::named;
+use crate::linked_laws::{linked_refines, units_are_linked};
 use crate::pool::Pool;
+use crate::prepare::prepare;
+use crate::task_laws::tasks_are_verified;
 use cache_slot::{CachePass, Setting, SharedCache};
 use ir_tree::{Text, Verified};
 use lto_fault::Refusal;
@@ -25,7 +27,15 @@ use lto_outside::{CacheDisk, Gate};
 use std::alloc::Global;
 use std::sync::Wait;
 use std::thread::Threads;
-use thin_link::thin_link;
+
+/// That modules are sound, each as its type says.
+fn all_verified(modules: &[Verified])
+    ensures { All IsVerified modules.now }
+{
+    for verified in modules {
+        verified.module();
+    }
+}
 
 /// The text of the linked module of these modules, which stand in these files, in command order. Each is compiled by itself, by one
 /// of up to `jobs` workers, or its unit is found in the cache, which other calls may use meanwhile. Each has a suffix, that of its
@@ -47,7 +57,7 @@ pub fn link<
     jobs: u32,
     files: &[Text],
     suffixes: &[Text],
-    modules: &[Verified],
+    modules: Vec<Verified>,
     exports: &[Text],
     import_limit: u32,
     inline_limit: u32,
@@ -56,23 +66,26 @@ pub fn link<
     gate: &G,
 ) -> Result<Text, Refusal>
     requires jobs { (1 ≤ jobs) × (jobs ≤ 64) }
-    requires count { length modules.now < 2 ^ 32 }
-    requires files { length files.now ≡ length modules.now }
-    requires suffixes { length suffixes.now ≡ length modules.now }
+    requires count { length modules.items < 2 ^ 32 }
+    requires files { length files.now ≡ length modules.items }
+    requires suffixes { length suffixes.now ≡ length modules.items }
     requires pass { IsAt cache.now.lock.table.shared.table_id pass.old.place.seat }
-    requires keys { (t : TaskView) → IsTaskInLink exports.now import_limit inline_limit suffixes.now modules.now t → S.keys (task_text t) }
-    requires fits { (t : TaskView) → IsTaskInLink exports.now import_limit inline_limit suffixes.now modules.now t → IsWrittenTask t → FitsAsMade D.fits IsTaskUnit t }
+    requires keys { (t : TaskView) → IsTaskInLink exports.now import_limit inline_limit suffixes.now modules.items t → S.keys (task_text t) }
+    requires fits { (t : TaskView) → IsTaskInLink exports.now import_limit inline_limit suffixes.now modules.items t → IsWrittenTask t → FitsAsMade D.fits IsTaskUnit t }
     ensures pass { IsAt cache.now.lock.table.shared.table_id pass.new.place.seat }
     ensures seen { IsPrefix (seen_by pass.old.place.seat) (seen_by pass.new.place.seat) }
-    ensures linked { IfOk result (λ text. IsTrusted S.dir D.fits S.files → (bytes : List (List ℕ)) → AllZip Accepts bytes modules.now → suffixes.now ≡ map suffix_of bytes → ∥ IsLinkOf exports.now import_limit inline_limit bytes text ∥₁) }
-    ensures only { IfOk result (λ text. IsTrusted S.dir D.fits S.files → (bytes : List (List ℕ)) → AllZip Accepts bytes modules.now → suffixes.now ≡ map suffix_of bytes → IsOnlyLinkOf exports.now import_limit inline_limit bytes text) }
-    ensures linkable { IfOk result (λ _. CanBeLinked exports.now import_limit suffixes.now modules.now) }
-    ensures refused { IfErr result (λ why. why ≢ NoMemory → IsUnlinked files.now exports.now import_limit suffixes.now modules.now why) }
+    ensures linked { IfOk result (λ text. IsTrusted S.dir D.fits S.files → (bytes : List (List ℕ)) → AllZip Accepts bytes modules.items → suffixes.now ≡ map suffix_of bytes → ∥ IsLinkOf exports.now import_limit inline_limit bytes text ∥₁) }
+    ensures only { IfOk result (λ text. IsTrusted S.dir D.fits S.files → (bytes : List (List ℕ)) → AllZip Accepts bytes modules.items → suffixes.now ≡ map suffix_of bytes → IsOnlyLinkOf exports.now import_limit inline_limit bytes text) }
+    ensures linkable { IfOk result (λ _. CanBeLinked exports.now import_limit suffixes.now modules.items) }
+    ensures refused { IfErr result (λ why. why ≢ NoMemory → IsUnlinked files.now exports.now import_limit suffixes.now modules.items why) }
 {
-    linked_refines();
     linked_is_one();
-    let decided = thin_link(alloc, files, modules, exports, import_limit)?;
-    named(alloc, &decided, suffixes)?;
+    linked_refines();
+    tasks_are_verified();
+    units_are_linked();
+    all_verified(&modules);
+    let prepared = prepare(alloc, files, suffixes, &modules, exports, import_limit)?;
+    drop(modules);
     let pool = Pool {
         rt,
         jobs,
@@ -83,11 +96,9 @@ pub fn link<
         alloc,
         &pool,
         pass,
-        modules,
-        &decided,
+        &prepared,
         suffixes,
         exports,
-        import_limit,
         inline_limit,
     ) {
         Ok(text) => Ok(text),

@@ -78,22 +78,22 @@ fn text<R: Threads + Wait + Sync, D: CacheDisk + Send, S: Setting + Send + Sync,
     options: &LinkOptions,
     names: &[FileName],
     given: &[Option<Text>],
-    modules: &[Verified],
+    modules: Vec<Verified>,
     cache: &SharedCache<D, S>,
     pass: &mut CachePass<D, S>,
     gate: &G,
 ) -> Result<Text, Refusal>
     requires each { length names.now ≡ length given.now }
-    requires count { length modules.now < 2 ^ 32 }
-    requires read { AllZip IsRead given.now modules.now }
+    requires count { length modules.items < 2 ^ 32 }
+    requires read { AllZip IsRead given.now modules.items }
     requires pass { IsAt cache.now.lock.table.shared.table_id pass.old.place.seat }
     requires keys { (key : List ℕ) → IsKeyOf options.now given.now key → S.keys key }
-    requires fits { (t : TaskView) → IsTaskInLink options.now.exports options.now.import_limit options.now.inline_limit (suffixes_of given.now) modules.now t → IsWrittenTask t → FitsAsMade D.fits IsTaskUnit t }
+    requires fits { (t : TaskView) → IsTaskInLink options.now.exports options.now.import_limit options.now.inline_limit (suffixes_of given.now) modules.items t → IsWrittenTask t → FitsAsMade D.fits IsTaskUnit t }
     ensures pass { IsAt cache.now.lock.table.shared.table_id pass.new.place.seat }
-    ensures linkable { IfOk result (λ _. CanBeLinked options.now.exports options.now.import_limit (suffixes_of given.now) modules.now) }
+    ensures linkable { IfOk result (λ _. CanBeLinked options.now.exports options.now.import_limit (suffixes_of given.now) modules.items) }
     ensures done { IfOk result (λ text. IsTrusted S.dir D.fits S.files → ∥ IsLinkOf options.now.exports options.now.import_limit options.now.inline_limit (map bytes_of given.now) text ∥₁) }
     ensures only { IfOk result (λ text. IsTrusted S.dir D.fits S.files → IsOnlyLinkOf options.now.exports options.now.import_limit options.now.inline_limit (map bytes_of given.now) text) }
-    ensures because { IfErr result (Because (record never { unlinked = IsUnlinked names.now options.now.exports options.now.import_limit (suffixes_of given.now) modules.now; memory = Unit {0} })) }
+    ensures because { IfErr result (Because (record never { unlinked = IsUnlinked names.now options.now.exports options.now.import_limit (suffixes_of given.now) modules.items; memory = Unit {0} })) }
 {
     let Ok(files) = texts(alloc, names) else {
         return Err(Refusal::NoMemory);
@@ -178,7 +178,7 @@ pub(crate) fn made<
         options,
         names,
         given,
-        modules.as_slice(),
+        modules.into_vec(),
         cache,
         pass,
         gate,

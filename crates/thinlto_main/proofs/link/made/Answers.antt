@@ -17,24 +17,24 @@ pub text-requires-clause-each : goal.text-requires-clause-each
 text-requires-clause-each g c κs within = sym c.requires.each
 
 pub text-requires-clause-read : goal.text-requires-clause-read
-text-requires-clause-read g c κs within = subst (λ (l : List Module). AllZip IsRead c.args.given.now l) (sym c.as_slice.ensures) c.in-Ok.ensures.read
+text-requires-clause-read g c κs within = subst (λ (l : List Module). AllZip IsRead c.args.given.now l) (sym c.into_vec.ensures) c.in-Ok.ensures.read
 
 pub text-requires-clause-count : goal.text-requires-clause-count
 text-requires-clause-count g c κs within =
-    let same : length c.as_slice.result.now ≡ length c.args.names.now =
-    AllZip-long IsRead c.args.given.now c.as_slice.result.now (subst (λ (l : List Module). AllZip IsRead c.args.given.now l) (sym c.as_slice.ensures) c.in-Ok.ensures.read) ∙ c.requires.each in
+    let same : length c.into_vec.result.items ≡ length c.args.names.now =
+    AllZip-long IsRead c.args.given.now c.into_vec.result.items (subst (λ (l : List Module). AllZip IsRead c.args.given.now l) (sym c.into_vec.ensures) c.in-Ok.ensures.read) ∙ c.requires.each in
     omega (arith, same)
 
 pub text-requires-clause-fits : goal.text-requires-clause-fits
 text-requires-clause-fits g c κs within = λ t in_link written.
-    let read : AllZip IsRead c.args.given.now c.as_slice.result.now = subst (λ (l : List Module). AllZip IsRead c.args.given.now l) (sym c.as_slice.ensures) c.in-Ok.ensures.read in
+    let read : AllZip IsRead c.args.given.now c.into_vec.result.items = subst (λ (l : List Module). AllZip IsRead c.args.given.now l) (sym c.into_vec.ensures) c.in-Ok.ensures.read in
     fits_as_made (record { spelled = c.tasks_are_spelled.ensures; verified = c.tasks_are_verified.ensures; one = c.tasks_with_one_text_are_one.ensures }) _ t c.all_given_bytes.ensures
-    (task_of_given c.args.options.now c.args.given.now c.as_slice.result.now read t in_link) written g.D.CacheDisk.fits c.requires.meaning
+    (task_of_given c.args.options.now c.args.given.now c.into_vec.result.items read t in_link) written g.D.CacheDisk.fits c.requires.meaning
 
 pub returns-clause-linkable : goal.returns-clause-linkable
 returns-clause-linkable g c =
-    let read : AllZip IsRead c.args.given.now c.as_slice.result.now = subst (λ (l : List Module). AllZip IsRead c.args.given.now l) (sym c.as_slice.ensures) c.in-Ok.ensures.read in
-    IfOk-weaker c.text.result _ _ (λ text can. is_linkable c.unlinked_is_one.ensures.apart c.args.options.now c.args.names.now c.args.given.now c.as_slice.result.now read can) c.text.ensures.linkable
+    let read : AllZip IsRead c.args.given.now c.into_vec.result.items = subst (λ (l : List Module). AllZip IsRead c.args.given.now l) (sym c.into_vec.ensures) c.in-Ok.ensures.read in
+    IfOk-weaker c.text.result _ _ (λ text can. is_linkable c.unlinked_is_one.ensures.apart c.args.options.now c.args.names.now c.args.given.now c.into_vec.result.items read can) c.text.ensures.linkable
 
 pub returns-clause-made : goal.returns-clause-made
 returns-clause-made g c =
@@ -45,5 +45,5 @@ returns-clause-made g c =
 pub returns-clause-because : goal.returns-clause-because
 returns-clause-because g c =
     IfErr-weaker c.text.result _ _
-    (λ why h. because_map (unlinked_unmade c.args.options.now c.args.names.now c.args.given.now c.as_slice.result.now (subst (λ (l : List Module). AllZip IsRead c.args.given.now l) (sym c.as_slice.ensures) c.in-Ok.ensures.read)) why h)
+    (λ why h. because_map (unlinked_unmade c.args.options.now c.args.names.now c.args.given.now c.into_vec.result.items (subst (λ (l : List Module). AllZip IsRead c.args.given.now l) (sym c.into_vec.ensures) c.in-Ok.ensures.read)) why h)
     c.text.ensures.because

@@ -19,17 +19,17 @@ use Rattle.thinlto_main.proofs.link.text.Goals as goal
 
 pub link-requires-clause-files : goal.link-requires-clause-files
 link-requires-clause-files g c κs within =
-    ap (λ (l : List (List ℕ)). length l) (c.as_slice.ensures ∙ c.in-Ok.ensures) ∙ c.requires.each ∙ sym (AllZip-long IsRead c.args.given.now c.args.modules.now c.requires.read)
+    ap (λ (l : List (List ℕ)). length l) (c.as_slice.ensures ∙ c.in-Ok.ensures) ∙ c.requires.each ∙ sym (AllZip-long IsRead c.args.given.now c.args.modules.items c.requires.read)
 
 pub link-requires-clause-suffixes : goal.link-requires-clause-suffixes
 link-requires-clause-suffixes g c κs within =
     ap (λ (l : List (List ℕ)). length l) (c.as_slice-2.ensures ∙ c.in-Ok-suffixes.ensures) ∙ length-map (map bytes_of c.args.given.now) suffix_of
-    ∙ length-map c.args.given.now bytes_of ∙ sym (AllZip-long IsRead c.args.given.now c.args.modules.now c.requires.read)
+    ∙ length-map c.args.given.now bytes_of ∙ sym (AllZip-long IsRead c.args.given.now c.args.modules.items c.requires.read)
 
 pub link-requires-clause-keys : goal.link-requires-clause-keys
 link-requires-clause-keys g c κs within = λ t in_link.
     c.requires.keys (task_text t) (record {
-      ms = c.args.modules.now;
+      ms = c.args.modules.items;
       read = c.requires.read;
       task = t;
       in_link = same_task _ _ _ _ _ _ _ t c.as_slice-3.ensures (c.as_slice-2.ensures ∙ c.in-Ok-suffixes.ensures) in_link;
@@ -42,14 +42,14 @@ link-requires-clause-fits g c κs within = λ t in_link written. c.requires.fits
 pub returns-clause-linkable : goal.returns-clause-linkable
 returns-clause-linkable g c =
     IfOk-weaker c.link.result _ _
-    (λ text can. subst (λ (es : List (List ℕ)). CanBeLinked es c.args.options.now.import_limit (suffixes_of c.args.given.now) c.args.modules.now) c.as_slice-3.ensures
-    (subst (λ (ss : List (List ℕ)). CanBeLinked c.as_slice-3.result.now c.args.options.now.import_limit ss c.args.modules.now) (c.as_slice-2.ensures ∙ c.in-Ok-suffixes.ensures) can))
+    (λ text can. subst (λ (es : List (List ℕ)). CanBeLinked es c.args.options.now.import_limit (suffixes_of c.args.given.now) c.args.modules.items) c.as_slice-3.ensures
+    (subst (λ (ss : List (List ℕ)). CanBeLinked c.as_slice-3.result.now c.args.options.now.import_limit ss c.args.modules.items) (c.as_slice-2.ensures ∙ c.in-Ok-suffixes.ensures) can))
     c.link.ensures.linkable
 
 pub returns-clause-done : goal.returns-clause-done
 returns-clause-done g c =
     let given : List (List ℕ) = map bytes_of c.args.given.now in
-    let accepted : AllZip Accepts given c.args.modules.now = accepted_bytes c.args.given.now c.args.modules.now c.requires.read in
+    let accepted : AllZip Accepts given c.args.modules.items = accepted_bytes c.args.given.now c.args.modules.items c.requires.read in
     let same : c.as_slice-2.result.now ≡ map suffix_of given = c.as_slice-2.ensures ∙ c.in-Ok-suffixes.ensures in
     IfOk-weaker c.link.result _ _
     (λ text linked. λ sure. subst (λ (es : List (List ℕ)). ∥ IsLinkOf es c.args.options.now.import_limit c.args.options.now.inline_limit given text ∥₁) c.as_slice-3.ensures (linked sure given accepted same))
@@ -58,7 +58,7 @@ returns-clause-done g c =
 pub returns-clause-only : goal.returns-clause-only
 returns-clause-only g c =
     let given : List (List ℕ) = map bytes_of c.args.given.now in
-    let accepted : AllZip Accepts given c.args.modules.now = accepted_bytes c.args.given.now c.args.modules.now c.requires.read in
+    let accepted : AllZip Accepts given c.args.modules.items = accepted_bytes c.args.given.now c.args.modules.items c.requires.read in
     let same : c.as_slice-2.result.now ≡ map suffix_of given = c.as_slice-2.ensures ∙ c.in-Ok-suffixes.ensures in
     IfOk-weaker c.link.result _ _
     (λ text only. λ sure. subst (λ (es : List (List ℕ)). IsOnlyLinkOf es c.args.options.now.import_limit c.args.options.now.inline_limit given text) c.as_slice-3.ensures (only sure given accepted same))
@@ -66,10 +66,10 @@ returns-clause-only g c =
 
 pub returns-clause-because : goal.returns-clause-because
 returns-clause-because g c =
-    if_unlinked_because (record never { unlinked = IsUnlinked c.args.names.now c.args.options.now.exports c.args.options.now.import_limit (suffixes_of c.args.given.now) c.args.modules.now; memory = Unit {0} })
-    (IsUnlinked c.args.names.now c.args.options.now.exports c.args.options.now.import_limit (suffixes_of c.args.given.now) c.args.modules.now)
-    (by_unlinked c.args.names.now c.args.options.now.exports c.args.options.now.import_limit (suffixes_of c.args.given.now) c.args.modules.now
-    (record never { unlinked = IsUnlinked c.args.names.now c.args.options.now.exports c.args.options.now.import_limit (suffixes_of c.args.given.now) c.args.modules.now; memory = Unit {0} }) (λ why x. x)) c.link.result
-    (subst (λ (fs : List (List ℕ)). IfErr c.link.result (λ why. why ≢ NoMemory → IsUnlinked fs c.args.options.now.exports c.args.options.now.import_limit (suffixes_of c.args.given.now) c.args.modules.now why)) (c.as_slice.ensures ∙ c.in-Ok.ensures)
-    (subst (λ (ss : List (List ℕ)). IfErr c.link.result (λ why. why ≢ NoMemory → IsUnlinked c.as_slice.result.now c.args.options.now.exports c.args.options.now.import_limit ss c.args.modules.now why)) (c.as_slice-2.ensures ∙ c.in-Ok-suffixes.ensures)
-    (subst (λ (es : List (List ℕ)). IfErr c.link.result (λ why. why ≢ NoMemory → IsUnlinked c.as_slice.result.now es c.args.options.now.import_limit c.as_slice-2.result.now c.args.modules.now why)) c.as_slice-3.ensures c.link.ensures.refused))) tt
+    if_unlinked_because (record never { unlinked = IsUnlinked c.args.names.now c.args.options.now.exports c.args.options.now.import_limit (suffixes_of c.args.given.now) c.args.modules.items; memory = Unit {0} })
+    (IsUnlinked c.args.names.now c.args.options.now.exports c.args.options.now.import_limit (suffixes_of c.args.given.now) c.args.modules.items)
+    (by_unlinked c.args.names.now c.args.options.now.exports c.args.options.now.import_limit (suffixes_of c.args.given.now) c.args.modules.items
+    (record never { unlinked = IsUnlinked c.args.names.now c.args.options.now.exports c.args.options.now.import_limit (suffixes_of c.args.given.now) c.args.modules.items; memory = Unit {0} }) (λ why x. x)) c.link.result
+    (subst (λ (fs : List (List ℕ)). IfErr c.link.result (λ why. why ≢ NoMemory → IsUnlinked fs c.args.options.now.exports c.args.options.now.import_limit (suffixes_of c.args.given.now) c.args.modules.items why)) (c.as_slice.ensures ∙ c.in-Ok.ensures)
+    (subst (λ (ss : List (List ℕ)). IfErr c.link.result (λ why. why ≢ NoMemory → IsUnlinked c.as_slice.result.now c.args.options.now.exports c.args.options.now.import_limit ss c.args.modules.items why)) (c.as_slice-2.ensures ∙ c.in-Ok-suffixes.ensures)
+    (subst (λ (es : List (List ℕ)). IfErr c.link.result (λ why. why ≢ NoMemory → IsUnlinked c.as_slice.result.now es c.args.options.now.import_limit c.as_slice-2.result.now c.args.modules.items why)) c.as_slice-3.ensures c.link.ensures.refused))) tt

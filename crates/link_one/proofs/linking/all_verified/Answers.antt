@@ -3,7 +3,7 @@ use Rattle.std.specs.Prelude.{All}
 use Rattle.std.proofs.lemmas.List.Elements.{All-more}
 use Rattle.ir_tree.specs.Wholes.{IsVerified}
 use Rattle.ir_tree.specs.declared.module.Module.{Module}
-use Rattle.link_one.proofs.linked.all_verified.Goals as goal
+use Rattle.link_one.proofs.linking.all_verified.Goals as goal
 
 pub loop-verified-preserved : goal.loop-verified-preserved
 loop-verified-preserved c =
