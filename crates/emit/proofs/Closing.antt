@@ -17,11 +17,10 @@ use Rattle.merge_meaning.proofs.Looked.{Found, defined_there, found, same_symbol
 use Rattle.merge_meaning.proofs.OneModule.{global_stays}
 use Rattle.merge_meaning.proofs.Prevailing.{symbol_by_parts}
 use Rattle.merge_meaning.proofs.Reordered.{any_number, contained, contains, is_definition}
-use Rattle.merge_meaning.proofs.Standing.{map_from}
+use Rattle.merge_meaning.proofs.Standing.{any_from, map_from}
+use Rattle.merge_meaning.proofs.References.{names_known}
 use Rattle.emit.specs.Emissions.{IsEmission, IsKept, exported, referred}
 use Rattle.emit.specs.Laws.{AreLinkable, EmissionIsClosed, ExportsAreKept, IsOutside, keeps_symbol}
-use Rattle.emit.proofs.Members.{any_from}
-use Rattle.emit.proofs.References.{names_known}
 use Rattle.emit.proofs.Reordering.{declared_by, live_parts}
 
 module _ (exports : List (List ℕ)) (hs hosts ks : List GlobalValue) (l : AreLinkable exports hs hosts) (e : IsEmission exports hs ks) where

@@ -28,10 +28,12 @@ use Rattle.ir_better.specs.Programs.{shared, symbol_of}
 use Rattle.lto_task.specs.Pieces.{IsPieceOf}
 use Rattle.lto_task.specs.declared.piece.Piece.{Piece}
 use Rattle.merge_meaning.specs.Linked.{IsDefinition}
+use Rattle.merge_meaning.specs.ByName.{IsInOrder, is_named, name_cmp}
+use Rattle.merge_meaning.specs.Hosts.{getchar, putchar}
 use Rattle.merge_meaning.proofs.Looked.{others_once, same_symbol}
 use Rattle.merge_meaning.proofs.Prevailing.{symbol_by_parts}
 use Rattle.merge_meaning.proofs.Standing.{alone, filter_from, first, in_filter, in_map, later, map_from, nothing}
-use Rattle.emit.specs.Emissions.{IsEmission, IsInOrder, IsKept, exported, getchar, in_use, is_named, is_variable, name_cmp, outside_in_use, putchar, referred, settled}
+use Rattle.emit.specs.Emissions.{IsEmission, IsKept, exported, in_use, is_variable, outside_in_use, referred, settled}
 use Rattle.emit.specs.Joins.{IsInNameOrder, IsJoin, IsUsed, asked, getchar_line, has_piece, host_lines, is_function, line_in_use, lines_of, piece_cmp, putchar_line, referred_by}
 use Rattle.emit.specs.Laws.{JoinIsEmission}
 use Rattle.emit.proofs.Distinctions.{distinct_filter, distinct_left, distinct_moved, not_again}

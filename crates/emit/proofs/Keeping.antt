@@ -14,8 +14,8 @@ use Rattle.liveness.specs.Reach.{IsReached, leads, starts}
 use Rattle.liveness.specs.Rows.{AreBelow, row}
 use Rattle.liveness.specs.Walking.{IsReach}
 use Rattle.lto_task.specs.declared.piece.Piece.{Piece}
+use Rattle.merge_meaning.specs.ByName.{has}
 use Rattle.merge_meaning.proofs.Standing.{alone, in_joined, joined_from}
-use Rattle.emit.specs.Chosen.{has}
 use Rattle.emit.specs.Graphs.{AreStarts, Edge, IsNumber, Linked, edge, edges, edges_of, is_key, is_marked}
 use Rattle.emit.specs.Joins.{IsUsed, asked, referred_by}
 use Rattle.emit.proofs.Linking.{alike, number_within}

@@ -6,7 +6,6 @@ mod Ordered
 mod One
 pub mod Members
 mod Distinctions
-pub mod References
 mod Reordering
 mod Closing
 mod Settled

@@ -1,35 +1,19 @@
 -- What the linked module has of the values that it is made of.
-use Rattle.std.proofs.Common.{◌≡◌, ◌∙◌, ◌⊎◌, inl, inr, ◌&&◌, ◌||◌, not, Bool, true, false, if◌then◌else◌, List, [], ◌∷◌, ◌++◌, ℕ, map, filter, refl, sym, ap, subst}
-use Rattle.std.proofs.lemmas.Bool.{and_from, and_parts, not-true, or_cases, or_left, or_right}
+use Rattle.std.proofs.Common.{◌≡◌, ◌∙◌, ◌⊎◌, inl, inr, ◌&&◌, not, Bool, true, false, if◌then◌else◌, List, [], ◌∷◌, ◌++◌, ℕ, map, filter, refl, sym, ap, subst}
+use Rattle.std.proofs.lemmas.Bool.{and_from, and_parts, not-true}
 use Rattle.std.proofs.lemmas.List.Elements.{Contains-append_cases, Contains-append_left, Contains-append_right}
 use Rattle.std.proofs.lemmas.List.Sorted.{Contains-permutation, IsPermutation-sym}
-use Rattle.std.specs.List.{Contains, list_any}
+use Rattle.std.specs.List.{Contains}
 use Rattle.ir_tree.specs.Wholes.{global_symbol, symbols}
 use Rattle.ir_tree.specs.declared.module.GlobalValue.{GlobalValue}
 use Rattle.ir_tree.specs.declared.module.GlobalValue.TheVariants as global
 use Rattle.ir_tree.specs.declared.operand.Symbol.{Symbol}
 use Rattle.ir_better.specs.Programs.{symbol_of}
-use Rattle.merge_meaning.proofs.Standing.{alone, filter_from, first, first_or_later, in_filter, in_map, later, map_from, nothing}
-use Rattle.emit.specs.Emissions.{IsEmission, IsInOrder, getchar, in_use, is_named, is_variable, outside_in_use, putchar, settled}
+use Rattle.merge_meaning.specs.ByName.{IsInOrder, is_named}
+use Rattle.merge_meaning.specs.Hosts.{getchar, putchar}
+use Rattle.merge_meaning.proofs.Standing.{alone, filter_from, first, in_filter, in_map, map_from, nothing}
+use Rattle.emit.specs.Emissions.{IsEmission, in_use, is_variable, outside_in_use, settled}
 use Rattle.emit.specs.Laws.{EmissionComesFrom}
-
--- ---- tests on lists
-
-pub any_from : {X : Type 0} (p : X → Bool) (xs : List X) → list_any p xs ≡ true → (x : X) × Contains xs x × (p x ≡ true)
-any_from p [] h = absurd (cc h)
-any_from {X} p (x ∷ xs) h = by (or_cases (p x) (list_any p xs) h) (λ rest. any_from p xs rest)
-  where
-    by : (p x ≡ true) ⊎ (list_any p xs ≡ true) → (list_any p xs ≡ true → (y : X) × Contains xs y × (p y ≡ true)) → (y : X) × Contains (x ∷ xs) y × (p y ≡ true)
-    by (inl here) rest = (x, first x xs, here)
-    by (inr more) rest = let found = rest more in (found.0, later x found.0 xs found.1, found.2)
-
-pub any_by : {X : Type 0} (p : X → Bool) (xs : List X) (x : X) → Contains xs x → p x ≡ true → list_any p xs ≡ true
-any_by p [] x h on = absurd (nothing x h)
-any_by {X} p (y ∷ ys) x h on = by (first_or_later y x ys h) (λ rest. any_by p ys x rest on)
-  where
-    by : (y ≡ x) ⊎ Contains ys x → (Contains ys x → list_any p ys ≡ true) → (p y || list_any p ys) ≡ true
-    by (inl same) rest = or_left (p y) (list_any p ys) (ap p same ∙ on)
-    by (inr more) rest = or_right (p y) (list_any p ys) (rest more)
 
 -- ---- functions of the outside
 

@@ -6,7 +6,9 @@ use Rattle.std.proofs.lemmas.List.Sorted.{ranks_by}
 use Rattle.std.specs.Ordering.{is_lt}
 use Rattle.ir_tree.specs.declared.module.GlobalValue.{GlobalValue}
 use Rattle.ir_better.specs.Programs.{symbol_of}
-use Rattle.emit.specs.Emissions.{IsEmission, IsInOrder, getchar, in_use, is_named, is_variable, name_cmp, outside_in_use, putchar, settled}
+use Rattle.merge_meaning.specs.ByName.{IsInOrder, is_named, name_cmp}
+use Rattle.merge_meaning.specs.Hosts.{getchar, putchar}
+use Rattle.emit.specs.Emissions.{IsEmission, in_use, is_variable, outside_in_use, settled}
 use Rattle.emit.specs.Laws.{EmissionIsOne}
 use Rattle.emit.proofs.Ordered.{same_sorted}
 

@@ -20,7 +20,8 @@ use Rattle.ir_print.specs.Types.{result}
 use Rattle.ir_print.proofs.Written.{three_wrote}
 use Rattle.lto_task.proofs.Values.{values_append}
 use Rattle.merge_meaning.specs.Linked.{IsDefinition}
-use Rattle.emit.specs.Emissions.{getchar, is_variable, putchar, settled}
+use Rattle.merge_meaning.specs.Hosts.{getchar, putchar}
+use Rattle.emit.specs.Emissions.{is_variable, settled}
 use Rattle.emit.specs.Joins.{getchar_line, putchar_line}
 use Rattle.emit.proofs.Settled.{has_blocks}
 

@@ -20,15 +20,17 @@ use Rattle.ir_tree.proofs.Symbols.{symbol_same, symbol_true}
 use Rattle.ir_better.specs.Programs.{body_of, defined, is_declared, shared, storage_of, symbol_of}
 use Rattle.merge_meaning.specs.Globals.{named_by}
 use Rattle.merge_meaning.specs.Linked.{IsDefinition, IsLike, IsReordering, emission}
+use Rattle.merge_meaning.specs.Hosts.{getchar, putchar}
+use Rattle.merge_meaning.specs.ByName.{is_named}
 use Rattle.merge_meaning.proofs.Looked.{same_symbol}
 use Rattle.merge_meaning.proofs.Names.{clash, not_true}
 use Rattle.merge_meaning.proofs.OneModule.{globals_stay}
 use Rattle.merge_meaning.proofs.Prevailing.{symbol_by_parts}
-use Rattle.merge_meaning.proofs.Standing.{filter_from, in_filter, in_map, map_from}
-use Rattle.emit.specs.Emissions.{IsEmission, getchar, in_use, is_named, is_variable, linkage_of, outside_in_use, putchar, settled}
+use Rattle.merge_meaning.proofs.Standing.{any_by, any_from, filter_from, in_filter, in_map, map_from}
+use Rattle.emit.specs.Emissions.{IsEmission, in_use, is_variable, linkage_of, outside_in_use, settled}
 use Rattle.emit.specs.Laws.{AreLinkable, EmissionIsReordering, IsOutside, keeps_symbol}
 use Rattle.emit.proofs.Distinctions.{apart, distinct_append, distinct_filter, distinct_left, distinct_moved, distinct_one, one_value}
-use Rattle.emit.proofs.Members.{any_by, any_from, comes, of_group, outside_is, outside_stays, settled_symbol, settled_symbols, stays, used, used_is}
+use Rattle.emit.proofs.Members.{comes, of_group, outside_is, outside_stays, settled_symbol, settled_symbols, stays, used, used_is}
 
 -- ---- a definition that is settled
 

@@ -22,7 +22,8 @@ use Rattle.ir_tree.specs.declared.rule.Rule.{Rule}
 use Rattle.ir_tree.specs.declared.rule.Rule.TheVariants.{TypeMismatch, NotAvailable, PhiEdges, PhiPlace, EntryBranch, Index, Cast, CaseTwice}
 use Rattle.ir_better.specs.Programs.{body_of, storage_of}
 use Rattle.merge_meaning.specs.Linked.{IsDefinition}
-use Rattle.emit.specs.Emissions.{getchar, linkage_of, putchar, settled}
+use Rattle.merge_meaning.specs.Hosts.{getchar, putchar}
+use Rattle.emit.specs.Emissions.{linkage_of, settled}
 
 -- ---- a definition has a body or an initialiser
 

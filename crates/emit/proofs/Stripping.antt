@@ -6,10 +6,9 @@ use Rattle.std.specs.List.{AllZip, Contains, flat_map}
 use Rattle.std.specs.Str.{bytes_eq}
 use Rattle.lto_task.specs.declared.piece.Piece.{Piece}
 use Rattle.merge_meaning.proofs.Reordered.{contained, contains}
-use Rattle.merge_meaning.proofs.Standing.{filter_from, first_or_later, in_filter, in_joined, joined_from, later, nothing, first}
+use Rattle.merge_meaning.proofs.Standing.{any_by, any_from, filter_from, first, first_or_later, in_filter, in_joined, joined_from, later, nothing}
 use Rattle.emit.specs.Joins.{IsInNameOrder, IsJoin, IsUsed, asked, getchar_line, has_piece, host_lines, is_function, line_in_use, lines_of, putchar_line, referred_by}
 use Rattle.emit.specs.Strips.{IsStripped, OfferEnough, StrippedIsJoin, ModulePieces}
-use Rattle.emit.proofs.Members.{any_by, any_from}
 
 inside : {X : Type 0} {x y : X} → Some x ≡ Some y → x ≡ y
 inside e = cc

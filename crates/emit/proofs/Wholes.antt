@@ -8,12 +8,13 @@ use Rattle.ir_tree.specs.declared.module.GlobalValue.TheVariants as global
 use Rattle.ir_tree.specs.declared.operand.Symbol.{Symbol}
 use Rattle.ir_better.specs.Programs.{symbol_of}
 use Rattle.merge_meaning.specs.Linked.{IsDefinition}
+use Rattle.merge_meaning.specs.Hosts.{getchar, putchar}
 use Rattle.merge_meaning.proofs.Looked.{same_symbol}
 use Rattle.merge_meaning.proofs.Standing.{in_map, map_from}
-use Rattle.emit.specs.Emissions.{IsEmission, getchar, outside_in_use, putchar, referred, settled}
+use Rattle.merge_meaning.proofs.References.{all_from, known_more}
+use Rattle.emit.specs.Emissions.{IsEmission, outside_in_use, referred, settled}
 use Rattle.emit.specs.Laws.{AreLinkable, EmissionIsSound, EmissionIsWhole}
 use Rattle.emit.proofs.Members.{comes, outside_is, settled_symbol}
-use Rattle.emit.proofs.References.{all_from, known_more}
 use Rattle.emit.proofs.Reordering.{homeless_of, kept_stands, once}
 use Rattle.emit.proofs.Settled.{getchar_formed, getchar_sound, putchar_formed, putchar_sound, settled_formed, settled_sound}
 

@@ -1,9 +1,7 @@
 -- The pieces that stand in the linked module, as the code comes by them: by unit and by group, and the exported names.
 use Rattle.std.specs.Prelude.{ℕ, Bool, ◌&&◌, not, if◌then◌else◌, List, [], ◌∷◌, map, flat_map}
 use Rattle.std.specs.Borrow.{Bor}
-use Rattle.std.specs.HashSet.{HashSet, contains_by}
 use Rattle.std.specs.List.{list_any}
-use Rattle.std.specs.Str.{bytes_eq}
 use Rattle.lto_task.specs.declared.piece.Piece.{Piece}
 use Rattle.emit.specs.Graphs.{is_key}
 use Rattle.emit.specs.Joins.{has_piece, is_function}
@@ -31,7 +29,3 @@ any_has units name = list_any (λ u. has_piece u name) units
 
 abbrev pub line_due : List (Bor (List ℕ)) → List (List Piece) → List ℕ → List ℕ → List ℕ
 line_due keys units name line = if is_key keys name && not (any_has units name) then line else []
-
--- the name is one of the set
-abbrev pub has : {S : Type 0} → HashSet (Bor (List ℕ)) S → List ℕ → Bool
-has set name = contains_by (λ key. bytes_eq name key.now) set

@@ -1,20 +1,16 @@
 -- The linked module, of the global values of all modules: the kept ones, settled and in order (dead code stripping behind the back
 -- ends: Johnson, Amini and Li, "ThinLTO: Scalable and Incremental LTO", CGO 2017).
-use Rattle.std.specs.Prelude.{◌≡◌, ◌↔◌, ℕ, Bool, true, false, ◌&&◌, not, if◌then◌else◌, List, [], ◌∷◌, ◌++◌, map, filter, Contains, Some, codes}
-use Rattle.std.specs.Cmp.Lexicographic.{slice_cmp}
+use Rattle.std.specs.Prelude.{◌≡◌, ◌↔◌, ℕ, Bool, true, false, ◌&&◌, not, if◌then◌else◌, List, [], ◌∷◌, ◌++◌, map, filter, Contains}
 use Rattle.std.specs.List.{list_any}
-use Rattle.std.specs.List.Sorted.{IsPermutation, IsSorted, IsStable}
-use Rattle.std.specs.Ordering.{nat_cmp}
 use Rattle.std.specs.Str.{bytes_eq}
-use Rattle.std.specs.declared.cmp.Ordering.{Ordering}
 use Rattle.ir_tree.specs.declared.function.Linkage.{Linkage}
 use Rattle.ir_tree.specs.declared.function.Linkage.TheVariants.{External, Internal}
-use Rattle.ir_tree.specs.declared.function.Param.{Param}
 use Rattle.ir_tree.specs.declared.module.GlobalValue.{GlobalValue}
 use Rattle.ir_tree.specs.declared.module.GlobalValue.TheVariants as global
-use Rattle.ir_tree.specs.declared.operand.Reg.TheVariants.{Int}
 use Rattle.ir_summary.specs.References.{global_names}
-use Rattle.ir_better.specs.Programs.{shared, symbol_of}
+use Rattle.ir_better.specs.Programs.{symbol_of}
+use Rattle.merge_meaning.specs.ByName.{IsInOrder, is_named}
+use Rattle.merge_meaning.specs.Hosts.{getchar, putchar}
 
 -- ---- what is kept
 
@@ -37,36 +33,7 @@ abbrev pub is_variable : GlobalValue → Bool
 is_variable (global.Variable v) = true
 is_variable (global.Function f) = false
 
-abbrev pub name_cmp : GlobalValue → GlobalValue → Ordering
-name_cmp g h = slice_cmp nat_cmp (symbol_of g).name (symbol_of h).name
-
--- the same values by name, in the order of bytes; those of one name stay as they stood
-pub record IsInOrder (before after : List GlobalValue) : Type 0 where
-  pub same : IsPermutation before after
-  pub sorted : IsSorted name_cmp after
-  pub stable : IsStable name_cmp before after
-
 -- ---- functions of the outside (ISO C, section 7.21.7)
-
-abbrev pub host : List ℕ → List Param → GlobalValue
-host name params = global.Function (record {
-  symbol = shared name;
-  linkage = External;
-  result = Some (Int 32);
-  params = params;
-  noinline = false;
-  optnone = false;
-  blocks = [];
-})
-
-abbrev pub getchar : GlobalValue
-getchar = host (codes "getchar") []
-
-abbrev pub putchar : GlobalValue
-putchar = host (codes "putchar") (record { local = 0; reg = Int 32 } ∷ [])
-
-abbrev pub is_named : List GlobalValue → List ℕ → Bool
-is_named hs name = list_any (λ h. bytes_eq (symbol_of h).name name) hs
 
 -- this one, where its name is kept and no value has it
 abbrev pub in_use : (List ℕ → Bool) → List GlobalValue → GlobalValue → List GlobalValue

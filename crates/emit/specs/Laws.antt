@@ -13,7 +13,8 @@ use Rattle.lto_task.specs.declared.piece.Piece.{Piece}
 use Rattle.ir_better.specs.Programs.{defined, shared, symbol_of}
 use Rattle.merge_meaning.specs.Lives.{is_export}
 use Rattle.merge_meaning.specs.Linked.{IsClosed, IsDefinition, IsReordering, emission}
-use Rattle.emit.specs.Emissions.{IsEmission, getchar, putchar, settled}
+use Rattle.merge_meaning.specs.Hosts.{getchar, putchar}
+use Rattle.emit.specs.Emissions.{IsEmission, settled}
 use Rattle.emit.specs.Joins.{IsJoin}
 
 -- names as symbols, which have no home

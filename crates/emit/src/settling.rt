@@ -2,7 +2,7 @@
 ghost use Rattle.std.specs.Prelude.{◌≡◌, ℕ, List, IfOk};
 ghost use Rattle.std.specs.List.{list_any};
 ghost use Rattle.std.specs.Str.{bytes_eq};
-ghost use Rattle.emit.specs.Chosen.{has};
+ghost use Rattle.merge_meaning.specs.ByName.{has};
 ghost use Rattle.emit.specs.Emissions.{linkage_of, settled};
 
 use ir_tree::{GlobalValue, Linkage, Text};

@@ -1,4 +1,4 @@
--- A part stands among all parts; what is kept of the pieces of parts, place by place.
+-- What is kept of the pieces of parts, place by place.
 use Rattle.std.proofs.Common.{◌≡◌, ◌+◌, ℕ, zero, suc, List, [], ◌∷◌, Option, Some, length, refl, subst, arith}
 use Rattle.std.specs.Prelude.{slice_get, slice_index_or}
 use Rattle.std.specs.List.{AllZip}
@@ -6,16 +6,10 @@ use Rattle.ir_tree.specs.declared.function.Function.{Function}
 use Rattle.lto_task.specs.declared.piece.Piece.{Piece}
 use Rattle.ir_tree.specs.declared.module.GlobalValue.{GlobalValue}
 use Rattle.ir_tree.specs.declared.operand.Symbol.{Symbol}
-use Rattle.link_one.specs.Linked.{AreCompiled, IsLinkedGlobal, bodies_for, joined}
+use Rattle.link_one.specs.Linked.{AreCompiled, IsLinkedGlobal, bodies_for}
 use Rattle.emit.specs.Strips.{IsStripped, ModulePieces}
 use Rattle.link_one.specs.Units.{IsLinkedPiece, IsSettledPiece}
 use Rattle.link_one.proofs.Printed.{AreAllPrinted, ArePrinted, offers}
-use Rattle.link_one.proofs.Members.{Stands, behind, in_front}
-
-pub part_within : (parts : List (List GlobalValue)) (n : ℕ) (g : GlobalValue) → Stands (slice_index_or parts n []) g → Stands (joined parts) g
-part_within [] n g (i, here) = absurd (cc here)
-part_within (part ∷ parts) zero g s = in_front part (joined parts) g s
-part_within (part ∷ parts) (suc n) g s = behind part (joined parts) g (part_within parts n g s)
 
 -- what is compiled, and what is kept of its pieces, place by place
 module _ (exports : List (List ℕ)) (limit : ℕ) (all : List GlobalValue) (symbols : List Symbol) (suffixes : List (List ℕ)) (imports promoted : List (List ℕ)) where

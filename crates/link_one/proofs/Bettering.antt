@@ -22,9 +22,9 @@ use Rattle.back_end.specs.Inlinable.{AreSound, HasBodies, has_blocks}
 use Rattle.back_end.specs.Laws.{HasInterfaceOf, MadeHasInterface, MadeIsBetter}
 use Rattle.back_end.specs.Made.{IsMade}
 use Rattle.back_end.specs.WalkLaws.{IsBetterWith}
+use Rattle.importer.proofs.Members.{Stands, of_each}
 use Rattle.link_one.specs.Linked.{IsLinkedGlobal}
 use Rattle.link_one.proofs.Compiling.{AreAmong}
-use Rattle.link_one.proofs.Members.{Stands, of_each}
 use Rattle.link_one.proofs.Own.{own_body}
 
 -- ---- bodies

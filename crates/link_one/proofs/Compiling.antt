@@ -1,36 +1,28 @@
 -- What is compiled, place by place: each value comes of one of the parts, with bodies that stand among them.
-use Rattle.std.proofs.Common.{◌≡◌, inl, inr, ℕ, suc, true, List, [], ◌∷◌, ◌++◌, Option, Some, None}
-use Rattle.std.specs.Prelude.{slice_get, slice_index_or}
+use Rattle.std.proofs.Common.{◌≡◌, inl, inr, ℕ, suc, true, List, [], ◌∷◌, ◌++◌, Option, Some}
+use Rattle.std.specs.Prelude.{slice_index_or}
 use Rattle.std.specs.List.{AllZip}
-use Rattle.std.specs.Str.{bytes_eq}
 use Rattle.ir_tree.specs.declared.function.Function.{Function}
 use Rattle.ir_tree.specs.declared.module.GlobalValue.{GlobalValue}
 use Rattle.ir_tree.specs.declared.module.GlobalValue.TheVariants as global
 use Rattle.ir_tree.specs.declared.operand.Symbol.{Symbol}
-use Rattle.ir_better.specs.Programs.{symbol_of}
-use Rattle.promote_rename.specs.Finals.{final_name}
 use Rattle.back_end.specs.Inlinable.{may_inline}
 use Rattle.back_end.proofs.Offered.{IsAmong, among}
-use Rattle.link_one.specs.Linked.{AreCompiled, IsLinkedGlobal, bodies_for, brought, joined, value_of}
-use Rattle.link_one.proofs.Members.{Stands, behind, either_part, found_stands, in_front, mapped_stands, zip_append, zip_map}
+use Rattle.importer.specs.Brought.{brought, joined}
+use Rattle.importer.proofs.OfParts.{brought_stands}
+use Rattle.importer.proofs.Members.{Stands, behind, either_part, in_front, zip_append, zip_map}
+use Rattle.link_one.specs.Linked.{AreCompiled, IsLinkedGlobal, bodies_for}
 
 -- each of these bodies is a function among the values, and may be inlined
 abbrev pub AreAmong : ℕ → List GlobalValue → (List ℕ → Option Function) → Type 0
 AreAmong limit all bodies = (name : List ℕ) (c : Function) → bodies name ≡ Some c → Stands all (global.Function c) × (may_inline limit c ≡ true)
 
 module _ (limit : ℕ) (all : List GlobalValue) (symbols : List Symbol) (suffixes : List (List ℕ)) where
-  of_symbol : (o : Option Symbol) (g : GlobalValue) → value_of all suffixes o ≡ Some g → Stands all g
-  of_symbol None g e = absurd (cc e)
-  of_symbol (Some s) g e = found_stands (λ h. bytes_eq (symbol_of h).name (final_name suffixes s)) all g e
-
-  pub brought_stands : (numbers : List ℕ) (g : GlobalValue) → Stands (brought all symbols suffixes numbers) g → Stands all g
-  brought_stands numbers g s = mapped_stands (λ n. value_of all suffixes (slice_get symbols n)) all (λ n h e. of_symbol (slice_get symbols n) h e) numbers g s
-
   pub bodies_among : (numbers : List ℕ) (part : List GlobalValue) → ((g : GlobalValue) → Stands part g → Stands all g) → AreAmong limit all (bodies_for limit all symbols suffixes numbers part)
   bodies_among numbers part within name c e =
       let a : IsAmong limit (brought all symbols suffixes numbers ++ part) c = among limit (brought all symbols suffixes numbers ++ part) name c e in
       let here : Stands all (global.Function c) = elim (either_part (brought all symbols suffixes numbers) part (global.Function c) (a.place, a.here)) [
-        | inl from ↦ brought_stands numbers (global.Function c) from
+        | inl from ↦ brought_stands all symbols suffixes numbers (global.Function c) from
         | inr own ↦ within (global.Function c) own
       ] in
       (here, a.may)

@@ -28,7 +28,7 @@ use Rattle.merge_meaning.proofs.Prevailing.{at_place, from_kept}
 use Rattle.merge_meaning.proofs.Reordered.{contains}
 use Rattle.thin_link.specs.Linking.{IsIndex}
 use Rattle.thin_link.proofs.Indices.{one_number}
-use Rattle.link_one.proofs.Places.{found_some, placed, to_kept}
+use Rattle.importer.proofs.Places.{found_some, placed, to_kept}
 use Rattle.link_one.proofs.Summed.{from_summaries, in_summaries, plain_symbol, prevails_same, summed, sums, symbol_same}
 
 -- ---- entries of modules

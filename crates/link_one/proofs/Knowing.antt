@@ -16,10 +16,10 @@ use Rattle.merge_meaning.specs.Linked.{IsDefinition}
 use Rattle.back_end.specs.Inlinable.{AreSound, has_blocks}
 use Rattle.back_end.specs.Laws.{AreKnown, HasInterfaceOf, MadeHasInterface, MadeIsKnown, MadeIsSound}
 use Rattle.back_end.specs.Made.{IsMade}
+use Rattle.importer.proofs.Members.{Stands, all_of, of_each, zip_back}
 use Rattle.link_one.specs.Linked.{IsLinkedGlobal}
 use Rattle.link_one.proofs.Bettering.{among_sound}
 use Rattle.link_one.proofs.Compiling.{AreAmong}
-use Rattle.link_one.proofs.Members.{Stands, all_of, of_each, zip_back}
 
 -- ---- definitions
 

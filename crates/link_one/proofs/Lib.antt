@@ -1,4 +1,3 @@
-mod Places
 mod Summed
 mod Indexed
 mod References
@@ -12,15 +11,9 @@ pub mod Apart
 pub mod Refusals
 pub mod Own
 pub mod Zipping
-pub mod Members
 pub mod Compiling
 pub mod Printed
 pub mod Among
-pub mod Tabled
-pub mod Gathering
-pub mod Rising
-pub mod NameSets
-pub mod SortedValues
 pub mod Bettering
 pub mod Knowing
 pub mod Linkable
@@ -33,19 +26,13 @@ mod Named
 mod Origins
 mod Imported
 mod Offering
-mod Declared
 mod Moved
 mod SortedJoins
 mod TaskBodies
 mod TaskUnits
 mod Stripped
 mod Referables
-mod OnceNamed
-mod Hosts
-mod Declaring
-mod ClosedUp
 mod TaskParts
-mod OneTask
 mod UnitNames
 mod LinkTasks
 mod Preparing

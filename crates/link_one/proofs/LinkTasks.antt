@@ -1,9 +1,8 @@
 -- The tasks of a link's modules, and the units that are made of them.
 use mathlib.Core.Logic.{∥∥₁_map₂}
-use Rattle.std.proofs.Common.{◌≡◌, ◌∙◌, ◌<◌, ◌⊎◌, inl, inr, ◌+◌, ℕ, zero, suc, Bool, List, [], ◌∷◌, ◌++◌, All, Some, get_or, length, refl, sym, ap, subst, arith}
+use Rattle.std.proofs.Common.{◌≡◌, ◌∙◌, ◌<◌, ℕ, zero, suc, Bool, List, [], ◌∷◌, All, Some, get_or, length, refl, ap, subst, arith}
 use Rattle.std.specs.List.{AllZip}
 use Rattle.std.specs.Prelude.{slice_get}
-use Rattle.std.proofs.lemmas.List.{length_push}
 use Rattle.std.proofs.lemmas.Option.{slice_get-get_or}
 use Rattle.std.proofs.lemmas.Slice.Zip.{AllZip-long}
 use Rattle.lto_task.specs.Tasks.{TaskView, task_view}
@@ -14,7 +13,8 @@ use Rattle.ir_tree.specs.declared.module.Module.{Module}
 use Rattle.ir_tree.specs.declared.operand.Symbol.{Symbol}
 use Rattle.merge_meaning.specs.Lives.{parts_from}
 use Rattle.back_pool.specs.Making.{IsAnswer}
-use Rattle.link_one.specs.ModuleUnits.{AreTasks, AreUnits, IsTaskOfNumber}
+use Rattle.importer.specs.ModuleTasks.{AreTasks, IsTaskOfNumber}
+use Rattle.link_one.specs.ModuleUnits.{AreUnits}
 use Rattle.link_one.specs.TaskUnits.{IsTaskUnit}
 
 -- where answers can be trusted, each is merely made of its task, and so all are
@@ -32,24 +32,6 @@ zip_at R [] (b ∷ ys) z k y here = absurd z
 zip_at R (a ∷ xs) [] z k y here = absurd z
 zip_at R (a ∷ xs) (b ∷ ys) z zero y here = (a, refl, subst (R a) (cc here) z.0)
 zip_at R (a ∷ xs) (b ∷ ys) z (suc k) y here = zip_at R xs ys z.1 k y here
-
--- what stands at a place where one is added
-push_at : {X : Type 0} (xs : List X) (x : X) (k : ℕ) (y : X) → slice_get (xs ++ x ∷ []) k ≡ Some y → (slice_get xs k ≡ Some y) ⊎ ((k ≡ length xs) × (x ≡ y))
-push_at [] x zero y here = inr (refl, cc here)
-push_at [] x (suc k) y here = absurd (cc here)
-push_at (z ∷ xs) x zero y here = inl here
-push_at (z ∷ xs) x (suc k) y here = elim (push_at xs x k y here) [ inl there ↦ inl there | inr last ↦ inr (ap suc last.0, last.1) ]
-
--- what holds of each place holds of one more
-pub each_more : {X : Type 0} (P : ℕ → X → Type 0) (xs after : List X) (x : X) (n : ℕ) → length xs ≡ n → ((k : ℕ) (y : X) → slice_get xs k ≡ Some y → P k y) → P n x → after ≡ xs ++ x ∷ []
-    → (length after ≡ n + 1) × ((k : ℕ) (y : X) → slice_get after k ≡ Some y → P k y)
-each_more {X} P xs after x n count each one pushed = (
-  ap length pushed ∙ length_push xs x ∙ ap (λ (m : ℕ). m + 1) count,
-  λ k y here. elim (push_at xs x k y (ap (λ (l : List X). slice_get l k) (sym pushed) ∙ here)) [
-    | inl there ↦ each k y there
-    | inr last ↦ subst (P k) last.1 (subst (λ (m : ℕ). P m x) (sym (last.0 ∙ count)) one)
-  ],
-)
 
 -- units of the tasks of modules are units of the modules
 pub units_made : (exports : List (List ℕ)) (limit : ℕ) (symbols : List Symbol) (suffixes imports promoted : List (List ℕ)) (parts : List (List GlobalValue)) (tasks : List Task) (units : List (List Piece))

@@ -10,16 +10,18 @@ use Rattle.ir_better.specs.Programs.{program_of}
 use Rattle.merge_meaning.specs.Laws.{AllWhole, LiveByModule, PartsAreSound, PartsDefine}
 use Rattle.merge_meaning.specs.Linked.{Improves, IsDefinition}
 use Rattle.merge_meaning.specs.Lives.{live_globals, live_outside, parts}
+use Rattle.merge_meaning.specs.Linkable.{AreLinkable as AreTogether}
 use Rattle.back_end.specs.Laws.{MadeHasInterface, MadeIsBetter, MadeIsKnown, MadeIsSound}
-use Rattle.link_one.specs.MeaningLaws.{AreLinkable as AreTogether, LiveIsKnown}
+use Rattle.importer.specs.Brought.{joined}
+use Rattle.importer.proofs.Members.{Stands, all_joined, all_of, in_front, of_each, zip_append}
+use Rattle.link_one.specs.MeaningLaws.{LiveIsKnown}
 use Rattle.combined_index.specs.Combined.{Combined}
 use Rattle.promote_rename.specs.Finals.{NoneTaken, final_names}
 use Rattle.thin_link.specs.Linking.{IsThinLink}
-use Rattle.link_one.specs.Linked.{AreUnits, joined}
+use Rattle.link_one.specs.Linked.{AreUnits}
 use Rattle.link_one.proofs.Bettering.{CanImprove, bounded, improved_symbols, one_value, themselves}
 use Rattle.link_one.proofs.Compiling.{pairs}
 use Rattle.link_one.proofs.Knowing.{Follows, all_follow, value_follows}
-use Rattle.link_one.proofs.Members.{Stands, all_joined, all_of, in_front, of_each, zip_append}
 
 -- what is true of what is made, of live definitions and of parts
 pub record MakingLaws : Type 0 where

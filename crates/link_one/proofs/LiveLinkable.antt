@@ -23,6 +23,7 @@ use Rattle.merge_meaning.specs.Laws.{AllWhole}
 use Rattle.merge_meaning.specs.Linked.{AreEmitted, DefinitionNames, IsDefinition, IsUnder}
 use Rattle.merge_meaning.specs.Lives.{final_symbol, is_live, live_globals}
 use Rattle.merge_meaning.specs.Merged.{merged_from, merged_globals, symbol_in, with_host}
+use Rattle.merge_meaning.specs.Linkable.{IsOutside}
 use Rattle.merge_meaning.proofs.Emission.{one_under}
 use Rattle.merge_meaning.proofs.Hosting.{host_every}
 use Rattle.merge_meaning.proofs.Looked.{looked_up, same_symbol}
@@ -30,10 +31,10 @@ use Rattle.merge_meaning.proofs.Once.{merged_once}
 use Rattle.merge_meaning.proofs.Prevailing.{defined_some, from_kept, given}
 use Rattle.merge_meaning.proofs.Standing.{in_map}
 use Rattle.thin_link.specs.Linking.{IsThinLink}
-use Rattle.link_one.specs.MeaningLaws.{ExportedIsDefined, IsOutside, LiveIsKnown}
+use Rattle.importer.proofs.Places.{placed}
+use Rattle.link_one.specs.MeaningLaws.{ExportedIsDefined, LiveIsKnown}
 use Rattle.link_one.proofs.Finals.{live_emitted}
 use Rattle.link_one.proofs.Known.{global_known}
-use Rattle.link_one.proofs.Places.{placed}
 use Rattle.link_one.proofs.References.{index_finds}
 use Rattle.link_one.proofs.LiveRefining.{exported_defined, exported_live, exported_symbol}
 

@@ -35,10 +35,10 @@ use Rattle.merge_meaning.proofs.Hosting.{hosts_defined, hosts_kind}
 use Rattle.merge_meaning.proofs.Prevailing.{symbol_by_parts}
 use Rattle.merge_meaning.proofs.Reordered.{contains}
 use Rattle.thin_link.specs.Linking.{IsIndex, IsThinLink}
+use Rattle.importer.proofs.Places.{placed}
 use Rattle.link_one.specs.MeaningLaws.{LiveIsClosed}
 use Rattle.merge_meaning.specs.Lives.{is_live}
 use Rattle.link_one.proofs.Indexed.{entries_from, not_none}
-use Rattle.link_one.proofs.Places.{placed}
 use Rattle.link_one.proofs.References.{index_finds, index_names, none_is}
 use Rattle.link_one.proofs.Summed.{none_of, own_same, plain_symbol, symbol_same}
 

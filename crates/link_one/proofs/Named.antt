@@ -18,7 +18,7 @@ use Rattle.ir_better.specs.Rename.{argument_under, operand_under}
 use Rattle.merge_meaning.specs.Globals.{function_under, global_under, variable_under}
 use Rattle.merge_meaning.proofs.Sounds.{init_same, item_under, items_same, operands_same}
 use Rattle.merge_meaning.proofs.Standing.{alone, in_map, joined_from, map_from, nothing}
-use Rattle.emit.proofs.References.{named_from}
+use Rattle.merge_meaning.proofs.References.{named_from}
 
 -- the value names the symbol: under other names too all that it names is known only where this one is
 abbrev pub Names : GlobalValue → Symbol → Type 0

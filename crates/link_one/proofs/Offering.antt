@@ -5,8 +5,8 @@ use Rattle.std.proofs.lemmas.List.Elements.{All-contains, Contains-append_left, 
 use Rattle.std.proofs.lemmas.List.FromFn.{get_or-range_with_len, length-range_with_len}
 use Rattle.std.proofs.lemmas.Option.{get_or_from_slice_get, slice_get-get_or, slice_get_within}
 use Rattle.std.proofs.lemmas.Slice.Eq.{bytes_eq-Decides}
-use Rattle.std.specs.List.{AllZip, Contains, cons_option, range_with_len}
-use Rattle.std.specs.Prelude.{filter_map, slice_index_or}
+use Rattle.std.specs.List.{AllZip, Contains, range_with_len}
+use Rattle.std.specs.Prelude.{slice_index_or}
 use Rattle.std.specs.Str.{bytes_eq}
 use Rattle.ir_tree.specs.Linkages.{is_local}
 use Rattle.ir_tree.specs.Wholes.{GlobalKnown, GlobalSound, IsVerified, global_symbol, symbols as all_symbols}
@@ -34,17 +34,22 @@ use Rattle.merge_meaning.proofs.Emission.{symbol_under}
 use Rattle.merge_meaning.proofs.Looked.{same_symbol, some_is}
 use Rattle.merge_meaning.proofs.Prevailing.{symbol_by_parts}
 use Rattle.merge_meaning.proofs.Reordered.{contained, contains}
-use Rattle.merge_meaning.proofs.Standing.{first, first_or_later, in_filter, in_joined, in_map, joined_from, later, map_from, nothing}
+use Rattle.merge_meaning.proofs.Standing.{in_filter, in_joined, in_map, joined_from, map_from, nothing}
+use Rattle.merge_meaning.proofs.References.{known_more, names_known}
 use Rattle.thin_link.proofs.Indices.{one_number}
 use Rattle.back_end.specs.Laws.{MadeHasInterface}
 use Rattle.back_end.proofs.Offered.{IsAmong, among}
 use Rattle.emit.specs.Emissions.{settled}
 use Rattle.emit.specs.Strips.{ModulePieces, OfferEnough}
-use Rattle.emit.proofs.References.{known_more, names_known}
-use Rattle.link_one.specs.Linked.{AreCompiled, IsLinkedGlobal, bodies_for, brought, joined, value_of}
-use Rattle.link_one.specs.Units.{IsSettledPiece, linkage_in, names_of, shown}
+use Rattle.importer.specs.Brought.{brought, joined, names_of, value_of}
+use Rattle.importer.proofs.OfParts.{brought_stands}
+use Rattle.importer.proofs.Found.{found_from, in_found}
+use Rattle.importer.proofs.Members.{Stands, all_of, behind, contained as stands_contained, either_part, of_each, standing, zip_back}
+use Rattle.importer.proofs.Places.{placed}
+use Rattle.link_one.specs.Linked.{AreCompiled, IsLinkedGlobal, bodies_for}
+use Rattle.link_one.specs.Units.{IsSettledPiece, linkage_in, shown}
 use Rattle.link_one.proofs.Printed.{AreAllPrinted, IsPrinted}
-use Rattle.link_one.proofs.Compiling.{AreAmong, brought_stands}
+use Rattle.link_one.proofs.Compiling.{AreAmong}
 use Rattle.link_one.proofs.Finals.{one_symbol}
 use Rattle.link_one.proofs.Imported.{imported_lives, imported_within, module_listed}
 use Rattle.link_one.proofs.Indexed.{comes}
@@ -52,35 +57,10 @@ use Rattle.link_one.proofs.Knowing.{Follows, value_follows}
 use Rattle.link_one.proofs.Linkable.{Compilation, MakingLaws, all_whole, lives, parts_known, parts_sound, together}
 use Rattle.link_one.proofs.Lives.{live_at}
 use Rattle.link_one.proofs.LiveRefining.{exported_live}
-use Rattle.link_one.proofs.Members.{Stands, all_of, behind, contained as stands_contained, either_part, of_each, standing, zip_back}
 use Rattle.link_one.proofs.Named.{Names, names_under}
 use Rattle.link_one.proofs.Origins.{Origin, final_in, local_stays, local_symbol, named_home, named_lives, named_refers, part_origin}
-use Rattle.link_one.proofs.Places.{placed}
 
 -- ---- lists
-
--- what is found of an element is in the list of all that is found
-pub in_found : {X Y : Type 0} (h : X → Option Y) (xs : List X) (x : X) (y : Y) → Contains xs x → h x ≡ Some y → Contains (filter_map h xs) y
-in_found h [] x y c e = absurd (nothing x c)
-in_found {X} {Y} h (z ∷ xs) x y c e = by (h z) refl (first_or_later z x xs c) (λ more. in_found h xs x y more e)
-  where
-    by : (o : Option Y) → h z ≡ o → (z ≡ x) ⊎ Contains xs x → (Contains xs x → Contains (filter_map h xs) y) → Contains (cons_option o (filter_map h xs)) y
-    by None is (inl same) rest = absurd (cc (sym is ∙ ap h same ∙ e))
-    by None is (inr more) rest = rest more
-    by (Some w) is (inl same) rest = subst (λ (v : Y). Contains (w ∷ filter_map h xs) v) (some_is w y (sym is ∙ ap h same ∙ e)) (first w (filter_map h xs))
-    by (Some w) is (inr more) rest = later w y (filter_map h xs) (rest more)
-
--- and each of these comes from one
-pub found_from : {X Y : Type 0} (h : X → Option Y) (xs : List X) (y : Y) → Contains (filter_map h xs) y → (x : X) × Contains xs x × (h x ≡ Some y)
-found_from h [] y c = absurd (nothing y c)
-found_from {X} {Y} h (x ∷ xs) y c = by (h x) refl c (λ more. found_from h xs y more)
-  where
-    by : (o : Option Y) → h x ≡ o → Contains (cons_option o (filter_map h xs)) y → (Contains (filter_map h xs) y → (z : X) × Contains xs z × (h z ≡ Some y)) → (z : X) × Contains (x ∷ xs) z × (h z ≡ Some y)
-    by None is c rest = let found = rest c in (found.0, later x found.0 xs found.1, found.2)
-    by (Some w) is c rest = elim (first_or_later w y (filter_map h xs) c) [
-      | inl same ↦ (x, first x xs, is ∙ ap (λ (v : Y). Some v) same)
-      | inr more ↦ let found = rest more in (found.0, later x found.0 xs found.1, found.2)
-    ]
 
 in_range : (n size : ℕ) → n < size → Contains (range_with_len 0 size) n
 in_range n size below =
@@ -250,7 +230,7 @@ module _ (laws : MakingLaws) (exports : List (List ℕ)) (import_limit inline_li
 
   source_stands : (i : ℕ) (part : List GlobalValue) (g : GlobalValue) → slice_get of_parts i ≡ Some part → Stands (sources i part) g → Stands everything g
   source_stands i part g at s = elim (either_part (brought everything symbols suffixes (slice_index_or c.imports i [])) part g s) [
-    | inl from ↦ brought_stands inline_limit everything symbols suffixes (slice_index_or c.imports i []) g from
+    | inl from ↦ brought_stands everything symbols suffixes (slice_index_or c.imports i []) g from
     | inr mine ↦ part_stands i part g at mine
   ]
 

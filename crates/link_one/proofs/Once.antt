@@ -16,11 +16,12 @@ use Rattle.back_end.specs.Laws.{MadeIsOne}
 use Rattle.emit.specs.Emissions.{IsEmission}
 use Rattle.emit.specs.Laws.{EmissionIsOne}
 use Rattle.thin_link.specs.Laws.{DecisionsAreOne}
-use Rattle.link_one.specs.Linked.{AreCompiled, AreLinkedGlobals, IsLinked, IsLinkedGlobal, bodies_for, joined}
+use Rattle.importer.specs.Brought.{joined}
+use Rattle.importer.proofs.Members.{Stands, behind, in_front, of_each}
+use Rattle.link_one.specs.Linked.{AreCompiled, AreLinkedGlobals, IsLinked, IsLinkedGlobal, bodies_for}
 use Rattle.link_one.proofs.Bettering.{among_sound}
 use Rattle.link_one.proofs.Compiling.{bodies_among}
 use Rattle.link_one.proofs.Linkable.{parts_sound_in}
-use Rattle.link_one.proofs.Members.{Stands, behind, in_front, of_each}
 
 -- ---- what is compiled
 

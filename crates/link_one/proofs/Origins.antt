@@ -22,7 +22,6 @@ use Rattle.combined_index.specs.Combined.{Combined}
 use Rattle.combined_index.specs.Indexed.{symbol_at}
 use Rattle.liveness.proofs.Sources.{any_one}
 use Rattle.liveness.specs.Liveness.{refs}
-use Rattle.emit.proofs.Members.{any_by}
 use Rattle.merge_meaning.specs.Globals.{global_under, named_by}
 use Rattle.merge_meaning.specs.Laws.{AllWhole, IsGivenBy, taken_in}
 use Rattle.merge_meaning.specs.Linked.{DefinitionNames}
@@ -33,13 +32,13 @@ use Rattle.merge_meaning.proofs.OneModule.{global_stays}
 use Rattle.merge_meaning.proofs.Own.{local_standing}
 use Rattle.merge_meaning.proofs.Prevailing.{at_place, defined_some, prevailing_defined, symbol_by_parts}
 use Rattle.merge_meaning.proofs.Reordered.{contains}
-use Rattle.merge_meaning.proofs.Standing.{filter_from, in_filter, in_map, map_from}
+use Rattle.merge_meaning.proofs.Standing.{any_by, filter_from, in_filter, in_map, map_from}
 use Rattle.thin_link.specs.Linking.{IsThinLink}
+use Rattle.importer.proofs.Places.{placed}
 use Rattle.link_one.specs.Units.{linkage_in}
 use Rattle.link_one.proofs.Known.{global_known}
 use Rattle.link_one.proofs.Lives.{live_at, live_closed}
 use Rattle.link_one.proofs.Named.{Names, names_under}
-use Rattle.link_one.proofs.Places.{placed}
 use Rattle.link_one.proofs.References.{index_names}
 use Rattle.link_one.proofs.Summed.{own_local}
 

@@ -12,8 +12,9 @@ use Rattle.thin_link.specs.Views.{rows}
 use Rattle.merge_meaning.specs.Lives.{parts}
 use Rattle.lto_task.specs.Tasks.{TaskView}
 use Rattle.emit.specs.Joins.{IsJoin}
+use Rattle.importer.specs.ModuleTasks.{IsTaskOfNumber}
 use Rattle.link_one.specs.LinkedLaws.{IsLinkedText, UnitsAreLinked}
-use Rattle.link_one.specs.ModuleUnits.{AreUnits, IsTaskInLink, IsTaskOfNumber}
+use Rattle.link_one.specs.ModuleUnits.{AreUnits, IsTaskInLink}
 use Rattle.link_one.specs.Preparing.{IsJoined, IsPrepared, IsTaskPrepared, header_of}
 use Rattle.link_one.specs.declared.prepare.Prepared.{Prepared}
 use Rattle.link_one.proofs.LinkTasks.{parts_long}

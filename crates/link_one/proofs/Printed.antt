@@ -16,9 +16,10 @@ use Rattle.thin_link.specs.Linking.{IsThinLink}
 use Rattle.lto_task.specs.declared.piece.Piece.{Piece}
 use Rattle.emit.specs.Joins.{IsJoin}
 use Rattle.emit.specs.Strips.{IsStripped, ModulePieces}
-use Rattle.link_one.specs.Linked.{AreCompiled, joined}
+use Rattle.importer.specs.Brought.{joined, names_of}
+use Rattle.link_one.specs.Linked.{AreCompiled}
 use Rattle.link_one.specs.LinkedLaws.{IsLinkedText}
-use Rattle.link_one.specs.Units.{IsSettledPiece, names_of, shown}
+use Rattle.link_one.specs.Units.{IsSettledPiece, shown}
 
 -- other units may refer to what isn't local, and to promoted locals (Johnson, Amini and Li, "ThinLTO", CGO 2017)
 abbrev pub offers : List Symbol → List (List ℕ) → List ℕ → List GlobalValue → List (List ℕ)

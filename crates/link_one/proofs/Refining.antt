@@ -19,6 +19,7 @@ use Rattle.merge_meaning.specs.Merged.{declaration, merged}
 use Rattle.emit.specs.Emissions.{exported, settled}
 use Rattle.emit.specs.Joins.{IsJoin}
 use Rattle.emit.specs.Laws.{AreLinkable, EmissionIsClosed, EmissionIsReordering, EmissionIsSound, EmissionIsWhole, IsOutside, JoinIsEmission, keeps_symbol}
+use Rattle.importer.proofs.Members.{Stands, all_of, contained, either_part, image_stands, of_each}
 use Rattle.link_one.specs.MeaningLaws.{CompiledRefines, ExportedIsDefined}
 use Rattle.ir_print.specs.Modules.{module_text}
 use Rattle.symbol_resolve.specs.Clashes.{given_text}
@@ -29,7 +30,6 @@ use Rattle.link_one.specs.Linked.{IsLinked}
 use Rattle.link_one.specs.LinkedLaws.{IsLinkedText}
 use Rattle.link_one.specs.Naming.{linked_names}
 use Rattle.link_one.proofs.Linkable.{Compilation, MakingLaws, all, all_whole, by_parts, improved, lives, made, made_define, made_formed, made_homeless, made_known, made_once, made_sound, outs, same_made}
-use Rattle.link_one.proofs.Members.{Stands, all_of, contained, either_part, image_stands, of_each}
 
 -- what is true of what is emitted
 pub record EmittingLaws : Type 0 where

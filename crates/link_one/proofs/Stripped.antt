@@ -8,12 +8,12 @@ use Rattle.symbol_resolve.specs.Clashes.{given_text}
 use Rattle.symbol_resolve.specs.declared.clash.TargetLine.TheVariants.{Datalayout, Triple}
 use Rattle.emit.specs.Laws.{JoinIsEmission}
 use Rattle.emit.specs.Strips.{ModulePieces, StrippedIsJoin}
-use Rattle.link_one.specs.Linked.{joined}
+use Rattle.importer.specs.Brought.{joined}
+use Rattle.importer.proofs.Members.{zip_append}
 use Rattle.link_one.specs.LinkedLaws.{UnitsAreLinked}
 use Rattle.link_one.specs.Units.{IsSettledPiece}
 use Rattle.link_one.proofs.Printed.{AreAllPrinted, KeptIsLinked}
 use Rattle.link_one.proofs.Linkable.{Compilation, MakingLaws}
-use Rattle.link_one.proofs.Members.{zip_append}
 use Rattle.link_one.proofs.Offering.{offer_enough}
 use Rattle.link_one.proofs.Refining.{EmittingLaws, linked_text}
 use Rattle.link_one.proofs.SortedJoins.{join_of_kept}

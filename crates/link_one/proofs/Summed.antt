@@ -41,7 +41,7 @@ use Rattle.merge_meaning.proofs.Own.{local_standing}
 use Rattle.merge_meaning.proofs.Prevailing.{homeless, symbol_by_parts}
 use Rattle.merge_meaning.proofs.Standing.{filter_from, first, first_or_later, in_joined, joined_from, later, nothing}
 use Rattle.merge_meaning.proofs.Table.{table_names}
-use Rattle.link_one.proofs.Places.{placed}
+use Rattle.importer.proofs.Places.{placed}
 
 -- ---- linkage
 

@@ -16,8 +16,9 @@ use Rattle.ir_tree.specs.declared.function.Function.{Function}
 use Rattle.ir_tree.specs.declared.module.GlobalValue.{GlobalValue}
 use Rattle.ir_tree.specs.declared.module.GlobalValue.TheVariants as global
 use Rattle.ir_better.specs.Programs.{symbol_of}
+use Rattle.merge_meaning.specs.ByName.{IsInOrder, name_cmp}
+use Rattle.merge_meaning.specs.Hosts.{host}
 use Rattle.back_end.specs.Inlinable.{bodies_of, calls, count, may_inline, offered, or_else}
-use Rattle.emit.specs.Emissions.{IsInOrder, host, name_cmp}
 use Rattle.link_one.specs.TaskUnits.{is_defined}
 use Rattle.link_one.proofs.Moved.{tied_itself}
 

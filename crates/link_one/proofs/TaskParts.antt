@@ -1,10 +1,9 @@
--- Tasks of a link: what they have is of its parts, and they are verified.
+-- Tasks of a link: both modules of each are verified.
 use Rattle.std.proofs.Common.{◌≡◌, ◌∙◌, inl, inr, ◌<◌, ℕ, Bool, List, [], ◌++◌, map, length, Some, None, slice_get, refl, sym, ap, subst, arith}
 use Rattle.std.proofs.lemmas.Bool.{cases_lt}
 use Rattle.std.proofs.lemmas.List.{get_or_past, map-append}
-use Rattle.std.proofs.lemmas.List.Elements.{All-append, All-contains}
 use Rattle.std.proofs.lemmas.List.Kept.{AllPairs-from_increasing}
-use Rattle.std.proofs.lemmas.List.Sorted.{Contains-permutation, IsPermutation-map, IsPermutation-sym}
+use Rattle.std.proofs.lemmas.List.Sorted.{IsPermutation-map}
 use Rattle.std.proofs.lemmas.Option.{slice_get-get_or}
 use Rattle.std.proofs.lemmas.Slice.Eq.{bytes_eq-Decides}
 use Rattle.std.specs.List.{All, Contains}
@@ -15,7 +14,6 @@ use Rattle.ir_tree.specs.Formed.{Distinct}
 use Rattle.ir_tree.specs.Wholes.{GlobalFormed, IsVerified}
 use Rattle.ir_tree.specs.declared.module.GlobalValue.{GlobalValue}
 use Rattle.ir_tree.specs.declared.module.Module.{Module}
-use Rattle.ir_tree.specs.declared.operand.Symbol.{Symbol}
 use Rattle.ir_better.specs.Programs.{symbol_of}
 use Rattle.combined_index.specs.Combined.{Combined}
 use Rattle.combined_index.specs.Indexed.{symbol_at}
@@ -25,53 +23,21 @@ use Rattle.lto_task.specs.Tasks.{TaskView, module_of}
 use Rattle.promote_rename.specs.Finals.{NoneTaken, final_name, final_names}
 use Rattle.merge_meaning.specs.Laws.{LiveByModule, OutsideIsDeclared, PartsAreSound}
 use Rattle.merge_meaning.specs.Lives.{final_symbol, live_outside, parts}
+use Rattle.merge_meaning.specs.Linkable.{AreLinkable}
 use Rattle.merge_meaning.proofs.Prevailing.{symbol_by_parts}
 use Rattle.thin_link.specs.Linking.{IsThinLink}
 use Rattle.thin_link.proofs.Indices.{one_number}
-use Rattle.emit.specs.Emissions.{IsInOrder}
-use Rattle.emit.proofs.References.{all_from}
-use Rattle.link_one.specs.Linked.{brought, joined, value_of}
-use Rattle.link_one.specs.MeaningLaws.{AreLinkable, LiveIsKnown}
-use Rattle.link_one.specs.TaskLaws.{IsOrDeclared, TasksAreOfParts, TasksAreVerified}
-use Rattle.link_one.specs.Tasks.{IsModuleOf, IsTaskOf, declared_as, name_of}
-use Rattle.link_one.proofs.Among.{part_within}
-use Rattle.link_one.proofs.ClosedUp.{Supply, homeless_in, module_verified}
-use Rattle.link_one.proofs.Compiling.{brought_stands}
-use Rattle.link_one.proofs.Declaring.{declared_from}
+use Rattle.importer.specs.Brought.{brought, joined, value_of}
+use Rattle.importer.specs.Tasks.{IsTaskOf, name_of}
+use Rattle.importer.proofs.OfParts.{bodies_contained, part_contains}
+use Rattle.importer.proofs.ClosedUp.{Supply, homeless_in, module_verified}
+use Rattle.importer.proofs.Members.{all_joined, contained}
+use Rattle.importer.proofs.OnceNamed.{distinct_first, distinct_found, distinct_from_pairs, moved_once, names_once, part_once}
+use Rattle.link_one.specs.MeaningLaws.{LiveIsKnown}
+use Rattle.link_one.specs.TaskLaws.{TasksAreVerified}
 use Rattle.link_one.proofs.Finals.{one_symbol}
 use Rattle.link_one.proofs.Imported.{imported_lives, imported_within}
 use Rattle.link_one.proofs.Linkable.{all_whole, parts_sound_in}
-use Rattle.link_one.proofs.Members.{all_joined, contained, standing}
-use Rattle.link_one.proofs.OnceNamed.{distinct_first, distinct_found, distinct_from_pairs, moved_once, names_once, part_once}
-
--- ---- of the parts
-
-part_contains : (of_parts : List (List GlobalValue)) (k : ℕ) (g : GlobalValue) → Contains (slice_index_or of_parts k []) g → Contains (joined of_parts) g
-part_contains of_parts k g there = contained (joined of_parts) g (part_within of_parts k g (standing (slice_index_or of_parts k []) g there))
-
--- what is imported, in any order
-bodies_contained : (limit : ℕ) (all : List GlobalValue) (symbols : List Symbol) (suffixes : List (List ℕ)) (numbers : List ℕ) (bodies : List GlobalValue)
-    → IsInOrder (brought all symbols suffixes numbers) bodies → (g : GlobalValue) → Contains bodies g → Contains all g
-bodies_contained limit all symbols suffixes numbers bodies order g there =
-    contained all g
-    (brought_stands limit all symbols suffixes numbers g
-    (standing (brought all symbols suffixes numbers) g
-    (Contains-permutation bodies (brought all symbols suffixes numbers) g (IsPermutation-sym (brought all symbols suffixes numbers) bodies order.same) there)))
-
-module_of_parts : (all values globals : List GlobalValue) → ((g : GlobalValue) → Contains values g → Contains all g) → IsModuleOf all values globals → All (IsOrDeclared all) globals
-module_of_parts all values globals own m =
-    subst (All (IsOrDeclared all)) (sym m.is)
-    (All-append (IsOrDeclared all) values m.declared (all_from (IsOrDeclared all) values (λ g there. inl (own g there)))
-    (all_from (IsOrDeclared all) m.declared
-    (λ d there. inr (declared_from all (name_of d) d (All-contains (λ (x : GlobalValue). declared_as all (name_of x) ≡ Some x) m.declared d m.closed.each there)))))
-
-pub of_parts_or_declared : TasksAreOfParts
-of_parts_or_declared exports limit index suffixes imports promoted of_parts k t task = (
-  module_of_parts (joined of_parts) (slice_index_or of_parts k []) t.own (part_contains of_parts k) task.own,
-  module_of_parts (joined of_parts) task.bodies t.imported (bodies_contained limit (joined of_parts) index.symbols suffixes imports task.bodies task.bodies_are) task.imported,
-)
-
--- ---- verified
 
 module _ (by_module : LiveByModule) (outside : OutsideIsDeclared) (sound : PartsAreSound) (known : LiveIsKnown) (declares : DeclarationsAreSound)
     (exports : List (List ℕ)) (import_limit : ℕ) (suffixes : List (List ℕ)) (ms : List Module) (index : Combined) (live : List Bool) (imports : List (List ℕ)) (verified : All IsVerified ms)
@@ -141,7 +107,7 @@ module _ (by_module : LiveByModule) (outside : OutsideIsDeclared) (sound : Parts
       → IsVerified (module_of t.own) × IsVerified (module_of t.imported)
   task_verified limit promoted k t task = (
     module_verified all outs supply (slice_index_or of_parts k []) t.own (part_contains of_parts k) (part_once of_parts k names_apart) task.own,
-    module_verified all outs supply task.bodies t.imported (bodies_contained limit all index.symbols suffixes (slice_index_or imports k []) task.bodies task.bodies_are)
+    module_verified all outs supply task.bodies t.imported (bodies_contained all index.symbols suffixes (slice_index_or imports k []) task.bodies task.bodies_are)
         (moved_once (map name_of (brought all index.symbols suffixes (slice_index_or imports k []))) (map name_of task.bodies)
         (IsPermutation-map name_of (brought all index.symbols suffixes (slice_index_or imports k [])) task.bodies task.bodies_are.same) (brought_once k))
         task.imported,

@@ -18,26 +18,27 @@ use Rattle.ir_tree.specs.declared.module.GlobalValue.TheVariants as global
 use Rattle.ir_tree.specs.declared.operand.Symbol.{Symbol}
 use Rattle.ir_better.specs.Programs.{body_of, storage_of, symbol_of}
 use Rattle.merge_meaning.specs.Linked.{IsDefinition}
+use Rattle.merge_meaning.specs.Hosts.{getchar, putchar}
 use Rattle.merge_meaning.proofs.Looked.{same_symbol}
-use Rattle.merge_meaning.proofs.Standing.{in_map}
+use Rattle.merge_meaning.proofs.Standing.{any_by, any_from, in_map}
 use Rattle.back_end.specs.Inlinable.{bodies_of, has_blocks}
 use Rattle.back_end.specs.Laws.{MadeHasInterface}
-use Rattle.emit.specs.Emissions.{getchar, linkage_of, putchar, settled}
+use Rattle.emit.specs.Emissions.{linkage_of, settled}
 use Rattle.emit.specs.Joins.{IsInNameOrder, IsUsed, asked, referred_by}
 use Rattle.emit.specs.Strips.{IsStripped}
-use Rattle.emit.proofs.Members.{any_by, any_from}
 use Rattle.lto_task.specs.Declarations.{declaration_of}
 use Rattle.lto_task.specs.Pieces.{IsPieceOf}
 use Rattle.lto_task.specs.Tasks.{TaskView}
 use Rattle.lto_task.specs.declared.piece.Piece.{Piece}
-use Rattle.link_one.specs.Linked.{bodies_for, brought, joined}
+use Rattle.importer.specs.Brought.{brought, joined, names_of}
+use Rattle.importer.specs.Tasks.{IsClosedUp, IsTaskOf, declared_as, name_of}
+use Rattle.importer.proofs.Members.{Stands, all_of, contained, either_part, first_or_later, found_stands, mapped_from, of_each, zip_map}
+use Rattle.link_one.specs.Linked.{bodies_for}
 use Rattle.link_one.specs.ModuleUnits.{AreUnits}
 use Rattle.link_one.specs.TaskUnits.{IsTaskUnit, bodies_in_task, definitions, is_defined}
-use Rattle.link_one.specs.Tasks.{IsClosedUp, IsTaskOf, declared_as, name_of}
-use Rattle.link_one.specs.Units.{IsLinkedPiece, names_of, shown}
+use Rattle.link_one.specs.Units.{IsLinkedPiece, shown}
 use Rattle.link_one.proofs.Printed.{ArePrinted, offers}
 use Rattle.link_one.proofs.Among.{IsCompiled, printed_of}
-use Rattle.link_one.proofs.Members.{Stands, all_of, contained, either_part, first_or_later, found_stands, mapped_from, of_each, zip_map}
 use Rattle.link_one.proofs.Moved.{filter_off, filter_on, same_test}
 use Rattle.link_one.proofs.Offering.{linked_symbol}
 use Rattle.link_one.proofs.TaskBodies.{task_bodies}

@@ -9,10 +9,10 @@ use Rattle.merge_meaning.specs.Laws.{PartsAreSound}
 use Rattle.back_end.specs.Laws.{MadeIsOne}
 use Rattle.emit.specs.Laws.{EmissionIsOne}
 use Rattle.thin_link.specs.Laws.{DecisionsAreOne}
+use Rattle.importer.proofs.Members.{Stands, all_of}
 use Rattle.link_one.specs.Accepted.{Accepts}
 use Rattle.link_one.specs.Laws.{AcceptedIsOne, LinkedIsOne}
 use Rattle.link_one.specs.Linked.{IsLinked}
-use Rattle.link_one.proofs.Members.{Stands, all_of}
 use Rattle.link_one.proofs.Once.{module_once}
 
 pub one_accepted : AcceptedIsOne → (files : List (List ℕ)) (ms ns : List Module) → AllZip Accepts files ms → AllZip Accepts files ns → ms ≡ ns

@@ -26,12 +26,12 @@ use Rattle.lto_task.specs.Pieces.{NamesRise}
 use Rattle.lto_task.specs.Tasks.{TaskView, module_of}
 use Rattle.lto_task.specs.Units.{IsUnit, IsWritten}
 use Rattle.lto_task.specs.declared.piece.Piece.{Piece}
+use Rattle.importer.specs.Tasks.{name_of}
+use Rattle.importer.proofs.Members.{image_stands, of_each}
+use Rattle.importer.proofs.OnceNamed.{distinct_kept, moved_once, names_once}
 use Rattle.link_one.specs.TaskUnits.{IsTaskUnit, bodies_in_task, definitions, is_defined}
-use Rattle.link_one.specs.Tasks.{name_of}
 use Rattle.link_one.specs.Units.{IsLinkedPiece}
-use Rattle.link_one.proofs.Members.{image_stands, of_each}
 use Rattle.link_one.proofs.Offering.{linked_symbol, settled_symbol}
-use Rattle.link_one.proofs.OnceNamed.{distinct_kept, moved_once, names_once}
 
 -- ---- names that are sorted, each once
 

@@ -8,9 +8,7 @@ pub mod Answers
 pub mod LinkedLaws
 pub mod Preparing
 pub mod Laws
-pub mod Tables
 pub mod Units
-pub mod Tasks
 pub mod TaskLaws
 pub mod TaskUnits
 pub mod ModuleUnits

@@ -1,21 +1,20 @@
 -- The linked module of modules (Johnson, Amini and Li, "ThinLTO: Scalable and Incremental LTO", CGO 2017).
-use Rattle.std.specs.Prelude.{◌≡◌, ℕ, suc, Bool, List, [], ◌∷◌, ◌++◌, Option, Some, None, slice_get, slice_index_or, filter_map, flat_map}
-use Rattle.std.specs.List.{AllZip, find}
-use Rattle.std.specs.Str.{bytes_eq}
+use Rattle.std.specs.Prelude.{◌≡◌, ℕ, suc, Bool, List, [], ◌∷◌, ◌++◌, Option, slice_index_or}
+use Rattle.std.specs.List.{AllZip}
 use Rattle.ir_tree.specs.declared.function.Function.{Function}
 use Rattle.ir_tree.specs.declared.module.GlobalValue.{GlobalValue}
 use Rattle.ir_tree.specs.declared.module.GlobalValue.TheVariants as global
 use Rattle.ir_tree.specs.declared.module.Module.{Module}
 use Rattle.ir_tree.specs.declared.operand.Symbol.{Symbol}
-use Rattle.ir_better.specs.Programs.{symbol_of}
 use Rattle.symbol_resolve.specs.Clashes.{given_text}
 use Rattle.symbol_resolve.specs.declared.clash.TargetLine.TheVariants.{Datalayout, Triple}
 use Rattle.combined_index.specs.Combined.{Combined}
-use Rattle.promote_rename.specs.Finals.{NoneTaken, final_name, final_names}
+use Rattle.promote_rename.specs.Finals.{NoneTaken, final_names}
 use Rattle.merge_meaning.specs.Lives.{parts}
 use Rattle.back_end.specs.Inlinable.{bodies_of}
 use Rattle.back_end.specs.Made.{IsMade}
 use Rattle.emit.specs.Emissions.{IsEmission}
+use Rattle.importer.specs.Brought.{brought, joined}
 use Rattle.thin_link.specs.Linking.{IsThinLink}
 
 -- a variable as it is, and a function as the back end makes it with these bodies
@@ -23,18 +22,6 @@ abbrev pub IsLinkedGlobal : (List ℕ → Option Function) → GlobalValue → G
 IsLinkedGlobal bodies (global.Variable v) (global.Variable w) = w ≡ v
 IsLinkedGlobal bodies (global.Function f) (global.Function g) = IsMade bodies f g
 IsLinkedGlobal bodies _ _ = ⊥
-
--- the first of these global values that has the name
-abbrev pub value_named : List GlobalValue → List ℕ → Option GlobalValue
-value_named gs name = find (λ g. bytes_eq (symbol_of g).name name) gs
-
--- what is imported: the values of these symbols, under their final names
-abbrev pub value_of : List GlobalValue → List (List ℕ) → Option Symbol → Option GlobalValue
-value_of all suffixes None = None
-value_of all suffixes (Some s) = value_named all (final_name suffixes s)
-
-abbrev pub brought : List GlobalValue → List Symbol → List (List ℕ) → List ℕ → List GlobalValue
-brought all symbols suffixes numbers = filter_map (λ n. value_of all suffixes (slice_get symbols n)) numbers
 
 -- bodies up to the limit may be inlined, which are the module's own and those that it imports, as they were read
 abbrev pub bodies_for : ℕ → List GlobalValue → List Symbol → List (List ℕ) → List ℕ → List GlobalValue → List ℕ → Option Function
@@ -47,9 +34,6 @@ AreCompiled limit all symbols suffixes imports k (part ∷ more) (unit ∷ units
     AllZip (IsLinkedGlobal (bodies_for limit all symbols suffixes (slice_index_or imports k []) part)) part unit
     × AreCompiled limit all symbols suffixes imports (suc k) more units
 AreCompiled limit all symbols suffixes imports k _ _ = ⊥
-
-abbrev pub joined : List (List GlobalValue) → List GlobalValue
-joined = flat_map (λ gs. gs)
 
 -- each module's part, under final names, is compiled by itself
 abbrev pub AreUnits : ℕ → List (List ℕ) → List Module → List Symbol → List Bool → List (List ℕ) → List (List GlobalValue) → Type 0

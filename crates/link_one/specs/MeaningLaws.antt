@@ -1,8 +1,6 @@
 -- What is true of an index and of the program that its modules mean.
-use Rattle.std.specs.Prelude.{◌≡◌, ◌≢◌, ◌⊎◌, ℕ, All, Bool, true, IsTrue, List, Contains, slice_get, None, Some, is_some, codes}
+use Rattle.std.specs.Prelude.{◌≡◌, ◌≢◌, ℕ, Bool, true, IsTrue, List, Contains, slice_get, None, Some, is_some}
 use Rattle.std.specs.List.{AllZip}
-use Rattle.ir_tree.specs.Formed.{Distinct}
-use Rattle.ir_tree.specs.Wholes.{GlobalKnown, symbols}
 use Rattle.ir_tree.specs.declared.module.GlobalValue.{GlobalValue}
 use Rattle.ir_tree.specs.declared.module.Module.{Module}
 use Rattle.ir_tree.specs.declared.operand.Symbol.{Symbol}
@@ -13,9 +11,10 @@ use Rattle.combined_index.specs.Combined.{Combined, prevailing_of}
 use Rattle.liveness.specs.Liveness.{refs}
 use Rattle.promote_rename.specs.Finals.{NoneTaken, final_names}
 use Rattle.merge_meaning.specs.Laws.{AllWhole}
-use Rattle.merge_meaning.specs.Linked.{AreEmitted, DefinitionNames, Improves, IsClosed, IsDefinition, IsReordering, back_names, emission}
+use Rattle.merge_meaning.specs.Linkable.{AreLinkable}
+use Rattle.merge_meaning.specs.Linked.{AreEmitted, DefinitionNames, Improves, IsClosed, IsReordering, back_names, emission}
 use Rattle.merge_meaning.specs.Lives.{final_symbol, is_export, is_live, live_globals, live_names}
-use Rattle.merge_meaning.specs.Merged.{declaration, merged, merged_globals}
+use Rattle.merge_meaning.specs.Merged.{merged, merged_globals}
 use Rattle.thin_link.specs.Linking.{IsIndex, IsThinLink}
 
 -- the index has a definition of a symbol that prevails exactly where the merged program defines the symbol
@@ -56,17 +55,6 @@ CompiledRefines = (ms : List Module) (exports : List (List ℕ)) (limit : ℕ) (
     AllZip (Improves (program_of (live_globals ms index.symbols live suffixes)) bound) (live_globals ms index.symbols live suffixes) hs →
     IsClosed keeps hs → ((s : Symbol) → IsTrue (is_export exports s) → keeps s ≡ true) → IsReordering (emission keeps (λ s. s) hs) ks →
     RefinesUnder (then_names (back_names keeps (λ s. s) hs ks) (live_names ms index.symbols live suffixes)) (program_of ks) (merged ms) (λ s. IsTrue (is_export exports s))
-
--- a function of the outside, declared
-abbrev pub IsOutside : GlobalValue → Type 0
-IsOutside g = (g ≡ declaration (codes "putchar")) ⊎ (g ≡ declaration (codes "getchar"))
-
--- each symbol stands there once and has no home, each one that is referred to is there, and each is defined or the outside's
-pub record AreLinkable (gs : List GlobalValue) : Type 0 where
-  pub once : Distinct (symbols gs)
-  pub homeless : All (λ s. s.home ≡ None) (symbols gs)
-  pub known : All (GlobalKnown (symbols gs)) gs
-  pub each : (g : GlobalValue) → Contains gs g → IsDefinition g ⊎ IsOutside g
 
 -- the live definitions are all that they refer to, so they can stand in one module
 abbrev pub LiveIsKnown : Type 0

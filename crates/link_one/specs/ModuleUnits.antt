@@ -1,5 +1,5 @@
 -- The units of the modules of a link: what is made of their tasks.
-use Rattle.std.specs.Prelude.{◌≡◌, ◌<◌, ℕ, Bool, List, [], Some, length, slice_get, slice_index_or}
+use Rattle.std.specs.Prelude.{◌≡◌, ◌<◌, ℕ, Bool, List, Some, length, slice_get}
 use Rattle.ir_tree.specs.declared.module.GlobalValue.{GlobalValue}
 use Rattle.ir_tree.specs.declared.module.Module.{Module}
 use Rattle.ir_tree.specs.declared.operand.Symbol.{Symbol}
@@ -7,25 +7,11 @@ use Rattle.combined_index.specs.Combined.{Combined}
 use Rattle.promote_rename.specs.Finals.{NoneTaken, final_names}
 use Rattle.promote_rename.specs.Promotions.{ArePromoted}
 use Rattle.thin_link.specs.Linking.{IsThinLink}
-use Rattle.thin_link.specs.Views.{rows}
 use Rattle.merge_meaning.specs.Lives.{parts}
-use Rattle.lto_task.specs.Tasks.{TaskView, task_view}
+use Rattle.lto_task.specs.Tasks.{TaskView}
 use Rattle.lto_task.specs.declared.piece.Piece.{Piece}
-use Rattle.lto_task.specs.declared.task.Task.{Task}
-use Rattle.link_one.specs.Linked.{joined}
+use Rattle.importer.specs.ModuleTasks.{IsTaskOfNumber}
 use Rattle.link_one.specs.TaskUnits.{IsTaskUnit}
-use Rattle.link_one.specs.Tasks.{IsTaskOf}
-use Rattle.link_one.specs.declared.setting.Setting.{Setting}
-
--- the task of the module of this number
-abbrev pub IsTaskOfNumber : List (List ℕ) → ℕ → List Symbol → List (List ℕ) → List (List ℕ) → List (List ℕ) → List (List GlobalValue) → ℕ → TaskView → Type 0
-IsTaskOfNumber exports limit symbols suffixes imports promoted parts k t =
-    IsTaskOf exports limit (joined parts) symbols suffixes (slice_index_or imports k []) (slice_index_or promoted k []) (slice_index_or parts k []) t
-
--- a task for each module
-pub record AreTasks (exports : List (List ℕ)) (limit : ℕ) (symbols : List Symbol) (suffixes : List (List ℕ)) (imports promoted : List (List ℕ)) (parts : List (List GlobalValue)) (tasks : List Task) : Type 0 where
-  pub count : length tasks ≡ length parts
-  pub each : (k : ℕ) (t : Task) → slice_get tasks k ≡ Some t → IsTaskOfNumber exports limit symbols suffixes imports promoted parts k (task_view t)
 
 -- what is made of its task
 pub record IsUnitOfNumber (exports : List (List ℕ)) (limit : ℕ) (symbols : List Symbol) (suffixes : List (List ℕ)) (imports promoted : List (List ℕ)) (parts : List (List GlobalValue)) (k : ℕ) (unit : List Piece) : Type 0 where
@@ -58,8 +44,3 @@ pub record IsTaskInLink (exports : List (List ℕ)) (import_limit inline_limit :
   pub number : ℕ
   pub within : number < length ms
   pub task : IsTaskOfNumber exports inline_limit index.symbols suffixes imports promoted (parts ms index.symbols live suffixes) number t
-
--- ---- in a setting
-
-abbrev pub IsTaskAt : Setting → ℕ → TaskView → Type 0
-IsTaskAt s number t = IsTaskOfNumber s.exports.now s.limit s.symbols.now s.suffixes.now (rows s.imports.now) (rows s.promoted.now) s.parts.now number t

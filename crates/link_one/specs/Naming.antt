@@ -8,7 +8,8 @@ use Rattle.ir_better.specs.Rename.{then_names}
 use Rattle.merge_meaning.specs.Linked.{back_names}
 use Rattle.merge_meaning.specs.Lives.{live_names, live_outside}
 use Rattle.emit.specs.Laws.{keeps_symbol}
-use Rattle.link_one.specs.Linked.{IsLinked, joined}
+use Rattle.importer.specs.Brought.{joined}
+use Rattle.link_one.specs.Linked.{IsLinked}
 
 module _ (exports : List (List ℕ)) (import_limit inline_limit : ℕ) (suffixes : List (List ℕ)) (ms : List Module) (l : Module) (linked : IsLinked exports import_limit inline_limit suffixes ms l) where
   -- what is compiled, and behind it the functions of the outside

@@ -12,7 +12,8 @@ use Rattle.merge_meaning.specs.Lives.{parts}
 use Rattle.lto_task.specs.Tasks.{TaskView}
 use Rattle.lto_task.specs.declared.piece.Piece.{Piece}
 use Rattle.emit.specs.Joins.{IsJoin}
-use Rattle.link_one.specs.ModuleUnits.{AreUnits, IsTaskOfNumber}
+use Rattle.importer.specs.ModuleTasks.{IsTaskOfNumber}
+use Rattle.link_one.specs.ModuleUnits.{AreUnits}
 use Rattle.link_one.specs.declared.prepare.Prepared.{Prepared}
 
 -- the target lines of the linked module

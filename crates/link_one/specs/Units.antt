@@ -1,13 +1,11 @@
 -- The pieces of what is compiled, and those to which other units may refer.
-use Rattle.std.specs.Prelude.{ℕ, not, List, filter, filter_map, map, Option, option_map, slice_get}
+use Rattle.std.specs.Prelude.{ℕ, not, List, filter, map, Option}
 use Rattle.ir_tree.specs.declared.function.Function.{Function}
 use Rattle.ir_tree.specs.Linkages.{is_local}
 use Rattle.ir_tree.specs.declared.function.Linkage.{Linkage}
 use Rattle.ir_tree.specs.declared.module.GlobalValue.{GlobalValue}
 use Rattle.ir_tree.specs.declared.module.GlobalValue.TheVariants as global
-use Rattle.ir_tree.specs.declared.operand.Symbol.{Symbol}
 use Rattle.ir_better.specs.Programs.{symbol_of}
-use Rattle.promote_rename.specs.Finals.{final_name}
 use Rattle.lto_task.specs.Pieces.{IsPieceOf}
 use Rattle.lto_task.specs.declared.piece.Piece.{Piece}
 use Rattle.emit.specs.Emissions.{settled}
@@ -22,10 +20,6 @@ linkage_in (global.Function f) = f.linkage
 -- what isn't local to the module, by its names (LangRef, "Linkage Types")
 abbrev pub shown : List GlobalValue → List (List ℕ)
 shown part = map (λ g. (symbol_of g).name) (filter (λ g. not (is_local (linkage_in g))) part)
-
--- the final names of the symbols of these numbers
-abbrev pub names_of : List Symbol → List (List ℕ) → List ℕ → List (List ℕ)
-names_of symbols suffixes numbers = filter_map (λ n. option_map (final_name suffixes) (slice_get symbols n)) numbers
 
 -- ---- pieces
 

@@ -4,47 +4,40 @@
 //! read as no sound module within the limits, with the line and the kind of the first fault (`specs/Accepted.antt`). [`link`]
 //! does the rest. By the index alone it is decided what is live, what it will be called and what each module imports
 //! (`thin_link`, `promote_rename`). Each module's part, its live definitions under final names (`merge_meaning`), goes into its
-//! task with the bodies that it imports, as they were read, and declarations (`specs/Tasks.antt`). From the task alone the module
-//! is compiled to pieces, which are printed at once (`specs/TaskUnits.antt`, `back_end`, `lto_task`). Several workers do the tasks
-//! over a shared cache, in which each looks the text of its task up first (`back_pool`). The linked text is joined of the pieces
-//! that are reached from the exported names (`emit`).
+//! task with what it imports (`importer`). From the task alone the module is compiled to pieces, which are printed at once
+//! (`specs/TaskUnits.antt`, `back_end`, `lto_task`). Several workers do the tasks over a shared cache, in which each looks the text
+//! of its task up first (`back_pool`). The linked text is joined of the pieces that are reached from the exported names (`emit`).
 //!
 //! **Promise.** Where the cache has no directory or its disk was honest, [`link`] keeps both promises of the linker: the text is
 //! that of the linked module (`specs/Linked.antt`) of the modules that the files are read as, and no other text is one; and each run
 //! of the linked program from an exported function is a run of the merged modules (`specs/Linking.antt`). No clause names threads:
 //! with however many, the text is the same. Whatever the cache holds, only modules that can be linked are linked, and why others
 //! aren't stands in `specs/Refusing.antt`. That decisions by summaries are right of the program that the modules mean together is
-//! said by laws (`specs/MeaningLaws.antt`). A module's task is one ([`task_is_one`]), and both its modules are verified
-//! ([`tasks_are_verified`]), as is the linked module ([`linked_is_verified`]).
+//! said by laws (`specs/MeaningLaws.antt`). Both modules of a task are verified ([`tasks_are_verified`]), and so is the linked module
+//! ([`linked_is_verified`]).
 //!
-//! **Cost.** That of the stages: each definition is copied once under its final name, what a task lacks is found by name in one
-//! table, and each reference is sorted once in its task. All tasks are made before the first is compiled.
+//! **Cost.** That of the stages: each definition is copied once under its final name. All tasks are made before the first is
+//! compiled.
 //!
 //! **Not shown.** That threads or the cache save time: `bench/link` measures it.
 #![tactic(auto)]
 
 mod accepting;
-mod closing;
 mod kind;
 mod laws;
 mod linked;
 mod linked_laws;
 mod linking;
 mod meaning_laws;
-mod names;
 mod naming;
-mod outside;
 mod passes;
 mod piece;
 mod pool;
 mod prepare;
 mod referable;
-mod setting;
-mod table;
 mod target;
 mod task_laws;
 mod task_unit;
-mod tasks;
 mod writable;
 
 pub use accepting::{LinkError, accepted};
@@ -52,4 +45,4 @@ pub use laws::{accepted_is_not_refused, linked_is_one, refused_is_one};
 pub use linked_laws::{linked_is_verified, linked_refines, unlinked_is_one};
 pub use linking::link;
 pub use meaning_laws::{index_names_references, live_is_emitted, live_is_known, live_refines};
-pub use task_laws::{task_is_one, tasks_are_of_parts, tasks_are_verified};
+pub use task_laws::tasks_are_verified;

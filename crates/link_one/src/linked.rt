@@ -9,9 +9,9 @@ ghost use Rattle.link_one.specs.TaskUnits.{HasVerifiedModules, IsTaskUnit};
 
 use crate::pool::Pool;
 use crate::prepare::Prepared;
-use crate::tasks::tasks_of;
 use cache_slot::{CachePass, Setting};
 use emit::emit;
+use importer::tasks_of;
 use ir_tree::{Rows, Text};
 use lto_outside::{CacheDisk, Gate};
 use lto_task::Piece;

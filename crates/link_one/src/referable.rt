@@ -1,13 +1,10 @@
 //! The names by which other units may refer to what is compiled.
-ghost use Rattle.std.specs.Prelude.{◌≡◌, ◌++◌, ◌∷◌, [], IfOk, OnOk, option_copied, option_map};
-ghost use Rattle.promote_rename.specs.Finals.{final_name};
-ghost use Rattle.link_one.specs.Tables.{option_list, values};
-ghost use Rattle.link_one.specs.Units.{linkage_in, names_of, shown};
+ghost use Rattle.std.specs.Prelude.{◌≡◌, ◌++◌, ◌∷◌, [], OnOk};
+ghost use Rattle.importer.specs.Tables.{values};
+ghost use Rattle.link_one.specs.Units.{linkage_in, shown};
 
-use crate::setting::symbol_at;
 use ir_better::symbol_of;
-use ir_tree::{GlobalValue, Linkage, Rows, Symbol, Text};
-use promote_rename::final_name;
+use ir_tree::{GlobalValue, Linkage, Rows, Text};
 use std::alloc::{AllocError, Global};
 
 fn linkage_in(global: &GlobalValue) -> Linkage
@@ -39,37 +36,6 @@ pub(crate) fn push_shown(
 {
     for global in globals {
         push_name(alloc, names, global)?;
-    }
-    Ok(())
-}
-
-/// Adds a symbol's final name, if there is one.
-fn push_final(
-    alloc: Global,
-    names: &mut Rows<Text>,
-    suffixes: &[Text],
-    symbol: Option<&Symbol>,
-) -> Result<(), AllocError>
-    ensures { OnOk result (names.new ≡ names.old ++ option_list (option_map (final_name suffixes.now) (option_copied symbol.entry))) }
-{
-    if let Some(symbol) = symbol {
-        names.push(final_name(alloc, suffixes, symbol)?)?;
-    }
-    Ok(())
-}
-
-/// Adds the final names of the symbols of these numbers.
-pub(crate) fn push_names(
-    alloc: Global,
-    names: &mut Rows<Text>,
-    symbols: &[Symbol],
-    suffixes: &[Text],
-    numbers: &[u32],
-) -> Result<(), AllocError>
-    ensures { OnOk result (names.new ≡ names.old ++ names_of symbols.now suffixes.now numbers.now) }
-{
-    for number in numbers {
-        push_final(alloc, names, suffixes, symbol_at(symbols, *number))?;
     }
     Ok(())
 }

@@ -6,16 +6,15 @@ ghost use Rattle.back_end.specs.Inlinable.{AreSound};
 ghost use Rattle.back_end.specs.Walking.{bodies_in};
 ghost use Rattle.emit.specs.Joins.{IsInNameOrder};
 ghost use Rattle.lto_task.specs.Tasks.{globals_of, task_view};
-ghost use Rattle.link_one.specs.Tables.{values};
+ghost use Rattle.importer.specs.Tables.{values};
 ghost use Rattle.link_one.specs.TaskUnits.{IsTaskUnit, bodies_in_task, definitions, is_defined, offered_by};
 ghost use Rattle.link_one.specs.Units.{IsLinkedPiece};
 
-use crate::names::copies;
 use crate::piece::linked_piece;
 use crate::referable::{push_copies, push_shown};
-use crate::table::push_all;
 use back_end::Bodies;
 use emit::{Exported, strip};
+use importer::{copies, push_all};
 use ir_tree::{GlobalValue, Rows, Text};
 use lto_task::{Piece, Task, TaskModule};
 use std::alloc::{AllocError, Global};

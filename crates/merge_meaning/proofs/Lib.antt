@@ -21,3 +21,4 @@ pub mod Runs
 pub mod Sounds
 pub mod Composed
 pub mod ByModule
+pub mod References

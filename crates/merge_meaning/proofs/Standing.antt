@@ -1,8 +1,8 @@
 -- What stands in a list, and in a list of lists.
-use Rattle.std.proofs.Common.{◌≡◌, ◌⊎◌, inl, inr, ◌<◌, Bool, true, false, cond, List, [], ◌∷◌, ◌++◌, map, filter, refl, sym, ◌∙◌, ap, subst, arith}
-use Rattle.std.proofs.lemmas.Bool.{false≢true}
+use Rattle.std.proofs.Common.{◌≡◌, ◌⊎◌, inl, inr, ◌||◌, ◌<◌, Bool, true, false, cond, List, [], ◌∷◌, ◌++◌, map, filter, refl, sym, ◌∙◌, ap, subst, arith}
+use Rattle.std.proofs.lemmas.Bool.{false≢true, or_cases, or_left, or_right}
 use Rattle.std.proofs.lemmas.List.Elements.{All-contains, All-contains_itself, All-filter, Contains-append_cases, Contains-append_left, Contains-append_right, Contains-push, Contains-push_cases, filter_passes}
-use Rattle.std.specs.List.{Contains, flat_map}
+use Rattle.std.specs.List.{Contains, flat_map, list_any}
 
 pub nothing : {X : Type 0} (x : X) → Contains {X = X} [] x → ⊥
 nothing x h = let lt : h.0 < 0 = h.1 in absurd (omega (arith, lt))
@@ -70,3 +70,21 @@ filter_from {X} p xs x h = (
   All-contains (Contains xs) (filter p xs) x (All-filter p (Contains xs) xs (All-contains_itself xs)) h,
   All-contains (λ (y : X). p y ≡ true) (filter p xs) x (filter_passes p xs) h,
 )
+
+-- ---- tests on lists
+
+pub any_from : {X : Type 0} (p : X → Bool) (xs : List X) → list_any p xs ≡ true → (x : X) × Contains xs x × (p x ≡ true)
+any_from p [] h = absurd (cc h)
+any_from {X} p (x ∷ xs) h = by (or_cases (p x) (list_any p xs) h) (λ rest. any_from p xs rest)
+  where
+    by : (p x ≡ true) ⊎ (list_any p xs ≡ true) → (list_any p xs ≡ true → (y : X) × Contains xs y × (p y ≡ true)) → (y : X) × Contains (x ∷ xs) y × (p y ≡ true)
+    by (inl here) rest = (x, first x xs, here)
+    by (inr more) rest = let found = rest more in (found.0, later x found.0 xs found.1, found.2)
+
+pub any_by : {X : Type 0} (p : X → Bool) (xs : List X) (x : X) → Contains xs x → p x ≡ true → list_any p xs ≡ true
+any_by p [] x h on = absurd (nothing x h)
+any_by {X} p (y ∷ ys) x h on = by (first_or_later y x ys h) (λ rest. any_by p ys x rest on)
+  where
+    by : (y ≡ x) ⊎ Contains ys x → (Contains ys x → list_any p ys ≡ true) → (p y || list_any p ys) ≡ true
+    by (inl same) rest = or_left (p y) (list_any p ys) (ap p same ∙ on)
+    by (inr more) rest = or_right (p y) (list_any p ys) (rest more)

@@ -7,3 +7,6 @@ pub mod Lives
 pub mod Scopes
 pub mod Given
 pub mod Examples
+pub mod ByName
+pub mod Hosts
+pub mod Linkable

@@ -12,6 +12,9 @@
 //! A link compiles module by module: each module's part has those of its definitions that prevail and are live, under final names
 //! (`specs/Lives.antt`), and the live definitions are these parts one after another (`live_by_module`).
 //!
+//! Words that the rooms of a link share stand here too: values by name (`specs/ByName.antt`), the functions of the system
+//! (`specs/Hosts.antt`), and values that can stand in one module (`specs/Linkable.antt`).
+//!
 //! Below stand the trees (`ir_tree`), their meaning (`ir_meaning`), the laws of refinement (`ir_better`), the programs of
 //! global values (there too), `symbol_resolve`, whose definition of what prevails is used, and of what a link decides the
 //! marks (`combined_index`) and the suffixes of names (`promote_rename`). [`program`] makes the merged program's list of global

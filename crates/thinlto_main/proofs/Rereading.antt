@@ -20,17 +20,19 @@ use Rattle.merge_meaning.specs.Globals.{global_under, named_by}
 use Rattle.merge_meaning.specs.Laws.{PartsAreSound}
 use Rattle.merge_meaning.specs.Lives.{final_symbol, is_live, part_of, parts, parts_from}
 use Rattle.merge_meaning.specs.Merged.{prevails, symbol_in}
+use Rattle.merge_meaning.specs.Hosts.{getchar, putchar}
 use Rattle.back_end.specs.Laws.{MadeIsInOrder}
 use Rattle.back_end.specs.Made.{IsMade, MadeWhere}
-use Rattle.emit.specs.Emissions.{getchar, putchar, settled}
+use Rattle.emit.specs.Emissions.{settled}
 use Rattle.emit.specs.Laws.{EmissionComesFrom}
+use Rattle.importer.specs.Brought.{joined}
+use Rattle.importer.proofs.Members.{Stands, all_joined, at_first, contained, either_part, filtered_from, further, mapped_from, of_each, standing, zip_back}
 use Rattle.link_one.specs.Accepted.{Accepts}
 use Rattle.link_one.specs.LinkedLaws.{LinkedIsVerified}
-use Rattle.link_one.specs.Linked.{IsLinkedGlobal, joined}
+use Rattle.link_one.specs.Linked.{IsLinkedGlobal}
 use Rattle.link_one.specs.Linking.{IsLinkOf}
 use Rattle.link_one.proofs.Bettering.{among_sound}
 use Rattle.link_one.proofs.Compiling.{AreAmong, pairs}
-use Rattle.link_one.proofs.Members.{Stands, all_joined, at_first, contained, either_part, filtered_from, further, mapped_from, of_each, standing, zip_back}
 use Rattle.link_one.proofs.Texts.{all_verified}
 use Rattle.read_again.specs.Sorts.{IsNumbered}
 use Rattle.promote_rename.specs.Suffixes.{suffix_of}

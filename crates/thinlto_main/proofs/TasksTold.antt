@@ -11,13 +11,14 @@ use Rattle.ir_tree.specs.declared.module.GlobalValue.{GlobalValue}
 use Rattle.back_pool.specs.Making.{FitsAsMade, IsMadeText}
 use Rattle.lto_task.specs.Tasks.{IsWrittenTask, TaskView, module_of, task_text}
 use Rattle.merge_meaning.specs.Lives.{parts}
+use Rattle.merge_meaning.specs.Hosts.{getchar, putchar}
 use Rattle.promote_rename.specs.Suffixes.{suffix_of}
-use Rattle.emit.specs.Emissions.{getchar, putchar}
+use Rattle.importer.specs.Brought.{joined}
+use Rattle.importer.specs.TaskLaws.{IsDeclared, IsOrDeclared, TasksAreOfParts}
+use Rattle.importer.proofs.Members.{all_joined, zip_map}
 use Rattle.link_one.specs.Accepted.{Accepts}
-use Rattle.link_one.specs.Linked.{joined}
-use Rattle.link_one.specs.TaskLaws.{IsDeclared, IsOrDeclared, TasksAreOfParts, TasksAreVerified}
+use Rattle.link_one.specs.TaskLaws.{TasksAreVerified}
 use Rattle.link_one.specs.TaskUnits.{IsTaskUnit, IsUnitText}
-use Rattle.link_one.proofs.Members.{all_joined, zip_map}
 use Rattle.link_one.proofs.Texts.{all_verified}
 use Rattle.read_again.specs.Classes.{IsOrdinary}
 use Rattle.read_again.specs.Renamed.{DeclarationsAreSpelled, IsReadOf, PartsAreSpelled, SpelledIsTold, ValueSpelled}

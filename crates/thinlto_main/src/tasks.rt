@@ -1,7 +1,8 @@
 //! Laws of the tasks of links of files.
 ghost use Rattle.thinlto_main.specs.Tasks.{TasksAreSpelled, TasksAreTold};
 
-use link_one::{tasks_are_of_parts, tasks_are_verified};
+use importer::tasks_are_of_parts;
+use link_one::tasks_are_verified;
 use read_again::{
     declarations_are_spelled, parts_are_spelled, spelled_modules_are_told,
     tasks_with_one_text_are_one,

@@ -1,7 +1,7 @@
 use Rattle.std.proofs.Common.{◌≡◌, ◌||◌, ℕ, List, drop}
 use Rattle.std.specs.List.{list_any}
 use Rattle.std.specs.Str.{bytes_eq}
-use Rattle.emit.specs.Chosen.{has}
+use Rattle.merge_meaning.specs.ByName.{has}
 use Rattle.emit.proofs.settling.names_of.Given as goal
 
 abbrev pub invariant-loop-name : goal.invariant-loop-name

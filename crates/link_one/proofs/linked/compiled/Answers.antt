@@ -6,7 +6,7 @@ use Rattle.lto_task.specs.Tasks.{TaskView, task_view}
 use Rattle.lto_task.specs.declared.task.Task.{Task}
 use Rattle.thin_link.specs.Views.{rows}
 use Rattle.back_pool.specs.Making.{IsReady}
-use Rattle.link_one.specs.ModuleUnits.{AreTasks}
+use Rattle.importer.specs.ModuleTasks.{AreTasks}
 use Rattle.link_one.specs.TaskUnits.{HasVerifiedModules, IsTaskUnit}
 use Rattle.link_one.specs.declared.prepare.Prepared.{Prepared}
 use Rattle.link_one.proofs.LinkTasks.{all_tasks, same_tasks, units_made}

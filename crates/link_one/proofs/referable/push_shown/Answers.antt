@@ -1,8 +1,8 @@
 use Rattle.std.proofs.Common.{List, Bor}
 use Rattle.ir_tree.specs.declared.module.GlobalValue.{GlobalValue}
-use Rattle.link_one.specs.Tables.{values}
+use Rattle.importer.specs.Tables.{values}
+use Rattle.importer.proofs.Gathering.{gathered_more}
 use Rattle.link_one.specs.Units.{shown}
-use Rattle.link_one.proofs.Gathering.{gathered_more}
 use Rattle.link_one.proofs.Referables.{shown_of_values}
 use Rattle.link_one.proofs.referable.push_shown.Goals as goal
 

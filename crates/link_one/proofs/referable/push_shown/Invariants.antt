@@ -1,5 +1,5 @@
 use Rattle.std.proofs.Common.{◌≡◌, ◌++◌, take}
-use Rattle.link_one.specs.Tables.{values}
+use Rattle.importer.specs.Tables.{values}
 use Rattle.link_one.specs.Units.{shown}
 use Rattle.link_one.proofs.referable.push_shown.Given as goal
 

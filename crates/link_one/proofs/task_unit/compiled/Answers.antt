@@ -7,7 +7,7 @@ use Rattle.emit.specs.Joins.{IsInNameOrder}
 use Rattle.emit.specs.Strips.{IsStripped}
 use Rattle.lto_task.specs.Tasks.{task_view}
 use Rattle.lto_task.specs.declared.piece.Piece.{Piece}
-use Rattle.link_one.specs.Tables.{values}
+use Rattle.importer.specs.Tables.{values}
 use Rattle.link_one.specs.TaskUnits.{bodies_in_task, is_defined}
 use Rattle.link_one.specs.Units.{IsLinkedPiece}
 use Rattle.link_one.proofs.task_unit.compiled.Goals as goal

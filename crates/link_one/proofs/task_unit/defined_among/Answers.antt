@@ -1,8 +1,8 @@
 use Rattle.std.proofs.Common.{[], List, Bor}
 use Rattle.ir_tree.specs.declared.module.GlobalValue.{GlobalValue}
+use Rattle.importer.specs.Tables.{values}
+use Rattle.importer.proofs.Gathering.{filter_mapped, gathered_more}
 use Rattle.link_one.specs.TaskUnits.{definitions, is_defined}
-use Rattle.link_one.specs.Tables.{values}
-use Rattle.link_one.proofs.Gathering.{filter_mapped, gathered_more}
 use Rattle.link_one.proofs.task_unit.defined_among.Goals as goal
 
 pub loop-global-preserved : goal.loop-global-preserved

@@ -1,6 +1,6 @@
 use Rattle.std.proofs.Common.{◌≡◌, take}
+use Rattle.importer.specs.Tables.{values}
 use Rattle.link_one.specs.TaskUnits.{definitions}
-use Rattle.link_one.specs.Tables.{values}
 use Rattle.link_one.proofs.task_unit.defined_among.Given as goal
 
 abbrev pub invariant-loop-global : goal.invariant-loop-global

@@ -2,9 +2,9 @@ use Rattle.std.proofs.Common.{Bor, arith, sym}
 use Rattle.ir_tree.specs.Wholes.{GlobalSound}
 use Rattle.ir_tree.specs.declared.module.GlobalValue.{GlobalValue}
 use Rattle.back_end.specs.Walking.{bodies_in}
-use Rattle.link_one.specs.Tables.{values}
+use Rattle.importer.specs.Tables.{values}
+use Rattle.importer.proofs.Members.{image_stands, of_each, standing}
 use Rattle.link_one.specs.Units.{IsLinkedPiece}
-use Rattle.link_one.proofs.Members.{image_stands, of_each, standing}
 use Rattle.link_one.proofs.Zipping.{zip_next_mapped}
 use Rattle.link_one.proofs.task_unit.linked_pieces.Goals as goal
 

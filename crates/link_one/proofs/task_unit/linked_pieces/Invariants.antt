@@ -1,7 +1,7 @@
 use Rattle.std.proofs.Common.{take}
 use Rattle.std.specs.List.{AllZip}
 use Rattle.back_end.specs.Walking.{bodies_in}
-use Rattle.link_one.specs.Tables.{values}
+use Rattle.importer.specs.Tables.{values}
 use Rattle.link_one.specs.Units.{IsLinkedPiece}
 use Rattle.link_one.proofs.task_unit.linked_pieces.Given as goal
 

@@ -1,5 +1,5 @@
 use Rattle.std.proofs.Common.{◌∙◌, ◌++◌, ℕ, List, ap, ap₂}
-use Rattle.link_one.specs.Tables.{values}
+use Rattle.importer.specs.Tables.{values}
 use Rattle.link_one.specs.Units.{shown}
 use Rattle.link_one.proofs.task_unit.offers_of.Goals as goal
 

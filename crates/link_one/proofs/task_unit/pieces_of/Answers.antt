@@ -9,7 +9,7 @@ use Rattle.back_end.specs.Inlinable.{AreSound}
 use Rattle.back_end.specs.Walking.{bodies_in}
 use Rattle.back_end.proofs.Offered.{are_sound}
 use Rattle.lto_task.specs.Tasks.{task_view}
-use Rattle.link_one.specs.Tables.{values}
+use Rattle.importer.specs.Tables.{values}
 use Rattle.link_one.specs.Units.{IsLinkedPiece}
 use Rattle.link_one.proofs.task_unit.pieces_of.Goals as goal
 

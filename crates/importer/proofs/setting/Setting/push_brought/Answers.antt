@@ -1,0 +1,12 @@
+use Rattle.std.proofs.Common.{◌∙◌, ap, Option, arith}
+use Rattle.std.specs.Prelude.{option_copied, slice_get}
+use Rattle.ir_tree.specs.declared.operand.Symbol.{Symbol}
+use Rattle.importer.specs.Brought.{joined, value_of}
+use Rattle.importer.proofs.Tabled.{given_more}
+use Rattle.importer.proofs.setting.Setting.push_brought.Goals as goal
+
+pub loop-number-preserved : goal.loop-number-preserved
+loop-number-preserved c =
+    given_more (λ n. value_of (joined c.args.self.now.parts.now) c.args.self.now.suffixes.now (slice_get c.args.self.now.symbols.now n)) c.loop-number.list.items c.push_some.new.list.items c.args.list.now.items
+    c.args.numbers.now c.loop-number.number-index (option_copied c.in_ok-value.value) (omega arith) c.loop-number.invariant
+    (c.in_ok-value.ensures ∙ ap (λ (o : Option Symbol). value_of (joined c.args.self.now.parts.now) c.args.self.now.suffixes.now o) c.symbol_at.ensures) c.in_ok-push_some.ensures

@@ -1,6 +1,0 @@
-use Rattle.std.proofs.Common.{◌≡◌, take}
-use Rattle.ir_summary.specs.Once.{texts}
-use Rattle.link_one.proofs.names.borrowed.Given as goal
-
-abbrev pub invariant-loop-name : goal.invariant-loop-name
-invariant-loop-name l = texts l.list.items ≡ take l.name-index l.names

@@ -1,6 +1,0 @@
-use Rattle.std.proofs.Common.{◌≡◌, ◌++◌, take}
-use Rattle.link_one.specs.Units.{names_of}
-use Rattle.link_one.proofs.referable.push_names.Given as goal
-
-abbrev pub invariant-loop-number : goal.invariant-loop-number
-invariant-loop-number l = l.names ≡ l.fn.names ++ names_of l.symbols l.suffixes (take l.number-index l.numbers)

@@ -1,8 +1,0 @@
-use Rattle.std.proofs.Common.{◌≡◌, ◌++◌, take}
-use Rattle.link_one.specs.Linked.{brought, joined}
-use Rattle.link_one.specs.Tables.{values}
-use Rattle.link_one.proofs.setting.Setting.push_brought.Given as goal
-
-abbrev pub invariant-loop-number : goal.invariant-loop-number
-invariant-loop-number l =
-    values l.list.items ≡ values l.fn.list.items ++ brought (joined l.self.parts.now) l.self.symbols.now l.self.suffixes.now (take l.number-index l.numbers)

@@ -1,6 +1,0 @@
-use Rattle.std.proofs.Common.{◌≡◌, ◌++◌, take}
-use Rattle.link_one.specs.Tables.{values}
-use Rattle.link_one.proofs.table.push_all.Given as goal
-
-abbrev pub invariant-loop-global : goal.invariant-loop-global
-invariant-loop-global l = values l.all.items ≡ values l.fn.all.items ++ take l.global-index l.globals

@@ -1,5 +1,0 @@
-use Rattle.link_one.proofs.OneTask.{task_is_one}
-use Rattle.link_one.proofs.task_laws.task_is_one.Goals as goal
-
-pub returns : goal.returns
-returns c = task_is_one
