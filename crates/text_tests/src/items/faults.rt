@@ -13,7 +13,7 @@ enum Why {
     Layout,
 }
 
-fn why(kind: &FaultKind) -> Option<Why> {
+fn reason(kind: &FaultKind) -> Option<Why> {
     match kind {
         FaultKind::Syntax => Some(Why::Syntax),
         FaultKind::Profile { word: _ } => Some(Why::Profile),
@@ -27,7 +27,7 @@ fn why(kind: &FaultKind) -> Option<Why> {
 /// Why a text is refused; `None` where it is a module.
 fn refused(alloc: Global, text: &[u8]) -> Option<Why> {
     match parse(alloc, text) {
-        Err(ReadError::Fault(fault)) => why(&fault.kind),
+        Err(ReadError::Fault(fault)) => reason(&fault.kind),
         _ => None,
     }
 }
