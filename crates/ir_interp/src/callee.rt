@@ -30,7 +30,7 @@ pub enum Entity {
 }
 
 /// What a call asks for: the function of an index in the table of symbols, or a host function.
-#[derive(Clone, Copy, Debug)]
+#[derive(Clone, Copy)]
 pub enum Resolved {
     Function(u32),
     Host(Host),

@@ -5,7 +5,7 @@ use ir_machine::Scalar;
 use ir_meaning::Cause;
 
 /// How a run ended.
-#[derive(Clone, Copy, Debug)]
+#[derive(Clone, Copy)]
 pub enum RunEnd {
     /// The function in which it began returned.
     Returned(Option<Scalar>),
@@ -19,7 +19,7 @@ pub enum RunEnd {
 
 /// Why a run was given up: the input or the output failed, and its count of faults rose in the call, or
 /// memory was refused.
-#[derive(Clone, Copy, Debug, PartialEq, Eq)]
+#[derive(Clone, Copy, PartialEq, Eq)]
 pub enum RunFault {
     In,
     Out,

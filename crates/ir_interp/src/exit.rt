@@ -14,7 +14,7 @@ use ir_machine::Scalar;
 use ir_meaning::Cause;
 
 /// A case of a `switch`: a number, and the position of the block that it leads to.
-#[derive(Clone, Copy, Debug)]
+#[derive(Clone, Copy)]
 pub struct Case {
     pub bits: u64,
     pub target: u32,
@@ -41,7 +41,7 @@ pub enum Exit {
 }
 
 /// Where a terminator leads: out of the function with an answer or none, to a block, or nowhere.
-#[derive(Clone, Copy, Debug)]
+#[derive(Clone, Copy)]
 pub enum Left {
     Returned(Option<Scalar>),
     To(u32),

@@ -9,7 +9,7 @@ use crate::bits::bits_of;
 use ir_machine::Scalar;
 
 /// `i32 @putchar(i32)`, or `i32 @getchar()`.
-#[derive(Clone, Copy, Debug)]
+#[derive(Clone, Copy)]
 pub enum Host {
     PutChar,
     GetChar,

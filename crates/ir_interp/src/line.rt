@@ -28,7 +28,7 @@ pub struct Line<'a> {
 }
 
 /// What a line came to: it ran, or it is a call, which nothing was done of.
-#[derive(Clone, Copy, Debug)]
+#[derive(Clone, Copy)]
 pub enum Reached {
     Ran(Ran),
     Call,

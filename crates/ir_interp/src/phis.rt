@@ -14,7 +14,7 @@ use ir_machine::Scalar;
 use std::alloc::AllocError;
 
 /// What a phi takes on an edge from the block of a number.
-#[derive(Clone, Copy, Debug)]
+#[derive(Clone, Copy)]
 pub struct Edge {
     pub from: u32,
     pub source: Source,

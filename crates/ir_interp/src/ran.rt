@@ -14,7 +14,7 @@ use ir_meaning::Cause;
 use std::alloc::AllocError;
 
 /// What an instruction came to.
-#[derive(Clone, Copy, Debug)]
+#[derive(Clone, Copy)]
 pub enum Ran {
     /// It went on; an `alloca` made a stack block.
     Went { reserved: bool },

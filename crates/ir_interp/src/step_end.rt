@@ -6,14 +6,14 @@ use ir_meaning::Cause;
 /// An instruction or terminator of a function: the function by the index of its symbol in the table, and
 /// the number of the instruction, counted from 1 over phis, instructions and terminators in the order
 /// of the text.
-#[derive(Clone, Copy, Debug)]
+#[derive(Clone, Copy)]
 pub struct Place {
     pub function: u32,
     pub instruction: u64,
 }
 
 /// What a step came to.
-#[derive(Clone, Copy, Debug)]
+#[derive(Clone, Copy)]
 pub enum StepEnd {
     /// The run goes on; nothing was written.
     Going,
