@@ -99,12 +99,7 @@ fn put_behind(
 }
 
 /// The block that is left with these contents, and with the phis of the old one under their new names.
-fn kept(
-    alloc: Global,
-    names: &Names,
-    block: &Block,
-    content: Content,
-) -> Result<Block, AllocError>
+fn kept(alloc: Global, names: &Names, block: &Block, content: Content) -> Result<Block, AllocError>
     ensures { IfOk result (λ b. b ≡ block_of (name_in names.now) block.now content) }
 {
     let Content { lines, end } = content;

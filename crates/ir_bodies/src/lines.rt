@@ -9,9 +9,13 @@ ghost use Rattle.ir_bodies.specs.Listed.{listed_at};
 
 use crate::calls::{calling_into, tail_calling_into};
 use crate::opcodes::{Opcode, Operation, begun_at, giving_at};
-use ir_instructions::{addressing_into, casting_into, comparing_into, dividing_into, extending_into, freezing_into, joining_into, loading_into, narrowing_into, on_two_into, phi_into, reserving_into, selecting_into, storing_into, wrapping_into};
-use ir_operands::Listing;
+use ir_instructions::{
+    addressing_into, casting_into, comparing_into, dividing_into, extending_into, freezing_into,
+    joining_into, loading_into, narrowing_into, on_two_into, phi_into, reserving_into,
+    selecting_into, storing_into, wrapping_into,
+};
 use ir_lex::Head;
+use ir_operands::Listing;
 use ir_read::{Name, Tokens, attachments_at, expect, local_at};
 use ir_tree::{CastOp, Flags};
 use lto_forms::ReadError;

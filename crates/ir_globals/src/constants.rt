@@ -10,8 +10,8 @@ ghost use Rattle.ir_read.specs.declared.raw.Operand.TheVariants as operands;
 ghost use Rattle.ir_globals.specs.Constants.{CONSTANTS, type_of, plain, number_of, constant_of};
 ghost use Rattle.ir_globals.specs.ConstantsAt.{single_at, constant_at};
 
-use ir_operands::address_at;
 use ir_lex::{Head, Token};
+use ir_operands::address_at;
 use ir_read::{InitHead, Name, Operand, Tokens, done, literal, named, refusal};
 use ir_tree::Reg;
 use lto_forms::{Fault, FaultKind, ReadError};

@@ -15,8 +15,8 @@ ghost use Rattle.ir_globals.specs.InitialisersAt.{bytes_at, aggregate_begin_at, 
 
 use crate::constants::constant_at;
 use crate::pairs::beside;
-use ir_operands::{brace_behind_angle_at, memory_shape_at};
 use ir_lex::Head;
+use ir_operands::{brace_behind_angle_at, memory_shape_at};
 use ir_read::{
     Init, InitHead, InitPart, Name, Shape, ShapeNode, Tokens, Typed, done, expect, memory_refusal,
     refusal,

@@ -5,8 +5,8 @@ ghost use Rattle.lto_forms.specs.Readers.{Gives};
 ghost use Rattle.ir_operands.specs.Adding.{pushed_at};
 ghost use Rattle.ir_globals.specs.TypeDefinitionsAt.{defined_at, type_line_at, type_name_at};
 
-use ir_operands::{memory_shape_at, push};
 use ir_lex::Head;
+use ir_operands::{memory_shape_at, push};
 use ir_read::{Item, Name, Tokens, Typed, done, expect, local_at};
 use lto_forms::ReadError;
 use std::alloc::Global;

@@ -16,7 +16,9 @@ ghost use Rattle.ir_read.specs.Shapes.{parts_of};
 
 use crate::instructions::{align_at, aligned_at};
 use ir_lex::{Head, Token};
-use ir_operands::{Listing, Measured, counted, memory_shape_at, operand_at, pointer_at, push, stepping_at};
+use ir_operands::{
+    Listing, Measured, counted, memory_shape_at, operand_at, pointer_at, push, stepping_at,
+};
 use ir_read::{
     Argument, Instr, Operand, Shape, ShapeNode, Tokens, Typed, attached_at, done, expect,
     integer_at, refusal, reg_at,

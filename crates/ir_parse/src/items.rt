@@ -19,8 +19,8 @@ ghost use Rattle.ir_parse.specs.Putting.{behind_at, Puts};
 
 use ir_bodies::{Defined, definition_at};
 use ir_globals::{type_line_into, variable_line_into};
-use ir_operands::push;
 use ir_lex::Head;
+use ir_operands::push;
 use ir_read::{
     Before, Item, Position, Role, Tokens, attached_at, attribute_group_at, comdat_line_at, expect,
     head_at, head_attribute_at, is_attribute_word, layout_line_at, metadata_behind_at,
