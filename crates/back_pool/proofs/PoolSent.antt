@@ -9,9 +9,9 @@ use Rattle.std.proofs.MapsCrossing as maps
 use Rattle.atomic_table.proofs.send_lease.SendLease.TheSendSync as lease
 use Rattle.atomic_table.proofs.shared.Shared.TheSendSync as shared
 use Rattle.lto_outside.specs.declared.disk.CacheDisk as disk
+use Rattle.cache_slot.proofs.records.Records.TheSendSync as records
 use Rattle.cache_slot.specs.contracts.cache.SharedCache as cache
 use Rattle.cache_slot.specs.contracts.shelf.Shelf as shelf
-use Rattle.cache_slot.specs.contracts.record.Record as record_of_turn
 use Rattle.cache_slot.specs.declared.setting.Setting as setting
 use Rattle.claim_word.specs.contracts.claims.Claims as claims
 use Rattle.back_pool.specs.contracts.pool.Pool as pool
@@ -28,9 +28,6 @@ declared_sync T s = recorded_sync (Struct (shape T)) T.D T.to T.to_one (struct_s
 pub claims_sync : IsSync (claims.the_field).row
 claims_sync = search (shared.the_sync, lease.the_sync, sendable, crosses) depth 60 fits 20000
 
-pub record_send : IsSend (record_of_turn.the_row)
-record_send = search (sendable, crosses) depth 60 fits 20000
-
 module _ (D S : RattleType) (d : disk.Ghosts D.Denot) (s : setting.Ghosts S.Denot) (send_D : IsSend D) (send_S : IsSend S) where
   shelf_fields : AllSend (fields (shelf.the_type D S d s))
   shelf_fields = (
@@ -38,7 +35,7 @@ module _ (D S : RattleType) (d : disk.Ghosts D.Denot) (s : setting.Ghosts S.Deno
     (
       search (maps.crosses, sendable, crosses) depth 20,
       (
-        search (record_send, sendable, crosses) depth 20,
+        search (records.the_field_send, sendable, crosses) depth 20,
         (search (send_S, sendable, crosses) depth 20, tt),
       ),
     ),

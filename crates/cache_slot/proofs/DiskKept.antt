@@ -57,22 +57,30 @@ module _ (key text : List ℕ) (small : length (bytes_of key text) < 2 ^ 64) whe
           let q : Some (take front.0 (bytes_of key text)) ≡ Some (bytes_of k t) = sym front.1 ∙ holds in
           absurd (other (front_of_entry front.0 key text k t small (cc q)).0)
 
-  pub told_kept : (dir : Option (List ℕ)) (files held next : Option DiskStore) (faults faults_now : ℕ) (failed : Bool) (rs : List Record) → SavedOn held next faults faults_now dir key text failed
+-- the pair's entry is small enough where it is saved
+abbrev pub Small : Option (List ℕ) → List ℕ → List ℕ → Type 0
+Small dir key text = dir ≢ None → length (bytes_of key text) < 2 ^ 64
+
+there : (d : List ℕ) → Some d ≢ None
+there d e = cc e
+
+module _ (key text : List ℕ) where
+  pub told_kept : (dir : Option (List ℕ)) → Small dir key text → (files held next : Option DiskStore) (faults faults_now : ℕ) (failed : Bool) (rs : List Record) → SavedOn held next faults faults_now dir key text failed
       → DiskTold dir files held rs → DiskTold dir files next (rs ++ Entry key text failed ∷ [])
-  told_kept dir None held next faults faults_now failed rs saved told = tt
-  told_kept None (Some first) None next faults faults_now failed rs saved told = absurd told
-  told_kept (Some d) (Some first) None next faults faults_now failed rs saved told = absurd told
-  told_kept None (Some first) (Some now) next faults faults_now false rs saved told =
+  told_kept dir small None held next faults faults_now failed rs saved told = tt
+  told_kept None small (Some first) None next faults faults_now failed rs saved told = absurd told
+  told_kept (Some d) small (Some first) None next faults faults_now failed rs saved told = absurd told
+  told_kept None small (Some first) (Some now) next faults faults_now false rs saved told =
       subst (λ (z : Option DiskStore). DiskTold None (Some first) z (rs ++ Entry key text false ∷ [])) (sym saved.0) (files_without None first refl now now rs (rs ++ Entry key text false ∷ []) (λ d name. refl) told)
-  told_kept None (Some first) (Some now) next faults faults_now true rs saved told = absurd saved
-  told_kept (Some d) (Some first) (Some now) None faults faults_now false rs saved told = absurd saved
-  told_kept (Some d) (Some first) (Some now) None faults faults_now true rs saved told = absurd saved.0
-  told_kept (Some d) (Some first) (Some now) (Some after) faults faults_now false rs saved told =
+  told_kept None small (Some first) (Some now) next faults faults_now true rs saved told = absurd saved
+  told_kept (Some d) small (Some first) (Some now) None faults faults_now false rs saved told = absurd saved
+  told_kept (Some d) small (Some first) (Some now) None faults faults_now true rs saved told = absurd saved.0
+  told_kept (Some d) small (Some first) (Some now) (Some after) faults faults_now false rs saved told =
       files_saved (Some d) first d refl now after rs key text false saved.others (λ well. saved.written)
-      (λ k t holds other. (let q : Some (bytes_of key text) ≡ Some (bytes_of k t) = sym saved.written ∙ holds in absurd (other (one_entry key text k t small (cc q)).0)))
+      (λ k t holds other. (let q : Some (bytes_of key text) ≡ Some (bytes_of k t) = sym saved.written ∙ holds in absurd (other (one_entry key text k t (small (there d)) (cc q)).0)))
       told
-  told_kept (Some d) (Some first) (Some now) (Some after) faults faults_now true rs saved told =
-      files_saved (Some d) first d refl now after rs key text true saved.0.others (λ well. absurd (cc well)) (λ k t holds other. part_of now after d k t saved.0 holds other) told
+  told_kept (Some d) small (Some first) (Some now) (Some after) faults faults_now true rs saved told =
+      files_saved (Some d) first d refl now after rs key text true saved.0.others (λ well. absurd (cc well)) (λ k t holds other. part_of key text (small (there d)) now after d k t saved.0 holds other) told
 
 -- honesty
 module _ (fits : List ℕ → List ℕ → Type 0) where
@@ -115,16 +123,17 @@ module _ (fits : List ℕ → List ℕ → Type 0) where
             let is : take front.0 (bytes_of key text) ≡ bytes = cc q in
             subst (IsHonestEntry decoded fits) is (honest_front front.0)
 
-    pub honest_kept : (dir : Option (List ℕ)) (held next : Option DiskStore) (faults faults_now : ℕ) (failed : Bool) → SavedOn held next faults faults_now dir key text failed
+  module _ (key text : List ℕ) (made : fits key text) where
+    pub honest_kept : (dir : Option (List ℕ)) → Small dir key text → (held next : Option DiskStore) (faults faults_now : ℕ) (failed : Bool) → SavedOn held next faults faults_now dir key text failed
         → IsHonest decoded fits held → IsHonest decoded fits next
-    honest_kept dir None next faults faults_now failed saved honest = absurd honest
-    honest_kept None (Some now) next faults faults_now false saved honest = subst (IsHonest decoded fits) (sym saved.0) honest
-    honest_kept None (Some now) next faults faults_now true saved honest = absurd saved
-    honest_kept (Some d) (Some now) None faults faults_now false saved honest = absurd saved
-    honest_kept (Some d) (Some now) None faults faults_now true saved honest = absurd saved.0
-    honest_kept (Some d) (Some now) (Some after) faults faults_now false saved honest =
+    honest_kept dir small None next faults faults_now failed saved honest = absurd honest
+    honest_kept None small (Some now) next faults faults_now false saved honest = subst (IsHonest decoded fits) (sym saved.0) honest
+    honest_kept None small (Some now) next faults faults_now true saved honest = absurd saved
+    honest_kept (Some d) small (Some now) None faults faults_now false saved honest = absurd saved
+    honest_kept (Some d) small (Some now) None faults faults_now true saved honest = absurd saved.0
+    honest_kept (Some d) small (Some now) (Some after) faults faults_now false saved honest =
         one_change now after d (file_of key) saved.others
-        (λ bytes found. (let q : Some (bytes_of key text) ≡ Some bytes = sym saved.written ∙ found in let is : bytes_of key text ≡ bytes = cc q in subst (IsHonestEntry decoded fits) is honest_whole))
+        (λ bytes found. (let q : Some (bytes_of key text) ≡ Some bytes = sym saved.written ∙ found in let is : bytes_of key text ≡ bytes = cc q in subst (IsHonestEntry decoded fits) is (honest_whole key text (small (there d)) made)))
         honest
-    honest_kept (Some d) (Some now) (Some after) faults faults_now true saved honest =
-        one_change now after d (file_of key) saved.0.others (honest_part now after d saved.0 honest) honest
+    honest_kept (Some d) small (Some now) (Some after) faults faults_now true saved honest =
+        one_change now after d (file_of key) saved.0.others (honest_part key text (small (there d)) made now after d saved.0 honest) honest

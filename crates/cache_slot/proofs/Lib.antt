@@ -1,7 +1,9 @@
+mod HistoryWalks
 mod Names
 mod Decoding
 mod Standing
 mod Texts
+mod Tabling
 mod Loading
 mod Saving
 mod FilesKept

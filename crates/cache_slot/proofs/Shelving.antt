@@ -1,6 +1,5 @@
 -- A shelf stays one with each record.
 use Rattle.std.proofs.Common.{◌≡◌, ◌≢◌, ℕ, ◌+◌, ◌-◌, ◌<◌, ◌≤◌, ◌^◌, ◌⊎◌, ⊎_elim, Bool, true, false, List, [], ◌∷◌, ◌++◌, length, Option, None, Some, Ok, Err, arith, refl, sym, ap, subst, ◌∙◌}
-use Rattle.std.specs.List.{Contains}
 use Rattle.lto_outside.specs.DiskStore.{DiskStore, DiskStays}
 use Rattle.lto_outside.specs.Honest.{IsHonest}
 use Rattle.cache_slot.specs.declared.record.Record.{Record}
@@ -12,7 +11,7 @@ use Rattle.cache_slot.specs.Found.{Finding, FoundOn, record_of, SavedOn}
 use Rattle.cache_slot.specs.Records.{text_of, faults_in, faults_told, Stands}
 use Rattle.cache_slot.specs.Shelved.{DiskTold, IsShelved}
 use Rattle.cache_slot.proofs.Decoding.{decoded_of}
-use Rattle.cache_slot.proofs.DiskKept.{stays_self, told_open, told_same, told_stay, told_kept, honest_same, honest_kept}
+use Rattle.cache_slot.proofs.DiskKept.{Small, stays_self, told_open, told_same, told_stay, told_kept, honest_same, honest_kept}
 use Rattle.cache_slot.proofs.Standing.{stands_push, none_stands}
 use Rattle.cache_slot.proofs.Texts.{found_entry}
 
@@ -103,7 +102,7 @@ module _ (fits : List ℕ → List ℕ → Type 0) (keys : List ℕ → Type 0) 
       (told_stay dir files held held rs (Again key) stays (λ k t failed e. cc e) (λ k e. absurd (cc e)) (λ k e. absurd (cc e)) f.told) f
 
   -- a store of another key
-  module _ (key text : List ℕ) (small : length (bytes_of key text) < 2 ^ 64) (named : keys key) (made : fits key text) where
+  module _ (key text : List ℕ) (small : Small dir key text) (named : keys key) (made : fits key text) where
     rose_by : (count count_now : ℕ) (held next : Option DiskStore) (failed : Bool) → SavedOn held next count count_now dir key text failed → count ≤ count_now → count_now < 2 ^ 64 - 1 → faults_in (Entry key text failed) + count ≤ count_now
     rose_by count count_now held next failed saved later below = by dir failed saved
       where
@@ -135,8 +134,8 @@ module _ (fits : List ℕ → List ℕ → Type 0) (keys : List ℕ → Type 0) 
               (λ (h : (behind ≡ []) × (r ≡ Entry k t b) × (rs ≡ before)). let same : key ≡ k = cc h.1 in let text_is : text ≡ t = cc h.1 in subst (λ (z : List ℕ × List ℕ). fits z.0 z.1) (λ i. (same i, text_is i)) made)
               (λ (h : (front : List Record) × (behind ≡ front ++ r ∷ []) × Stands (Entry k t b) before front rs). f.made k t b before h.0 h.2)
               (stands_push rs before behind r (Entry k t b) at);
-          honest = λ h. honest_kept fits key text small made dir held next count count_now failed saved (f.honest h);
-          told = told_kept key text small dir files held next count count_now failed rs saved f.told;
+          honest = λ h. honest_kept fits key text made dir small held next count count_now failed saved (f.honest h);
+          told = told_kept key text dir small files held next count count_now failed rs saved f.told;
         }
 
   -- a text that is found is made of its key, where the disk was honest or there is no directory

@@ -17,9 +17,9 @@ use Rattle.cache_slot.specs.Found.{Finding, FoundOn, record_of, LookedOn, Stored
 use Rattle.cache_slot.specs.Records.{text_of}
 use Rattle.cache_slot.proofs.Texts.{text_kept, text_pushed, none_front}
 
-pub found_at : (held : Option DiskStore) (count count_now : ℕ) (dirs dir : Option (List ℕ)) (given rs : List Record) (key : List ℕ) (found : Finding) → dirs ≡ dir → given ≡ rs
-    → FoundOn held count count_now dirs given key found → FoundOn held count count_now dir rs key found
-found_at held count count_now dirs dir given rs key found same_dir same on = subst (λ (z : Option (List ℕ) × List Record). FoundOn held count count_now z.0 z.1 key found) (λ i. (same_dir i, same i)) on
+pub found_at : (held : Option DiskStore) (count count_now : ℕ) (dirs dir : Option (List ℕ)) (rs : List Record) (own key : List ℕ) (found : Finding) → dirs ≡ dir → own ≡ key
+    → FoundOn held count count_now dirs rs own found → FoundOn held count count_now dir rs key found
+found_at held count count_now dirs dir rs own key found same_dir same on = subst (λ (z : Option (List ℕ) × List ℕ). FoundOn held count count_now z.0 rs z.1 found) (λ i. (same_dir i, same i)) on
 
 -- what holds of the text that is found, if one is
 pub each_answer : (P : List ℕ → Type 0) (found : Finding) (answer : Option (List ℕ)) → answer ≡ result_ok found → ((text : List ℕ) → found ≡ Ok text → P text) → IfSome answer P

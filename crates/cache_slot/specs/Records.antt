@@ -35,3 +35,7 @@ Stands r before later rs = rs ≡ before ++ r ∷ later
 -- no entry's file has the name
 abbrev pub NoEntryOf : List ℕ → List Record → Type 0
 NoEntryOf name rs = (key text : List ℕ) (failed : Bool) (before later : List Record) → Stands (Entry key text failed) before later rs → file_of key ≢ name
+
+-- the record is no entry
+abbrev pub IsNoEntry : Record → Type 0
+IsNoEntry r = (key text : List ℕ) (failed : Bool) → r ≢ Entry key text failed

@@ -3,34 +3,16 @@ ghost use Rattle.std.specs.Prelude.{◌≡◌, ◌≢◌, ◌≤◌, ◌<◌, �
 ghost use Rattle.std.specs.Option.{option_copied};
 ghost use Rattle.lto_outside.specs.DiskStore.{DiskStays};
 ghost use Rattle.cache_slot.specs.Files.{file_of, bytes_of};
-ghost use Rattle.cache_slot.specs.Found.{LoadedAs, FoundOn, NeedsNoDisk, record_of};
-ghost use Rattle.cache_slot.specs.Records.{text_of};
+ghost use Rattle.cache_slot.specs.Found.{LoadedAs, FoundOn, NeedsNoDisk};
 
-use crate::record::{Record, Why};
+use crate::key::Key;
+use crate::record::Why;
+use crate::records::Records;
 use cache_entry::{decode, file_name};
 use ir_tree::Text;
 use lto_outside::{CacheDisk, LoadFault};
 use std::alloc::{AllocError, Global};
 use std::str;
-
-/// The text of the first entry of the key.
-pub fn entry_text<'a>(records: &'a [Record], key: &[u8]) -> Option<&'a Text>
-    ensures { option_copied result ≡ text_of key.now records.now }
-{
-    for record in records {
-        if let Record::Entry {
-            key: own,
-            text,
-            failed: _,
-        } = record
-        {
-            if own.equals(key) {
-                return Some(text);
-            }
-        }
-    }
-    None
-}
 
 /// The name as a text.
 pub fn name_str<'a>(name: &'a Text, key: &[u8]) -> &'a str
@@ -83,32 +65,22 @@ fn load<D: CacheDisk>(
 /// there is a directory.
 pub fn find<D: CacheDisk>(
     alloc: Global,
-    records: &[Record],
+    records: &Records,
     disk: &mut D,
     dir: Option<&str>,
-    key: &[u8],
+    key: &Key,
 ) -> Result<Result<Text, Why>, AllocError>
-    ensures found { IfOk result (FoundOn (D.held disk.old) (D.faults disk.old) (D.faults disk.new) (option_copied dir.entry) records.now key.now) }
+    ensures found { IfOk result (FoundOn (D.held disk.old) (D.faults disk.old) (D.faults disk.new) (option_copied dir.entry) records.now.history.items key.now) }
     ensures small { IfOk result (λ found. IfOk found (λ text. length text < 2 ^ 64)) }
     ensures stay { DiskStays (D.held disk.old) (D.held disk.new) }
     ensures later { D.faults disk.old ≤ D.faults disk.new }
-    ensures uncalled { NeedsNoDisk (option_copied dir.entry) records.now key.now → disk.new ≡ disk.old }
+    ensures uncalled { NeedsNoDisk (option_copied dir.entry) records.now.history.items key.now → disk.new ≡ disk.old }
 {
-    if let Some(text) = entry_text(records, key) {
+    if let Some(text) = records.text(key) {
         return Ok(Ok(Text::copied(alloc, text.as_slice())?));
     }
     match dir {
-        Some(dir) => load(alloc, disk, dir, key),
+        Some(dir) => load(alloc, disk, dir, key.as_slice()),
         None => Ok(Err(Why::NoDirectory)),
-    }
-}
-
-/// The record of a look-up.
-pub fn record_of(found: &Result<Text, Why>, key: Text) -> Record
-    ensures { result ≡ record_of key found.now }
-{
-    match found {
-        Ok(_) => Record::Hit(key),
-        Err(why) => Record::Miss(key, *why),
     }
 }

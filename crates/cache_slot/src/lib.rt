@@ -1,10 +1,11 @@
 //! The shared cache of one command: all look-ups and stores stand in one history.
 //!
-//! A [`Shelf`] has the cache's disk, its directory, and a list of records, one for each look-up and store: a text that
-//! was stored under a key, a second store of a key, a hit, or a miss with its cause. Callers use the one shelf in turn
-//! ([`SharedCache`]), each through a [`CachePass`] that knows the history as it was at its last turn. A key is looked up
-//! among the entries first and then in its file, and an entry is saved as it is stored, so a cache without a directory
-//! lives in memory for one command.
+//! A [`Shelf`] has the cache's disk, its directory, and a history, a list of records, one for each look-up and store: a
+//! text that was stored under a key, a second store of a key, a hit, or a miss with its cause. The history stands in
+//! contracts alone; what is kept of it at run time are the texts of its entries, in a table by their keys, and the number
+//! of its records. Callers use the one shelf in turn ([`SharedCache`]), each through a [`CachePass`] that knows the history
+//! as it was at its last turn. A key is looked up among the entries first and then in its file, and an entry is saved as it
+//! is stored, so a cache without a directory lives in memory for one command.
 //!
 //! Below it stand `cache_entry` for the bytes and the names of files, `lto_outside` for the disk, and `cache_turn` for
 //! the turns. What stays over the life of a cache ([`Setting`]: keys, directory, and what the disk held at first) stands
@@ -16,16 +17,21 @@
 //! honest. The disk is called only where no entry has the key and there is a directory. At the end the history says what
 //! each file of the directory holds, and every other file is as it was.
 //!
-//! **Cost.** Memory is taken first, and a refusal changes nothing. A record keeps a copy of its key, an entry one of its
-//! text too. A look-up goes through the records one by one and compares keys of equal length, so n look-ups take n^2
-//! comparisons of lengths; a load and a save are one call of the disk each, made while other callers wait.
+//! **Cost.** Memory is taken first, and a refusal changes nothing; a history of 2^64 - 1 records refuses one more in the
+//! same way. An entry keeps one copy of its key and one of its text, and a second store, a hit and a miss keep nothing. A
+//! look-up and a store find the entry of a key by its hash: each goes over its key and text a few times, and takes
+//! constant time besides, unless hashes collide. A load and a save are one call of the disk each, made while other callers
+//! wait; without a directory neither a file's name nor its bytes are computed.
 #![tactic(auto)]
 
 mod cache;
 mod directory;
 mod find;
+mod history;
 mod kept;
+mod key;
 mod record;
+mod records;
 mod save;
 mod setting;
 mod shelf;

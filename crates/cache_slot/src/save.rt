@@ -1,5 +1,5 @@
 //! Saving an entry in the directory.
-ghost use Rattle.std.specs.Prelude.{◌≡◌, ◌≤◌, ◌<◌, ◌^◌, None, length, IfOk, OnErr};
+ghost use Rattle.std.specs.Prelude.{◌≡◌, ◌≢◌, ◌≤◌, ◌<◌, ◌^◌, None, length, IfOk, OnErr};
 ghost use Rattle.std.specs.Option.{option_copied};
 ghost use Rattle.cache_slot.specs.Files.{bytes_of};
 ghost use Rattle.cache_slot.specs.Found.{SavedOn, kept_of};
@@ -10,8 +10,8 @@ use cache_entry::{encode, file_name};
 use lto_outside::CacheDisk;
 use std::alloc::{AllocError, Global};
 
-/// Saves the entry of the pair, where there is a directory. Whether the save failed. Memory is taken first: where it is
-/// refused the disk wasn't called.
+/// Saves the entry of the pair, where there is a directory; without one it does nothing. Whether the save failed. Memory
+/// is taken first: where it is refused the disk wasn't called.
 pub fn save<D: CacheDisk>(
     alloc: Global,
     disk: &mut D,
@@ -22,14 +22,13 @@ pub fn save<D: CacheDisk>(
     ensures saved { IfOk result (SavedOn (D.held disk.old) (D.held disk.new) (D.faults disk.old) (D.faults disk.new) (option_copied dir.entry) key.now text.now) }
     ensures later { D.faults disk.old ≤ D.faults disk.new }
     ensures uncalled { option_copied dir.entry ≡ None → disk.new ≡ disk.old }
-    ensures small { IfOk result (λ _. length (bytes_of key.now text.now) < 2 ^ 64) }
+    ensures small { IfOk result (λ _. option_copied dir.entry ≢ None → length (bytes_of key.now text.now) < 2 ^ 64) }
     ensures err { OnErr result (disk.new ≡ disk.old) }
 {
+    let Some(dir) = dir else { return Ok(false) };
     let name = file_name(alloc, key)?;
     let entry = encode(alloc, key, text)?;
-    let bytes = entry.as_slice();
-    let Some(dir) = dir else { return Ok(false) };
-    match disk.save(dir, name_str(&name, key), bytes) {
+    match disk.save(dir, name_str(&name, key), entry.as_slice()) {
         Ok(()) => Ok(false),
         Err(_) => Ok(true),
     }

@@ -11,22 +11,18 @@ pub returns-in-Ok-clause-saved : goal.returns-in-Ok-clause-saved
 unfolding file_of bytes_of
 returns-in-Ok-clause-saved g c =
     saved_done (g.D.CacheDisk.held c.args.disk.now) (g.D.CacheDisk.held c.save.new.self) (g.D.CacheDisk.faults c.args.disk.now) (g.D.CacheDisk.faults c.save.new.self) c.args.dir c.in-Some.dir c.args.key.now c.args.text.now
-    c.name_str.result.now c.as_slice-bytes.result.now c.in-Some.is (c.name_str.ensures ∙ c.in_ok-name.ensures) (c.as_slice-bytes.ensures ∙ c.in_ok-entry.ensures) c.in-Ok.ensures.written
+    c.name_str.result.now c.as_slice.result.now c.in-Some.is (c.name_str.ensures ∙ c.in_ok-name.ensures) (c.as_slice.ensures ∙ c.in_ok-entry.ensures) c.in-Ok.ensures.written
 
 pub returns-clause-saved : goal.returns-clause-saved
 unfolding file_of bytes_of
 returns-clause-saved g c =
     saved_part (g.D.CacheDisk.held c.args.disk.now) (g.D.CacheDisk.held c.save.new.self) (g.D.CacheDisk.faults c.args.disk.now) (g.D.CacheDisk.faults c.save.new.self) c.args.dir c.in-Some.dir c.args.key.now c.args.text.now
-    c.name_str.result.now c.as_slice-bytes.result.now c.in-Some.is (c.name_str.ensures ∙ c.in_ok-name.ensures) (c.as_slice-bytes.ensures ∙ c.in_ok-entry.ensures) c.in-Err.ensures.part c.in-Err.ensures.cause
-
-pub returns-in_default-clause-small : goal.returns-in_default-clause-small
-unfolding bytes_of
-returns-in_default-clause-small g c = subst (λ (z : List ℕ). length z < 2 ^ 64) (c.as_slice-bytes.ensures ∙ c.in_ok-entry.ensures) c.as_slice-bytes.type_inv.0
+    c.name_str.result.now c.as_slice.result.now c.in-Some.is (c.name_str.ensures ∙ c.in_ok-name.ensures) (c.as_slice.ensures ∙ c.in_ok-entry.ensures) c.in-Err.ensures.part c.in-Err.ensures.cause
 
 pub returns-in-Ok-clause-small : goal.returns-in-Ok-clause-small
 unfolding bytes_of
-returns-in-Ok-clause-small g c = subst (λ (z : List ℕ). length z < 2 ^ 64) (c.as_slice-bytes.ensures ∙ c.in_ok-entry.ensures) c.as_slice-bytes.type_inv.0
+returns-in-Ok-clause-small g c = λ some. subst (λ (z : List ℕ). length z < 2 ^ 64) (c.as_slice.ensures ∙ c.in_ok-entry.ensures) c.as_slice.type_inv.0
 
 pub returns-clause-small : goal.returns-clause-small
 unfolding bytes_of
-returns-clause-small g c = subst (λ (z : List ℕ). length z < 2 ^ 64) (c.as_slice-bytes.ensures ∙ c.in_ok-entry.ensures) c.as_slice-bytes.type_inv.0
+returns-clause-small g c = λ some. subst (λ (z : List ℕ). length z < 2 ^ 64) (c.as_slice.ensures ∙ c.in_ok-entry.ensures) c.as_slice.type_inv.0
