@@ -49,7 +49,7 @@ fn replace_in_phis(
         return Ok(());
     }
     let made = phis_edited(alloc, substitution, phis.as_slice())?;
-    *phis = made;
+    drop(replace(phis, made));
     Ok(())
 }
 
@@ -66,7 +66,7 @@ fn replace_in_instr(
         return Ok(());
     }
     let made = instr_edited(alloc, substitution, instr)?;
-    *instr = made;
+    drop(replace(instr, made));
     Ok(())
 }
 
@@ -106,7 +106,7 @@ fn replace_in_lines(
 {
     let mut items = replace(lines, Rows::new(alloc)).into_vec();
     replace_in_each(alloc, items.as_mut_slice(), substitution)?;
-    *lines = Rows::of(items);
+    drop(replace(lines, Rows::of(items)));
     Ok(())
 }
 
@@ -123,7 +123,7 @@ fn replace_in_end(
         return Ok(());
     }
     let made = end_edited(alloc, substitution, end)?;
-    *end = made;
+    drop(replace(end, made));
     Ok(())
 }
 
