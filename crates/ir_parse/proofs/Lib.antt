@@ -18,7 +18,7 @@ mod Calls
 mod Heads
 mod Initialisers
 mod Instructions
-mod Items
+mod ItemLists
 mod Lines
 mod Means
 mod Operands
