@@ -1,5 +1,5 @@
 -- Types, operands and arguments that the grammar spells.
-use Rattle.std.proofs.Common.{◌≡◌, ℕ, ◌-◌, ◌%◌, ◌^◌, ◌<◌, max, min, nat_eq, ◌||◌, Bool, true, false, ◌⊎◌, inl, inr, drop, Option, Some, None, option_map, refl, subst, arith, if◌then◌else◌}
+use Rattle.std.proofs.Common.{◌≡◌, ℕ, max, min, nat_eq, ◌||◌, Bool, true, false, ◌⊎◌, inl, inr, drop, Option, Some, None, option_map, refl, subst, arith, if◌then◌else◌}
 use Rattle.std.proofs.lemmas.Bool.{eqb-true, or_cases}
 use Rattle.ir_lex.specs.Heads.{number, width_of}
 use Rattle.ir_lex.specs.Tok.{Tok}

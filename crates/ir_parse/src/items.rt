@@ -39,7 +39,7 @@ fn put<T: Drop>(list: &mut Vec<T>, read: Result<T, ReadError>) -> Result<Before,
 }
 
 /// Reads the layout of the target, and adds it.
-#[tactic(auto, unfolding(crate::specs::Putting::behind_at, crate::specs::ItemsAt::kept_at))]
+#[tactic(auto, unfolding(crate::specs::Putting::behind_at, crate::specs::ItemFormsAt::kept_at))]
 fn layout_into<'a>(
     alloc: Global,
     items: &mut Vec<Item<'a>>,
@@ -53,7 +53,7 @@ fn layout_into<'a>(
 }
 
 /// Reads the triple of the target, and adds it.
-#[tactic(auto, unfolding(crate::specs::Putting::behind_at, crate::specs::ItemsAt::kept_at))]
+#[tactic(auto, unfolding(crate::specs::Putting::behind_at, crate::specs::ItemFormsAt::kept_at))]
 fn triple_into<'a>(
     items: &mut Vec<Item<'a>>,
     tokens: &mut Tokens<'_, 'a>,
@@ -66,7 +66,7 @@ fn triple_into<'a>(
 }
 
 /// Reads a line on the target, and adds it: `target triple = "x86_64-pc-linux-gnu"`.
-#[tactic(auto, unfolding(crate::specs::Putting::behind_at, crate::specs::ItemsAt::kept_at, ir_read::specs::TargetsAt::target_line_at))]
+#[tactic(auto, unfolding(crate::specs::Putting::behind_at, crate::specs::ItemFormsAt::kept_at, ir_read::specs::TargetsAt::target_line_at))]
 fn target_into<'a>(
     alloc: Global,
     items: &mut Vec<Item<'a>>,
@@ -83,7 +83,7 @@ fn target_into<'a>(
 }
 
 /// Reads the definition of a type, and adds it.
-#[tactic(auto, unfolding(crate::specs::Putting::behind_at, crate::specs::ItemsAt::kept_at))]
+#[tactic(auto, unfolding(crate::specs::Putting::behind_at, crate::specs::ItemFormsAt::kept_at))]
 fn type_into<'a>(
     alloc: Global,
     items: &mut Vec<Item<'a>>,
@@ -107,7 +107,7 @@ fn group_into<'a>(
 }
 
 /// Reads a variable, and adds it.
-#[tactic(auto, unfolding(crate::specs::Putting::behind_at, crate::specs::ItemsAt::kept_at))]
+#[tactic(auto, unfolding(crate::specs::Putting::behind_at, crate::specs::ItemFormsAt::kept_at))]
 fn variable_into<'a>(
     alloc: Global,
     items: &mut Vec<Item<'a>>,
@@ -128,7 +128,7 @@ fn push_definition<'a>(items: &mut Vec<Item<'a>>, defined: Defined<'a>) -> Resul
 }
 
 /// Reads the definition of a function, and adds it.
-#[tactic(auto, unfolding(crate::specs::Putting::behind_at, crate::specs::ItemsAt::kept_at))]
+#[tactic(auto, unfolding(crate::specs::Putting::behind_at, crate::specs::ItemFormsAt::kept_at))]
 fn definition_into<'a>(
     alloc: Global,
     room: usize,
@@ -144,7 +144,7 @@ fn definition_into<'a>(
 
 /// Reads an item that defines and declares no global name, and is no metadata; it is added, where it
 /// is kept.
-#[tactic(auto, unfolding(crate::specs::Putting::behind_at, crate::specs::ItemsAt::unnamed_at, crate::specs::ItemsAt::left_out_at))]
+#[tactic(auto, unfolding(crate::specs::Putting::behind_at, crate::specs::ItemFormsAt::unnamed_at, crate::specs::ItemFormsAt::left_out_at))]
 fn unnamed_at<'a>(
     alloc: Global,
     items: &mut Vec<Item<'a>>,
@@ -167,7 +167,7 @@ fn unnamed_at<'a>(
     }
 }
 
-#[tactic(auto, unfolding(crate::specs::ItemsAt::attribute_behind_at))]
+#[tactic(auto, unfolding(crate::specs::ItemFormsAt::attribute_behind_at))]
 fn attribute_behind_at(alloc: Global, tokens: &mut Tokens) -> Result<Before, ReadError>
     ensures { Gives (λ b. ((None, b), tokens.new)) result (attribute_behind_at tokens.old) }
 {
@@ -193,7 +193,7 @@ fn comes_head_attribute(rest: &Tokens) -> bool
 }
 
 /// Reads metadata, by what stands before it.
-#[tactic(auto, unfolding(crate::specs::ItemsAt::left_out_at, crate::specs::ItemsAt::placed_at))]
+#[tactic(auto, unfolding(crate::specs::ItemFormsAt::left_out_at, crate::specs::ItemFormsAt::placed_at))]
 fn metadata_there_at(
     alloc: Global,
     before: Before,
@@ -236,7 +236,7 @@ fn plainly_at<'a>(
 }
 
 /// Reads what defines and declares no global name, by what stands before it.
-#[tactic(auto, unfolding(crate::specs::Putting::behind_at, crate::specs::ItemsAt::beside_at))]
+#[tactic(auto, unfolding(crate::specs::Putting::behind_at, crate::specs::ItemFormsAt::beside_at))]
 fn beside_at<'a>(
     alloc: Global,
     before: Before,
@@ -253,7 +253,7 @@ fn beside_at<'a>(
 }
 
 /// Reads metadata that stands before the head of a declaration, and drops it.
-#[tactic(auto, unfolding(crate::specs::ItemsAt::attached_before_at))]
+#[tactic(auto, unfolding(crate::specs::ItemFormsAt::attached_before_at))]
 fn attached_before_at(alloc: Global, tokens: &mut Tokens) -> Result<(), ReadError>
     ensures { Gives (λ x. (tt, tokens.new)) result (attached_before_at tokens.old) }
 {
@@ -276,7 +276,7 @@ fn push_declared<'a>(items: &mut Vec<Item<'a>>, head: ir_read::Head<'a>) -> Resu
 }
 
 /// Reads a declaration up to the end of its parameters: `declare !dbg !5 i32 @f(ptr)`.
-#[tactic(auto, unfolding(crate::specs::Putting::behind_at, crate::specs::ItemsAt::declaration_at))]
+#[tactic(auto, unfolding(crate::specs::Putting::behind_at, crate::specs::ItemFormsAt::declaration_at))]
 fn declaration_at<'a>(
     alloc: Global,
     room: usize,
