@@ -14,6 +14,7 @@ use Rattle.ir_read.specs.declared.raw.Head.{Head}
 use Rattle.ir_read.specs.declared.raw.Item.{Item}
 use Rattle.ir_read.specs.declared.raw.Item.TheVariants.{Definition}
 use Rattle.ir_read.specs.FunctionHeadsAt.{head_at}
+use Rattle.ir_operands.specs.Adding.{pushed_at}
 use Rattle.ir_bodies.specs.Adding.{added_at, joined_at}
 use Rattle.ir_bodies.specs.Blocks.{LABEL, FURTHER_BLOCKS, INSTRUCTIONS, with_kept}
 use Rattle.ir_bodies.specs.BlocksAt.{block_at, block_behind_at, blocks_at, blocks_behind_at, braced_at, defined_at, definition_at, further_blocks_at, heading_at, label_at, maybe_label_at}
@@ -90,3 +91,22 @@ definition_is room ts = by_define (the_at heads.Define ts)
         → follow r (λ _. head_at roles.Definition room >>= λ h. definition_attributes_at >>= λ k. defined_at (with_kept h k)) ≡ follow (follow r (λ _. head_at roles.Definition room >>= λ h. definition_attributes_at >>= λ k. done (with_kept h k))) defined_by
     by_define (Ok x) = by_head (head_at roles.Definition room x.1)
     by_define (Err e) = refl
+
+-- ---- put behind the items before
+
+abbrev put_behind : List Item → Item → Reader Tok (List Item)
+put_behind front x = done (front ++ x ∷ [])
+
+pub pushed_defined : (front : List Item) (h : Head) (ts : List Tok) → pushed_at front (defined_at h) ts ≡ follow (joined_at [] braced_at ts) (λ bs. done (front ++ Definition h bs ∷ []))
+pushed_defined front h ts = ap (λ (r : Result (Item × List Tok) Fault). follow r (put_behind front)) (defined_is h ts) ∙ by_blocks (braced_at ts)
+  where
+    by_blocks : (r : Result (List Block × List Tok) Fault) → follow (follow r (λ bs. done (Definition h bs))) (put_behind front) ≡ follow (follow r (λ bs. done ([] ++ bs))) (λ bs. done (front ++ Definition h bs ∷ []))
+    by_blocks (Ok x) = refl
+    by_blocks (Err e) = refl
+
+pub pushed_definition : (front : List Item) (room : ℕ) (ts : List Tok) → pushed_at front (definition_at room) ts ≡ follow (heading_at room ts) (λ h. pushed_at front (defined_at h))
+pushed_definition front room ts = ap (λ (r : Result (Item × List Tok) Fault). follow r (put_behind front)) (definition_is room ts) ∙ by_head (heading_at room ts)
+  where
+    by_head : (r : Result (Head × List Tok) Fault) → follow (follow r defined_by) (put_behind front) ≡ follow r (λ h. pushed_at front (defined_at h))
+    by_head (Ok x) = ap (λ (r : Result (Item × List Tok) Fault). follow r (put_behind front)) (sym (defined_is x.0 x.1))
+    by_head (Err e) = refl

@@ -9,17 +9,16 @@ ghost use Rattle.lto_forms.specs.Rules.{is_valued};
 ghost use Rattle.ir_read.specs.Classes.{tokens, refusal};
 ghost use Rattle.ir_read.specs.Operands.{named};
 ghost use Rattle.ir_instructions.specs.Terminators.{ENDS};
-ghost use Rattle.ir_bodies.specs.Blocks.{LABEL};
+ghost use Rattle.ir_bodies.specs.Blocks.{LABEL, block_of};
 ghost use Rattle.ir_bodies.specs.Adding.{added_at, joined_at};
-ghost use Rattle.ir_bodies.specs.BlocksAt.{BLOCK, label_at, maybe_label_at, lines_at, lines_from_at, ended_at, block_behind_at, block_at, blocks_from_at, blocks_at};
+ghost use Rattle.ir_bodies.specs.BlocksAt.{BLOCK, label_at, maybe_label_at, lines_from_at, block_behind_at, block_at, blocks_from_at, blocks_at};
 ghost use Rattle.ir_bodies.specs.LinesAt.{LINE};
 
-use crate::keeping::with_read;
 use crate::lines::line_into;
-use ir_instructions::terminator_at;
+use ir_instructions::{Ended, terminator_into};
 use ir_lex::{Head, Token};
 use ir_operands::{Listing, push};
-use ir_read::{Block, Line, Name, Tokens, named, refusal};
+use ir_read::{Block, Name, Terminator, Tokens, named, refusal};
 use ir_tree::Rows;
 use lto_forms::{Fault, FaultKind, ReadError};
 use std::alloc::Global;
@@ -50,14 +49,44 @@ impl<'a> Blocks<'a> {
     }
 }
 
-/// No lines, before an instruction that has no name.
-fn no_lines<'a>(alloc: Global) -> Listing<'a>
-    ensures { result.lines.items ≡ [] }
-{
-    Listing {
-        lines: Vec::new(alloc),
-        name: None,
-        line: 0,
+/// A block while it is read: its label, its lines so far, and its terminator.
+#[derive(Drop)]
+struct Begun<'a> {
+    label: Option<Name<'a>>,
+    listing: Listing<'a>,
+    ended: Ended<'a>,
+}
+
+impl<'a> Begun<'a> {
+    /// No lines yet, behind this label.
+    fn new(alloc: Global, label: Option<Name<'a>>) -> Begun<'a>
+        ensures label { result.label ≡ label.entry }
+        ensures lines { result.listing.lines.items ≡ [] }
+    {
+        Begun {
+            label,
+            listing: Listing {
+                lines: Vec::new(alloc),
+                name: None,
+                line: 0,
+            },
+            ended: Ended {
+                terminator: Terminator::Unreachable,
+                line: 0,
+            },
+        }
+    }
+
+    /// The block.
+    fn block(self) -> Block<'a>
+        ensures { result ≡ block_of self.entry.label self.entry.listing.lines.items self.entry.ended }
+    {
+        Block {
+            label: self.label,
+            lines: Rows::of(self.listing.lines),
+            end: self.ended.terminator,
+            end_line: self.ended.line,
+        }
     }
 }
 
@@ -188,45 +217,25 @@ fn lines_into<'a>(
     Ok(left)
 }
 
-/// Reads the terminator of a block behind its lines, and adds the block. Gives `left` back.
-fn ended_into<'a>(
-    alloc: Global,
-    label: Option<Name<'a>>,
-    lines: Vec<Line<'a>>,
-    left: usize,
-    blocks: &mut Blocks<'a>,
-    tokens: &mut Tokens<'_, 'a>,
-) -> Result<usize, ReadError>
-    ensures { Gives (λ left. ((blocks.new.list.items, left), tokens.new)) result (added_at blocks.old.list.items (ended_at label.entry lines.entry.items left) tokens.old) }
-{
-    let ended = terminator_at(alloc, tokens)?;
-    let block = Block {
-        label,
-        lines: Rows::of(lines),
-        end: ended.terminator,
-        end_line: ended.line,
-    };
-    push(&mut blocks.list, block)?;
-    Ok(left)
-}
-
-/// Reads the lines of a block, of which there may be `room`. Gives how many more there may be.
-#[tactic(auto, unfolding(crate::specs::BlocksAt::lines_at))]
-fn lines_at<'a>(
+/// Reads the lines of a block, of which there may be `room`, and its terminator. Gives how many more
+/// lines there may be.
+#[tactic(auto, unfolding(crate::specs::BlocksAt::block_behind_at, crate::specs::BlocksAt::lines_at))]
+fn begun_into<'a>(
     alloc: Global,
     room: usize,
+    begun: &mut Begun<'a>,
     tokens: &mut Tokens<'_, 'a>,
-) -> Result<(Vec<Line<'a>>, usize), ReadError>
-    ensures { Gives (λ x. ((x.0.items, x.1), tokens.new)) result (lines_at room tokens.old) }
+) -> Result<usize, ReadError>
+    requires { begun.now.listing.lines.items ≡ [] }
+    ensures { Gives (λ left. ((block_of begun.new.label begun.new.listing.lines.items begun.new.ended, left), tokens.new)) result (block_behind_at room begun.old.label tokens.old) }
 {
-    let mut list = no_lines(alloc);
-    let left = lines_into(alloc, room, &mut list, tokens)?;
-    Ok((list.lines, left))
+    let left = lines_into(alloc, room, &mut begun.listing, tokens)?;
+    terminator_into(alloc, &mut begun.ended, tokens)?;
+    Ok(left)
 }
 
 /// Reads a block behind its label, and adds it. Gives how many instructions the function may still
 /// have.
-#[tactic(auto, unfolding(crate::specs::BlocksAt::block_behind_at))]
 fn block_behind_into<'a>(
     alloc: Global,
     room: usize,
@@ -236,9 +245,10 @@ fn block_behind_into<'a>(
 ) -> Result<usize, ReadError>
     ensures { Gives (λ left. ((blocks.new.list.items, left), tokens.new)) result (added_at blocks.old.list.items (block_behind_at room label.entry) tokens.old) }
 {
-    let read = lines_at(alloc, room, tokens);
-    let (label, (lines, left)) = with_read(label, read)?;
-    ended_into(alloc, label, lines, left, blocks, tokens)
+    let mut begun = Begun::new(alloc, label);
+    let left = begun_into(alloc, room, &mut begun, tokens)?;
+    push(&mut blocks.list, begun.block())?;
+    Ok(left)
 }
 
 /// Reads the label of a block, where it has one.

@@ -2,25 +2,17 @@
 
 ghost use Rattle.std.specs.Prelude.{◌≡◌};
 ghost use Rattle.lto_forms.specs.Readers.{Gives};
-ghost use Rattle.ir_read.specs.declared.raw.Item.TheVariants.{Definition};
+ghost use Rattle.ir_operands.specs.Adding.{pushed_at};
 ghost use Rattle.ir_bodies.specs.Adding.{joined_at};
 ghost use Rattle.ir_bodies.specs.Blocks.{FURTHER_BLOCKS, INSTRUCTIONS, with_kept};
-ghost use Rattle.ir_bodies.specs.BlocksAt.{heading_at, braced_at, definition_at};
+ghost use Rattle.ir_bodies.specs.BlocksAt.{heading_at, braced_at, defined_at, definition_at};
 
 use crate::blocks::{Blocks, blocks_into};
-use crate::keeping::with_read;
 use ir_lex::Head;
-use ir_read::{Block, Kept, Role, Tokens, definition_attributes_at, done, expect, head_at};
-use ir_tree::Rows;
+use ir_operands::push;
+use ir_read::{Item, Kept, Role, Tokens, definition_attributes_at, done, expect, head_at};
 use lto_forms::ReadError;
 use std::alloc::Global;
-
-/// A definition of a function: its head, with what is kept of the attributes behind it, and its blocks.
-#[derive(Drop)]
-pub struct Defined<'a> {
-    pub head: ir_read::Head<'a>,
-    pub blocks: Rows<Block<'a>>,
-}
 
 /// How many blocks may stand behind the first of a function.
 #[tactic(auto, unfolding(crate::specs::Blocks::FURTHER_BLOCKS))]
@@ -81,27 +73,33 @@ fn braced_into<'a>(
     expect(Head::CloseBrace, tokens)
 }
 
-/// Reads the blocks of a function, in their braces.
-fn braced_at<'a>(alloc: Global, tokens: &mut Tokens<'_, 'a>) -> Result<Rows<Block<'a>>, ReadError>
-    ensures { Gives (λ blocks. (blocks, tokens.new)) result (braced_at tokens.old) }
+/// Reads the blocks of a function behind its head, and adds its definition.
+#[tactic(auto, using(crate::proofs::Grouping::pushed_defined))]
+fn defined_into<'a>(
+    alloc: Global,
+    head: ir_read::Head<'a>,
+    items: &mut Vec<Item<'a>>,
+    tokens: &mut Tokens<'_, 'a>,
+) -> Result<(), ReadError>
+    ensures { Gives (λ _. (items.new.items, tokens.new)) result (pushed_at items.old.items (defined_at head.entry) tokens.old) }
 {
     let mut blocks = Blocks::new(alloc);
     braced_into(alloc, &mut blocks, tokens)?;
-    done(blocks.rows())
+    push(items, Item::Definition(head, blocks.rows()))
 }
 
-/// Reads a definition of a function, `define i32 @f(i32 %x) { .. }`. Behind the first parameter `room`
-/// others may stand; there may be 65,535 blocks, and 200,000 instructions, phis and dropped calls among
-/// them and terminators not.
-pub fn definition_at<'a>(
+/// Reads a definition of a function, `define i32 @f(i32 %x) { .. }`, and adds it. Behind the first
+/// parameter `room` others may stand; there may be 65,535 blocks, and 200,000 instructions, phis and
+/// dropped calls among them and terminators not.
+#[tactic(auto, using(crate::proofs::Grouping::pushed_definition))]
+pub fn definition_into<'a>(
     alloc: Global,
     room: usize,
+    items: &mut Vec<Item<'a>>,
     tokens: &mut Tokens<'_, 'a>,
-) -> Result<Defined<'a>, ReadError>
-    ensures { Gives (λ x. (Definition x.head x.blocks, tokens.new)) result (definition_at room tokens.old) }
+) -> Result<(), ReadError>
+    ensures { Gives (λ _. (items.new.items, tokens.new)) result (pushed_at items.old.items (definition_at room) tokens.old) }
 {
     let head = heading_at(alloc, room, tokens)?;
-    let read = braced_at(alloc, tokens);
-    let (head, blocks) = with_read(head, read)?;
-    done(Defined { head, blocks })
+    defined_into(alloc, head, items, tokens)
 }

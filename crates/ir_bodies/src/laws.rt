@@ -6,7 +6,7 @@ ghost use Rattle.ir_read.specs.Classes.{tokens};
 ghost use Rattle.ir_bodies.specs.Blocks.{definition, any_definition};
 ghost use Rattle.ir_bodies.specs.BlocksAt.{DEFINE, definition_at};
 
-/// The reader of definitions, which `definition_at` follows, reads exactly their form, and stops at the
+/// The reader of definitions, which `definition_into` follows, reads exactly their form, and stops at the
 /// first token at which no reading goes on: there a number is out of range only where another number of
 /// its class goes on, and where one does the fault is that or a limit; a limit is passed only where a
 /// reading without limits goes on.

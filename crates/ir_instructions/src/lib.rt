@@ -17,4 +17,4 @@ pub use instructions::{
     storing_into, wrapping_into,
 };
 pub use phis::phi_into;
-pub use terminators::{End, Ended, Ending, Matched, constant_at, target_at, terminator_at};
+pub use terminators::{End, Ended, Ending, Matched, constant_at, target_at, terminator_into};

@@ -314,17 +314,18 @@ fn behind_end_into<'a>(
     }
 }
 
-/// Reads a terminator and its attachments.
+/// Reads a terminator and its attachments, into the place of what stood there.
 #[tactic(auto, unfolding(crate::specs::TerminatorsAt::terminator_at))]
-pub fn terminator_at<'a>(alloc: Global, tokens: &mut Tokens<'_, 'a>) -> Result<Ended<'a>, ReadError>
-    ensures { Gives (λ x. (x, tokens.new)) result (terminator_at tokens.old) }
+pub fn terminator_into<'a>(
+    alloc: Global,
+    place: &mut Ended<'a>,
+    tokens: &mut Tokens<'_, 'a>,
+) -> Result<(), ReadError>
+    ensures { Gives (λ _. (place.new, tokens.new)) result (terminator_at tokens.old) }
 {
     let ending = ending_at(tokens)?;
-    let mut terminator = Terminator::Unreachable;
-    behind_end_into(alloc, ending.end, &mut terminator, tokens)?;
+    place.line = ending.line;
+    behind_end_into(alloc, ending.end, &mut place.terminator, tokens)?;
     attachments_at(alloc, tokens)?;
-    done(Ended {
-        terminator,
-        line: ending.line,
-    })
+    Ok(())
 }

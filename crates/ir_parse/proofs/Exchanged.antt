@@ -437,7 +437,7 @@ seq_passing law laws passes = seq_by true false nowhere law laws (λ e. absurd (
 pub target_is : (h : Head) → is_target h ≡ true → number h ≡ number heads.Target
 unfolding is_target
 target_is heads.Target e = refl
-target_is h e = absurd cc
+target_is h e = absurd (differ e)
 
 -- ---- of a reader that is tied to its form
 
@@ -562,7 +562,7 @@ fair_of bs e h = by_test (is_target h) refl
   where
     target_is : (k : Head) → is_target k ≡ true → fair_at bs k ≡ true
     target_is heads.Target q = (and_parts (fair_at bs heads.Target) (nearly_fair bs) e).0
-    target_is k q = absurd cc
+    target_is k q = absurd (differ q)
 
     by_test : (b : Bool) → is_target h ≡ b → fair_at bs h ≡ true
     by_test true q = target_is h q
@@ -579,7 +579,7 @@ alike bs h e u i = by_test (contains bs (number h)) refl e
 pub word_at : (G : Tok → Type 0) (h : Head) → is_target h ≡ true → (w : Tok) → among tokens WORD w ≡ true → G w → WordGoes h G
 unfolding is_target
 word_at G heads.Target e w i g = (w, i, g)
-word_at G h e w i g = absurd cc
+word_at G h e w i g = absurd (differ e)
 
 -- where these classes don't keep together what stands for one another, a plain word begins one of them, and no other reader tells
 -- `target`; or no other ends at it
@@ -591,7 +591,7 @@ Turns {A} words bs wide f' =
 pub target_apart : (bs : List ℕ) (h : Head) → contains bs (number heads.Target) ≡ false → is_target h ≡ true → contains bs (number h) ≡ false
 unfolding is_target
 target_apart bs heads.Target n e = n
-target_apart bs h n e = absurd cc
+target_apart bs h n e = absurd (differ e)
 
 pub taken_first : {A : Type 0} (bs : List ℕ) (f g : Reader Tok A) (t : Tok) (ts : List Tok) → among tokens bs t ≡ true → pick (among tokens bs) f g (t ∷ ts) ≡ f (t ∷ ts)
 taken_first bs f g t ts e = rw e refl

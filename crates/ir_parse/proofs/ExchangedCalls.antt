@@ -1,5 +1,5 @@
 -- The readers of calls tell a token that is left out in some places where one that it stands for goes on.
-use Rattle.std.proofs.Common.{◌≡◌, ℕ, nat_eq, Bool, true, false, cond, Option, Some, None, List, [], ◌∷◌, Result, Ok, Err, refl, ap, inl, arith}
+use Rattle.std.proofs.Common.{◌≡◌, ℕ, nat_eq, Bool, true, false, cond, Option, Some, None, List, [], ◌∷◌, Result, Ok, Err, refl, sym, ap, inl, arith}
 use Rattle.std.specs.Prelude.{codes}
 use Rattle.ir_lex.specs.Heads.{number}
 use Rattle.ir_lex.specs.Tok.{Tok}
@@ -36,11 +36,11 @@ use Rattle.ir_bodies.proofs.Samples.{convention_word_rule, marker_name_rule, cal
 use Rattle.ir_bodies.proofs.WrittenTypes.{writes}
 use Rattle.ir_parse.specs.NamedCalls.{before_callee}
 use Rattle.ir_parse.specs.Refusals.{MEMORY}
-use Rattle.ir_parse.proofs.Exchanged.{Exchanges, Place, SaysAt, Swapping, alt, alt_by, maybe, nothing, nowhere, placed_too, seq, seq_from, seq_to, single_at, star, taken, stands_for, Exchanging, a_type, seq_into, seq_passing}
+use Rattle.ir_parse.proofs.Exchanged.{differ, Exchanges, Place, SaysAt, Swapping, alt, alt_by, maybe, nothing, nowhere, placed_too, seq, seq_from, seq_to, single_at, star, taken, stands_for, Exchanging, a_type, seq_into, seq_passing}
 use Rattle.ir_parse.proofs.ExchangedAttributes.{call_attributes_exchanged, parameter_attribute_exchanged, parameter_attributes_exchanged}
 use Rattle.ir_parse.proofs.ExchangedNodes.{attachments_exchanged, no_attachments}
 use Rattle.ir_parse.proofs.ExchangedOperands.{reg_exchanged, result_exchanged}
-use Rattle.ir_parse.proofs.ExchangedTokens.{elsewhere_at, exact_type, i16_real, i8_real, plain_class, refuses_angle, type_one, none_taken, not_bound, plain_at, says_at, valued_inside, valued_outside}
+use Rattle.ir_parse.proofs.ExchangedTokens.{by_telling, elsewhere_at, exact_type, i16_real, i8_real, plain_class, refuses_angle, type_one, none_taken, not_bound, plain_at, says_at, valued_inside, valued_outside}
 use Rattle.ir_parse.proofs.ExchangedTypes.{listed_exchanged as typed_list, Types, type_told, types_first}
 use Rattle.ir_parse.proofs.ExchangedValues.{address_exchanged, operand_exchanged}
 use Rattle.ir_parse.proofs.ExchangedWords.{close_paren_exchanged, comma_exchanged, open_paren_exchanged}
@@ -184,14 +184,15 @@ abbrev unmarked_means : Tok → Result Operand FaultKind
 unmarked_means = is_valued tokens marker_refusal POINTER_OPERAND (operand_of Ptr)
 
 unmarked_class : (h : Head) → contains POINTER_OPERAND (number h) ≡ false → SaysAt here unmarked unmarked_means h (marker_refusal (number h))
-unmarked_class heads.RefusedType n = unmarked_none heads.RefusedType refl n
-unmarked_class heads.Target n = inl (λ u i. unmarked_none heads.Target refl n u (a_type u i))
-unmarked_class heads.RegisterInteger n = (i8, refl, i8_real, unmarked_none heads.RegisterInteger refl n i8 refl)
-unmarked_class heads.NumberedGlobal n = absurd cc
-unmarked_class heads.NumberedDefinition n = absurd cc
-unmarked_class heads.LifetimeMarker n = (refl, refl)
-unmarked_class heads.Str n = unmarked_none heads.Str refl n
-unmarked_class h n = elsewhere_at here unmarked unmarked_means h (marker_refusal (number h)) (λ q. cc)
+unmarked_class = by_telling (λ h. contains POINTER_OPERAND (number h) ≡ false → SaysAt here unmarked unmarked_means h (marker_refusal (number h)))
+    (λ n. unmarked_none heads.RefusedType refl n)
+    (λ n. inl (λ u i. unmarked_none heads.Target refl n u (a_type u i)))
+    (λ n. (i8, refl, i8_real, unmarked_none heads.RegisterInteger refl n i8 refl))
+    (λ n. absurd (differ (sym n)))
+    (λ n. absurd (differ (sym n)))
+    (λ n. (refl, refl))
+    (λ n. unmarked_none heads.Str refl n)
+    (λ h t n. elsewhere_at here unmarked unmarked_means h (marker_refusal (number h)) t)
 
 pub unmarked_exchanged : Swapping false here unmarked unmarked_at
 unmarked_exchanged = single_at false here unmarked unmarked_means (λ t a i e. absurd (refuses_angle unmarked_means POINTER_OPERAND marker_refusal (valued_outside marker_refusal POINTER_OPERAND (operand_of Ptr)) refl t a i e)) (λ t a e. e) (word heads.Null (codes "null") ∷ [], operands.Null, null_means, (null_real, tt))

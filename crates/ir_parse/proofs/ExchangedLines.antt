@@ -27,7 +27,7 @@ use Rattle.ir_bodies.specs.declared.opcodes.Operation.{Operation}
 use Rattle.ir_bodies.proofs.LineRules.{any_name}
 use Rattle.ir_bodies.proofs.Samples.{add_real}
 use Rattle.ir_parse.specs.NamedCalls.{before_callee, before_named_callee}
-use Rattle.ir_parse.proofs.Exchanged.{Exchanges, Exchanging, Place, Swapping, alt_by, loosened, nothing, nowhere, placed_none, placed_too, recast, seq, seq_into, seq_to, with_value}
+use Rattle.ir_parse.proofs.Exchanged.{differ, Exchanges, Exchanging, Place, Swapping, alt_by, loosened, nothing, nowhere, placed_none, placed_too, recast, seq, seq_into, seq_to, with_value}
 use Rattle.ir_parse.proofs.ExchangedAddressing.{addressing_exchanged, reserving_exchanged}
 use Rattle.ir_parse.proofs.ExchangedCalls.{call_word_exchanged, named_calling_exchanged, unnamed_calling_exchanged}
 use Rattle.ir_parse.proofs.ExchangedInstructions.{casting_exchanged, comparing_exchanged, dividing_exchanged, extending_exchanged, freezing_exchanged, joining_exchanged, narrowing_exchanged, on_two_exchanged, selecting_exchanged, wrapping_exchanged}
@@ -134,7 +134,7 @@ opcode_place t ts e v = by_head t.head refl e v
     by_head heads.Alloca p e v = absurd v
     by_head heads.Load p e v = absurd v
     by_head heads.GetElementPtr p e v = absurd v
-    by_head h p e v = absurd cc
+    by_head h p e v = absurd (differ e)
 
 abbrev behind_equals : Place
 behind_equals = form.◌>>=◌ (one_of GIVING opcode_of) (λ o. behind_place true o)

@@ -35,7 +35,7 @@ use Rattle.ir_parse.specs.Modules.{FURTHER_PARAMETERS, GLOBAL_NAMES, any_module,
 use Rattle.ir_parse.proofs.ItemRules.{ANY, items_rule, there_rule}
 use Rattle.ir_parse.specs.NamedCalls.{in_module}
 use Rattle.ir_operands.specs.ShapeForms.{OPEN_BRACE}
-use Rattle.ir_parse.proofs.Exchanged.{Goes, IsTold, NotTold, Outcome, OutcomeAt, Stays, is_angled, SOMEWHERE, STAND_INS, Stuck, Swaps, placed_too, value_loosely, taken, apart, passed, taken_first}
+use Rattle.ir_parse.proofs.Exchanged.{differ, Goes, IsTold, NotTold, Outcome, OutcomeAt, Stays, is_angled, SOMEWHERE, STAND_INS, Stuck, Swaps, placed_too, value_loosely, taken, apart, passed, taken_first}
 use Rattle.ir_parse.proofs.ExchangedItems.{NUMBERED_NAME, STARTS, TYPES, all_items_at, all_items_exchanged, in_items, named_with, naming_with, numbered_is, numbered_told, piece_exchanged, piece_there, piece_with, starts_there, unnamed_refuses, within_at}
 
 -- ---- at each token that begins an item the two are the same
@@ -243,7 +243,7 @@ marker_told front t e = subst (λ (k : FaultKind). Outcome false in_module any_m
   where
     by_head : (h : Head) → nat_eq (number h) (number heads.LifetimeMarker) ≡ true → Outcome false in_module any_module all_at front h (Err Profile)
     by_head heads.LifetimeMarker e = tt
-    by_head h e = absurd cc
+    by_head h e = absurd (differ e)
 
 pub module_exchanged : (front : List Tok) (t : Tok) (rest : List Tok) (k : FaultKind) → module_of (front ++ t ∷ rest) ≡ wrong (record { left = length (t ∷ rest); kind = k }) → contains SOMEWHERE (number t.head) ≡ true → Outcome false in_module any_module all_at front t.head (Err k)
 module_exchanged front t rest k d e = by_result (all_at (front ++ t ∷ rest)) refl (module_is (front ++ t ∷ rest) ∙ d)
@@ -350,16 +350,16 @@ refused_syntax class e u i = by_test (nat_eq (number u.head) class) refl i
 
 number_told : (h : Head) (S G : Tok → Type 0) → contains (number heads.Number ∷ []) (number h) ≡ true → IsTold true h S G → (u : Tok) × (among tokens OPEN_BRACE u ≡ true) × G u
 number_told heads.Number S G e n = n refl
-number_told h S G e n = absurd cc
+number_told h S G e n = absurd (differ e)
 
 number_not : (h : Head) (S G : Tok → Type 0) (P : Type 0) → contains (number heads.Number ∷ []) (number h) ≡ true → NotTold true h S G P → (u : Tok) → among tokens OPEN_BRACE u ≡ true → S u
 number_not heads.Number S G P e n = n refl
-number_not h S G P e n = absurd cc
+number_not h S G P e n = absurd (differ e)
 
 number_stays : (h : Head) (is : List Item) (front : List Tok) → contains (number heads.Number ∷ []) (number h) ≡ true → OutcomeAt false in_module any_module all_at true front h (Ok is) → (u : Tok) → among tokens OPEN_BRACE u ≡ true → Stays all_at front is u
 number_stays heads.Number is front e (inl stays) = stays
 number_stays heads.Number is front e (inr w) = absurd w.1
-number_stays h is front e o = absurd cc
+number_stays h is front e o = absurd (differ e)
 
 pub vector_placed : (front : List Tok) (t : Tok) → among tokens (number heads.Number ∷ []) t ≡ true → is_angled front ≡ true → (rest : List Tok) (k : FaultKind) → module_of (front ++ t ∷ rest) ≡ wrong (record { left = length (t ∷ rest); kind = k }) → Placed OPEN_BRACE front k
 vector_placed front t n q =
@@ -369,16 +369,16 @@ vector_placed front t n q =
 
 string_told : (b : Bool) (h : Head) (S G : Tok → Type 0) → contains STRING (number h) ≡ true → IsTold b h S G → (u : Tok) × (among tokens STRING u ≡ true) × G u
 string_told b heads.Str S G e n = n
-string_told b h S G e n = absurd cc
+string_told b h S G e n = absurd (differ e)
 
 string_not : (b : Bool) (h : Head) (S G : Tok → Type 0) (P : Type 0) → contains STRING (number h) ≡ true → NotTold b h S G P → (u : Tok) → among tokens STRING u ≡ true → S u
 string_not b heads.Str S G P e n = n
-string_not b h S G P e n = absurd cc
+string_not b h S G P e n = absurd (differ e)
 
 string_stays : (b : Bool) (h : Head) (is : List Item) (front : List Tok) → contains STRING (number h) ≡ true → OutcomeAt false in_module any_module all_at b front h (Ok is) → (u : Tok) → among tokens STRING u ≡ true → Stays all_at front is u
 string_stays b heads.Str is front e (inl stays) = stays
 string_stays b heads.Str is front e (inr w) = absurd w.1
-string_stays b h is front e o = absurd cc
+string_stays b h is front e o = absurd (differ e)
 
 pub string_placed : (front : List Tok) (t : Tok) → among tokens STRING t ≡ true → (rest : List Tok) (k : FaultKind) → module_of (front ++ t ∷ rest) ≡ wrong (record { left = length (t ∷ rest); kind = k }) → Placed STRING front k
 string_placed front t n =

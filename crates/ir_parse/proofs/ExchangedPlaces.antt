@@ -17,7 +17,7 @@ use Rattle.ir_operands.specs.ShapeForms.{OPEN_BRACE}
 use Rattle.ir_parse.specs.Modules.{any_module, module_of}
 use Rattle.ir_parse.specs.NamedCalls.{in_module}
 use Rattle.ir_parse.specs.Refusals.{BeginsVector, GoesOn, INTEGER, LeftOut, MARKER, MEMORY, NoneGoesOn, REFUSED_EVERYWHERE, SomeGoesOn, StringGoesOn, TARGET, TYPE, WORD, everywhere, of_integer, of_marker, of_name, of_target, of_type, of_vector}
-use Rattle.ir_parse.proofs.Exchanged.{Goes, IsTold, NotTold, Outcome, SOMEWHERE, Stuck, is_angled}
+use Rattle.ir_parse.proofs.Exchanged.{differ, Goes, IsTold, NotTold, Outcome, SOMEWHERE, Stuck, is_angled}
 use Rattle.ir_parse.proofs.ExchangedModules.{all_at, module_exchanged, none_goes_on, split, string_placed, vector_placed}
 use Rattle.ir_parse.proofs.NamedCallees.{never_left_out}
 use Rattle.ir_parse.proofs.Told.{REFUSED_SOMEWHERE}
@@ -26,41 +26,41 @@ use Rattle.ir_parse.proofs.Told.{REFUSED_SOMEWHERE}
 
 type_told : (b : Bool) (h : Head) (S G : Tok → Type 0) → contains TYPE (number h) ≡ true → IsTold b h S G → (u : Tok) × (among tokens REG u ≡ true) × G u
 type_told b heads.RefusedType S G e n = n
-type_told b h S G e n = absurd cc
+type_told b h S G e n = absurd (differ e)
 
 target_told : (b : Bool) (h : Head) (S G : Tok → Type 0) → contains TARGET (number h) ≡ true → IsTold b h S G → ((u : Tok) × (among tokens REG u ≡ true) × G u) × ((w : Tok) → among tokens WORD w ≡ true → S w)
 target_told b heads.Target S G e n = n
-target_told b h S G e n = absurd cc
+target_told b h S G e n = absurd (differ e)
 
 integer_told : (b : Bool) (h : Head) (S G : Tok → Type 0) → contains INTEGER (number h) ≡ true → IsTold b h S G → (u : Tok) → among tokens MEMORY u ≡ true → IsReal u → G u
 integer_told b heads.RegisterInteger S G e n = n
-integer_told b h S G e n = absurd cc
+integer_told b h S G e n = absurd (differ e)
 
 name_told : (b : Bool) (h : Head) (S G : Tok → Type 0) → contains NUMBERED (number h) ≡ true → IsTold b h S G → (u : Tok) × (among tokens GLOBAL u ≡ true) × G u
 name_told b heads.NumberedGlobal S G e n = n
 name_told b heads.NumberedDefinition S G e n = n
-name_told b h S G e n = absurd cc
+name_told b h S G e n = absurd (differ e)
 
 type_not : (b : Bool) (h : Head) (S G : Tok → Type 0) (P : Type 0) → contains TYPE (number h) ≡ true → NotTold b h S G P → (u : Tok) → among tokens REG u ≡ true → S u
 type_not b heads.RefusedType S G P e n = n
-type_not b h S G P e n = absurd cc
+type_not b h S G P e n = absurd (differ e)
 
 target_not : (b : Bool) (h : Head) (S G : Tok → Type 0) (P : Type 0) → contains TARGET (number h) ≡ true → NotTold b h S G P → ((u : Tok) → among tokens REG u ≡ true → S u) ⊎ ((w : Tok) × (among tokens WORD w ≡ true) × G w)
 target_not b heads.Target S G P e n = n
-target_not b h S G P e n = absurd cc
+target_not b h S G P e n = absurd (differ e)
 
 integer_not : (b : Bool) (h : Head) (S G : Tok → Type 0) (P : Type 0) → contains INTEGER (number h) ≡ true → NotTold b h S G P → (u : Tok) × (among tokens MEMORY u ≡ true) × IsReal u × S u
 integer_not b heads.RegisterInteger S G P e n = n
-integer_not b h S G P e n = absurd cc
+integer_not b h S G P e n = absurd (differ e)
 
 name_not : (b : Bool) (h : Head) (S G : Tok → Type 0) (P : Type 0) → contains NUMBERED (number h) ≡ true → NotTold b h S G P → (u : Tok) → among tokens GLOBAL u ≡ true → S u
 name_not b heads.NumberedGlobal S G P e n = n
 name_not b heads.NumberedDefinition S G P e n = n
-name_not b h S G P e n = absurd cc
+name_not b h S G P e n = absurd (differ e)
 
 marker_not : (b : Bool) (h : Head) (S G : Tok → Type 0) (P : Type 0) → contains MARKER (number h) ≡ true → NotTold b h S G P → P
 marker_not b heads.LifetimeMarker S G P e n = n
-marker_not b h S G P e n = absurd cc
+marker_not b h S G P e n = absurd (differ e)
 
 -- ---- in terms of the grammar
 

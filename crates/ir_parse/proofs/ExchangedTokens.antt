@@ -97,7 +97,7 @@ otherwise_of wanted p =
     both_hold (plain_types wanted) (plain_globals wanted) (and_parts (disjoint OPEN_ANGLE wanted) (plain_types wanted) one.0).1 one.1
 
 -- what holds of each class that something is said of, and of the others, holds of all
-by_telling : (P : Head → Type 0) → P heads.RefusedType → P heads.Target → P heads.RegisterInteger → P heads.NumberedGlobal → P heads.NumberedDefinition → P heads.LifetimeMarker → P heads.Str → ((h : Head) → (contains TELLING (number h) ≡ true → ⊥) → P h) → (h : Head) → P h
+pub by_telling : (P : Head → Type 0) → P heads.RefusedType → P heads.Target → P heads.RegisterInteger → P heads.NumberedGlobal → P heads.NumberedDefinition → P heads.LifetimeMarker → P heads.Str → ((h : Head) → (contains TELLING (number h) ≡ true → ⊥) → P h) → (h : Head) → P h
 by_telling P type target integer global definition marker string other heads.RefusedType = type
 by_telling P type target integer global definition marker string other heads.Target = target
 by_telling P type target integer global definition marker string other heads.RegisterInteger = integer

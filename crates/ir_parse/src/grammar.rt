@@ -1,5 +1,5 @@
 //! The items of a text that is in the grammar, or the first place at which no reading goes on.
-ghost use Rattle.std.specs.Prelude.{◌≡◌, ◌-◌, IfOk, IfErr, true, drop, length};
+ghost use Rattle.std.specs.Prelude.{◌≡◌, ◌-◌, [], IfOk, IfErr, OnOk, true, drop, length};
 ghost use Rattle.ir_lex.specs.Tok.{tok, toks};
 ghost use Rattle.lto_forms.specs.Readers.{Gives};
 ghost use Rattle.ir_parse.specs.Modules.{whole_module, module_of, last_tokens};
@@ -8,7 +8,7 @@ ghost use Rattle.ir_parse.specs.FirstFault.{Stuck, end_kind};
 ghost use Rattle.ir_parse.specs.Kinds.{refused_kind, grammar_fault};
 
 use crate::fault::{FaultKind, ReadError, ReadFault};
-use crate::items::items_at;
+use crate::items::items_into;
 use ir_lex::{Head, Lexed, Token};
 use ir_read::{Item, Tokens, name_refusal};
 use ir_tree::Text;
@@ -21,16 +21,21 @@ const FURTHER_PARAMETERS: usize = 65534;
 // How many global names a module may define and declare.
 const GLOBAL_NAMES: usize = 65535;
 
-/// The items that these tokens are read as.
+/// Reads these tokens as items, into an empty list.
 #[tactic(auto, unfolding(crate::specs::Modules::module_of, crate::specs::Modules::FURTHER_PARAMETERS, crate::specs::Modules::GLOBAL_NAMES))]
-fn items_of<'a>(alloc: Global, all: &[Token<'a>]) -> Result<Vec<Item<'a>>, GrammarError>
-    ensures { Gives (λ v. v.items) result (module_of (toks all.now)) }
+fn items_of<'a>(
+    alloc: Global,
+    all: &[Token<'a>],
+    items: &mut Vec<Item<'a>>,
+) -> Result<(), GrammarError>
+    requires { items.now.items ≡ [] }
+    ensures { Gives (λ x. items.new.items) result (module_of (toks all.now)) }
 {
     let mut rest = Tokens::new(all);
-    let items = items_at(alloc, FURTHER_PARAMETERS, GLOBAL_NAMES, &mut rest)?;
+    items_into(alloc, FURTHER_PARAMETERS, GLOBAL_NAMES, items, &mut rest)?;
     let left = rest.left();
     match rest.take() {
-        None => Ok(items),
+        None => Ok(()),
         Some(t) => Err(GrammarError::Fault(Refusal {
             left,
             kind: name_refusal(t.head),
@@ -97,19 +102,24 @@ fn fault_of(alloc: Global, lexed: &Lexed, refusal: Refusal) -> Result<ReadFault,
     }
 }
 
-/// The items of a text, whose tokens end where the text does.
+/// Reads the tokens of a text as items, into an empty list; they end where the text does.
 ///
 /// A fault stands at the first token with which no module goes on, at bytes that are no token where
 /// none stands before, or at the end.
 #[tactic(auto, using(crate::proofs::Stuck::stuck_so, crate::proofs::Stuck::behind_so, crate::proofs::Stuck::whole_so))]
-pub fn items_in<'a>(alloc: Global, lexed: &Lexed<'a>) -> Result<Vec<Item<'a>>, ReadError>
-    ensures found { IfOk result (λ v. (lexed.now.whole ≡ true) × whole_module (toks lexed.now.tokens.items) v.items) }
+pub(crate) fn items_in<'a>(
+    alloc: Global,
+    lexed: &Lexed<'a>,
+    items: &mut Vec<Item<'a>>,
+) -> Result<(), ReadError>
+    requires { items.now.items ≡ [] }
+    ensures found { OnOk result ((lexed.now.whole ≡ true) × whole_module (toks lexed.now.tokens.items) items.new.items) }
     ensures fault { IfErr result (λ e. IfFault e (λ f. Stuck (toks lexed.now.tokens.items) lexed.now.whole lexed.now.line f.line f.kind)) }
 {
-    match items_of(alloc, &lexed.tokens) {
-        Ok(items) => {
+    match items_of(alloc, &lexed.tokens, items) {
+        Ok(()) => {
             if lexed.whole {
-                Ok(items)
+                Ok(())
             } else {
                 Err(ReadError::Fault(fault_behind(lexed)))
             }

@@ -6,7 +6,6 @@ ghost use Rattle.lto_forms.specs.Alphabet.{contains, among};
 ghost use Rattle.lto_forms.specs.declared.fault.ReadError.TheVariants.{NoMemory};
 ghost use Rattle.lto_forms.specs.Readers.{Gives, next_is};
 ghost use Rattle.ir_read.specs.AttributesAt.{HEAD, attribute_group_at};
-ghost use Rattle.ir_read.specs.declared.raw.Item.TheVariants.{Definition};
 ghost use Rattle.ir_read.specs.TargetsAt.{layout_line_at, target_line_at, triple_line_at};
 ghost use Rattle.ir_read.specs.Classes.{tokens};
 ghost use Rattle.ir_bodies.specs.BlocksAt.{definition_at};
@@ -15,28 +14,20 @@ ghost use Rattle.ir_globals.specs.Variables.{NAMES};
 ghost use Rattle.ir_globals.specs.VariablesAt.{variable_line_at};
 ghost use Rattle.ir_parse.specs.ItemForms.{declared, keep};
 ghost use Rattle.ir_parse.specs.ItemFormsAt.{ITEM, NAMING, beginnings, kept_at, unnamed_at, attribute_behind_at, metadata_there_at, plainly_at, beside_at, attached_before_at, declaration_at, naming_at, named_within_at, there_at, items_at};
-ghost use Rattle.ir_parse.specs.Putting.{behind_at, Puts};
+ghost use Rattle.ir_parse.specs.Putting.{behind_at};
 
-use ir_bodies::{Defined, definition_at};
-use ir_globals::{type_line_into, variable_line_into};
+use ir_globals::{
+    attribute_group_into, layout_line_into, triple_line_into, type_line_into, variable_line_into,
+};
 use ir_lex::Head;
 use ir_operands::push;
 use ir_read::{
-    Before, Item, Position, Role, Tokens, attached_at, attribute_group_at, comdat_line_at, expect,
-    head_at, head_attribute_at, is_attribute_word, layout_line_at, metadata_behind_at,
-    metadata_line_at, node_yet_at, source_line_at, triple_line_at,
+    Before, Item, Position, Role, Tokens, attached_at, comdat_line_at, expect, head_at,
+    head_attribute_at, is_attribute_word, metadata_behind_at, metadata_line_at, node_yet_at,
+    source_line_at,
 };
 use lto_forms::{Fault, FaultKind, ReadError};
 use std::alloc::Global;
-
-/// Adds what was read, where it was. Behind it another item may stand.
-fn put<T: Drop>(list: &mut Vec<T>, read: Result<T, ReadError>) -> Result<Before, ReadError>
-    ensures { Puts list.old.items read list.new.items result }
-{
-    let value = read?;
-    push(list, value)?;
-    Ok(Before::Item)
-}
 
 /// Reads the layout of the target, and adds it.
 #[tactic(auto, unfolding(crate::specs::Putting::behind_at, crate::specs::ItemFormsAt::kept_at))]
@@ -47,8 +38,7 @@ fn layout_into<'a>(
 ) -> Result<Before, ReadError>
     ensures { Gives (λ b. ((items.new.items, b), tokens.new)) result (behind_at items.old.items (kept_at layout_line_at) tokens.old) }
 {
-    let layout = layout_line_at(alloc, tokens)?;
-    push(items, Item::Datalayout(layout))?;
+    layout_line_into(alloc, items, tokens)?;
     Ok(Before::Item)
 }
 
@@ -60,8 +50,7 @@ fn triple_into<'a>(
 ) -> Result<Before, ReadError>
     ensures { Gives (λ b. ((items.new.items, b), tokens.new)) result (behind_at items.old.items (kept_at triple_line_at) tokens.old) }
 {
-    let triple = triple_line_at(tokens)?;
-    push(items, Item::Triple(triple))?;
+    triple_line_into(items, tokens)?;
     Ok(Before::Item)
 }
 
@@ -96,6 +85,7 @@ fn type_into<'a>(
 }
 
 /// Reads a group of attributes, and adds it.
+#[tactic(auto, unfolding(crate::specs::Putting::behind_at, crate::specs::ItemFormsAt::kept_at))]
 fn group_into<'a>(
     alloc: Global,
     items: &mut Vec<Item<'a>>,
@@ -103,7 +93,8 @@ fn group_into<'a>(
 ) -> Result<Before, ReadError>
     ensures { Gives (λ b. ((items.new.items, b), tokens.new)) result (behind_at items.old.items (kept_at attribute_group_at) tokens.old) }
 {
-    put(items, attribute_group_at(alloc, tokens))
+    attribute_group_into(alloc, items, tokens)?;
+    Ok(Before::Item)
 }
 
 /// Reads a variable, and adds it.
@@ -119,14 +110,6 @@ fn variable_into<'a>(
     Ok(Before::Item)
 }
 
-/// Adds the definition of a function.
-fn push_definition<'a>(items: &mut Vec<Item<'a>>, defined: Defined<'a>) -> Result<(), ReadError>
-    ensures pushed { OnOk result (items.new.items ≡ items.old.items ++ Definition defined.entry.head defined.entry.blocks ∷ []) }
-    ensures memory { IfErr result (λ e. e ≡ NoMemory) }
-{
-    push(items, Item::Definition(defined.head, defined.blocks))
-}
-
 /// Reads the definition of a function, and adds it.
 #[tactic(auto, unfolding(crate::specs::Putting::behind_at, crate::specs::ItemFormsAt::kept_at))]
 fn definition_into<'a>(
@@ -137,8 +120,7 @@ fn definition_into<'a>(
 ) -> Result<Before, ReadError>
     ensures { Gives (λ b. ((items.new.items, b), tokens.new)) result (behind_at items.old.items (kept_at (definition_at room)) tokens.old) }
 {
-    let defined = definition_at(alloc, room, tokens)?;
-    push_definition(items, defined)?;
+    ir_bodies::definition_into(alloc, room, items, tokens)?;
     Ok(Before::Item)
 }
 
@@ -432,22 +414,23 @@ fn comes_there(before: Before, rest: &Tokens) -> bool
 }
 
 /// Reads items one behind another: of global names `names` at most, and behind the first parameter of
-/// each function `room` at most.
-pub(crate) fn items_at<'a>(
+/// each function `room` at most. The list is empty before.
+pub(crate) fn items_into<'a>(
     alloc: Global,
     room: usize,
     names: usize,
+    items: &mut Vec<Item<'a>>,
     tokens: &mut Tokens<'_, 'a>,
-) -> Result<Vec<Item<'a>>, ReadError>
-    ensures { Gives (λ x. (x.items, tokens.new)) result (items_at room names tokens.old) }
+) -> Result<(), ReadError>
+    requires { items.now.items ≡ [] }
+    ensures { Gives (λ x. (items.new.items, tokens.new)) result (items_at room names tokens.old) }
 {
-    let mut items = Vec::new(alloc);
     let mut at = Position {
         before: Before::Item,
         names,
     };
     'each: while comes_there(at.before, tokens) {
-        at = piece_at(alloc, room, at, &mut items, tokens)?;
+        at = piece_at(alloc, room, at, items, tokens)?;
     }
-    Ok(items)
+    Ok(())
 }

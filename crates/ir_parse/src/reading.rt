@@ -66,7 +66,8 @@ fn read_tokens<'t, 'a>(
     ensures found { IfOk result (λ p. (bytes : List ℕ) → IsLexed bytes (toks lexed.now.tokens.items) lexed.now.whole lexed.now.line → Reads bytes p.0 p.1) }
     ensures fault { IfErr result (λ e. IfFault e (λ f. (bytes : List ℕ) → IsLexed bytes (toks lexed.now.tokens.items) lexed.now.whole lexed.now.line → FirstFault bytes f.line f.kind)) }
 {
-    let items = items_in(alloc, lexed)?;
+    let mut items = Vec::new(alloc);
+    items_in(alloc, lexed, &mut items)?;
     tree_and_lines(items.as_slice(), alloc)
 }
 

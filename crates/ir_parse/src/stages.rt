@@ -23,8 +23,7 @@ fn values_of<'t, 'a>(
     ensures { Settles (λ vs. vs) result (values_in types.now (groups_of items.now) items.now) }
 {
     let groups = groups_of(alloc, items)?;
-    let values = values_in(items, alloc, types, &groups)?;
-    Ok(values)
+    values_in(items, alloc, types, &groups)
 }
 
 /// The module of these items, whose type names are these: its target lines, and its global values one by

@@ -3,7 +3,7 @@ use Rattle.lto_forms.specs.Chained.{chain_at}
 use Rattle.lto_forms.specs.Readers.{folded}
 use Rattle.ir_parse.specs.ItemForms.{anywhere, keep}
 use Rattle.ir_parse.specs.ItemFormsAt.{begins_there, there_at, first_place}
-use Rattle.ir_parse.proofs.items.items_at.Given as goal
+use Rattle.ir_parse.proofs.items.items_into.Given as goal
 
 abbrev pub invariant-each : goal.invariant-each
 invariant-each l = folded keep l.items.items (chain_at anywhere begins_there (there_at l.fn.room) l.at l.tokens) ≡ folded keep [] (chain_at anywhere begins_there (there_at l.fn.room) (first_place l.fn.names) l.fn.tokens)

@@ -6,7 +6,7 @@ use Rattle.lto_forms.proofs.Stars.{folded_is}
 use Rattle.ir_parse.specs.ItemForms.{anywhere, keep}
 use Rattle.ir_parse.specs.ItemFormsAt.{begins_there, there_at, first_place, items_at}
 use Rattle.ir_parse.proofs.ItemLoops.{shorter, items_shorter, items_on, items_fail}
-use Rattle.ir_parse.proofs.items.items_at.Goals as goal
+use Rattle.ir_parse.proofs.items.items_into.Goals as goal
 
 pub each-smaller : goal.each-smaller
 each-smaller c = items_shorter c.args.room c.each.items.items _ c.each.at _ c.each.tokens _ c.in_ok-at.ensures

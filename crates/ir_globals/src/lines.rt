@@ -1,0 +1,46 @@
+//! Reads target lines and attribute groups (LangRef, "Data Layout", "Target Triple", "Attribute Groups").
+
+ghost use Rattle.lto_forms.specs.Readers.{Gives};
+ghost use Rattle.ir_operands.specs.Adding.{pushed_at};
+ghost use Rattle.ir_read.specs.AttributesAt.{attribute_group_at};
+ghost use Rattle.ir_read.specs.TargetsAt.{layout_line_at, triple_line_at};
+
+use ir_operands::push;
+use ir_read::{Item, Tokens, attribute_group_at, layout_line_at, triple_line_at};
+use lto_forms::ReadError;
+use std::alloc::Global;
+
+/// Reads the layout of the target behind `target`, and adds it.
+pub fn layout_line_into<'a>(
+    alloc: Global,
+    items: &mut Vec<Item<'a>>,
+    tokens: &mut Tokens<'_, 'a>,
+) -> Result<(), ReadError>
+    ensures { Gives (λ _. (items.new.items, tokens.new)) result (pushed_at items.old.items layout_line_at tokens.old) }
+{
+    let layout = layout_line_at(alloc, tokens)?;
+    push(items, Item::Datalayout(layout))
+}
+
+/// Reads the triple of the target behind `target`, and adds it.
+pub fn triple_line_into<'a>(
+    items: &mut Vec<Item<'a>>,
+    tokens: &mut Tokens<'_, 'a>,
+) -> Result<(), ReadError>
+    ensures { Gives (λ _. (items.new.items, tokens.new)) result (pushed_at items.old.items triple_line_at tokens.old) }
+{
+    let triple = triple_line_at(tokens)?;
+    push(items, Item::Triple(triple))
+}
+
+/// Reads a group of attributes, `attributes #0 = { noinline }`, and adds it.
+pub fn attribute_group_into<'a>(
+    alloc: Global,
+    items: &mut Vec<Item<'a>>,
+    tokens: &mut Tokens<'_, 'a>,
+) -> Result<(), ReadError>
+    ensures { Gives (λ _. (items.new.items, tokens.new)) result (pushed_at items.old.items attribute_group_at tokens.old) }
+{
+    let group = attribute_group_at(alloc, tokens)?;
+    push(items, group)
+}
