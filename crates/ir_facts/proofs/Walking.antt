@@ -1,7 +1,8 @@
 -- Walks over lists: what is left in front of an item, and what is pushed for it.
-use Rattle.std.proofs.Common.{◌≡◌, ℕ, suc, ◌+◌, ◌<◌, Bool, true, false, List, [], ◌∷◌, ◌++◌, length, get_or, drop, append_assoc, add-one, Option, None, sym, ◌∙◌, ap, if◌then◌else◌}
+use Rattle.std.proofs.Common.{◌≡◌, ℕ, suc, ◌+◌, ◌<◌, ◌≤◌, Bool, true, false, List, [], ◌∷◌, ◌++◌, length, get_or, drop, append_assoc, append-nil, add-one, Option, None, sym, ◌∙◌, ap, if◌then◌else◌}
 use Rattle.std.specs.Prelude.{◌&&◌}
 use Rattle.std.proofs.Math.Seq.{drop-cons}
+use Rattle.std.proofs.lemmas.List.{drop_all}
 use Rattle.ir_tree.specs.declared.block.Block.{Block}
 use Rattle.ir_tree.specs.declared.instr.Line.{Line}
 use Rattle.ir_tree.specs.declared.instr.Phi.{Phi}
@@ -68,3 +69,8 @@ points_pushed x v rows p next b rest more start old new cut step is e =
     ∙ append_assoc old (line_points x v b.lines start) (flow_points x v rows next rest)
     ∙ (λ i. old ++ (line_points x v b.lines (is i) ++ flow_points x v rows (step i) rest))
     ∙ ap (λ (bs : List Block). old ++ flow_points x v rows p bs) (sym cut)
+
+-- ---- at the end
+
+pub walked : {X Y : Type 0} (f : List X → List Y) (xs : List X) (i : ℕ) (out : List Y) → f [] ≡ [] → length xs ≤ i → out ≡ out ++ f (drop i xs)
+walked {X = X} {Y = Y} f xs i out none h = sym (ap (λ (rest : List X). out ++ f rest) (drop_all i xs h) ∙ ap (λ (ys : List Y). out ++ ys) none ∙ append-nil out)

@@ -1,7 +1,8 @@
-use Rattle.std.proofs.Common.{◌≡◌, ℕ, Global, ◌+◌, ◌++◌, Vec, drop, sym, ap, ◌∙◌}
+use Rattle.std.proofs.Common.{◌≡◌, refl, ℕ, Global, ◌+◌, ◌++◌, Vec, drop, sym, ap, ◌∙◌}
 use Rattle.ir_facts.specs.Clear.{keys_among}
 use Rattle.ir_facts.proofs.Walking.{cut_at, key_passed, key_pushed}
 use Rattle.ir_facts.proofs.scopes.push_keys.Goals.{then-is_among+in_ok-push, else-is_among}
+use Rattle.ir_facts.proofs.Walking.{walked}
 use Rattle.ir_facts.proofs.scopes.push_keys.Goals as goal
 
 pub loop-pair-preserved : goal.loop-pair-preserved
@@ -21,3 +22,8 @@ loop-pair-preserved g c =
           (ap (λ (v : Vec ℕ Global). v.items) w.keys-is)
     ] in
     one ∙ c.loop-pair.invariant
+
+pub returns : goal.returns
+returns g c =
+    walked (keys_among (g.L.Locals.members c.args.among.now)) c.args.found.now c.loop-pair.pair-index c.loop-pair.keys.items refl c.loop-pair-test.false
+    ∙ c.loop-pair.invariant
