@@ -44,5 +44,6 @@ pub mod Substituting
 pub mod Thinning
 pub mod Unnamed
 pub mod Unused
+pub mod Walking
 pub mod Widths
 pub mod Words

@@ -167,6 +167,5 @@ pub(crate) fn is_clear(
     ensures { IfOk result (λ clear. clear ≡ true → IsClear (contains nat_eq outside.now) f.now) }
 {
     let scopes = scopes_of(alloc, outside, f)?;
-    let clear = blocks_clear(alloc, &scopes, f.blocks.as_slice())?;
-    Ok(clear)
+    blocks_clear(alloc, &scopes, f.blocks.as_slice())
 }

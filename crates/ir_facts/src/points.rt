@@ -84,7 +84,6 @@ fn fact_of(
     ensures { IfOk result (λ t. (t.local ≡ pair.now.0) × (t.value ≡ pair.now.1) × IsFact function.now t) }
 {
     let local = pair.0;
-    let value = pair.1.duplicate(alloc)?;
     let blocks = function.blocks.as_slice();
     let home = phi_of(local, blocks);
     let flow = FactFlow {
@@ -97,8 +96,9 @@ fn fact_of(
     };
     let rows = greatest(alloc, &flow)?;
     let mut marks = Vec::new(alloc);
-    push_points(&mut marks, local, &value, &rows, blocks)?;
+    push_points(&mut marks, local, &pair.1, &rows, blocks)?;
     let at = bits_of(alloc, &marks)?;
+    let value = pair.1.duplicate(alloc)?;
     Ok(Fact { local, value, at })
 }
 

@@ -1,5 +1,5 @@
 //! Copy and constant propagation: substitution by facts, in rounds.
-ghost use Rattle.std.specs.Prelude.{◌≡◌, ℕ, nat_eq, true, false, IfOk};
+ghost use Rattle.std.specs.Prelude.{◌≡◌, ℕ, nat_eq, true, false, IfOk, Ok, Some, None};
 ghost use Rattle.std.specs.HashSet.{contains};
 ghost use Rattle.ir_tree.specs.Rules.{Sound};
 ghost use Rattle.ir_meaning.specs.Near.{BetterThan};
@@ -44,8 +44,9 @@ fn replaced_at_points(
     let others = firm(alloc, found, outside)?;
     let facts = facts_of(alloc, f, some)?;
     let h = substitute(alloc, f, others.as_slice())?;
-    let g = function_at(alloc, facts.as_slice(), &h)?;
-    Ok(g)
+    let g = function_at(alloc, facts.as_slice(), &h);
+    drop(h);
+    g
 }
 
 /// Each use of a local replaced where its fact holds at the use.
@@ -69,16 +70,13 @@ fn replaced(
     let some = resting(alloc, found, outside)?;
     let count = some.len();
     if count == 0 {
-        let g = substitution.applied(alloc, f)?;
-        return Ok(g);
+        return substitution.applied(alloc, f);
     }
     let clear = is_clear(alloc, outside, f)?;
     if clear {
-        let g = substitution.applied(alloc, f)?;
-        return Ok(g);
+        return substitution.applied(alloc, f);
     }
-    let g = replaced_at_points(alloc, f, outside, found, some.as_slice())?;
-    Ok(g)
+    replaced_at_points(alloc, f, outside, found, some.as_slice())
 }
 
 /// Each use of a local replaced where its fact holds at the use; none where no local that is used has a candidate.
@@ -101,6 +99,18 @@ fn forwarded(
     Ok(Some(g))
 }
 
+/// The value that was made of another, and that it is a new one; the old one where none was made.
+fn renewed<T: Drop>(old: T, made: Result<Option<T>, AllocError>) -> Result<(T, bool), AllocError>
+    ensures new { IfOk result (λ both. both.1 ≡ true → made ≡ Ok (Some both.0)) }
+    ensures same { IfOk result (λ both. both.1 ≡ false → (made ≡ Ok None) × (both.0 ≡ old)) }
+{
+    match made {
+        Ok(Some(new)) => Ok((new, true)),
+        Ok(None) => Ok((old, false)),
+        Err(e) => Err(e),
+    }
+}
+
 /// Free choices settled in their places, and each use replaced whose fact holds there; none where that changes nothing.
 fn round(
     alloc: Global,
@@ -113,16 +123,11 @@ fn round(
 {
     let first = settled(alloc, f)?;
     match first {
-        None => {
-            let second = forwarded(alloc, f, outside)?;
-            Ok(second)
-        }
+        None => forwarded(alloc, f, outside),
         Some(h) => {
-            let second = forwarded(alloc, &h, outside)?;
-            match second {
-                Some(g) => Ok(Some(g)),
-                None => Ok(Some(h)),
-            }
+            let second = forwarded(alloc, &h, outside);
+            let (g, _) = renewed(h, second)?;
+            Ok(Some(g))
         }
     }
 }
@@ -141,13 +146,12 @@ fn rounds(
     if left == 0 {
         return Ok(f);
     }
-    let next = round(alloc, &f, outside)?;
-    match next {
-        Some(g) => {
-            let h = rounds(alloc, g, outside, left - 1)?;
-            Ok(h)
-        }
-        None => Ok(f),
+    let next = round(alloc, &f, outside);
+    let (g, changed) = renewed(f, next)?;
+    if changed {
+        rounds(alloc, g, outside, left - 1)
+    } else {
+        Ok(g)
     }
 }
 
@@ -167,22 +171,18 @@ fn rounds_in_place(
     ensures { IfOk result (λ g. AreRounds left (with_blocks f.now blocks.items) g) }
 {
     if left == 0 {
-        let g = with_blocks(alloc, f, blocks)?;
-        return Ok(g);
+        return with_blocks(alloc, f, blocks);
     }
     let free = any_choice_in(blocks.as_slice());
     if free {
         let whole = with_blocks(alloc, f, blocks)?;
-        let g = rounds(alloc, whole, outside, left)?;
-        return Ok(g);
+        return rounds(alloc, whole, outside, left);
     }
     let changed = forward(alloc, &mut blocks)?;
     if !changed {
-        let g = with_blocks(alloc, f, blocks)?;
-        return Ok(g);
+        return with_blocks(alloc, f, blocks);
     }
-    let g = rounds_in_place(alloc, f, blocks, outside, left - 1)?;
-    Ok(g)
+    rounds_in_place(alloc, f, blocks, outside, left - 1)
 }
 
 /// What [`apply`] makes of a function that is given up: the function itself where no round changes anything.
@@ -197,11 +197,11 @@ pub fn into_applied(alloc: Global, mut f: Function) -> Result<Function, AllocErr
     let none = outside.is_empty();
     if none {
         let blocks = replace(&mut f.blocks, Rows::new(alloc)).into_vec();
-        let g = rounds_in_place(alloc, &f, blocks, &outside, ROUNDS)?;
-        return Ok(g);
+        let g = rounds_in_place(alloc, &f, blocks, &outside, ROUNDS);
+        drop(f);
+        return g;
     }
-    let g = rounds(alloc, f, &outside, ROUNDS)?;
-    Ok(g)
+    rounds(alloc, f, &outside, ROUNDS)
 }
 
 /// A sound function with uses of locals replaced by what has their value: the one operand that a phi takes, and

@@ -1,7 +1,9 @@
-use Rattle.std.proofs.Common.{◌≡◌, ℕ, nat_eq, Bool, true, sym, ◌∙◌, ap}
+use Rattle.std.proofs.Common.{◌≡◌, ℕ, List, nat_eq, Bool, true, sym, ◌∙◌, ap}
 use Rattle.std.specs.BTreeMap.{get}
 use Rattle.std.specs.HashSet.{contains}
 use Rattle.std.specs.Ordering.{nat_cmp}
+use Rattle.std.proofs.lemmas.Result.{IfOk-weaker}
+use Rattle.ir_tree.specs.declared.block.Block.{Block}
 use Rattle.ir_tree.specs.declared.function.Function.{Function}
 use Rattle.ir_flow.specs.Dominating.{dominance}
 use Rattle.fact_sources.specs.Above.{is_above}
@@ -22,6 +24,10 @@ clear_by among f s are h = record {
 }
 
 pub returns : goal.returns
-returns c e =
-    clear_by (contains nat_eq c.args.outside.now) c.args.f.now c.in_ok-scopes.scopes c.in_ok-scopes.ensures
-    (ap (blocks_clear (bars c.in_ok-scopes.scopes) (get nat_cmp c.in_ok-scopes.scopes.numbers) 0) (sym c.as_slice.ensures) ∙ sym c.in_ok-clear.ensures ∙ e)
+returns c =
+    let among = contains nat_eq c.args.outside.now in
+    let f = c.args.f.now in
+    let scopes = c.in_ok-scopes.scopes in
+    let clear : List Block → Bool = blocks_clear (bars scopes) (get nat_cmp scopes.numbers) 0 in
+    IfOk-weaker c.blocks_clear.result (λ (b : Bool). b ≡ clear c.as_slice.result.now) (λ (b : Bool). b ≡ true → IsClear among f)
+    (λ b is e. clear_by among f scopes c.in_ok-scopes.ensures (ap clear (sym c.as_slice.ensures) ∙ sym is ∙ e)) c.blocks_clear.ensures

@@ -1,4 +1,4 @@
-use Rattle.std.proofs.Common.{◌++◌, refl, ◌∙◌}
+use Rattle.std.proofs.Common.{◌++◌, refl, sym, ◌∙◌}
 use Rattle.ir_flow.specs.Narrowing.{marked}
 use Rattle.ir_facts.specs.FactFlow.{flow_points}
 use Rattle.ir_facts.proofs.FactSolutions.{fact_made}
@@ -14,6 +14,6 @@ returns c =
       c.in_ok-value.ensures,
       fact_made f x v w c.requires.formed.once c.in_ok-rows.rows.items c.in_ok-rows.ensures.1 c.in_ok-value.ensures c.deref-2.result.now c.in_ok-at.at
           (c.deref-2.ensures.value ∙ c.in_ok-push_points.ensures
-          ∙ λ i. c.new-marks.ensures.items i ++ flow_points x w (marked (c.deref.ensures.value i)) 0 (c.as_slice-blocks.ensures i))
+          ∙ λ i. c.new-marks.ensures.items i ++ flow_points x (sym c.in_ok-value.ensures i) (marked (c.deref.ensures.value i)) 0 (c.as_slice-blocks.ensures i))
           c.in_ok-at.ensures,
     )

@@ -1,4 +1,7 @@
-use Rattle.std.proofs.Common.{nat_eq, sym, ◌∙◌, ap, arith, subst}
+use Rattle.std.proofs.Common.{◌≡◌, ◌-◌, nat_eq, sym, ◌∙◌, ap, arith, subst}
+use Rattle.std.specs.Result.{IfOk}
+use Rattle.std.proofs.lemmas.Result.{IfOk-weaker}
+use Rattle.ir_tree.specs.declared.function.Function.{Function}
 use Rattle.std.specs.HashSet.{contains}
 use Rattle.fact_sources.specs.Askable.{BlocksHaveWidths}
 use Rattle.fact_sources.specs.Settled.{any_choice_in}
@@ -13,7 +16,11 @@ use Rattle.ir_facts.proofs.rounds.+rounds_in_place.Goals as goal
 pub returns-then-left-eq0 : goal.returns-then-left-eq0
 returns-then-left-eq0 t c =
     let here = with_blocks c.args.f.now c.args.blocks.items in
-    subst (AreRounds c.args.left here) (sym c.in_ok-g.ensures) (no_rounds c.args.left here c.if-left-eq0.true)
+    IfOk-weaker c.with_blocks.result (λ (g : Function). g ≡ here) (AreRounds c.args.left here)
+    (λ g e. subst (AreRounds c.args.left here) (sym e) (no_rounds c.args.left here c.if-left-eq0.true)) c.with_blocks.ensures
+
+pub returns-then-free : goal.returns-then-free
+returns-then-free t c = subst (λ (f : Function). IfOk c.rounds.result (AreRounds c.args.left f)) c.in_ok-whole.ensures c.rounds.ensures
 
 pub any_choice_in-free-requires : goal.any_choice_in-free-requires
 any_choice_in-free-requires t c = record {
@@ -27,9 +34,14 @@ pub returns-then-not-changed : goal.returns-then-not-changed
 returns-then-not-changed t c =
     let blocks = c.args.blocks.items in
     let firm = ap any_choice_in (sym c.as_slice.ensures.value) ∙ sym c.any_choice_in-free.ensures ∙ c.if-free.false in
-    subst (AreRounds c.args.left (with_blocks c.args.f.now blocks)) (sym c.in_ok-g-3.ensures)
-    (place_last (contains nat_eq c.args.outside.now) c.requires.none c.args.f.now blocks c.forward.new.blocks.items c.requires.sound c.requires.apart firm c.in_ok-changed.ensures.made
-    c.args.left (c.in_ok-changed.ensures.kept c.if-not-changed.true))
+    let new = c.forward.new.blocks.items in
+    let here = with_blocks c.args.f.now blocks in
+    IfOk-weaker c.with_blocks-then-not-changed.result (λ (g : Function). g ≡ with_blocks c.args.f.now new) (AreRounds c.args.left here)
+    (λ g e.
+    subst (AreRounds c.args.left here) (sym e)
+    (place_last (contains nat_eq c.args.outside.now) c.requires.none c.args.f.now blocks new c.requires.sound c.requires.apart firm c.in_ok-changed.ensures.made
+    c.args.left (c.in_ok-changed.ensures.kept c.if-not-changed.true)))
+    c.with_blocks-then-not-changed.ensures
 
 pub rounds_in_place-requires : goal.rounds_in_place-requires
 rounds_in_place-requires t c =
@@ -51,4 +63,5 @@ returns t c =
     let new = c.forward.new.blocks.items in
     let firm = ap any_choice_in (sym c.as_slice.ensures.value) ∙ sym c.any_choice_in-free.ensures ∙ c.if-free.false in
     let round = place_round (contains nat_eq c.args.outside.now) c.requires.none c.args.f.now blocks new c.requires.sound c.requires.apart firm c.in_ok-changed.ensures.made in
-    one_more c.args.left (with_blocks c.args.f.now blocks) (with_blocks c.args.f.now new) c.in_ok-g-4.g (omega arith) round c.in_ok-g-4.ensures
+    IfOk-weaker c.rounds_in_place.result (AreRounds (c.args.left - 1) (with_blocks c.args.f.now new)) (AreRounds c.args.left (with_blocks c.args.f.now blocks))
+    (λ g more. one_more c.args.left (with_blocks c.args.f.now blocks) (with_blocks c.args.f.now new) g (omega arith) round more) c.rounds_in_place.ensures

@@ -1,4 +1,8 @@
-use Rattle.std.proofs.Common.{ℕ, nat_eq, List, sym, ◌∙◌, ap, subst}
+use Rattle.std.proofs.Common.{ℕ, nat_eq, List, Result, sym, ◌∙◌, ap, subst}
+use Rattle.std.specs.Result.{IfOk}
+use Rattle.std.specs.declared.alloc.AllocError.{AllocError}
+use Rattle.std.proofs.lemmas.Result.{IfOk-weaker}
+use Rattle.ir_tree.specs.declared.function.Function.{Function}
 use Rattle.std.specs.HashSet.{contains}
 use Rattle.std.specs.List.{list_any}
 use Rattle.ir_tree.specs.Rules.{Sound}
@@ -6,12 +10,16 @@ use Rattle.ir_tree.specs.declared.block.Block.{Block}
 use Rattle.fact_sources.specs.Apart.{IsApart}
 use Rattle.fact_sources.proofs.NoneNamed.{empty_list}
 use Rattle.ir_facts.specs.Blocks.{with_blocks}
-use Rattle.ir_facts.specs.Steps.{AreRounds, IsApplied}
+use Rattle.ir_facts.specs.Steps.{AreRounds}
 use Rattle.ir_facts.proofs.InRounds.{are_better}
 use Rattle.ir_facts.proofs.rounds.into_applied.Goals as goal
 
-pub rounds_in_place-requires : goal.rounds_in_place-requires
-rounds_in_place-requires c =
+-- what rounds make is sound
+still_sound : (f : Function) (r : Result Function AllocError) → Sound f → IfOk r (AreRounds 16 f) → IfOk r Sound
+still_sound f r sound made = IfOk-weaker r (AreRounds 16 f) Sound (λ g all. (are_better 16 f g sound all).0) made
+
+pub rounds_in_place-g-requires : goal.rounds_in_place-g-requires
+rounds_in_place-g-requires c =
     let set = c.in_ok-outside.outside in
     let none = empty_list set.keys (c.is_empty-none.ensures.0 c.if-none.true) in
     let own = sym (c.into_vec-blocks.ensures ∙ c.replace.ensures.value) in
@@ -22,10 +30,10 @@ rounds_in_place-requires c =
     }
 
 pub returns-then-none : goal.returns-then-none
-returns-then-none c = record { made = made; sound = (are_better 16 c.args.f c.in_ok-g.g c.requires.sound made).0 }
-  where
-    made : IsApplied c.args.f c.in_ok-g.g
-    made = subst (λ (bs : List Block). AreRounds 16 (with_blocks c.args.f bs) c.in_ok-g.g) (c.into_vec-blocks.ensures ∙ c.replace.ensures.value) c.in_ok-g.ensures
+returns-then-none c =
+    let made =
+    subst (λ (bs : List Block). IfOk c.rounds_in_place-g.result (AreRounds 16 (with_blocks c.args.f bs))) (c.into_vec-blocks.ensures ∙ c.replace.ensures.value) c.rounds_in_place-g.ensures in
+    record { made = made; sound = still_sound c.args.f c.rounds_in_place-g.result c.requires.sound made }
 
 pub returns : goal.returns
-returns c = record { made = c.in_ok-g-2.ensures; sound = (are_better 16 c.args.f c.in_ok-g-2.g c.requires.sound c.in_ok-g-2.ensures).0 }
+returns c = record { made = c.rounds.ensures; sound = still_sound c.args.f c.rounds.result c.requires.sound c.rounds.ensures }

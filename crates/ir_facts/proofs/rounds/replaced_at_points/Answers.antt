@@ -1,4 +1,6 @@
-use Rattle.std.proofs.Common.{ℕ, nat_eq, List, sym, ◌∙◌, ap, subst}
+use Rattle.std.proofs.Common.{◌≡◌, ℕ, nat_eq, List, sym, ◌∙◌, ap, subst}
+use Rattle.std.proofs.lemmas.Result.{IfOk-weaker}
+use Rattle.ir_tree.specs.declared.function.Function.{Function}
 use Rattle.std.specs.HashSet.{contains}
 use Rattle.ir_tree.specs.declared.operand.Operand.{Operand}
 use Rattle.ir_edit.specs.Substituted.{substituted}
@@ -18,6 +20,6 @@ returns c =
     let some = c.requires.some ∙ ap (resting among) c.requires.found in
     let others = c.as_slice.ensures.value ∙ c.in_ok-others.ensures ∙ ap (firm among) c.requires.found in
     let half = c.in_ok-h.ensures ∙ ap (λ (rs : List (ℕ × Operand)). substituted rs f) others in
-    subst (IsStep (candidate_of f) f)
-    (sym (c.in_ok-g.ensures ∙ (λ i. function_at (c.as_slice-2.ensures.value i) (half i))))
-    (step_at f c.requires.sound among c.requires.apart c.in_ok-facts.facts.items (c.in_ok-facts.ensures.listed ∙ some) c.in_ok-facts.ensures.each)
+    let step = step_at f c.requires.sound among c.requires.apart c.in_ok-facts.facts.items (c.in_ok-facts.ensures.listed ∙ some) c.in_ok-facts.ensures.each in
+    IfOk-weaker c.function_at-g.result (λ (g : Function). g ≡ function_at c.as_slice-2.result.now c.in_ok-h.h) (IsStep (candidate_of f) f)
+    (λ g e. subst (IsStep (candidate_of f) f) (sym (e ∙ (λ i. function_at (c.as_slice-2.ensures.value i) (half i)))) step) c.function_at-g.ensures

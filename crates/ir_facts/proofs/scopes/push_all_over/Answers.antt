@@ -1,4 +1,4 @@
-use Rattle.std.proofs.Common.{◌≡◌, suc, ◌+◌, ◌∷◌, drop, sym, ap, ◌∙◌, subst, arith}
+use Rattle.std.proofs.Common.{◌≡◌, refl, suc, ◌+◌, ◌∷◌, drop, sym, ap, ◌∙◌, subst, arith}
 use Rattle.std.proofs.Math.Seq.{drop-cons}
 use Rattle.std.specs.BTreeMap.{get}
 use Rattle.std.specs.Ordering.{nat_cmp}
@@ -7,6 +7,8 @@ use Rattle.ir_flow.specs.Dominating.{dominance}
 use Rattle.fact_sources.specs.Above.{is_above}
 use Rattle.fact_sources.specs.Askable.{BlocksHaveWidths}
 use Rattle.ir_facts.proofs.Clearing.{over_pushed}
+use Rattle.ir_facts.specs.Clear.{all_over}
+use Rattle.ir_facts.proofs.Walking.{walked}
 use Rattle.ir_facts.proofs.scopes.push_all_over.Goals as goal
 
 pub loop-block-preserved : goal.loop-block-preserved
@@ -25,3 +27,9 @@ loop-block-preserved c =
           c.loop-block.keys.items c.push_among.new.keys.items cut next c.in_ok-push_among.ensures
           ∙ c.loop-block.invariant.keys;
     }
+
+pub returns : goal.returns
+returns c =
+    walked (all_over (get nat_cmp c.args.places.now) (is_above (dominance c.args.above.now)) c.loop-block.place) c.args.blocks.now c.loop-block.block-index c.loop-block.keys.items refl
+    c.loop-block-test.false
+    ∙ c.loop-block.invariant.keys
