@@ -177,30 +177,30 @@ o:
     (
         "of seventeen sums the last stays",
         Pass::Optimised,
-        b"define i32 @f(i32 %0) {
-  %2 = add i32 1, 1
-  %3 = add i32 %2, 1
-  %4 = add i32 %3, 1
-  %5 = add i32 %4, 1
-  %6 = add i32 %5, 1
-  %7 = add i32 %6, 1
-  %8 = add i32 %7, 1
-  %9 = add i32 %8, 1
-  %10 = add i32 %9, 1
-  %11 = add i32 %10, 1
-  %12 = add i32 %11, 1
-  %13 = add i32 %12, 1
-  %14 = add i32 %13, 1
-  %15 = add i32 %14, 1
-  %16 = add i32 %15, 1
-  %17 = add i32 %16, 1
-  %18 = add i32 %17, 1
-  ret i32 %18
+        b"define i64 @f(i64 %0) {
+  %2 = add i64 1, 1
+  %3 = add i64 %2, 1
+  %4 = add i64 %3, 1
+  %5 = add i64 %4, 1
+  %6 = add i64 %5, 1
+  %7 = add i64 %6, 1
+  %8 = add i64 %7, 1
+  %9 = add i64 %8, 1
+  %10 = add i64 %9, 1
+  %11 = add i64 %10, 1
+  %12 = add i64 %11, 1
+  %13 = add i64 %12, 1
+  %14 = add i64 %13, 1
+  %15 = add i64 %14, 1
+  %16 = add i64 %15, 1
+  %17 = add i64 %16, 1
+  %18 = add i64 %17, 1
+  ret i64 %18
 }
 ",
-        b"define i32 @f(i32 %0) {
-  %2 = add i32 17, 1
-  ret i32 %2
+        b"define i64 @f(i64 %0) {
+  %2 = add i64 17, 1
+  ret i64 %2
 }
 ",
     ),

@@ -175,42 +175,42 @@ define i32 @g(i32 %0) {
     (
         "a second copy takes the next numbers",
         Pass::InlineTwice(1, 7),
-        b"define i32 @f(i32 %0) {
-  %2 = call i32 @g(i1 true, i32 %0)
-  %3 = call i32 @g(i1 false, i32 %2)
-  ret i32 %3
+        b"define i64 @f(i64 %0) {
+  %2 = call i64 @g(i1 true, i64 %0)
+  %3 = call i64 @g(i1 false, i64 %2)
+  ret i64 %3
 }
-define i32 @g(i1 %0, i32 %1) {
+define i64 @g(i1 %0, i64 %1) {
   br i1 %0, label %3, label %4
 3:
-  ret i32 %1
+  ret i64 %1
 4:
-  %5 = add i32 %1, 1
-  ret i32 %5
+  %5 = add i64 %1, 1
+  ret i64 %5
 }
 ",
-        b"define i32 @f(i32 %0) {
+        b"define i64 @f(i64 %0) {
   br label %4
 4:
   br i1 true, label %5, label %6
 5:
   br label %8
 6:
-  %7 = add i32 %0, 1
+  %7 = add i64 %0, 1
   br label %8
 8:
-  %2 = phi i32 [ %0, %5 ], [ %7, %6 ]
+  %2 = phi i64 [ %0, %5 ], [ %7, %6 ]
   br label %9
 9:
   br i1 false, label %10, label %11
 10:
   br label %13
 11:
-  %12 = add i32 %2, 1
+  %12 = add i64 %2, 1
   br label %13
 13:
-  %3 = phi i32 [ %2, %10 ], [ %12, %11 ]
-  ret i32 %3
+  %3 = phi i64 [ %2, %10 ], [ %12, %11 ]
+  ret i64 %3
 }
 ",
     ),
