@@ -83,6 +83,12 @@ narrowing_at op = do
   _ ← wraps_at
   casting_at op
 
+-- , reg operand
+unfoldable pub arm_at : Reader Tok Argument
+arm_at = do
+  _ ← the_at heads.Comma
+  argument_at
+
 -- behind the condition and the first arm
 abbrev pub other_at : Operand → Argument → Reader Tok Instr
 other_at condition one = do
@@ -127,6 +133,13 @@ align_at = pick (among tokens COMMA)
       _ ← the_at heads.Comma
       aligned_at)
     (done None)
+
+-- , ptr operand
+unfoldable pub pointed_at : Reader Tok Operand
+pointed_at = do
+  _ ← the_at heads.Comma
+  _ ← pointer_at
+  operand_at Ptr
 
 unfoldable pub loading_at : Reader Tok Instr
 loading_at = do

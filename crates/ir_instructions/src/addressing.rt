@@ -14,16 +14,14 @@ ghost use Rattle.ir_operands.specs.Listing.{put_at};
 ghost use Rattle.ir_operands.specs.ShapeForms.{NUMBER};
 ghost use Rattle.ir_read.specs.Shapes.{parts_of};
 
-use crate::instructions::{align_at, aligned_at};
+use crate::instructions::{align_at, aligned_at, pointed_at};
 use ir_lex::{Head, Token};
-use ir_operands::{
-    Listing, Measured, counted, memory_shape_at, operand_at, pointer_at, push, stepping_at,
-};
+use ir_operands::{Listing, Measured, counted, memory_shape_at, operand_at, push, stepping_at};
 use ir_read::{
     Argument, Instr, Operand, Shape, ShapeNode, Tokens, Typed, attached_at, done, expect,
     integer_at, refusal, reg_at,
 };
-use ir_tree::{Reg, Rows};
+use ir_tree::Rows;
 use lto_forms::{Fault, FaultKind, ReadError};
 use std::alloc::Global;
 
@@ -259,13 +257,12 @@ struct Based<'a> {
 }
 
 /// Reads `shape , ptr operand`.
+#[tactic(auto, using(crate::proofs::BehindCommas::based_is))]
 fn based_at<'a>(alloc: Global, tokens: &mut Tokens<'_, 'a>) -> Result<Based<'a>, ReadError>
     ensures { Gives (λ x. ((x.typed, x.base), tokens.new)) result (based_at tokens.old) }
 {
     let shape = memory_shape_at(alloc, tokens)?;
-    expect(Head::Comma, tokens)?;
-    pointer_at(tokens)?;
-    let base = operand_at(alloc, Reg::Ptr, tokens)?;
+    let base = pointed_at(alloc, tokens)?;
     done(Based {
         typed: shape.typed,
         base,

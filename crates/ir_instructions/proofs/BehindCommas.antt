@@ -1,0 +1,107 @@
+-- What stands behind commas, each read as one.
+use Rattle.std.proofs.Common.{◌≡◌, ℕ, List, Result, Ok, Err, refl, ◌∙◌}
+use Rattle.ir_lex.specs.declared.head.Head.TheVariants as heads
+use Rattle.ir_lex.specs.Tok.{Tok}
+use Rattle.ir_tree.specs.declared.operand.Reg.{Reg}
+use Rattle.ir_tree.specs.declared.operand.Reg.TheVariants.{Int, Ptr}
+use Rattle.lto_forms.specs.declared.fault.Fault.{Fault}
+use Rattle.lto_forms.specs.Readers.{Reader, done, follow, ◌>>=◌}
+use Rattle.ir_read.specs.Classes.{the_at}
+use Rattle.ir_read.specs.declared.raw.Argument.{Argument}
+use Rattle.ir_read.specs.declared.raw.Instr.{Instr}
+use Rattle.ir_read.specs.declared.raw.Instr.TheVariants as instrs
+use Rattle.ir_read.specs.declared.raw.Operand.{Operand}
+use Rattle.ir_read.specs.declared.raw.Terminator.{Terminator}
+use Rattle.ir_read.specs.declared.raw.Terminator.TheVariants as terminators
+use Rattle.ir_read.specs.declared.shape.Typed.{Typed}
+use Rattle.ir_read.specs.OperandsAt.{bit_at, integer_at, scalar_at}
+use Rattle.ir_operands.specs.ShapeFormsAt.{memory_shape_at}
+use Rattle.ir_operands.specs.ValuesAt.{argument_at, operand_at, pointer_at}
+use Rattle.ir_operands.proofs.Grouping.{grouped}
+use Rattle.ir_instructions.specs.AddressingAt.{based_at}
+use Rattle.ir_instructions.specs.InstructionsAt.{align_at, arm_at, arms_at, loading_at, other_at, pointed_at, selecting_at, stored_at, storing_at, storing_to_at}
+use Rattle.ir_instructions.specs.TerminatorsAt.{branch_at, branches_at, choosing_at, switched_at, switches_at, switching_at, target_at}
+
+-- an address behind a comma, and what follows it
+pointed_then : {B : Type 0} (k : Operand → Reader Tok B) (ts : List Tok) → follow (the_at heads.Comma ts) (λ _. pointer_at >>= λ _. operand_at Ptr >>= k) ≡ follow (pointed_at ts) k
+unfolding pointed_at
+pointed_then {B} k ts = by_comma (the_at heads.Comma ts)
+  where
+    by_pointer : (r : Result (Unit {0} × List Tok) Fault) → follow r (λ _. operand_at Ptr >>= k) ≡ follow (follow r (λ _. operand_at Ptr)) k
+    by_pointer (Ok x) = refl
+    by_pointer (Err e) = refl
+
+    by_comma : (r : Result (Unit {0} × List Tok) Fault) → follow r (λ _. pointer_at >>= λ _. operand_at Ptr >>= k) ≡ follow (follow r (λ _. pointer_at >>= λ _. operand_at Ptr)) k
+    by_comma (Ok x) = by_pointer (pointer_at x.1)
+    by_comma (Err e) = refl
+
+pub loading_is : (ts : List Tok) → loading_at ts ≡ follow (scalar_at ts) (λ r. pointed_at >>= λ address. align_at >>= λ n. done (instrs.Load r address n))
+unfolding loading_at
+loading_is ts = by_type (scalar_at ts)
+  where
+    by_type : (t : Result (Reg × List Tok) Fault) → follow t (λ r. the_at heads.Comma >>= λ _. pointer_at >>= λ _. operand_at Ptr >>= λ address. align_at >>= λ n. done (instrs.Load r address n)) ≡ follow t (λ r. pointed_at >>= λ address. align_at >>= λ n. done (instrs.Load r address n))
+    by_type (Ok x) = pointed_then (λ address. align_at >>= λ n. done (instrs.Load x.0 address n)) x.1
+    by_type (Err e) = refl
+
+pub storing_is : (ts : List Tok) → storing_at ts ≡ follow (scalar_at ts) (λ r. operand_at r >>= λ value. pointed_at >>= stored_at r value)
+unfolding storing_at
+storing_is ts = by_type (scalar_at ts)
+  where
+    by_value : (r : Reg) (t : Result (Operand × List Tok) Fault) → follow t (storing_to_at r) ≡ follow t (λ value. pointed_at >>= stored_at r value)
+    by_value r (Ok x) = pointed_then (stored_at r x.0) x.1
+    by_value r (Err e) = refl
+
+    by_type : (t : Result (Reg × List Tok) Fault) → follow t (λ r. operand_at r >>= storing_to_at r) ≡ follow t (λ r. operand_at r >>= λ value. pointed_at >>= stored_at r value)
+    by_type (Ok x) = by_value x.0 (operand_at x.0 x.1)
+    by_type (Err e) = refl
+
+pub based_is : (ts : List Tok) → based_at ts ≡ follow (memory_shape_at ts) (λ shape. pointed_at >>= λ base. done {A = Typed × Operand} (shape, base))
+based_is ts = by_shape (memory_shape_at ts)
+  where
+    by_shape : (t : Result (Typed × List Tok) Fault) → follow {B = Typed × Operand} t (λ shape. the_at heads.Comma >>= λ _. pointer_at >>= λ _. operand_at Ptr >>= λ base. done {A = Typed × Operand} (shape, base)) ≡ follow {B = Typed × Operand} t (λ shape. pointed_at >>= λ base. done {A = Typed × Operand} (shape, base))
+    by_shape (Ok x) = pointed_then {B = Typed × Operand} (λ base. done {A = Typed × Operand} (x.0, base)) x.1
+    by_shape (Err e) = refl
+
+pub selecting_is : (ts : List Tok) → selecting_at ts ≡ follow (bit_at ts) (λ w. operand_at (Int w) >>= λ condition. arm_at >>= λ one. arm_at >>= λ other. done (instrs.Select condition one other))
+unfolding selecting_at arm_at
+selecting_is ts = by_width (bit_at ts)
+  where
+    by_one : (condition : Operand) (t : Result (Argument × List Tok) Fault) → follow t (other_at condition) ≡ follow t (λ one. arm_at >>= λ other. done (instrs.Select condition one other))
+    by_one condition (Ok x) = grouped (λ _. argument_at) (λ other. done (instrs.Select condition x.0 other)) (the_at heads.Comma x.1)
+    by_one condition (Err e) = refl
+
+    by_condition : (t : Result (Operand × List Tok) Fault) → follow t arms_at ≡ follow t (λ condition. arm_at >>= λ one. arm_at >>= λ other. done (instrs.Select condition one other))
+    by_condition (Ok x) = grouped (λ _. argument_at) (other_at x.0) (the_at heads.Comma x.1) ∙ by_one x.0 (arm_at x.1)
+    by_condition (Err e) = refl
+
+    by_width : (t : Result (ℕ × List Tok) Fault) → follow t (λ w. operand_at (Int w) >>= arms_at) ≡ follow t (λ w. operand_at (Int w) >>= λ condition. arm_at >>= λ one. arm_at >>= λ other. done (instrs.Select condition one other))
+    by_width (Ok x) = by_condition (operand_at (Int x.0) x.1)
+    by_width (Err e) = refl
+
+pub choosing_is : (ts : List Tok) → choosing_at ts ≡ follow (bit_at ts) (λ w. operand_at (Int w) >>= λ condition. branch_at >>= λ if_true. branch_at >>= λ if_false. done (terminators.Branch condition if_true if_false))
+unfolding branch_at
+choosing_is ts = by_width (bit_at ts)
+  where
+    by_one : (condition : Operand) (t : Result (Tok × List Tok) Fault) → follow t (λ if_true. the_at heads.Comma >>= λ _. target_at >>= λ if_false. done (terminators.Branch condition if_true if_false)) ≡ follow t (λ if_true. branch_at >>= λ if_false. done (terminators.Branch condition if_true if_false))
+    by_one condition (Ok x) = grouped (λ _. target_at) (λ if_false. done (terminators.Branch condition x.0 if_false)) (the_at heads.Comma x.1)
+    by_one condition (Err e) = refl
+
+    by_condition : (t : Result (Operand × List Tok) Fault) → follow t branches_at ≡ follow t (λ condition. branch_at >>= λ if_true. branch_at >>= λ if_false. done (terminators.Branch condition if_true if_false))
+    by_condition (Ok x) = grouped (λ _. target_at) (λ if_true. the_at heads.Comma >>= λ _. target_at >>= λ if_false. done (terminators.Branch x.0 if_true if_false)) (the_at heads.Comma x.1) ∙ by_one x.0 (branch_at x.1)
+    by_condition (Err e) = refl
+
+    by_width : (t : Result (ℕ × List Tok) Fault) → follow t (λ w. operand_at (Int w) >>= branches_at) ≡ follow t (λ w. operand_at (Int w) >>= λ condition. branch_at >>= λ if_true. branch_at >>= λ if_false. done (terminators.Branch condition if_true if_false))
+    by_width (Ok x) = by_condition (operand_at (Int x.0) x.1)
+    by_width (Err e) = refl
+
+pub switching_is : (ts : List Tok) → switching_at ts ≡ follow (integer_at ts) (λ w. operand_at (Int w) >>= λ value. branch_at >>= switched_at w value)
+unfolding switching_at branch_at
+switching_is ts = by_width (integer_at ts)
+  where
+    by_value : (w : ℕ) (t : Result (Operand × List Tok) Fault) → follow t (switches_at w) ≡ follow t (λ value. branch_at >>= switched_at w value)
+    by_value w (Ok x) = grouped (λ _. target_at) (switched_at w x.0) (the_at heads.Comma x.1)
+    by_value w (Err e) = refl
+
+    by_width : (t : Result (ℕ × List Tok) Fault) → follow t (λ w. operand_at (Int w) >>= switches_at w) ≡ follow t (λ w. operand_at (Int w) >>= λ value. branch_at >>= switched_at w value)
+    by_width (Ok x) = by_value x.0 (operand_at (Int x.0) x.1)
+    by_width (Err e) = refl
