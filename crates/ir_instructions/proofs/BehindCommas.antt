@@ -1,5 +1,5 @@
 -- What stands behind commas, each read as one.
-use Rattle.std.proofs.Common.{◌≡◌, ℕ, List, Result, Ok, Err, refl, ◌∙◌}
+use Rattle.std.proofs.Common.{◌≡◌, ℕ, Bool, List, Result, Ok, Err, refl, ◌∙◌}
 use Rattle.ir_lex.specs.declared.head.Head.TheVariants as heads
 use Rattle.ir_lex.specs.Tok.{Tok}
 use Rattle.ir_tree.specs.declared.operand.Reg.{Reg}
@@ -8,17 +8,15 @@ use Rattle.lto_forms.specs.declared.fault.Fault.{Fault}
 use Rattle.lto_forms.specs.Readers.{Reader, done, follow, ◌>>=◌}
 use Rattle.ir_read.specs.Classes.{the_at}
 use Rattle.ir_read.specs.declared.raw.Argument.{Argument}
-use Rattle.ir_read.specs.declared.raw.Instr.{Instr}
 use Rattle.ir_read.specs.declared.raw.Instr.TheVariants as instrs
 use Rattle.ir_read.specs.declared.raw.Operand.{Operand}
-use Rattle.ir_read.specs.declared.raw.Terminator.{Terminator}
 use Rattle.ir_read.specs.declared.raw.Terminator.TheVariants as terminators
 use Rattle.ir_read.specs.declared.shape.Typed.{Typed}
 use Rattle.ir_read.specs.OperandsAt.{bit_at, integer_at, scalar_at}
 use Rattle.ir_operands.specs.ShapeFormsAt.{memory_shape_at}
-use Rattle.ir_operands.specs.ValuesAt.{argument_at, operand_at, pointer_at}
+use Rattle.ir_operands.specs.ValuesAt.{argument_at, operand_at, pointer_at, stepping_at}
 use Rattle.ir_operands.proofs.Grouping.{grouped}
-use Rattle.ir_instructions.specs.AddressingAt.{based_at}
+use Rattle.ir_instructions.specs.AddressingAt.{addressing_at, stepped_at, stepped_from_at, stepping_by_at}
 use Rattle.ir_instructions.specs.InstructionsAt.{align_at, arm_at, arms_at, loading_at, other_at, pointed_at, selecting_at, stored_at, storing_at, storing_to_at}
 use Rattle.ir_instructions.specs.TerminatorsAt.{branch_at, branches_at, choosing_at, switched_at, switches_at, switching_at, target_at}
 
@@ -55,12 +53,17 @@ storing_is ts = by_type (scalar_at ts)
     by_type (Ok x) = by_value x.0 (operand_at x.0 x.1)
     by_type (Err e) = refl
 
-pub based_is : (ts : List Tok) → based_at ts ≡ follow (memory_shape_at ts) (λ shape. pointed_at >>= λ base. done {A = Typed × Operand} (shape, base))
-based_is ts = by_shape (memory_shape_at ts)
+pub addressing_is : (ts : List Tok) → addressing_at ts ≡ follow (stepping_at ts) (λ inbounds. memory_shape_at >>= stepped_from_at inbounds)
+unfolding addressing_at stepped_from_at
+addressing_is ts = by_flags (stepping_at ts)
   where
-    by_shape : (t : Result (Typed × List Tok) Fault) → follow {B = Typed × Operand} t (λ shape. the_at heads.Comma >>= λ _. pointer_at >>= λ _. operand_at Ptr >>= λ base. done {A = Typed × Operand} (shape, base)) ≡ follow {B = Typed × Operand} t (λ shape. pointed_at >>= λ base. done {A = Typed × Operand} (shape, base))
-    by_shape (Ok x) = pointed_then {B = Typed × Operand} (λ base. done {A = Typed × Operand} (x.0, base)) x.1
-    by_shape (Err e) = refl
+    by_shape : (i : Bool) (t : Result (Typed × List Tok) Fault) → follow t (stepping_by_at i) ≡ follow t (stepped_from_at i)
+    by_shape i (Ok x) = pointed_then (stepped_at i x.0) x.1
+    by_shape i (Err e) = refl
+
+    by_flags : (t : Result (Bool × List Tok) Fault) → follow t (λ i. memory_shape_at >>= stepping_by_at i) ≡ follow t (λ i. memory_shape_at >>= stepped_from_at i)
+    by_flags (Ok x) = by_shape x.0 (memory_shape_at x.1)
+    by_flags (Err e) = refl
 
 pub selecting_is : (ts : List Tok) → selecting_at ts ≡ follow (bit_at ts) (λ w. operand_at (Int w) >>= λ condition. arm_at >>= λ one. arm_at >>= λ other. done (instrs.Select condition one other))
 unfolding selecting_at arm_at

@@ -321,17 +321,26 @@ fn behind_end_into<'a>(
     }
 }
 
-/// Reads a terminator and its attachments.
+/// Reads a terminator and its attachments into this place; the answer is its line.
 #[tactic(auto, unfolding(crate::specs::TerminatorsAt::terminator_at))]
+fn terminator_into<'a>(
+    alloc: Global,
+    place: &mut Terminator<'a>,
+    tokens: &mut Tokens<'_, 'a>,
+) -> Result<u32, ReadError>
+    ensures { Gives (λ line. (record { terminator = place.new; line = line }, tokens.new)) result (terminator_at tokens.old) }
+{
+    let ending = ending_at(tokens)?;
+    behind_end_into(alloc, ending.end, place, tokens)?;
+    attachments_at(alloc, tokens)?;
+    Ok(ending.line)
+}
+
+/// Reads a terminator and its attachments.
 pub fn terminator_at<'a>(alloc: Global, tokens: &mut Tokens<'_, 'a>) -> Result<Ended<'a>, ReadError>
     ensures { Gives (λ x. (x, tokens.new)) result (terminator_at tokens.old) }
 {
-    let ending = ending_at(tokens)?;
     let mut terminator = Terminator::Unreachable;
-    behind_end_into(alloc, ending.end, &mut terminator, tokens)?;
-    attachments_at(alloc, tokens)?;
-    done(Ended {
-        terminator,
-        line: ending.line,
-    })
+    let line = terminator_into(alloc, &mut terminator, tokens)?;
+    done(Ended { terminator, line })
 }
