@@ -274,7 +274,6 @@ fn arm_at<'a>(alloc: Global, tokens: &mut Tokens<'_, 'a>) -> Result<Argument<'a>
 }
 
 /// Reads what follows `select`.
-#[tactic(auto, using(crate::proofs::BehindCommas::selecting_is))]
 pub fn selecting_into<'a>(
     alloc: Global,
     list: &mut Listing<'a>,
@@ -348,7 +347,6 @@ pub fn pointed_at<'a>(alloc: Global, tokens: &mut Tokens<'_, 'a>) -> Result<Oper
 }
 
 /// Reads what follows `load`.
-#[tactic(auto, using(crate::proofs::BehindCommas::loading_is))]
 pub fn loading_into<'a>(
     alloc: Global,
     list: &mut Listing<'a>,
@@ -367,7 +365,6 @@ pub fn loading_into<'a>(
 }
 
 /// Reads what follows `store`.
-#[tactic(auto, using(crate::proofs::BehindCommas::storing_is))]
 pub fn storing_into<'a>(
     alloc: Global,
     list: &mut Listing<'a>,

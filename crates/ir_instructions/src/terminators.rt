@@ -98,7 +98,6 @@ fn branch_at<'a>(tokens: &mut Tokens<'_, 'a>) -> Result<Name<'a>, ReadError>
 }
 
 /// Reads `i1 operand , label Local , label Local`.
-#[tactic(auto, using(crate::proofs::BehindCommas::choosing_is))]
 fn choosing_into<'a>(
     alloc: Global,
     place: &mut Terminator<'a>,
@@ -237,7 +236,6 @@ fn end_of_cases_at(tokens: &mut Tokens) -> Result<(), ReadError>
 }
 
 /// Reads what follows `switch`.
-#[tactic(auto, using(crate::proofs::BehindCommas::switching_is))]
 fn switching_into<'a>(
     alloc: Global,
     place: &mut Terminator<'a>,
