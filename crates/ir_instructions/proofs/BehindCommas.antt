@@ -2,23 +2,59 @@
 use Rattle.std.proofs.Common.{◌≡◌, ℕ, Bool, List, Result, Ok, Err, refl, ◌∙◌}
 use Rattle.ir_lex.specs.declared.head.Head.TheVariants as heads
 use Rattle.ir_lex.specs.Tok.{Tok}
+use Rattle.ir_tree.specs.declared.instr.BinaryOp.{BinaryOp}
+use Rattle.ir_tree.specs.declared.instr.Flags.{Flags}
+use Rattle.ir_tree.specs.declared.instr.Predicate.{Predicate}
 use Rattle.ir_tree.specs.declared.operand.Reg.{Reg}
 use Rattle.ir_tree.specs.declared.operand.Reg.TheVariants.{Int, Ptr}
 use Rattle.lto_forms.specs.declared.fault.Fault.{Fault}
 use Rattle.lto_forms.specs.Readers.{Reader, done, follow, ◌>>=◌}
-use Rattle.ir_read.specs.Classes.{the_at}
+use Rattle.ir_read.specs.Classes.{one_of_at, the_at}
 use Rattle.ir_read.specs.declared.raw.Argument.{Argument}
 use Rattle.ir_read.specs.declared.raw.Instr.TheVariants as instrs
 use Rattle.ir_read.specs.declared.raw.Operand.{Operand}
 use Rattle.ir_read.specs.declared.raw.Terminator.TheVariants as terminators
 use Rattle.ir_read.specs.declared.shape.Typed.{Typed}
-use Rattle.ir_read.specs.OperandsAt.{bit_at, integer_at, scalar_at}
+use Rattle.ir_read.specs.OperandsAt.{bit_at, integer_at, maybe_at, reg_at, scalar_at}
 use Rattle.ir_operands.specs.ShapeFormsAt.{memory_shape_at}
 use Rattle.ir_operands.specs.ValuesAt.{argument_at, operand_at, pointer_at, stepping_at}
 use Rattle.ir_operands.proofs.Grouping.{grouped}
 use Rattle.ir_instructions.specs.AddressingAt.{addressing_at, stepped_at, stepped_from_at, stepping_by_at}
-use Rattle.ir_instructions.specs.InstructionsAt.{align_at, arm_at, arms_at, loading_at, other_at, pointed_at, selecting_at, stored_at, storing_at, storing_to_at}
+use Rattle.ir_instructions.specs.Instructions.{PREDICATES, predicate_of}
+use Rattle.ir_instructions.specs.InstructionsAt.{align_at, arm_at, arms_at, comparing_at, loading_at, on_two_at, other_at, pointed_at, second_at, selecting_at, stored_at, storing_at, storing_to_at}
 use Rattle.ir_instructions.specs.TerminatorsAt.{branch_at, branches_at, choosing_at, switched_at, switches_at, switching_at, target_at}
+
+pub on_two_is : (op : BinaryOp) (f : Flags) (ts : List Tok) → on_two_at op f ts ≡ follow (integer_at ts) (λ w. operand_at (Int w) >>= λ left. second_at (Int w) >>= λ right. done (instrs.Binary op f w left right))
+unfolding on_two_at second_at
+on_two_is op f ts = by_width (integer_at ts)
+  where
+    by_left : (w : ℕ) (t : Result (Operand × List Tok) Fault) → follow t (λ left. the_at heads.Comma >>= λ _. operand_at (Int w) >>= λ right. done (instrs.Binary op f w left right)) ≡ follow t (λ left. second_at (Int w) >>= λ right. done (instrs.Binary op f w left right))
+    by_left w (Ok x) = grouped (λ _. operand_at (Int w)) (λ right. done (instrs.Binary op f w x.0 right)) (the_at heads.Comma x.1)
+    by_left w (Err e) = refl
+
+    by_width : (t : Result (ℕ × List Tok) Fault) → follow t (λ w. operand_at (Int w) >>= λ left. the_at heads.Comma >>= λ _. operand_at (Int w) >>= λ right. done (instrs.Binary op f w left right)) ≡ follow t (λ w. operand_at (Int w) >>= λ left. second_at (Int w) >>= λ right. done (instrs.Binary op f w left right))
+    by_width (Ok x) = by_left x.0 (operand_at (Int x.0) x.1)
+    by_width (Err e) = refl
+
+pub comparing_is : (ts : List Tok) → comparing_at ts ≡ follow (maybe_at heads.Samesign ts) (λ _. one_of_at PREDICATES predicate_of >>= λ p. reg_at >>= λ r. operand_at r >>= λ left. second_at r >>= λ right. done (instrs.Icmp p r left right))
+unfolding comparing_at second_at
+comparing_is ts = by_sign (maybe_at heads.Samesign ts)
+  where
+    by_left : (p : Predicate) (r : Reg) (t : Result (Operand × List Tok) Fault) → follow t (λ left. the_at heads.Comma >>= λ _. operand_at r >>= λ right. done (instrs.Icmp p r left right)) ≡ follow t (λ left. second_at r >>= λ right. done (instrs.Icmp p r left right))
+    by_left p r (Ok x) = grouped (λ _. operand_at r) (λ right. done (instrs.Icmp p r x.0 right)) (the_at heads.Comma x.1)
+    by_left p r (Err e) = refl
+
+    by_type : (p : Predicate) (t : Result (Reg × List Tok) Fault) → follow t (λ r. operand_at r >>= λ left. the_at heads.Comma >>= λ _. operand_at r >>= λ right. done (instrs.Icmp p r left right)) ≡ follow t (λ r. operand_at r >>= λ left. second_at r >>= λ right. done (instrs.Icmp p r left right))
+    by_type p (Ok x) = by_left p x.0 (operand_at x.0 x.1)
+    by_type p (Err e) = refl
+
+    by_predicate : (t : Result (Predicate × List Tok) Fault) → follow t (λ p. reg_at >>= λ r. operand_at r >>= λ left. the_at heads.Comma >>= λ _. operand_at r >>= λ right. done (instrs.Icmp p r left right)) ≡ follow t (λ p. reg_at >>= λ r. operand_at r >>= λ left. second_at r >>= λ right. done (instrs.Icmp p r left right))
+    by_predicate (Ok x) = by_type x.0 (reg_at x.1)
+    by_predicate (Err e) = refl
+
+    by_sign : (t : Result (Bool × List Tok) Fault) → follow t (λ _. one_of_at PREDICATES predicate_of >>= λ p. reg_at >>= λ r. operand_at r >>= λ left. the_at heads.Comma >>= λ _. operand_at r >>= λ right. done (instrs.Icmp p r left right)) ≡ follow t (λ _. one_of_at PREDICATES predicate_of >>= λ p. reg_at >>= λ r. operand_at r >>= λ left. second_at r >>= λ right. done (instrs.Icmp p r left right))
+    by_sign (Ok x) = by_predicate (one_of_at PREDICATES predicate_of x.1)
+    by_sign (Err e) = refl
 
 -- an address behind a comma, and what follows it
 pointed_then : {B : Type 0} (k : Operand → Reader Tok B) (ts : List Tok) → follow (the_at heads.Comma ts) (λ _. pointer_at >>= λ _. operand_at Ptr >>= k) ≡ follow (pointed_at ts) k

@@ -32,6 +32,12 @@ wraps_at = do
   fs ← star_at (among tokens WRAPS) (one_of_at WRAPS is_nuw)
   done (fold with_wrap no_flags fs)
 
+-- , operand
+unfoldable pub second_at : Reg → Reader Tok Operand
+second_at r = do
+  _ ← the_at heads.Comma
+  operand_at r
+
 unfoldable pub on_two_at : BinaryOp → Flags → Reader Tok Instr
 on_two_at op f = do
   w ← integer_at

@@ -271,7 +271,6 @@ fn stepped_from_into<'a>(
 }
 
 /// Reads what follows `getelementptr`.
-#[tactic(auto, using(crate::proofs::BehindCommas::addressing_is))]
 pub fn addressing_into<'a>(
     alloc: Global,
     list: &mut Listing<'a>,

@@ -7,9 +7,10 @@ ghost use Rattle.ir_lex.specs.Tok.{tok};
 ghost use Rattle.lto_forms.specs.Rules.{is_among};
 ghost use Rattle.ir_read.specs.Ahead.{WRAPS};
 ghost use Rattle.ir_read.specs.Classes.{tokens, refusal, one_of_at};
+ghost use Rattle.ir_read.specs.Operands.{IsReg};
 ghost use Rattle.ir_instructions.specs.Instructions.{is_nuw, with_wrap, no_flags, PREDICATES, predicate_of};
 ghost use Rattle.ir_operands.specs.Listing.{put_at};
-ghost use Rattle.ir_instructions.specs.InstructionsAt.{arm_at, pointed_at, wraps_at, on_two_at, wrapping_at, dividing_at, joining_at, comparing_at, casting_at, extending_at, narrowing_at, selecting_at, freezing_at, aligned_at, align_at, loading_at, storing_at};
+ghost use Rattle.ir_instructions.specs.InstructionsAt.{arm_at, pointed_at, second_at, wraps_at, on_two_at, wrapping_at, dividing_at, joining_at, comparing_at, casting_at, extending_at, narrowing_at, selecting_at, freezing_at, aligned_at, align_at, loading_at, storing_at};
 
 use ir_lex::{Head, Token};
 use ir_operands::{Listing, operand_at, pointer_at};
@@ -78,8 +79,21 @@ fn wraps_at(tokens: &mut Tokens) -> Result<Flags, ReadError>
     Ok(flags)
 }
 
+/// Reads `, operand`.
+#[tactic(auto, unfolding(crate::specs::InstructionsAt::second_at))]
+fn second_at<'a>(
+    alloc: Global,
+    reg: Reg,
+    tokens: &mut Tokens<'_, 'a>,
+) -> Result<Operand<'a>, ReadError>
+    requires { IsReg reg }
+    ensures { Gives (λ x. (x, tokens.new)) result (second_at reg tokens.old) }
+{
+    expect(Head::Comma, tokens)?;
+    operand_at(alloc, reg, tokens)
+}
+
 /// Reads `iN operand , operand`.
-#[tactic(auto, unfolding(crate::specs::InstructionsAt::on_two_at))]
 pub fn on_two_into<'a>(
     alloc: Global,
     op: BinaryOp,
@@ -91,8 +105,7 @@ pub fn on_two_into<'a>(
 {
     let width = integer_at(tokens)?;
     let left = operand_at(alloc, Reg::Int(width), tokens)?;
-    expect(Head::Comma, tokens)?;
-    let right = operand_at(alloc, Reg::Int(width), tokens)?;
+    let right = second_at(alloc, Reg::Int(width), tokens)?;
     list.put(Instr::Binary {
         op,
         flags,
@@ -190,7 +203,6 @@ fn predicate_at(tokens: &mut Tokens) -> Result<Predicate, ReadError>
 }
 
 /// Reads what follows `icmp`.
-#[tactic(auto, unfolding(crate::specs::InstructionsAt::comparing_at))]
 pub fn comparing_into<'a>(
     alloc: Global,
     list: &mut Listing<'a>,
@@ -202,8 +214,7 @@ pub fn comparing_into<'a>(
     let predicate = predicate_at(tokens)?;
     let reg = reg_at(tokens)?;
     let left = operand_at(alloc, reg, tokens)?;
-    expect(Head::Comma, tokens)?;
-    let right = operand_at(alloc, reg, tokens)?;
+    let right = second_at(alloc, reg, tokens)?;
     list.put(Instr::Icmp {
         predicate,
         reg,
