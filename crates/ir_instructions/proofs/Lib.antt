@@ -1,5 +1,6 @@
 mod Counts
 pub mod AddressingRules
+pub mod BehindCommas
 pub mod Grouping
 pub mod InstructionRules
 pub mod MemoryRules

@@ -18,7 +18,7 @@ use Rattle.ir_read.specs.declared.raw.Instr.TheVariants as instrs
 use Rattle.ir_read.specs.declared.raw.Operand.{Operand}
 use Rattle.ir_read.specs.declared.shape.Typed.{Typed}
 use Rattle.ir_instructions.specs.Addressing.{slots, slots_fit, is_count, keep}
-use Rattle.ir_instructions.specs.InstructionsAt.{aligned_at, align_at}
+use Rattle.ir_instructions.specs.InstructionsAt.{aligned_at, align_at, pointed_at}
 use Rattle.ir_read.specs.Metadata.{META}
 use Rattle.ir_read.specs.MetadataAt.{COMMA, attached_at}
 use Rattle.ir_read.specs.OperandsAt.{integer_at}
@@ -111,14 +111,11 @@ stepping_by_at inbounds typed = do
   base ← operand_at Ptr
   stepped_at inbounds typed base
 
--- the shape, and the address that is stepped from
-abbrev pub based_at : Reader Tok (Typed × Operand)
-based_at = do
-  typed ← memory_shape_at
-  _ ← the_at heads.Comma
-  _ ← pointer_at
-  base ← operand_at Ptr
-  done (typed, base)
+-- , ptr operand, and the indices
+unfoldable pub stepped_from_at : Bool → Typed → Reader Tok Instr
+stepped_from_at inbounds typed = do
+  base ← pointed_at
+  stepped_at inbounds typed base
 
 unfoldable pub addressing_at : Reader Tok Instr
 addressing_at = do

@@ -32,6 +32,12 @@ wraps_at = do
   fs ← star_at (among tokens WRAPS) (one_of_at WRAPS is_nuw)
   done (fold with_wrap no_flags fs)
 
+-- , operand
+unfoldable pub second_at : Reg → Reader Tok Operand
+second_at r = do
+  _ ← the_at heads.Comma
+  operand_at r
+
 unfoldable pub on_two_at : BinaryOp → Flags → Reader Tok Instr
 on_two_at op f = do
   w ← integer_at
@@ -83,6 +89,12 @@ narrowing_at op = do
   _ ← wraps_at
   casting_at op
 
+-- , reg operand
+unfoldable pub arm_at : Reader Tok Argument
+arm_at = do
+  _ ← the_at heads.Comma
+  argument_at
+
 -- behind the condition and the first arm
 abbrev pub other_at : Operand → Argument → Reader Tok Instr
 other_at condition one = do
@@ -127,6 +139,13 @@ align_at = pick (among tokens COMMA)
       _ ← the_at heads.Comma
       aligned_at)
     (done None)
+
+-- , ptr operand
+unfoldable pub pointed_at : Reader Tok Operand
+pointed_at = do
+  _ ← the_at heads.Comma
+  _ ← pointer_at
+  operand_at Ptr
 
 unfoldable pub loading_at : Reader Tok Instr
 loading_at = do

@@ -42,6 +42,12 @@ target_at = do
   _ ← the_at heads.LabelType
   local_at
 
+-- , label Local
+unfoldable pub branch_at : Reader Tok Tok
+branch_at = do
+  _ ← the_at heads.Comma
+  target_at
+
 -- behind the condition
 abbrev pub branches_at : Operand → Reader Tok Terminator
 branches_at condition = do

@@ -6,7 +6,7 @@ ghost use Rattle.lto_forms.specs.Alphabet.{among};
 ghost use Rattle.lto_forms.specs.Readers.{Gives};
 ghost use Rattle.ir_operands.specs.Adding.{gathered_at};
 ghost use Rattle.ir_instructions.specs.Addressing.{keep, slots_fit};
-ghost use Rattle.ir_instructions.specs.AddressingAt.{addressing_at, based_at, behind_comma_at, count_in_at, count_means, further_at, indices_at, many_slots_at, one_slot_at, reserving_at, slots_at, slots_behind_at};
+ghost use Rattle.ir_instructions.specs.AddressingAt.{addressing_at, behind_comma_at, count_in_at, count_means, further_at, indices_at, many_slots_at, one_slot_at, reserving_at, slots_at, slots_behind_at, stepped_from_at};
 ghost use Rattle.ir_read.specs.Classes.{tokens};
 ghost use Rattle.ir_operands.specs.Extents.{all_nest_within, extent_of, nests_within};
 ghost use Rattle.ir_read.specs.Literals.{IsWidth};
@@ -14,16 +14,14 @@ ghost use Rattle.ir_operands.specs.Listing.{put_at};
 ghost use Rattle.ir_operands.specs.ShapeForms.{NUMBER};
 ghost use Rattle.ir_read.specs.Shapes.{parts_of};
 
-use crate::instructions::{align_at, aligned_at};
+use crate::instructions::{align_at, aligned_at, pointed_at};
 use ir_lex::{Head, Token};
-use ir_operands::{
-    Listing, Measured, counted, memory_shape_at, operand_at, pointer_at, push, stepping_at,
-};
+use ir_operands::{Listing, Measured, counted, memory_shape_at, operand_at, push, stepping_at};
 use ir_read::{
-    Argument, Instr, Operand, Shape, ShapeNode, Tokens, Typed, attached_at, done, expect,
-    integer_at, refusal, reg_at,
+    Argument, Instr, Shape, ShapeNode, Tokens, Typed, attached_at, expect, integer_at, refusal,
+    reg_at,
 };
-use ir_tree::{Reg, Rows};
+use ir_tree::Rows;
 use lto_forms::{Fault, FaultKind, ReadError};
 use std::alloc::Global;
 
@@ -251,29 +249,28 @@ fn indices_at<'a>(
     Ok(indices)
 }
 
-/// The shape that a `getelementptr` steps through, and the address that it steps from.
-#[derive(Drop)]
-struct Based<'a> {
+/// Reads `, ptr operand` and the indices, behind a shape.
+#[tactic(auto, unfolding(crate::specs::AddressingAt::stepped_from_at))]
+fn stepped_from_into<'a>(
+    alloc: Global,
+    inbounds: bool,
     typed: Typed<'a>,
-    base: Operand<'a>,
-}
-
-/// Reads `shape , ptr operand`.
-fn based_at<'a>(alloc: Global, tokens: &mut Tokens<'_, 'a>) -> Result<Based<'a>, ReadError>
-    ensures { Gives (λ x. ((x.typed, x.base), tokens.new)) result (based_at tokens.old) }
+    list: &mut Listing<'a>,
+    tokens: &mut Tokens<'_, 'a>,
+) -> Result<(), ReadError>
+    ensures { Gives (λ _. (list.new.lines.items, tokens.new)) result (put_at list.old (stepped_from_at inbounds typed.entry) tokens.old) }
 {
-    let shape = memory_shape_at(alloc, tokens)?;
-    expect(Head::Comma, tokens)?;
-    pointer_at(tokens)?;
-    let base = operand_at(alloc, Reg::Ptr, tokens)?;
-    done(Based {
-        typed: shape.typed,
+    let base = pointed_at(alloc, tokens)?;
+    let indices = indices_at(alloc, tokens)?;
+    list.put(Instr::Address {
+        inbounds,
+        typed,
         base,
+        indices: Rows::of(indices),
     })
 }
 
 /// Reads what follows `getelementptr`.
-#[tactic(auto, using(crate::proofs::Grouping::addressing_is))]
 pub fn addressing_into<'a>(
     alloc: Global,
     list: &mut Listing<'a>,
@@ -282,12 +279,6 @@ pub fn addressing_into<'a>(
     ensures { Gives (λ _. (list.new.lines.items, tokens.new)) result (put_at list.old addressing_at tokens.old) }
 {
     let inbounds = stepping_at(tokens)?;
-    let based = based_at(alloc, tokens)?;
-    let indices = indices_at(alloc, tokens)?;
-    list.put(Instr::Address {
-        inbounds,
-        typed: based.typed,
-        base: based.base,
-        indices: Rows::of(indices),
-    })
+    let shape = memory_shape_at(alloc, tokens)?;
+    stepped_from_into(alloc, inbounds, shape.typed, list, tokens)
 }

@@ -7,15 +7,16 @@ ghost use Rattle.ir_lex.specs.Tok.{tok};
 ghost use Rattle.lto_forms.specs.Rules.{is_among};
 ghost use Rattle.ir_read.specs.Ahead.{WRAPS};
 ghost use Rattle.ir_read.specs.Classes.{tokens, refusal, one_of_at};
+ghost use Rattle.ir_read.specs.Operands.{IsReg};
 ghost use Rattle.ir_instructions.specs.Instructions.{is_nuw, with_wrap, no_flags, PREDICATES, predicate_of};
 ghost use Rattle.ir_operands.specs.Listing.{put_at};
-ghost use Rattle.ir_instructions.specs.InstructionsAt.{wraps_at, on_two_at, wrapping_at, dividing_at, joining_at, comparing_at, casting_at, extending_at, narrowing_at, selecting_at, freezing_at, aligned_at, align_at, loading_at, storing_at};
+ghost use Rattle.ir_instructions.specs.InstructionsAt.{arm_at, pointed_at, second_at, wraps_at, on_two_at, wrapping_at, dividing_at, joining_at, comparing_at, casting_at, extending_at, narrowing_at, selecting_at, freezing_at, aligned_at, align_at, loading_at, storing_at};
 
 use ir_lex::{Head, Token};
 use ir_operands::{Listing, operand_at, pointer_at};
 use ir_read::{
-    Argument, Instr, Tokens, alignment_at, attached_at, attachments_at, bit_at, expect, integer_at,
-    maybe_at, refusal, reg_at, scalar_at,
+    Argument, Instr, Operand, Tokens, alignment_at, attached_at, attachments_at, bit_at, expect,
+    integer_at, maybe_at, refusal, reg_at, scalar_at,
 };
 use ir_tree::{BinaryOp, CastOp, Flags, Predicate, Reg};
 use lto_forms::{Fault, FaultKind, ReadError};
@@ -78,8 +79,21 @@ fn wraps_at(tokens: &mut Tokens) -> Result<Flags, ReadError>
     Ok(flags)
 }
 
+/// Reads `, operand`.
+#[tactic(auto, unfolding(crate::specs::InstructionsAt::second_at))]
+fn second_at<'a>(
+    alloc: Global,
+    reg: Reg,
+    tokens: &mut Tokens<'_, 'a>,
+) -> Result<Operand<'a>, ReadError>
+    requires { IsReg reg }
+    ensures { Gives (λ x. (x, tokens.new)) result (second_at reg tokens.old) }
+{
+    expect(Head::Comma, tokens)?;
+    operand_at(alloc, reg, tokens)
+}
+
 /// Reads `iN operand , operand`.
-#[tactic(auto, unfolding(crate::specs::InstructionsAt::on_two_at))]
 pub fn on_two_into<'a>(
     alloc: Global,
     op: BinaryOp,
@@ -91,8 +105,7 @@ pub fn on_two_into<'a>(
 {
     let width = integer_at(tokens)?;
     let left = operand_at(alloc, Reg::Int(width), tokens)?;
-    expect(Head::Comma, tokens)?;
-    let right = operand_at(alloc, Reg::Int(width), tokens)?;
+    let right = second_at(alloc, Reg::Int(width), tokens)?;
     list.put(Instr::Binary {
         op,
         flags,
@@ -190,7 +203,6 @@ fn predicate_at(tokens: &mut Tokens) -> Result<Predicate, ReadError>
 }
 
 /// Reads what follows `icmp`.
-#[tactic(auto, unfolding(crate::specs::InstructionsAt::comparing_at))]
 pub fn comparing_into<'a>(
     alloc: Global,
     list: &mut Listing<'a>,
@@ -202,8 +214,7 @@ pub fn comparing_into<'a>(
     let predicate = predicate_at(tokens)?;
     let reg = reg_at(tokens)?;
     let left = operand_at(alloc, reg, tokens)?;
-    expect(Head::Comma, tokens)?;
-    let right = operand_at(alloc, reg, tokens)?;
+    let right = second_at(alloc, reg, tokens)?;
     list.put(Instr::Icmp {
         predicate,
         reg,
@@ -262,8 +273,18 @@ pub fn narrowing_into<'a>(
     casting_into(alloc, op, list, tokens)
 }
 
+/// Reads `, reg operand`.
+#[tactic(auto, unfolding(crate::specs::InstructionsAt::arm_at, ir_operands::specs::ValuesAt::argument_at))]
+fn arm_at<'a>(alloc: Global, tokens: &mut Tokens<'_, 'a>) -> Result<Argument<'a>, ReadError>
+    ensures { Gives (λ x. (x, tokens.new)) result (arm_at tokens.old) }
+{
+    expect(Head::Comma, tokens)?;
+    let reg = reg_at(tokens)?;
+    let operand = operand_at(alloc, reg, tokens)?;
+    Ok(Argument { reg, operand })
+}
+
 /// Reads what follows `select`.
-#[tactic(auto, unfolding(crate::specs::InstructionsAt::selecting_at, ir_operands::specs::ValuesAt::argument_at))]
 pub fn selecting_into<'a>(
     alloc: Global,
     list: &mut Listing<'a>,
@@ -273,14 +294,8 @@ pub fn selecting_into<'a>(
 {
     let width = bit_at(tokens)?;
     let condition = operand_at(alloc, Reg::Int(width), tokens)?;
-    expect(Head::Comma, tokens)?;
-    let reg = reg_at(tokens)?;
-    let operand = operand_at(alloc, reg, tokens)?;
-    let if_true = Argument { reg, operand };
-    expect(Head::Comma, tokens)?;
-    let reg = reg_at(tokens)?;
-    let operand = operand_at(alloc, reg, tokens)?;
-    let if_false = Argument { reg, operand };
+    let if_true = arm_at(alloc, tokens)?;
+    let if_false = arm_at(alloc, tokens)?;
     list.put(Instr::Select {
         condition,
         if_true,
@@ -332,8 +347,17 @@ pub fn align_at(alloc: Global, tokens: &mut Tokens) -> Result<Option<u64>, ReadE
     }
 }
 
+/// Reads `, ptr operand`.
+#[tactic(auto, unfolding(crate::specs::InstructionsAt::pointed_at))]
+pub fn pointed_at<'a>(alloc: Global, tokens: &mut Tokens<'_, 'a>) -> Result<Operand<'a>, ReadError>
+    ensures { Gives (λ x. (x, tokens.new)) result (pointed_at tokens.old) }
+{
+    expect(Head::Comma, tokens)?;
+    pointer_at(tokens)?;
+    operand_at(alloc, Reg::Ptr, tokens)
+}
+
 /// Reads what follows `load`.
-#[tactic(auto, unfolding(crate::specs::InstructionsAt::loading_at))]
 pub fn loading_into<'a>(
     alloc: Global,
     list: &mut Listing<'a>,
@@ -342,9 +366,7 @@ pub fn loading_into<'a>(
     ensures { Gives (λ _. (list.new.lines.items, tokens.new)) result (put_at list.old loading_at tokens.old) }
 {
     let reg = scalar_at(tokens)?;
-    expect(Head::Comma, tokens)?;
-    pointer_at(tokens)?;
-    let address = operand_at(alloc, Reg::Ptr, tokens)?;
+    let address = pointed_at(alloc, tokens)?;
     let align = align_at(alloc, tokens)?;
     list.put(Instr::Load {
         reg,
@@ -354,7 +376,6 @@ pub fn loading_into<'a>(
 }
 
 /// Reads what follows `store`.
-#[tactic(auto, unfolding(crate::specs::InstructionsAt::storing_at))]
 pub fn storing_into<'a>(
     alloc: Global,
     list: &mut Listing<'a>,
@@ -364,9 +385,7 @@ pub fn storing_into<'a>(
 {
     let reg = scalar_at(tokens)?;
     let value = operand_at(alloc, reg, tokens)?;
-    expect(Head::Comma, tokens)?;
-    pointer_at(tokens)?;
-    let address = operand_at(alloc, Reg::Ptr, tokens)?;
+    let address = pointed_at(alloc, tokens)?;
     let align = align_at(alloc, tokens)?;
     list.put(Instr::Store {
         reg,

@@ -7,7 +7,7 @@ ghost use Rattle.lto_forms.specs.Rules.{is_among, is_valued};
 ghost use Rattle.ir_read.specs.Classes.{tokens, refusal, one_of_at};
 ghost use Rattle.ir_read.specs.Operands.{IsReg};
 ghost use Rattle.ir_instructions.specs.Terminators.{case_classes, matched_of, number_matched, ENDS, ending_of};
-ghost use Rattle.ir_instructions.specs.TerminatorsAt.{returning_at, target_at, choosing_at, branching_at, constant_at, case_of_at, case_at, cases_at, end_of_cases_at, switching_at, behind_end_at, terminator_at};
+ghost use Rattle.ir_instructions.specs.TerminatorsAt.{branch_at, returning_at, target_at, choosing_at, branching_at, constant_at, case_of_at, case_at, cases_at, end_of_cases_at, switching_at, behind_end_at, terminator_at};
 
 use ir_lex::{Head, Token};
 use ir_operands::operand_at;
@@ -88,6 +88,15 @@ pub fn target_at<'a>(tokens: &mut Tokens<'_, 'a>) -> Result<Name<'a>, ReadError>
     local_at(tokens)
 }
 
+/// Reads `, label Local`.
+#[tactic(auto, unfolding(crate::specs::TerminatorsAt::branch_at))]
+fn branch_at<'a>(tokens: &mut Tokens<'_, 'a>) -> Result<Name<'a>, ReadError>
+    ensures { Gives (λ x. (x, tokens.new)) result (branch_at tokens.old) }
+{
+    expect(Head::Comma, tokens)?;
+    target_at(tokens)
+}
+
 /// Reads `i1 operand , label Local , label Local`.
 fn choosing_into<'a>(
     alloc: Global,
@@ -98,10 +107,8 @@ fn choosing_into<'a>(
 {
     let width = bit_at(tokens)?;
     let condition = operand_at(alloc, Reg::Int(width), tokens)?;
-    expect(Head::Comma, tokens)?;
-    let if_true = target_at(tokens)?;
-    expect(Head::Comma, tokens)?;
-    let if_false = target_at(tokens)?;
+    let if_true = branch_at(tokens)?;
+    let if_false = branch_at(tokens)?;
     put(
         place,
         Terminator::Branch {
@@ -229,7 +236,6 @@ fn end_of_cases_at(tokens: &mut Tokens) -> Result<(), ReadError>
 }
 
 /// Reads what follows `switch`.
-#[tactic(auto, unfolding(crate::specs::TerminatorsAt::switching_at))]
 fn switching_into<'a>(
     alloc: Global,
     place: &mut Terminator<'a>,
@@ -239,8 +245,7 @@ fn switching_into<'a>(
 {
     let width = integer_at(tokens)?;
     let value = operand_at(alloc, Reg::Int(width), tokens)?;
-    expect(Head::Comma, tokens)?;
-    let default = target_at(tokens)?;
+    let default = branch_at(tokens)?;
     expect(Head::OpenBracket, tokens)?;
     let cases = cases_at(alloc, tokens)?;
     end_of_cases_at(tokens)?;

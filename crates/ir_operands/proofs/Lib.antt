@@ -1,4 +1,5 @@
 pub mod Grouping
+pub mod Heads
 pub mod Additions
 pub mod Barred
 pub mod ExtentLaws

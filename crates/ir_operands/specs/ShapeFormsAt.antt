@@ -44,6 +44,20 @@ array_at of = do
   line ← one_of_at OPEN_BRACKET line_of
   elements_at of line
 
+-- [ N x, the line of the bracket and the count
+unfoldable pub array_head_at : Reader Tok (ℕ × ℕ)
+array_head_at = do
+  line ← one_of_at OPEN_BRACKET line_of
+  n ← count_at
+  _ ← the_at heads.Times
+  done (line, n)
+
+-- ], behind an element
+abbrev pub closed_array_at : ℕ → ℕ → Written → Reader Tok Typed
+closed_array_at n line e = do
+  _ ← the_at heads.CloseBracket
+  done (typed (array n e) line)
+
 unfoldable pub further_at : Bool → (Extent → Reader Tok Typed) → Extent → Reader Tok (Written × Extent)
 further_at packed part s = do
   _ ← the_at heads.Comma
@@ -76,6 +90,13 @@ structure_at part = do
 
 abbrev pub brace_behind_angle_at : Reader Tok (Unit {0})
 brace_behind_angle_at = token_at (is_class tokens angle_refusal (number heads.OpenBrace))
+
+-- < {, the line of the first
+unfoldable pub packed_head_at : Reader Tok ℕ
+packed_head_at = do
+  line ← one_of_at OPEN_ANGLE line_of
+  _ ← brace_behind_angle_at
+  done line
 
 unfoldable pub packed_behind_at : (Extent → Reader Tok Typed) → ℕ → Reader Tok Typed
 packed_behind_at part line = do

@@ -2,17 +2,17 @@
 //! may nest and how large it may be is handed down to its parts, so the first token that passes a
 //! limit is refused.
 
-ghost use Rattle.std.specs.Prelude.{◌≡◌, [], ◌∷◌, IfOk, true, false};
+ghost use Rattle.std.specs.Prelude.{◌≡◌, ◌*◌, [], ◌∷◌, IfOk, true, false};
 ghost use Rattle.ir_lex.specs.Heads.{number};
 ghost use Rattle.ir_lex.specs.Tok.{tok};
 ghost use Rattle.lto_forms.specs.Readers.{Gives, view_result};
 ghost use Rattle.lto_forms.specs.Rules.{is_valued};
 ghost use Rattle.ir_read.specs.Classes.{tokens, refusal, one_of_at};
-ghost use Rattle.ir_operands.specs.Extents.{Fits, IsRoom, extent_of, grown, left, members_extent, no_bytes, scalar_extent, shared, whole};
+ghost use Rattle.ir_operands.specs.Extents.{Fits, IsRoom, extent, extent_of, grown, left, members_extent, no_bytes, scalar_extent, shared, whole};
 ghost use Rattle.ir_read.specs.Literals.{IsWidth};
-ghost use Rattle.ir_operands.specs.ShapeForms.{angle_refusal, line_of, scalar_align, scalar_typed, leaf_means, counted, count_of, NUMBER};
-ghost use Rattle.ir_operands.specs.ShapeFormsAt.{array_at, brace_behind_angle_at, count_at, further_at, innermost_at, leaf_at, members_at, memory_shape_at, more_members_at, packed_at, shape_at, shape_over_at, structure_at};
-ghost use Rattle.ir_read.specs.Shapes.{parts_of};
+ghost use Rattle.ir_operands.specs.ShapeForms.{angle_refusal, line_of, typed, scalar_align, scalar_typed, leaf_means, counted, count_of, NUMBER};
+ghost use Rattle.ir_operands.specs.ShapeFormsAt.{array_at, array_head_at, closed_array_at, brace_behind_angle_at, count_at, further_at, innermost_at, leaf_at, members_at, memory_shape_at, more_members_at, packed_at, packed_head_at, shape_at, shape_over_at, structure_at};
+ghost use Rattle.ir_read.specs.Shapes.{array, parts_of, structure};
 
 use crate::extents::{Align, Extent, Room};
 use ir_lex::{Head, Token};
@@ -243,9 +243,74 @@ struct Member<'a> {
     extent: Extent,
 }
 
+/// Reads `[ N x`: the line of the bracket, and the count.
+#[tactic(auto, unfolding(crate::specs::ShapeFormsAt::array_head_at))]
+fn array_head_at(tokens: &mut Tokens) -> Result<(u32, u64), ReadError>
+    ensures { Gives (λ x. (x, tokens.new)) result (array_head_at tokens.old) }
+{
+    let line = line_at(Head::OpenBracket, tokens)?;
+    let count = count_at(tokens)?;
+    expect(Head::Times, tokens)?;
+    Ok((line, count))
+}
+
+/// Reads the bracket behind the element of an array.
+fn closed_array_at<'a>(
+    alloc: Global,
+    count: u64,
+    line: u32,
+    room: Room,
+    element: Measured<'a>,
+    tokens: &mut Tokens<'_, 'a>,
+) -> Result<Measured<'a>, ReadError>
+    requires room { IsRoom room }
+    requires measured { element.extent ≡ extent_of element.typed.shape }
+    requires fits { Fits room (extent (count * element.extent.size) element.extent.align) }
+    ensures exact { Gives (λ x. (x.typed, tokens.new)) result (closed_array_at count line element.entry.typed.shape tokens.old) }
+    ensures measured { IfOk result (λ x. x.extent ≡ extent_of x.typed.shape) }
+    ensures fits { IfOk result (λ x. Fits room x.extent) }
+{
+    expect(Head::CloseBracket, tokens)?;
+    let extent = element.extent.repeated(count);
+    let shape = Shape::array(alloc, count, element.typed.shape)?;
+    Ok(Measured {
+        typed: Typed { shape, line },
+        extent,
+    })
+}
+
+/// The structure of these members.
+#[tactic(auto, using(crate::proofs::ExtentLaws::padded_fits, crate::proofs::ExtentLaws::fits_most))]
+fn structure_of<'a>(packed: bool, line: u32, room: Room, members: Members<'a>) -> Measured<'a>
+    requires room { IsRoom room }
+    requires measured { members.extent ≡ members_extent packed no_bytes (parts_of members.shapes.items) }
+    requires fits { Fits room members.extent }
+    ensures exact { result.typed ≡ typed (structure packed (parts_of members.entry.shapes.items)) line }
+    ensures measured { result.extent ≡ extent_of result.typed.shape }
+    ensures fits { Fits room result.extent }
+{
+    Measured {
+        typed: Typed {
+            shape: Shape::structure(packed, members.shapes),
+            line,
+        },
+        extent: members.extent.padded(),
+    }
+}
+
+/// Reads `< {`: the line of the first.
+#[tactic(auto, unfolding(crate::specs::ShapeFormsAt::packed_head_at))]
+fn packed_head_at(tokens: &mut Tokens) -> Result<u32, ReadError>
+    ensures { Gives (λ x. (x, tokens.new)) result (packed_head_at tokens.old) }
+{
+    let line = line_at(Head::OpenAngle, tokens)?;
+    brace_behind_angle_at(tokens)?;
+    Ok(line)
+}
+
 /// Reads `[ N x shape ]`, the elements of at most so many levels.
 #[cycle(shapes)]
-#[tactic(auto, unfolding(crate::specs::ShapeFormsAt::array_at, crate::specs::ShapeFormsAt::elements_at), using(crate::proofs::ExtentLaws::elements_fit, crate::proofs::ExtentLaws::fits_most))]
+#[tactic(auto, using(crate::proofs::Heads::array_is, crate::proofs::ExtentLaws::elements_fit))]
 fn array_at<'a>(
     alloc: Global,
     depth: u8,
@@ -257,16 +322,9 @@ fn array_at<'a>(
     ensures measured { IfOk result (λ x. x.extent ≡ extent_of x.typed.shape) }
     ensures fits { IfOk result (λ x. Fits room x.extent) }
 {
-    let line = line_at(Head::OpenBracket, tokens)?;
-    let count = count_at(tokens)?;
-    expect(Head::Times, tokens)?;
+    let (line, count) = array_head_at(tokens)?;
     let element = shape_at(alloc, depth, room.shared(count), tokens)?;
-    expect(Head::CloseBracket, tokens)?;
-    let shape = Shape::array(alloc, count, element.typed.shape)?;
-    Ok(Measured {
-        typed: Typed { shape, line },
-        extent: element.extent.repeated(count),
-    })
+    closed_array_at(alloc, count, line, room, element, tokens)
 }
 
 /// Reads a comma and a member of a structure behind others.
@@ -357,7 +415,7 @@ fn members_at<'a>(
 
 /// Reads `{ .. }`, the members of at most so many levels.
 #[cycle(shapes)]
-#[tactic(auto, unfolding(crate::specs::ShapeFormsAt::structure_at), using(crate::proofs::ExtentLaws::padded_fits, crate::proofs::ExtentLaws::fits_most))]
+#[tactic(auto, unfolding(crate::specs::ShapeFormsAt::structure_at))]
 fn structure_at<'a>(
     alloc: Global,
     depth: u8,
@@ -371,18 +429,12 @@ fn structure_at<'a>(
 {
     let line = line_at(Head::OpenBrace, tokens)?;
     let members = members_at(alloc, false, depth, room, tokens)?;
-    Ok(Measured {
-        typed: Typed {
-            shape: Shape::structure(false, members.shapes),
-            line,
-        },
-        extent: members.extent.padded(),
-    })
+    Ok(structure_of(false, line, room, members))
 }
 
 /// Reads `< { .. } >`, the members of at most so many levels.
 #[cycle(shapes)]
-#[tactic(auto, unfolding(crate::specs::ShapeFormsAt::packed_at, crate::specs::ShapeFormsAt::packed_behind_at), using(crate::proofs::ExtentLaws::padded_fits, crate::proofs::ExtentLaws::fits_most))]
+#[tactic(auto, using(crate::proofs::Heads::packed_is))]
 fn packed_at<'a>(
     alloc: Global,
     depth: u8,
@@ -394,17 +446,10 @@ fn packed_at<'a>(
     ensures measured { IfOk result (λ x. x.extent ≡ extent_of x.typed.shape) }
     ensures fits { IfOk result (λ x. Fits room x.extent) }
 {
-    let line = line_at(Head::OpenAngle, tokens)?;
-    brace_behind_angle_at(tokens)?;
+    let line = packed_head_at(tokens)?;
     let members = members_at(alloc, true, depth, room, tokens)?;
     expect(Head::CloseAngle, tokens)?;
-    Ok(Measured {
-        typed: Typed {
-            shape: Shape::structure(true, members.shapes),
-            line,
-        },
-        extent: members.extent.padded(),
-    })
+    Ok(structure_of(true, line, room, members))
 }
 
 /// Reads a shape whose parts have at most so many levels.
