@@ -2,13 +2,14 @@
 //! may nest and how large it may be is handed down to its parts, so the first token that passes a
 //! limit is refused.
 
-ghost use Rattle.std.specs.Prelude.{◌≡◌, ◌*◌, [], ◌∷◌, IfOk, true, false};
+ghost use Rattle.std.specs.Prelude.{◌≡◌, ◌*◌, ◌≤◌, [], ◌∷◌, IfOk, true, false};
 ghost use Rattle.ir_lex.specs.Heads.{number};
 ghost use Rattle.ir_lex.specs.Tok.{tok};
 ghost use Rattle.lto_forms.specs.Readers.{Gives, view_result};
 ghost use Rattle.lto_forms.specs.Rules.{is_valued};
 ghost use Rattle.ir_read.specs.Classes.{tokens, refusal, one_of_at};
-ghost use Rattle.ir_operands.specs.Extents.{Fits, IsRoom, extent, extent_of, grown, left, members_extent, no_bytes, scalar_extent, shared, whole};
+ghost use Rattle.ir_operands.specs.declared.extents.Room.{Room};
+ghost use Rattle.ir_operands.specs.Extents.{Fits, IsRoom, extent, extent_of, grown, left, members_extent, no_bytes, padded, scalar_extent, shared, whole};
 ghost use Rattle.ir_read.specs.Literals.{IsWidth};
 ghost use Rattle.ir_operands.specs.ShapeForms.{angle_refusal, line_of, typed, scalar_align, scalar_typed, leaf_means, counted, count_of, NUMBER};
 ghost use Rattle.ir_operands.specs.ShapeFormsAt.{array_at, array_head_at, closed_array_at, brace_behind_angle_at, count_at, further_at, innermost_at, leaf_at, members_at, memory_shape_at, more_members_at, packed_at, packed_head_at, shape_at, shape_over_at, structure_at};
@@ -259,16 +260,14 @@ fn closed_array_at<'a>(
     alloc: Global,
     count: u64,
     line: u32,
-    room: Room,
     element: Measured<'a>,
     tokens: &mut Tokens<'_, 'a>,
 ) -> Result<Measured<'a>, ReadError>
-    requires room { IsRoom room }
+    requires size { count * element.extent.size ≤ 2147483648 }
     requires measured { element.extent ≡ extent_of element.typed.shape }
-    requires fits { Fits room (extent (count * element.extent.size) element.extent.align) }
     ensures exact { Gives (λ x. (x.typed, tokens.new)) result (closed_array_at count line element.entry.typed.shape tokens.old) }
     ensures measured { IfOk result (λ x. x.extent ≡ extent_of x.typed.shape) }
-    ensures fits { IfOk result (λ x. Fits room x.extent) }
+    ensures fits { (room : Room) → Fits room (extent (count * element.entry.extent.size) element.entry.extent.align) → IfOk result (λ x. Fits room x.extent) }
 {
     expect(Head::CloseBracket, tokens)?;
     let extent = element.extent.repeated(count);
@@ -280,14 +279,12 @@ fn closed_array_at<'a>(
 }
 
 /// The structure of these members.
-#[tactic(auto, using(crate::proofs::ExtentLaws::padded_fits, crate::proofs::ExtentLaws::fits_most))]
-fn structure_of<'a>(packed: bool, line: u32, room: Room, members: Members<'a>) -> Measured<'a>
-    requires room { IsRoom room }
+fn structure_of<'a>(packed: bool, line: u32, members: Members<'a>) -> Measured<'a>
+    requires size { members.extent.size ≤ 2147483648 }
     requires measured { members.extent ≡ members_extent packed no_bytes (parts_of members.shapes.items) }
-    requires fits { Fits room members.extent }
     ensures exact { result.typed ≡ typed (structure packed (parts_of members.entry.shapes.items)) line }
     ensures measured { result.extent ≡ extent_of result.typed.shape }
-    ensures fits { Fits room result.extent }
+    ensures extent { result.extent ≡ padded members.entry.extent }
 {
     Measured {
         typed: Typed {
@@ -324,7 +321,7 @@ fn array_at<'a>(
 {
     let (line, count) = array_head_at(tokens)?;
     let element = shape_at(alloc, depth, room.shared(count), tokens)?;
-    closed_array_at(alloc, count, line, room, element, tokens)
+    closed_array_at(alloc, count, line, element, tokens)
 }
 
 /// Reads a comma and a member of a structure behind others.
@@ -429,7 +426,7 @@ fn structure_at<'a>(
 {
     let line = line_at(Head::OpenBrace, tokens)?;
     let members = members_at(alloc, false, depth, room, tokens)?;
-    Ok(structure_of(false, line, room, members))
+    Ok(structure_of(false, line, members))
 }
 
 /// Reads `< { .. } >`, the members of at most so many levels.
@@ -449,7 +446,7 @@ fn packed_at<'a>(
     let line = packed_head_at(tokens)?;
     let members = members_at(alloc, true, depth, room, tokens)?;
     expect(Head::CloseAngle, tokens)?;
-    Ok(structure_of(true, line, room, members))
+    Ok(structure_of(true, line, members))
 }
 
 /// Reads a shape whose parts have at most so many levels.

@@ -1,4 +1,4 @@
-use Rattle.std.proofs.Common.{◌≡◌, ℕ, suc, ◌-◌, ◌<◌, Bool, not, List, length, Ok, sym, ap, subst, ◌∙◌, arith}
+use Rattle.std.proofs.Common.{◌≡◌, ℕ, suc, ◌-◌, ◌*◌, ◌<◌, Bool, not, List, length, Ok, sym, ap, subst, ◌∙◌, arith}
 use Rattle.ir_lex.specs.declared.head.Head.TheVariants as heads
 use Rattle.ir_lex.specs.Tok.{Tok}
 use Rattle.lto_forms.specs.Alphabet.{among}
@@ -9,12 +9,12 @@ use Rattle.lto_forms.proofs.Stars.{behind, takes}
 use Rattle.ir_read.specs.Classes.{tokens, the_at}
 use Rattle.ir_operands.specs.declared.extents.Extent.{Extent}
 use Rattle.ir_operands.specs.declared.extents.Room.{Room}
-use Rattle.ir_operands.specs.Extents.{Fits, extent_of, grown, left, members_extent, no_bytes}
+use Rattle.ir_operands.specs.Extents.{Fits, extent, extent_of, grown, left, members_extent, no_bytes}
 use Rattle.ir_read.specs.MetadataAt.{COMMA}
 use Rattle.ir_operands.specs.ShapeForms.{anywhere}
 use Rattle.ir_operands.specs.ShapeFormsAt.{begins, further_at, more_members_at, shape_at}
 use Rattle.ir_read.specs.Shapes.{Written, parts_of}
-use Rattle.ir_operands.proofs.ExtentLaws.{elements_fit, fits_most, grown_fits, one_member_more}
+use Rattle.ir_operands.proofs.ExtentLaws.{elements_fit, fits_most, grown_fits, one_member_more, padded_fits}
 use Rattle.ir_operands.proofs.Levels.{first_and_others, gives_as, then_closed}
 use Rattle.ir_operands.proofs.ShapeRules.{member_rule}
 use Rattle.ir_operands.proofs.shapes.+shapes.Goals as goal
@@ -22,8 +22,11 @@ use Rattle.ir_operands.proofs.shapes.+shapes.Goals as goal
 shorter : (packed : Bool) (depth : ℕ) (room : Room) (s : Extent) (ts rest : List Tok) (x : Written × Extent) → further_at packed (λ s. shape_at depth (left packed room s)) s ts ≡ Ok (x, rest) → length rest < length ts
 shorter packed depth room s ts rest x e = takes tokens (among tokens COMMA) (member_rule packed depth room s).law ts rest x e
 
-pub array_at-closed_array_at-requires-clause-fits : goal.array_at-closed_array_at-requires-clause-fits
-array_at-closed_array_at-requires-clause-fits t c = elements_fit c.in_ok-line.count c.args.room c.in_ok-element.element.extent (subst (λ (r : Room). Fits r c.in_ok-element.element.extent) c.shared.ensures.exact c.in_ok-element.ensures.fits)
+pub array_at-closed_array_at-requires-clause-size : goal.array_at-closed_array_at-requires-clause-size
+array_at-closed_array_at-requires-clause-size t c = fits_most c.args.room (extent (c.in_ok-line.count * c.in_ok-element.element.extent.size) c.in_ok-element.element.extent.align) c.requires (elements_fit c.in_ok-line.count c.args.room c.in_ok-element.element.extent (subst (λ (r : Room). Fits r c.in_ok-element.element.extent) c.shared.ensures.exact c.in_ok-element.ensures.fits))
+
+pub array_at-returns-clause-fits : goal.array_at-returns-clause-fits
+array_at-returns-clause-fits t c = c.closed_array_at.ensures.fits c.args.room (elements_fit c.in_ok-line.count c.args.room c.in_ok-element.element.extent (subst (λ (r : Room). Fits r c.in_ok-element.element.extent) c.shared.ensures.exact c.in_ok-element.ensures.fits))
 
 pub member_at-grown-requires-clause-size : goal.member_at-grown-requires-clause-size
 member_at-grown-requires-clause-size t c = fits_most c.args.room c.args.before c.requires.room c.requires.before
@@ -33,6 +36,18 @@ member_at-grown-requires-clause-more t c = fits_most c.left.result c.in_ok-membe
 
 pub member_at-returns-clause-fits : goal.member_at-returns-clause-fits
 member_at-returns-clause-fits t c = subst (Fits c.args.room) (sym c.grown.ensures) (grown_fits c.args.packed c.args.room c.args.before c.in_ok-member.member.extent (subst (λ (r : Room). Fits r c.in_ok-member.member.extent) c.left.ensures.exact c.in_ok-member.ensures.fits))
+
+pub structure_at-structure_of-requires-clause-size : goal.structure_at-structure_of-requires-clause-size
+structure_at-structure_of-requires-clause-size t c = fits_most c.args.room c.in_ok-members.members.extent c.requires c.in_ok-members.ensures.fits
+
+pub structure_at-returns-clause-fits : goal.structure_at-returns-clause-fits
+structure_at-returns-clause-fits t c = subst (Fits c.args.room) (sym c.structure_of.ensures.extent) (padded_fits c.args.room c.in_ok-members.members.extent c.in_ok-members.ensures.fits)
+
+pub packed_at-structure_of-requires-clause-size : goal.packed_at-structure_of-requires-clause-size
+packed_at-structure_of-requires-clause-size t c = fits_most c.args.room c.in_ok-members.members.extent c.requires c.in_ok-members.ensures.fits
+
+pub packed_at-returns-clause-fits : goal.packed_at-returns-clause-fits
+packed_at-returns-clause-fits t c = subst (Fits c.args.room) (sym c.structure_of.ensures.extent) (padded_fits c.args.room c.in_ok-members.members.extent c.in_ok-members.ensures.fits)
 
 pub more_members_at-each-smaller : goal.more_members_at-each-smaller
 more_members_at-each-smaller t c = shorter c.args.packed c.args.depth c.args.room c.each.extent _ _ _ c.in_ok-member.ensures.exact
