@@ -92,7 +92,7 @@ pub fn link<
         cache,
         gate,
     };
-    match linked(
+    let text = linked(
         alloc,
         &pool,
         pass,
@@ -100,7 +100,9 @@ pub fn link<
         suffixes,
         exports,
         inline_limit,
-    ) {
+    );
+    drop(prepared);
+    match text {
         Ok(text) => Ok(text),
         Err(_) => Err(Refusal::NoMemory),
     }

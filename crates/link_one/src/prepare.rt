@@ -1,12 +1,13 @@
 //! What stays of the modules of a link once all is decided of them.
-ghost use Rattle.std.specs.Prelude.{◌≡◌, ◌≢◌, IfErr, IfOk, length};
+ghost use Rattle.std.specs.Prelude.{◌≡◌, ◌≢◌, Err, IfErr, IfOk, Ok, length};
 ghost use Rattle.lto_fault.specs.declared.refusal.Refusal.TheVariants.{NoMemory};
 ghost use Rattle.symbol_resolve.specs.Resolved.{symbols};
 ghost use Rattle.promote_rename.specs.Promotions.{ArePromoted};
 ghost use Rattle.thin_link.specs.Views.{rows};
 ghost use Rattle.merge_meaning.specs.Lives.{parts};
 ghost use Rattle.link_one.specs.Preparing.{IsPrepared, header_of};
-ghost use Rattle.link_one.specs.Refusing.{IsUnlinked};
+ghost use Rattle.promote_rename.specs.Finals.{NoneTaken, final_names};
+ghost use Rattle.link_one.specs.Refusing.{IsLeastTaken, IsUnlinked};
 
 use crate::naming::named;
 use crate::target::given_text;
@@ -35,6 +36,14 @@ pub(crate) struct Prepared {
     pub(crate) parts: Vec<Rows<GlobalValue>>,
     /// The target lines of the linked module.
     pub(crate) header: Text,
+}
+
+/// What is made of modules by what is decided of them, as in [`Prepared`].
+#[derive(Drop)]
+struct Contents {
+    promoted: Vec<Vec<u32>>,
+    parts: Vec<Rows<GlobalValue>>,
+    header: Text,
 }
 
 /// The target lines of the linked module: the text of a module without global values.
@@ -69,37 +78,82 @@ fn live_parts(
     parts(alloc, modules, &decided.resolution, &marked, suffixes)
 }
 
-/// What stays of these modules, of which this was decided.
-fn kept(
+/// What is made of these modules by what was decided of them.
+fn contents_of(
     alloc: Global,
     modules: &[Verified],
-    decided: ThinLink<'_>,
+    decided: &ThinLink<'_>,
     suffixes: &[Text],
-) -> Result<Prepared, AllocError>
-    requires marks { length decided.live ≡ length decided.index.symbols }
-    requires resolved { decided.resolution ≡ symbols modules.now }
-    ensures same { IfOk result (λ p. (p.index ≡ decided.entry.index) × (p.live ≡ decided.entry.live) × (p.imports ≡ decided.entry.imports)) }
-    ensures promoted { IfOk result (λ p. ArePromoted decided.entry.index (rows decided.entry.imports.items) (rows p.promoted.items)) }
-    ensures parts { IfOk result (λ p. p.parts.items ≡ parts modules.now decided.entry.index.symbols decided.entry.live suffixes.now) }
-    ensures header { IfOk result (λ p. p.header ≡ header_of modules.now) }
+) -> Result<Contents, AllocError>
+    requires marks { length decided.now.live ≡ length decided.now.index.symbols }
+    requires resolved { decided.now.resolution ≡ symbols modules.now }
+    ensures promoted { IfOk result (λ m. ArePromoted decided.now.index (rows decided.now.imports.items) (rows m.promoted.items)) }
+    ensures parts { IfOk result (λ m. m.parts.items ≡ parts modules.now decided.now.index.symbols decided.now.live suffixes.now) }
+    ensures header { IfOk result (λ m. m.header ≡ header_of modules.now) }
 {
     let header = header(alloc, modules)?;
-    let parts = live_parts(alloc, modules, &decided, suffixes)?;
+    let parts = live_parts(alloc, modules, decided, suffixes)?;
     let promoted = promoted(alloc, &decided.index, &decided.imports)?;
+    Ok(Contents {
+        promoted,
+        parts,
+        header,
+    })
+}
+
+/// The same, where no two live symbols come to have one name.
+fn named_contents(
+    alloc: Global,
+    modules: &[Verified],
+    decided: &ThinLink<'_>,
+    suffixes: &[Text],
+) -> Result<Contents, Refusal>
+    requires marks { length decided.now.live ≡ length decided.now.index.symbols }
+    requires suffixes { length suffixes.now ≡ length decided.now.index.modules }
+    requires resolved { decided.now.resolution ≡ symbols modules.now }
+    ensures named { IfOk result (λ _. NoneTaken (final_names suffixes.now decided.now.index.symbols decided.now.live)) }
+    ensures promoted { IfOk result (λ m. ArePromoted decided.now.index (rows decided.now.imports.items) (rows m.promoted.items)) }
+    ensures parts { IfOk result (λ m. m.parts.items ≡ parts modules.now decided.now.index.symbols decided.now.live suffixes.now) }
+    ensures header { IfOk result (λ m. m.header ≡ header_of modules.now) }
+    ensures taken { IfErr result (λ why. why ≢ NoMemory → IsLeastTaken (final_names suffixes.now decided.now.index.symbols decided.now.live) why) }
+{
+    named(alloc, decided, suffixes)?;
+    match contents_of(alloc, modules, decided, suffixes) {
+        Ok(contents) => Ok(contents),
+        Err(_) => Err(Refusal::NoMemory),
+    }
+}
+
+/// A value, and what was made beside it. Its type is a parameter, so that how it is dropped isn't told part by part.
+fn beside<T: Drop, U: Drop>(value: T, made: Result<U, Refusal>) -> Result<(T, U), Refusal>
+    ensures made { IfOk result (λ both. made ≡ Ok both.1) }
+    ensures kept { IfOk result (λ both. both.0 ≡ value) }
+    ensures failed { IfErr result (λ why. made ≡ Err why) }
+{
+    match made {
+        Ok(made) => Ok((value, made)),
+        Err(why) => Err(why),
+    }
+}
+
+/// What stays of what was decided, with what was made by it.
+fn kept(decided: ThinLink<'_>, contents: Contents) -> Prepared
+    ensures { result ≡ record { index = decided.entry.index; live = decided.entry.live; imports = decided.entry.imports; promoted = contents.promoted; parts = contents.parts; header = contents.header } }
+{
     let ThinLink {
         resolution: _,
         index,
         live,
         imports,
     } = decided;
-    Ok(Prepared {
+    Prepared {
         index,
         live,
         imports,
-        promoted,
-        parts,
-        header,
-    })
+        promoted: contents.promoted,
+        parts: contents.parts,
+        header: contents.header,
+    }
 }
 
 /// What stays of these modules, where they can be linked, and else why they can't.
@@ -117,9 +171,7 @@ pub(crate) fn prepare(
     ensures refused { IfErr result (λ why. why ≢ NoMemory → IsUnlinked files.now exports.now import_limit suffixes.now modules.now why) }
 {
     let decided = thin_link(alloc, files, modules, exports, import_limit)?;
-    named(alloc, &decided, suffixes)?;
-    match kept(alloc, modules, decided, suffixes) {
-        Ok(prepared) => Ok(prepared),
-        Err(_) => Err(Refusal::NoMemory),
-    }
+    let contents = named_contents(alloc, modules, &decided, suffixes);
+    let (decided, contents) = beside(decided, contents)?;
+    Ok(kept(decided, contents))
 }

@@ -7,7 +7,7 @@ ghost use Rattle.back_end.specs.Walking.{bodies_in};
 ghost use Rattle.emit.specs.Joins.{IsInNameOrder};
 ghost use Rattle.lto_task.specs.Tasks.{globals_of, task_view};
 ghost use Rattle.importer.specs.Tables.{values};
-ghost use Rattle.link_one.specs.TaskUnits.{IsTaskUnit, bodies_in_task, definitions, is_defined, offered_by};
+ghost use Rattle.link_one.specs.TaskUnits.{AreKeptPieces, IsTaskUnit, bodies_in_task, definitions, is_defined, offered_by};
 ghost use Rattle.link_one.specs.Units.{IsLinkedPiece};
 
 use crate::piece::linked_piece;
@@ -139,6 +139,31 @@ fn sort_pieces(pieces: &mut Vec<Piece>) -> Result<(), AllocError>
     Ok(())
 }
 
+/// Of the pieces of a task's definitions those to which other units may refer, and what these lead to.
+fn kept_pieces(
+    alloc: Global,
+    task: &Task<'_>,
+    globals: &[&GlobalValue],
+) -> Result<Rows<Piece>, AllocError>
+    requires defined { values globals.now ≡ definitions (task_view task.now).own }
+    requires own { All GlobalSound (task_view task.now).own }
+    requires imported { All GlobalSound (task_view task.now).imported }
+    ensures { IfOk result (AreKeptPieces (task_view task.now)) }
+{
+    let pieces = pieces_of(alloc, task, globals)?;
+    let offers = offers_of(alloc, task, globals)?;
+    strip(alloc, offers.as_slice(), pieces)
+}
+
+/// Pieces by name.
+fn in_name_order(pieces: Rows<Piece>) -> Result<Rows<Piece>, AllocError>
+    ensures { IfOk result (IsInNameOrder pieces) }
+{
+    let mut unit = pieces.into_vec();
+    sort_pieces(&mut unit)?;
+    Ok(Rows::of(unit))
+}
+
 /// The unit of a task of sound values: the pieces of its definitions to which others may refer, and what these lead to, by name.
 pub(crate) fn compiled(alloc: Global, task: &Task<'_>) -> Result<Rows<Piece>, AllocError>
     requires own { All GlobalSound (task_view task.now).own }
@@ -146,10 +171,6 @@ pub(crate) fn compiled(alloc: Global, task: &Task<'_>) -> Result<Rows<Piece>, Al
     ensures { IfOk result (IsTaskUnit (task_view task.now)) }
 {
     let definitions = definitions(alloc, &task.own)?;
-    let pieces = pieces_of(alloc, task, &definitions)?;
-    let offers = offers_of(alloc, task, &definitions)?;
-    let kept = strip(alloc, offers.as_slice(), pieces)?;
-    let mut unit = kept.into_vec();
-    sort_pieces(&mut unit)?;
-    Ok(Rows::of(unit))
+    let kept = kept_pieces(alloc, task, &definitions)?;
+    in_name_order(kept)
 }

@@ -34,3 +34,12 @@ returns-clause-units g c =
     units_made c.args.exports.now c.args.inline_limit p.index.symbols c.args.suffixes.now (rows p.imports.items) (rows p.promoted.items) p.parts.items c.in_ok-tasks.tasks.items units.items are
     (subst (λ (ts : List Task). AllZip (λ t ps. IsTaskUnit (task_view t) ps) ts units.items) c.deref-4.ensures.value z)))
     c.units.ensures.made
+
+pub units-requires-clause-pass : goal.units-requires-clause-pass
+units-requires-clause-pass g c κs within = c.requires.pass
+
+pub returns-clause-pass : goal.returns-clause-pass
+returns-clause-pass g c = c.units.ensures.pass
+
+pub returns-clause-seen : goal.returns-clause-seen
+returns-clause-seen g c = c.units.ensures.seen

@@ -19,3 +19,18 @@ returns-clause-joined g c =
           (subst (λ (us : List (List Piece)). IsJoin c.args.exports.now (flat_map (λ u. u) us) c.as_slice.result.now text) c.deref.ensures.value join);
     }))
     c.emit.ensures
+
+pub compiled-requires-clause-count : goal.compiled-requires-clause-count
+compiled-requires-clause-count g c κs within = c.requires.count
+
+pub compiled-requires-clause-pass : goal.compiled-requires-clause-pass
+compiled-requires-clause-pass g c κs within = c.requires.pass
+
+pub compiled-requires-clause-ready : goal.compiled-requires-clause-ready
+compiled-requires-clause-ready g c κs within = c.requires.ready
+
+pub returns-clause-pass : goal.returns-clause-pass
+returns-clause-pass g c = c.in_ok-pieces.ensures.pass
+
+pub returns-clause-seen : goal.returns-clause-seen
+returns-clause-seen g c = c.in_ok-pieces.ensures.seen

@@ -22,14 +22,14 @@ returns-in_err-prepared-clause-refused g c =
     subst (λ r. IfErr r (λ why. why ≢ NoMemory → IsUnlinked c.args.files.now c.args.exports.now c.args.import_limit c.args.suffixes.now c.args.modules.items why)) (sym same)
     (subst (λ (ms : List Module). e ≢ NoMemory → IsUnlinked c.args.files.now c.args.exports.now c.args.import_limit c.args.suffixes.now ms e) c.deref-2.ensures.value c.in_err-prepared.ensures.refused)
 
-pub linked-requires-clause-count : goal.linked-requires-clause-count
-linked-requires-clause-count g c κs within =
+pub linked-text-requires-clause-count : goal.linked-text-requires-clause-count
+linked-text-requires-clause-count g c κs within =
     let prepared : IsPrepared c.args.exports.now c.args.import_limit c.args.suffixes.now c.args.modules.items c.in_ok-prepared.prepared =
     subst (λ (ms : List Module). IsPrepared c.args.exports.now c.args.import_limit c.args.suffixes.now ms c.in_ok-prepared.prepared) c.deref-2.ensures.value c.in_ok-prepared.ensures.done in
     omega (arith, parts_counted c.args.exports.now c.args.import_limit c.args.inline_limit c.args.suffixes.now c.args.modules.items c.in_ok-prepared.prepared prepared, c.requires.count)
 
-pub linked-requires-clause-ready : goal.linked-requires-clause-ready
-linked-requires-clause-ready g c κs within = λ t task.
+pub linked-text-requires-clause-ready : goal.linked-text-requires-clause-ready
+linked-text-requires-clause-ready g c κs within = λ t task.
     let prepared : IsPrepared c.args.exports.now c.args.import_limit c.args.suffixes.now c.args.modules.items c.in_ok-prepared.prepared =
     subst (λ (ms : List Module). IsPrepared c.args.exports.now c.args.import_limit c.args.suffixes.now ms c.in_ok-prepared.prepared) c.deref-2.ensures.value c.in_ok-prepared.ensures.done in
     let one : IsTaskInLink c.args.exports.now c.args.import_limit c.args.inline_limit c.args.suffixes.now c.args.modules.items t =
@@ -66,3 +66,18 @@ returns-in-Ok-clause-only g c = λ trusted bytes accepted same other h.
     joined_is_linked c.args.exports.now c.args.import_limit c.args.inline_limit c.args.suffixes.now c.args.modules.items c.in_ok-prepared.prepared prepared c.units_are_linked.ensures sound c.in-Ok.text joined in
     is_only_link c.linked_refines.ensures c.args.exports.now c.args.import_limit c.args.inline_limit c.args.suffixes.now c.args.modules.items l.l l.linked c.linked_is_one.ensures bytes accepted same
     c.in-Ok.text l.is other h)
+
+pub returns-in-Ok-clause-linkable : goal.returns-in-Ok-clause-linkable
+returns-in-Ok-clause-linkable g c =
+    let prepared : IsPrepared c.args.exports.now c.args.import_limit c.args.suffixes.now c.args.modules.items c.in_ok-prepared.prepared =
+    subst (λ (ms : List Module). IsPrepared c.args.exports.now c.args.import_limit c.args.suffixes.now ms c.in_ok-prepared.prepared) c.deref-2.ensures.value c.in_ok-prepared.ensures.done in
+    record { index = c.in_ok-prepared.prepared.index; live = c.in_ok-prepared.prepared.live; imports = _; thin = prepared.thin; named = prepared.named }
+
+pub linked-text-requires-clause-pass : goal.linked-text-requires-clause-pass
+linked-text-requires-clause-pass g c κs within = c.requires.pass
+
+pub returns-in-Ok-clause-pass : goal.returns-in-Ok-clause-pass
+returns-in-Ok-clause-pass g c = c.in-Ok.ensures.pass
+
+pub returns-in-Ok-clause-seen : goal.returns-in-Ok-clause-seen
+returns-in-Ok-clause-seen g c = c.in-Ok.ensures.seen
