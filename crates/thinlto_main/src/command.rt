@@ -3,7 +3,7 @@ ghost use Rattle.std.specs.Prelude.{◌≡◌, ◌≤◌, ◌↔◌, ◌⊎◌, 
 ghost use Rattle.cache_slot.specs.Decoded.{decoded};
 ghost use Rattle.lto_outside.specs.Honest.{IsHonest};
 ghost use Rattle.thinlto_main.specs.Answers.{Says, causes_of, obeyed};
-ghost use Rattle.thinlto_main.specs.Asking.{Asked, is_offered};
+ghost use Rattle.thinlto_main.specs.Asking.{Asked};
 ghost use Rattle.run_program.specs.Causes.{Comes};
 ghost use Rattle.thinlto_main.specs.Honest.{HonestEntry};
 ghost use Rattle.thinlto_main.specs.Keys.{LeavesDisk};
@@ -23,20 +23,7 @@ use std::alloc::Global;
 use std::sync::Wait;
 use std::thread::Threads;
 
-/// Whether the program does such a command: no modules are generated.
-fn is_offered(command: &Command) -> bool
-    ensures { result ≡ is_offered command.now }
-{
-    match command {
-        Command::Link { .. }
-        | Command::Batch { .. }
-        | Command::Index { .. }
-        | Command::Run { .. } => true,
-        Command::Gen { .. } => false,
-    }
-}
-
-/// Does a command. Where it is done, the notes get what it says.
+/// Does a command. Where it is done, the notes get what it says. No modules are generated.
 fn obey<
     R: Threads + Wait + Sync,
     F: Files,
@@ -63,12 +50,6 @@ fn obey<
     ensures disk { LeavesDisk command (λ calls. F.did files.old calls files.new) D.fits (D.held disk) (D.held result.disk) }
     ensures later { F.faults files.old ≤ F.faults files.new }
 {
-    if !is_offered(&command) {
-        return Ended {
-            status: Err(Refusal::Usage),
-            disk,
-        };
-    }
     match command {
         Command::Link {
             options,
@@ -129,10 +110,10 @@ pub(crate) fn do_command<
 >(
     rt: &R,
     alloc: Global,
+    gate: &G,
     words: &[String],
     files: &mut F,
     disk: D,
-    gate: &G,
     input: &mut I,
     out: &mut O,
     notes: &mut N,

@@ -123,7 +123,7 @@ pub fn top<
     one_command();
     one_answer();
     unlinked_is_one();
-    let ended = do_command(rt, alloc, words, files, disk, gate, input, out, notes);
+    let ended = do_command(rt, alloc, gate, words, files, disk, input, out, notes);
     say(notes, &ended.status);
     ended
 }

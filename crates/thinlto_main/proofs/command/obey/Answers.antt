@@ -1,8 +1,9 @@
-use Rattle.std.proofs.Common.{◌≡◌, ◌∙◌, ℕ, List, OnOk, refl, subst, sym}
+use Rattle.std.proofs.Common.{◌≡◌, ℕ, List, OnOk, refl, ap, subst, sym}
 use Rattle.lto_outside.specs.Calls.{Call}
 use Rattle.lto_outside.specs.Seen.{files_seen}
 use Rattle.lto_words.specs.declared.request.Command.{Command}
 use Rattle.thinlto_main.specs.Answers.{Says, obeyed, reporting}
+use Rattle.thinlto_main.specs.Asking.{is_offered}
 use Rattle.cache_slot.specs.Decoded.{decoded}
 use Rattle.lto_outside.specs.Honest.{IsHonest}
 use Rattle.thinlto_main.specs.Honest.{IsTrustedBy}
@@ -17,8 +18,12 @@ use Rattle.thinlto_main.proofs.Asking.{batch_obeyed, index_obeyed, link_obeyed, 
 use Rattle.run_program.proofs.Causes.{comes_map}
 use Rattle.thinlto_main.proofs.command.obey.Goals as goal
 
-pub returns-then-not-is_offered-clause-answer : goal.returns-then-not-is_offered-clause-answer
-returns-then-not-is_offered-clause-answer g c = (sym c.is_offered.ensures ∙ c.if-not-is_offered.true, (g.met.F.Files.did_none _, refl), refl)
+pub returns-in-Gen-clause-answer : goal.returns-in-Gen-clause-answer
+returns-in-Gen-clause-answer g c = (ap is_offered c.in-Gen.is, (g.met.F.Files.did_none _, refl), refl)
+
+pub returns-in-Gen-clause-disk : goal.returns-in-Gen-clause-disk
+returns-in-Gen-clause-disk g c =
+    subst (λ (k : Command). LeavesDisk k (λ (calls : List Call). g.F.Files.did c.args.files.now calls c.args.files.now) g.D.CacheDisk.fits (g.D.CacheDisk.held c.args.disk) (g.D.CacheDisk.held c.args.disk)) (sym c.in-Gen.is) refl
 
 pub returns-in-Link-clause-answer : goal.returns-in-Link-clause-answer
 returns-in-Link-clause-answer g c =
