@@ -3,8 +3,8 @@ use Rattle.std.specs.Prelude.{◌≡◌, ◌≤◌, ℕ, List, IfSome, Option, S
 use Rattle.std.specs.List.{AllZip}
 use Rattle.atomic_table.specs.Seated.{TableId}
 use Rattle.atomic_table.specs.declared.shared.Seat.{Seat}
-use Rattle.cache_turn.specs.declared.sight.Sight.{Sight}
-use Rattle.cache_turn.specs.Places.{IsAt}
+use Rattle.cache_slot.specs.declared.sight.Sight.{Sight}
+use Rattle.cache_slot.specs.Places.{IsAt}
 use Rattle.claim_word.specs.Passes.{IsPassOf, draws_of}
 use Rattle.claim_word.specs.declared.claims.ClaimPass.{ClaimPass}
 use Rattle.claim_word.specs.declared.claims.Claims.{Claims}

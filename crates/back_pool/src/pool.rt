@@ -2,7 +2,7 @@
 ghost use Rattle.std.specs.Prelude.{◌≡◌, IfOk, IfSome, length};
 ghost use Rattle.std.specs.List.{Contains};
 ghost use mathlib.Core.List.{IsPrefix};
-ghost use Rattle.cache_turn.specs.Places.{IsAt, seen_by};
+ghost use Rattle.cache_slot.specs.Places.{IsAt, seen_by};
 ghost use Rattle.lto_task.specs.Tasks as tasks;
 ghost use Rattle.lto_task.specs.Tasks.{IsWrittenTask, task_view};
 ghost use Rattle.lto_task.specs.Units as units;

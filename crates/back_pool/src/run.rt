@@ -1,6 +1,6 @@
 //! The workers of a pool, each on a thread.
 ghost use Rattle.std.specs.Prelude.{◌≡◌, All, IfOk, vec_capacity};
-ghost use Rattle.cache_turn.specs.Places.{IsAt, seen_by};
+ghost use Rattle.cache_slot.specs.Places.{IsAt, seen_by};
 ghost use Rattle.claim_word.specs.Passes.{IsPassOf};
 ghost use Rattle.lto_task.specs.Tasks.{task_view};
 ghost use Rattle.back_pool.specs.Making.{IsReady, IsTrusted};

@@ -2,7 +2,7 @@
 ghost use Rattle.std.specs.Prelude.{◌≡◌, ◌<◌, ◌≤◌, ◌^◌, All, IfOk, length};
 ghost use Rattle.std.specs.List.{AllZip, Contains};
 ghost use mathlib.Core.List.{IsPrefix};
-ghost use Rattle.cache_turn.specs.Places.{IsAt, seen_by};
+ghost use Rattle.cache_slot.specs.Places.{IsAt, seen_by};
 ghost use Rattle.claim_word.specs.Passes.{IsPassOf};
 ghost use Rattle.lto_task.specs.Tasks.{IsWrittenTask, task_text, task_view};
 ghost use Rattle.back_pool.specs.Making.{FitsAsMade, IsAnswer, IsReady, IsTrusted};

@@ -1,3 +1,6 @@
+mod Tallies
+mod Steps
+pub mod Prefixes
 mod HistoryWalks
 mod Names
 mod Decoding

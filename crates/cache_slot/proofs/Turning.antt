@@ -5,7 +5,7 @@ use Rattle.std.specs.Option.{option_copied}
 use Rattle.std.specs.Result.{result_ok}
 use Rattle.std.proofs.lemmas.List.{append-nil}
 use mathlib.Core.List.{IsPrefix}
-use Rattle.cache_turn.proofs.Prefixes.{prefix_trans}
+use Rattle.cache_slot.proofs.Prefixes.{prefix_trans}
 use Rattle.lto_outside.specs.DiskStore.{DiskStore}
 use Rattle.cache_slot.specs.declared.kept.Cause.TheVariants.{Disk}
 use Rattle.cache_slot.specs.declared.kept.Kept.{Kept}

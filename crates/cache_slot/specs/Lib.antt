@@ -1,3 +1,6 @@
+pub mod Views
+pub mod Rule
+pub mod Places
 pub mod Directory
 pub mod Files
 pub mod Records

@@ -1,12 +1,13 @@
 //! The cache, its passes, and their calls.
 ghost use Rattle.std.specs.Prelude.{◌≡◌, [], List};
-ghost use Rattle.cache_turn.specs.declared.sight.Stage.TheVariants.{Out};
+ghost use Rattle.cache_slot.specs.declared.sight.Stage.TheVariants.{Out};
 
 use crate::kept::Kept;
+use crate::lock::TicketLock;
+use crate::place::Place;
 use crate::record::Record;
 use crate::setting::Setting;
 use crate::shelf::Shelf;
-use cache_turn::{Place, TicketLock};
 use ir_tree::Text;
 use lto_outside::CacheDisk;
 use std::alloc::{AllocError, Global};
@@ -38,8 +39,8 @@ impl<D: CacheDisk, S: Setting> SharedCache<D, S> {
     ghost use Rattle.std.specs.Prelude.{◌≢◌, ℕ, ◌⊎◌, ◌^◌, ◌<◌, None, Some, IfOk, IfErr, IfSome, OnErr};
     ghost use Rattle.std.specs.List.{Contains};
     ghost use mathlib.Core.List.{IsPrefix};
-    ghost use Rattle.cache_turn.specs.Views.{longer};
-    ghost use Rattle.cache_turn.specs.Places.{IsAt, TookOneTurn, seen_by, before_turn};
+    ghost use Rattle.cache_slot.specs.Views.{longer};
+    ghost use Rattle.cache_slot.specs.Places.{IsAt, TookOneTurn, seen_by, before_turn};
     ghost use Rattle.lto_outside.specs.Honest.{IsHonest};
     ghost use Rattle.cache_slot.specs.Decoded.{decoded};
     ghost use Rattle.cache_slot.specs.Directory.{dir_of};

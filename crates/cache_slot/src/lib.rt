@@ -7,9 +7,9 @@
 //! as it was at its last turn. A key is looked up among the entries first and then in its file, and an entry is saved as it
 //! is stored, so a cache without a directory lives in memory for one command.
 //!
-//! Below it stand `cache_entry` for the bytes and the names of files, `lto_outside` for the disk, and `cache_turn` for
-//! the turns. What stays over the life of a cache ([`Setting`]: keys, directory, and what the disk held at first) stands
-//! in contracts alone.
+//! Below it stand `cache_entry` for the bytes and the names of files, `lto_outside` for the disk, and `atomic_table` for
+//! the words of the lock. What stays over the life of a cache ([`Setting`]: keys, directory, and what the disk held at
+//! first) stands in contracts alone.
 //!
 //! **Promise.** Each look-up and each store is one turn, and adds one record to the history that this turn found, or none
 //! where memory was refused. A hit is an entry of this very key or a file that was decoded with this very key; a miss has
@@ -30,14 +30,22 @@ mod find;
 mod history;
 mod kept;
 mod key;
+mod lock;
+mod place;
 mod record;
 mod records;
+mod rule;
 mod save;
 mod setting;
 mod shelf;
+mod sight;
 
 pub use cache::{CachePass, Refused, SharedCache};
 pub use kept::{Cause, Kept};
+pub use lock::TicketLock;
+pub use place::Place;
 pub use record::{Record, Why};
+pub use rule::Logged;
 pub use setting::Setting;
 pub use shelf::Shelf;
+pub use sight::{Sight, Stage};

@@ -1,7 +1,7 @@
 //! The text of the linked module, from what stays of its modules.
 ghost use Rattle.std.specs.Prelude.{◌<◌, ◌^◌, IfOk, length};
 ghost use mathlib.Core.List.{IsPrefix};
-ghost use Rattle.cache_turn.specs.Places.{IsAt, seen_by};
+ghost use Rattle.cache_slot.specs.Places.{IsAt, seen_by};
 ghost use Rattle.lto_task.specs.Tasks.{TaskView};
 ghost use Rattle.back_pool.specs.Making.{IsReady, IsTrusted};
 ghost use Rattle.link_one.specs.Preparing.{AreUnitsPrepared, IsJoined, IsTaskPrepared};

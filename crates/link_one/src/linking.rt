@@ -3,7 +3,7 @@ ghost use Rattle.std.specs.List.{AllZip};
 ghost use Rattle.std.specs.Prelude.{◌≡◌, ◌≢◌, ◌<◌, ◌≤◌, ◌^◌, ℕ, List, All, IfOk, IfErr, length, map};
 ghost use mathlib.Core.List.{IsPrefix};
 ghost use Rattle.ir_tree.specs.Wholes.{IsVerified};
-ghost use Rattle.cache_turn.specs.Places.{IsAt, seen_by};
+ghost use Rattle.cache_slot.specs.Places.{IsAt, seen_by};
 ghost use Rattle.lto_fault.specs.declared.refusal.Refusal.TheVariants.{NoMemory};
 ghost use Rattle.lto_task.specs.Tasks.{IsWrittenTask, TaskView, task_text};
 ghost use Rattle.back_pool.specs.Making.{FitsAsMade, IsTrusted};

@@ -2,7 +2,7 @@
 ghost use Rattle.std.specs.Prelude.{◌<◌, ◌≤◌, ◌^◌, All, IfOk, length};
 ghost use Rattle.std.specs.List.{AllZip};
 ghost use mathlib.Core.List.{IsPrefix};
-ghost use Rattle.cache_turn.specs.Places.{IsAt, seen_by};
+ghost use Rattle.cache_slot.specs.Places.{IsAt, seen_by};
 ghost use Rattle.lto_task.specs.Tasks.{task_view};
 ghost use Rattle.back_pool.specs.Making.{IsReady, IsTrusted};
 ghost use Rattle.link_one.specs.TaskUnits.{HasVerifiedModules, IsTaskUnit};

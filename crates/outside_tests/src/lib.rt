@@ -1,6 +1,6 @@
 //! Tests of the linker's outside, of its cache, and of what workers share: the traits of the outside (`lto_outside`) and
 //! the objects that meet them, in memory (`outside_memory`) and over real files (`outside_real`); entries of the cache
-//! (`cache_entry`), turns (`cache_turn`) and the shared cache over a disk in memory (`cache_slot`); numbers that workers
+//! (`cache_entry`), the shared cache over a disk in memory and the turns at it (`cache_slot`); numbers that workers
 //! draw (`claim_word`), pools (`back_pool`) and the core's events (`link_core`); and the words of the command line
 //! (`lto_words`).
 //!

@@ -1,8 +1,8 @@
 //! Threads take turns, and no turn's record is lost.
 ghost use Rattle.std.specs.Prelude.{◌≡◌, ℕ, ◌^◌, ◌<◌, ◌++◌, List, length, All};
-ghost use Rattle.cache_turn.specs.Places.{IsOut};
+ghost use Rattle.cache_slot.specs.Places.{IsOut};
 
-use cache_turn::{Logged, Place, TicketLock};
+use cache_slot::{Logged, Place, TicketLock};
 use std::alloc::Global;
 use std::sync::Wait;
 use std::test::Fail;

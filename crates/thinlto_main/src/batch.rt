@@ -5,7 +5,7 @@ ghost use Rattle.std.specs.Prelude.{◌≡◌, ◌≤◌, ◌↔◌, ℕ, IfErr,
 ghost use Rattle.back_pool.specs.Making.{IsTrusted};
 ghost use Rattle.cache_slot.specs.Decoded.{decoded};
 ghost use Rattle.cache_slot.specs.Directory.{dir_of};
-ghost use Rattle.cache_turn.specs.Places.{IsAt};
+ghost use Rattle.cache_slot.specs.Places.{IsAt};
 ghost use Rattle.command_files.specs.Links.{GivenFor, PutFailed, puts};
 ghost use Rattle.command_files.specs.Listing.{FirstBadLine, IsList};
 ghost use Rattle.lto_fault.specs.declared.kind.Kind.TheVariants.{Batch};

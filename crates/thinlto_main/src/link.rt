@@ -4,7 +4,7 @@ ghost use Rattle.std.specs.Prelude.{◌≡◌, ◌≤◌, ◌<◌, ◌^◌, ◌�
 ghost use Rattle.back_pool.specs.Making.{FitsAsMade, IsTrusted};
 ghost use Rattle.cache_slot.specs.Decoded.{decoded};
 ghost use Rattle.cache_slot.specs.Directory.{dir_of};
-ghost use Rattle.cache_turn.specs.Places.{IsAt};
+ghost use Rattle.cache_slot.specs.Places.{IsAt};
 ghost use Rattle.command_files.specs.Fetching.{IsShort};
 ghost use Rattle.ir_tree.specs.Names.{AllBytes};
 ghost use Rattle.link_one.specs.Linking.{IsLinkOf, IsOnlyLinkOf};

@@ -1,7 +1,7 @@
 //! Look-ups and stores, one after another, on a cache over a disk in memory.
 ghost use Rattle.std.specs.Prelude.{◌≡◌, ℕ, List, Some};
 ghost use Rattle.std.specs.List.{Contains};
-ghost use Rattle.cache_turn.specs.Places.{IsAt};
+ghost use Rattle.cache_slot.specs.Places.{IsAt};
 ghost use Rattle.cache_slot.specs.Directory.{dir_of};
 ghost use Rattle.outside_memory.specs.Disk.{disk_held, disk_calls};
 ghost use Rattle.outside_tests.specs.Keys.{test_keys};

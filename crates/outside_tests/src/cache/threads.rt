@@ -1,7 +1,7 @@
 //! Callers beside each other that store one key.
 ghost use Rattle.std.specs.Prelude.{◌≡◌, ℕ, List, None, Some, All, IfOk};
 ghost use Rattle.std.specs.List.{Contains};
-ghost use Rattle.cache_turn.specs.Places.{IsAt};
+ghost use Rattle.cache_slot.specs.Places.{IsAt};
 ghost use Rattle.outside_memory.specs.Disk.{disk_held, disk_calls};
 ghost use Rattle.outside_tests.specs.Keys.{test_keys};
 

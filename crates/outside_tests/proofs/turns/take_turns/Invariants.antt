@@ -1,4 +1,4 @@
-use Rattle.cache_turn.specs.Places.{IsOut}
+use Rattle.cache_slot.specs.Places.{IsOut}
 use Rattle.outside_tests.proofs.turns.take_turns.Given as goal
 
 abbrev pub invariant-loop-i : goal.invariant-loop-i

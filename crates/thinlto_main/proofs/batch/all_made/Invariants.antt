@@ -1,7 +1,7 @@
 use Rattle.std.proofs.Common.{take}
 use Rattle.std.specs.List.{AllZip}
 use Rattle.back_pool.specs.Making.{IsTrusted}
-use Rattle.cache_turn.specs.Places.{IsAt}
+use Rattle.cache_slot.specs.Places.{IsAt}
 use Rattle.thinlto_main.specs.Linking.{IsLinkable, IsMadeIf}
 use Rattle.thinlto_main.proofs.batch.all_made.Given as goal
 

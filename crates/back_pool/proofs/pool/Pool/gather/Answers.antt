@@ -1,10 +1,10 @@
 use Rattle.std.proofs.Common.{All}
 use Rattle.std.proofs.lemmas.List.Elements.{All-rest}
-use Rattle.cache_turn.specs.Places.{IsAt}
+use Rattle.cache_slot.specs.Places.{IsAt}
 use Rattle.back_pool.specs.Making.{IsTrusted}
 use Rattle.back_pool.specs.Working.{IsDone}
 use Rattle.back_pool.specs.declared.worker.Worker.{Worker}
-use Rattle.cache_turn.proofs.Prefixes.{prefix_trans}
+use Rattle.cache_slot.proofs.Prefixes.{prefix_trans}
 use Rattle.back_pool.proofs.pool.Pool.gather.Goals as goal
 
 pub loop-worker-preserved : goal.loop-worker-preserved

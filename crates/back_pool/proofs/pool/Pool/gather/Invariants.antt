@@ -1,6 +1,6 @@
 use Rattle.std.proofs.Common.{All}
 use mathlib.Core.List.{IsPrefix}
-use Rattle.cache_turn.specs.Places.{IsAt, seen_by}
+use Rattle.cache_slot.specs.Places.{IsAt, seen_by}
 use Rattle.back_pool.specs.Making.{IsTrusted}
 use Rattle.back_pool.specs.Working.{AreAnswers, IsDone}
 use Rattle.back_pool.proofs.pool.Pool.gather.Given as goal

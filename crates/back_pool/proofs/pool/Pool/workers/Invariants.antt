@@ -1,6 +1,6 @@
 use Rattle.std.proofs.Common.{◌≡◌, All}
 use Rattle.std.specs.Prelude.{vec_capacity}
-use Rattle.cache_turn.specs.Places.{IsAt, seen_by}
+use Rattle.cache_slot.specs.Places.{IsAt, seen_by}
 use Rattle.claim_word.specs.Passes.{IsPassOf}
 use Rattle.back_pool.specs.Making.{IsTrusted}
 use Rattle.back_pool.specs.Working.{IsAtWork, IsDone}

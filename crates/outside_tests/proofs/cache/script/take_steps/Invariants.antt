@@ -1,4 +1,4 @@
-use Rattle.cache_turn.specs.Places.{IsAt}
+use Rattle.cache_slot.specs.Places.{IsAt}
 use Rattle.outside_tests.proofs.cache.script.take_steps.Given as goal
 
 abbrev pub invariant-loop-step : goal.invariant-loop-step

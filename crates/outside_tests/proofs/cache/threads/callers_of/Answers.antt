@@ -1,5 +1,5 @@
 use Rattle.std.proofs.lemmas.List.Elements.{All-same, All-push}
-use Rattle.cache_turn.specs.Places.{IsAt}
+use Rattle.cache_slot.specs.Places.{IsAt}
 use Rattle.outside_tests.specs.declared.cache.threads.Caller.{Caller}
 use Rattle.outside_tests.proofs.cache.threads.callers_of.Goals as goal
 

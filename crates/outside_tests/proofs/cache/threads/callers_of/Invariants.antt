@@ -1,5 +1,5 @@
 use Rattle.std.proofs.Common.{All}
-use Rattle.cache_turn.specs.Places.{IsAt}
+use Rattle.cache_slot.specs.Places.{IsAt}
 use Rattle.outside_tests.proofs.cache.threads.callers_of.Given as goal
 
 abbrev pub invariant-loop : goal.invariant-loop

@@ -1,9 +1,9 @@
 use Rattle.std.proofs.Common.{rules, arith, ◌<◌, ℕ, ◌∷◌, Some, Option, List, sym, ap, ◌∙◌}
-use Rattle.cache_turn.specs.Views.{ticket_of}
+use Rattle.cache_slot.specs.Views.{ticket_of}
 use Rattle.atomic_table.specs.Table.{rest}
-use Rattle.cache_turn.proofs.Steps.{draws, waits}
-use Rattle.cache_turn.proofs.lock.TicketLock.take.Goals.{then-place-eq0, else-place-eq0}
-use Rattle.cache_turn.proofs.lock.TicketLock.take.Goals as goal
+use Rattle.cache_slot.proofs.Steps.{draws, waits}
+use Rattle.cache_slot.proofs.lock.TicketLock.take.Goals.{then-place-eq0, else-place-eq0}
+use Rattle.cache_slot.proofs.lock.TicketLock.take.Goals as goal
 
 pub fetch_add-ticket-requires : goal.fetch_add-ticket-requires
 fetch_add-ticket-requires g c =

@@ -9,13 +9,13 @@ use lib.ListN.{get_elem?}
 use lib.Seq.{set-get_or}
 use Rattle.atomic_table.specs.Table.{State, Me, step, keeps, takes, gives, stepped, homes_after, Allows, Splits, Joins, opening}
 use Rattle.atomic_table.proofs.Lists.{at_set, at_snoc, set_again, set_here, set_else, at_longer}
-use Rattle.cache_turn.specs.declared.sight.Sight.{Sight}
-use Rattle.cache_turn.specs.declared.sight.Stage.{Stage}
-use Rattle.cache_turn.specs.declared.sight.Stage.TheVariants.{Out, Waiting, Inside, Counted}
-use Rattle.cache_turn.specs.Views.{share, ticket_count, is_outside, ticket_of, longer, Knows, tickets_held, turns_left, opening_sight, no_sight, staged, drawn, entered, counted, left_sight, right_sight, both_sights, merged}
-use Rattle.cache_turn.specs.Rule.{PlaceRule, Home, TurnRule, held_log, DrawStep, AwaitStep, CountStep, ServeStep, MeetStep}
-use Rattle.cache_turn.proofs.Tallies.{sum_set, sum_at, sum_two, sum_push}
-use Rattle.cache_turn.proofs.Prefixes.{prefix_self, prefix_trans, prefix_shorter}
+use Rattle.cache_slot.specs.declared.sight.Sight.{Sight}
+use Rattle.cache_slot.specs.declared.sight.Stage.{Stage}
+use Rattle.cache_slot.specs.declared.sight.Stage.TheVariants.{Out, Waiting, Inside, Counted}
+use Rattle.cache_slot.specs.Views.{share, ticket_count, is_outside, ticket_of, longer, Knows, tickets_held, turns_left, opening_sight, no_sight, staged, drawn, entered, counted, left_sight, right_sight, both_sights, merged}
+use Rattle.cache_slot.specs.Rule.{PlaceRule, Home, TurnRule, held_log, DrawStep, AwaitStep, CountStep, ServeStep, MeetStep}
+use Rattle.cache_slot.proofs.Tallies.{sum_set, sum_at, sum_two, sum_push}
+use Rattle.cache_slot.proofs.Prefixes.{prefix_self, prefix_trans, prefix_shorter}
 
 module _ {T R : Type 0} (log : T → List R) where
   abbrev D : Type 0

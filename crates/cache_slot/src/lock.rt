@@ -1,4 +1,16 @@
-//! The lock, and its calls.
+//! A value that callers use in turn, and the one history that they share: a ticket lock.
+//!
+//! A caller draws a ticket by one atomic addition, waits until its ticket is served, takes the value out of its slot,
+//! puts it back, and serves the next ticket (Mellor-Crummey and Scott, "Algorithms for scalable synchronization on
+//! shared-memory multiprocessors", ACM TOCS 9(1), 1991, section 2.2). So turns are granted in the order of the tickets.
+//! A turn takes four atomic steps and, while other tickets are served, one more for each wake; all waiters are woken,
+//! since each waits for a number of its own.
+//!
+//! The value has a list of records ([`Logged`]), its history, to which a turn adds at the end and never else. Each
+//! [`Place`] knows how many turns it has left, how its last turn found the history, and how it left it: what it has *seen*.
+//! In every interleaving of all calls one caller at a time has the value; what a place has seen begins the history, so of
+//! any two places the one has seen a beginning of what the other has; and the history begins with it when the lock is
+//! closed.
 ghost use Rattle.std.specs.Prelude.{◌≡◌, ℕ, ◌+◌, ◌^◌, ◌<◌, ◌++◌, [], List, length, IfOk, IfErr};
 ghost use mathlib.Core.List.{IsPrefix};
 
@@ -37,8 +49,8 @@ pub struct TicketLock<T: Logged<R>, R> {
 }
 
 impl<T: Logged<R>, R> TicketLock<T, R> {
-    ghost use Rattle.cache_turn.specs.Views.{longer, opening_sight, left_sight, right_sight};
-    ghost use Rattle.cache_turn.specs.Places.{IsAt, IsOut, IsSamePlace, IsInside, seen_by, taken, given, joined};
+    ghost use Rattle.cache_slot.specs.Views.{longer, opening_sight, left_sight, right_sight};
+    ghost use Rattle.cache_slot.specs.Places.{IsAt, IsOut, IsSamePlace, IsInside, seen_by, taken, given, joined};
 
     /// A lock round the value, whose history is empty, and its first place. The value comes back where there is no
     /// memory.
@@ -143,7 +155,7 @@ impl<T: Logged<R>, R> TicketLock<T, R> {
 }
 
 impl<T: Logged<R> + Drop, R> TicketLock<T, R> {
-    ghost use Rattle.cache_turn.specs.Places.{IsOut, seen_by};
+    ghost use Rattle.cache_slot.specs.Places.{IsOut, seen_by};
 
     /// Takes a last turn, and hands the value out. Its history begins with what the place has seen.
     pub fn close<W: Wait>(self, rt: &W, mut place: Place<T, R>) -> T

@@ -1,8 +1,8 @@
 -- How each kind of step changes what a place has seen, and where it stands.
 use Rattle.std.specs.Prelude.{◌≡◌, ℕ, ◌+◌, ◌-◌, ◌/◌, ◌==◌, Bool, true, false, if◌then◌else◌, nat_lt, List, [], length}
-use Rattle.cache_turn.specs.declared.sight.Sight.{Sight}
-use Rattle.cache_turn.specs.declared.sight.Stage.{Stage}
-use Rattle.cache_turn.specs.declared.sight.Stage.TheVariants.{Out, Waiting, Inside, Counted}
+use Rattle.cache_slot.specs.declared.sight.Sight.{Sight}
+use Rattle.cache_slot.specs.declared.sight.Stage.{Stage}
+use Rattle.cache_slot.specs.declared.sight.Stage.TheVariants.{Out, Waiting, Inside, Counted}
 
 -- the turns that a new place gets of n: 2^40, or half where fewer than 2^41 are left
 abbrev pub share : ℕ → ℕ

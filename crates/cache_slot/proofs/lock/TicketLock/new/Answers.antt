@@ -1,10 +1,10 @@
 use Rattle.std.proofs.Common.{rules, sym, ◌∷◌, [], subst, List, Option, Some, ◌≡◌, arith}
 use Rattle.std.proofs.lemmas.Grind.{common_steps}
-use Rattle.cache_turn.proofs.Steps.{begins}
+use Rattle.cache_slot.proofs.Steps.{begins}
 use Rattle.atomic_table.specs.Table.{opening}
-use Rattle.cache_turn.specs.Rule.{TurnRule}
-use Rattle.cache_turn.specs.Views.{opening_sight}
-use Rattle.cache_turn.proofs.lock.TicketLock.new.Goals as goal
+use Rattle.cache_slot.specs.Rule.{TurnRule}
+use Rattle.cache_slot.specs.Views.{opening_sight}
+use Rattle.cache_slot.proofs.lock.TicketLock.new.Goals as goal
 
 pub new-requires : goal.new-requires
 new-requires g c = let b = begins g.T.Logged.log c.args.value c.requires in

@@ -14,8 +14,8 @@ pub trait Logged<R> {
 pub struct Turns;
 
 impl<T: Logged<R>, R> TableRule<Option<T>, Sight<R>, ()> for Turns {
-    ghost use Rattle.cache_turn.specs.Rule.{TurnRule};
-    ghost use Rattle.cache_turn.specs.Views.{opening_sight};
+    ghost use Rattle.cache_slot.specs.Rule.{TurnRule};
+    ghost use Rattle.cache_slot.specs.Views.{opening_sight};
 
     ghost holds = { λ key. TurnRule T.log };
 
@@ -26,7 +26,7 @@ impl<T: Logged<R>, R> TableRule<Option<T>, Sight<R>, ()> for Turns {
 pub struct Draw;
 
 impl<T: Logged<R>, R> Play<Option<T>, Sight<R>> for Draw {
-    ghost use Rattle.cache_turn.specs.Rule.{DrawStep};
+    ghost use Rattle.cache_slot.specs.Rule.{DrawStep};
 
     ghost then = { DrawStep T.log };
 }
@@ -35,7 +35,7 @@ impl<T: Logged<R>, R> Play<Option<T>, Sight<R>> for Draw {
 pub struct Await;
 
 impl<T: Logged<R>, R> Play<Option<T>, Sight<R>> for Await {
-    ghost use Rattle.cache_turn.specs.Rule.{AwaitStep};
+    ghost use Rattle.cache_slot.specs.Rule.{AwaitStep};
 
     ghost then = { AwaitStep T.log };
 }
@@ -44,7 +44,7 @@ impl<T: Logged<R>, R> Play<Option<T>, Sight<R>> for Await {
 pub struct Count;
 
 impl<T: Logged<R>, R> Play<Option<T>, Sight<R>> for Count {
-    ghost use Rattle.cache_turn.specs.Rule.{CountStep};
+    ghost use Rattle.cache_slot.specs.Rule.{CountStep};
 
     ghost then = { CountStep T.log };
 }
@@ -53,7 +53,7 @@ impl<T: Logged<R>, R> Play<Option<T>, Sight<R>> for Count {
 pub struct Serve;
 
 impl<T: Logged<R>, R> Play<Option<T>, Sight<R>> for Serve {
-    ghost use Rattle.cache_turn.specs.Rule.{ServeStep};
+    ghost use Rattle.cache_slot.specs.Rule.{ServeStep};
 
     ghost then = { ServeStep T.log };
 }
@@ -62,7 +62,7 @@ impl<T: Logged<R>, R> Play<Option<T>, Sight<R>> for Serve {
 pub struct Meet;
 
 impl<T: Logged<R>, R> Play<Option<T>, Sight<R>> for Meet {
-    ghost use Rattle.cache_turn.specs.Rule.{MeetStep};
+    ghost use Rattle.cache_slot.specs.Rule.{MeetStep};
 
     ghost then = { MeetStep T.log };
 }
@@ -71,7 +71,7 @@ impl<T: Logged<R>, R> Play<Option<T>, Sight<R>> for Meet {
 pub struct Sights;
 
 impl<R> Split<Sight<R>> for Sights {
-    ghost use Rattle.cache_turn.specs.Views.{left_sight, right_sight};
+    ghost use Rattle.cache_slot.specs.Views.{left_sight, right_sight};
 
     ghost left = { left_sight };
 
@@ -79,7 +79,7 @@ impl<R> Split<Sight<R>> for Sights {
 }
 
 impl<R> Join<Sight<R>> for Sights {
-    ghost use Rattle.cache_turn.specs.Views.{both_sights, no_sight};
+    ghost use Rattle.cache_slot.specs.Views.{both_sights, no_sight};
 
     ghost both = { both_sights };
 

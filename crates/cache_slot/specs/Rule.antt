@@ -6,9 +6,9 @@ use mathlib.Core.Option as maybe
 use mathlib.Core.List.{IsPrefix}
 use lib.ListN.{get_elem?}
 use Rattle.atomic_table.specs.Table.{State, Me, Step, rest}
-use Rattle.cache_turn.specs.declared.sight.Sight.{Sight}
-use Rattle.cache_turn.specs.declared.sight.Stage.TheVariants.{Out}
-use Rattle.cache_turn.specs.Views.{ticket_of, is_outside, Knows, longer, tickets_held, turns_left, staged, drawn, entered, counted, merged}
+use Rattle.cache_slot.specs.declared.sight.Sight.{Sight}
+use Rattle.cache_slot.specs.declared.sight.Stage.TheVariants.{Out}
+use Rattle.cache_slot.specs.Views.{ticket_of, is_outside, Knows, longer, tickets_held, turns_left, staged, drawn, entered, counted, merged}
 
 module _ {T R : Type 0} (log : T → List R) where
   -- what the rule says of each place, where the ticket `served` is served

@@ -1,6 +1,6 @@
 use Rattle.std.proofs.Common.{◌≡◌, []}
-use Rattle.cache_turn.specs.Views.{drawn}
-use Rattle.cache_turn.proofs.lock.TicketLock.take.Given as goal
+use Rattle.cache_slot.specs.Views.{drawn}
+use Rattle.cache_slot.proofs.lock.TicketLock.take.Given as goal
 
 abbrev pub invariant-loop : goal.invariant-loop
 invariant-loop g l = record {

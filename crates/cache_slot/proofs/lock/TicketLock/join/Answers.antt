@@ -1,6 +1,6 @@
 use Rattle.std.proofs.Common.{rules, ap, ◌∙◌}
-use Rattle.cache_turn.proofs.Steps.{joins, meets}
-use Rattle.cache_turn.proofs.lock.TicketLock.join.Goals as goal
+use Rattle.cache_slot.proofs.Steps.{joins, meets}
+use Rattle.cache_slot.proofs.lock.TicketLock.join.Goals as goal
 
 pub join_seat-requires : goal.join_seat-requires
 join_seat-requires g c = (search rules, search rules, search rules, search rules, joins g.T.Logged.log _ _ _ _ c.requires.other.2)

@@ -4,9 +4,9 @@ use mathlib.Core.List.{IsPrefix}
 use Rattle.atomic_table.specs.Seated.{TableId}
 use Rattle.atomic_table.specs.Table.{Me}
 use Rattle.atomic_table.specs.declared.shared.Seat.{Seat}
-use Rattle.cache_turn.specs.declared.sight.Sight.{Sight}
-use Rattle.cache_turn.specs.declared.sight.Stage.TheVariants.{Out, Inside}
-use Rattle.cache_turn.specs.Views.{drawn, entered, longer}
+use Rattle.cache_slot.specs.declared.sight.Sight.{Sight}
+use Rattle.cache_slot.specs.declared.sight.Stage.TheVariants.{Out, Inside}
+use Rattle.cache_slot.specs.Views.{drawn, entered, longer}
 
 module _ {T R : Type 0} where
   -- the place is one of this lock

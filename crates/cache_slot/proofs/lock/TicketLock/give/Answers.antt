@@ -1,8 +1,8 @@
 use Rattle.std.proofs.Common.{rules, ℕ, ◌∷◌, Some, Option, List, sym, ap, ◌∙◌}
 use Rattle.atomic_table.specs.Table.{rest}
-use Rattle.cache_turn.specs.Rule.{held_log}
-use Rattle.cache_turn.proofs.Steps.{counts, serves}
-use Rattle.cache_turn.proofs.lock.TicketLock.give.Goals as goal
+use Rattle.cache_slot.specs.Rule.{held_log}
+use Rattle.cache_slot.proofs.Steps.{counts, serves}
+use Rattle.cache_slot.proofs.lock.TicketLock.give.Goals as goal
 
 pub fetch_add-requires : goal.fetch_add-requires
 fetch_add-requires g c =

@@ -1,3 +1,0 @@
-mod Tallies
-mod Steps
-pub mod Prefixes
