@@ -12,7 +12,7 @@ use Rattle.ir_tree.specs.Fits.{FitsShape}
 use Rattle.ir_tree.specs.declared.rule.Rule.{Rule}
 use Rattle.ir_tree.specs.declared.rule.Rule.TheVariants.{TypeMismatch}
 use Rattle.ir_verify.specs.declared.fault.VerifyFault.{VerifyFault}
-use Rattle.ir_verify.specs.Modules.{GlobalPast, IsFirst, IsLeastFault, BreaksAt, place_of}
+use Rattle.ir_verify.specs.Modules.{GlobalPast, IsFirst, IsLeastFault, place_of}
 use Rattle.ir_verify.specs.Orders.{AtMost, IsPast, IsNoted, fault}
 use Rattle.ir_verify.proofs.Alls.{all_from_got}
 use Rattle.ir_verify.proofs.Going.{none_before}

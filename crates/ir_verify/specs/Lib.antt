@@ -9,4 +9,5 @@ pub mod Known
 pub mod Orders
 pub mod Standing
 pub mod Modules
+pub mod Walks
 pub mod Wants

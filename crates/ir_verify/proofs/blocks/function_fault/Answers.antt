@@ -32,3 +32,6 @@ pub returns : goal.returns
 returns c =
     let past : length c.args.function.now.blocks ≤ c.loop-place.place = omega (arith, c.loop-place-test.false, ap (λ (bs : List Block). length bs) c.as_slice-blocks.ensures) in
     went_all c.args.function.now c.args.lines.now c.args.number c.loop-place.at c.args.found c.loop-place.best c.requires.formed (onward_all c.args.function.now c.loop-place.place c.loop-place.at past c.loop-place.invariant.onward) c.loop-place.invariant.went
+
+pub block_fault-requires-clause-walk : goal.block_fault-requires-clause-walk
+block_fault-requires-clause-walk c = record { known = c.in_ok-known.ensures; formed = c.requires.formed; lined = c.requires.lined }

@@ -1,6 +1,0 @@
-use Rattle.std.proofs.Common.{◌+◌}
-use Rattle.ir_verify.specs.Orders.{Went}
-use Rattle.ir_verify.proofs.blocks.phis_fault.Given as goal
-
-abbrev pub invariant-loop-phi : goal.invariant-loop-phi
-invariant-loop-phi l = Went l.function l.lines l.number l.at l.fn.found (l.at + l.phi) l.best
