@@ -1,40 +1,15 @@
 //! The edges that are lost as terminators become jumps, by the blocks to which they lead.
 ghost use Rattle.std.specs.Prelude.{◌≡◌, ◌++◌, ◌∷◌, [], ℕ, nat_eq, IfOk, OnOk};
-ghost use Rattle.ir_tree.specs.Flow.{repeated, targets};
+ghost use Rattle.ir_tree.specs.Flow.{repeated};
 ghost use Rattle.branch_simplify.specs.Decided.{lost, without_first};
 ghost use Rattle.branch_simplify.specs.Simplified.{lost_into};
 ghost use Rattle.branch_simplify.specs.Tables.{lost_at};
 
 use crate::decide::decided;
+use ir_flow::push_targets;
 use ir_tree::{Block, Terminator};
 use std::alloc::{AllocError, Global};
 use std::collections::HashMap;
-
-/// The numbers of the blocks to which a terminator leads, one for each edge, as they are written.
-fn targets(alloc: Global, end: &Terminator) -> Result<Vec<u32>, AllocError>
-    ensures { IfOk result (λ v. v.items ≡ targets end.now) }
-{
-    let mut numbers = Vec::new(alloc);
-    match end {
-        Terminator::Return(_) | Terminator::Unreachable => {}
-        Terminator::Jump(target) => numbers.push(*target)?,
-        Terminator::Branch {
-            if_true,
-            if_false,
-            ..
-        } => {
-            numbers.push(*if_true)?;
-            numbers.push(*if_false)?;
-        }
-        Terminator::Switch { default, cases, .. } => {
-            numbers.push(*default)?;
-            for case in cases.as_slice() {
-                numbers.push(case.target)?;
-            }
-        }
-    }
-    Ok(numbers)
-}
 
 /// The numbers without the first that is this one.
 fn without_first(alloc: Global, number: u32, numbers: &[u32]) -> Result<Vec<u32>, AllocError>
@@ -59,7 +34,8 @@ fn lost(alloc: Global, end: &Terminator) -> Result<Vec<u32>, AllocError>
     match decided(end) {
         None => Ok(Vec::new(alloc)),
         Some(target) => {
-            let targets = targets(alloc, end)?;
+            let mut targets = Vec::new(alloc);
+            push_targets(&mut targets, end)?;
             without_first(alloc, target, &targets)
         }
     }

@@ -35,7 +35,7 @@ pub use laws::{
     all_are_available, available_by_dominance, available_is_passed, greatest_is_marked,
     marks_hold_from_entry, marks_hold_on_paths, one_greatest,
 };
-pub use predecessors::preds;
+pub use predecessors::{preds, push_targets};
 pub use reach::reachable;
 pub use solution::greatest;
 pub use system::Equations;

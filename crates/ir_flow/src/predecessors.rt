@@ -9,7 +9,7 @@ use ir_tree::{Block, Function, Terminator};
 use std::alloc::{AllocError, Global};
 
 /// Adds the numbers of the blocks to which a terminator leads, one for each edge, as they are written.
-fn push_targets(numbers: &mut Vec<u32>, end: &Terminator) -> Result<(), AllocError>
+pub fn push_targets(numbers: &mut Vec<u32>, end: &Terminator) -> Result<(), AllocError>
     ensures { OnOk result (numbers.new.items ≡ numbers.old.items ++ targets_of end.now) }
 {
     match end {
@@ -19,10 +19,7 @@ fn push_targets(numbers: &mut Vec<u32>, end: &Terminator) -> Result<(), AllocErr
             if_true,
             if_false,
             ..
-        } => {
-            numbers.push(*if_true)?;
-            numbers.push(*if_false)?;
-        }
+        } => numbers.extend_from_slice(&[*if_true, *if_false])?,
         Terminator::Switch { default, cases, .. } => {
             numbers.push(*default)?;
             for case in cases.as_slice() {
