@@ -8,8 +8,8 @@ ghost use Rattle.fact_sources.specs.Candidates.{blocks_candidates};
 ghost use Rattle.ir_facts.specs.Blocks.{with_blocks};
 
 use fact_sources::{Substitution, end_names, instr_names, phis_name, push_blocks};
+use ir_edit::{end_edited, instr_edited, phis_edited};
 use ir_tree::{Block, Duplicate, Function, Instr, Line, Phi, Rows, Terminator};
-use point_edit::{end_edited, instr_edited, phis_edited};
 use std::alloc::{AllocError, Global};
 use std::mem::replace;
 

@@ -7,8 +7,7 @@ ghost use Rattle.ir_better.specs.Facts.{is_local};
 ghost use Rattle.point_edit.specs.AtPoints.{block_at, blocks_at, edges_at, end_at, function_at, last_point, lines_at, phis_at, standing, standing_behind};
 
 use crate::fact::Fact;
-use crate::walk::{end_edited, instr_edited};
-use ir_edit::Edit;
+use ir_edit::{Edit, end_edited, instr_edited};
 use ir_tree::{Block, Duplicate, Function, Incoming, Line, Operand, Phi, Rows, Terminator};
 use std::alloc::{AllocError, Global};
 use std::collections::BTreeMap;

@@ -2,8 +2,7 @@
 //!
 //! A [`Fact`] says at which points of a function an operand may stand for a local. [`function_at`] puts it there, in one
 //! walk: the definition is `specs/AtPoints.antt`, and the contract is equality with it. Whether the facts hold is not
-//! asked here: `ir_facts` finds them. The parts of a block are edited by calls for any change of operands, as
-//! [`instr_edited`].
+//! asked here: `ir_facts` finds them. Each instruction and terminator is edited by the calls of `ir_edit`.
 //!
 //! Below this crate stand `ir_tree`, `lto_sets` and `ir_edit`, and `ir_better` for words of the definitions. A use is looked
 //! up in each fact.
@@ -11,8 +10,6 @@
 
 mod at_points;
 mod fact;
-mod walk;
 
 pub use at_points::function_at;
 pub use fact::Fact;
-pub use walk::{end_edited, instr_edited, phis_edited};

@@ -1,65 +1,13 @@
-//! One walk over the parts of a block that changes each operand.
+//! Instructions with each number and each operand changed.
 ghost use Rattle.std.specs.Prelude.{◌≡◌, IfOk, map};
-ghost use Rattle.ir_tree.specs.Edited.{argument_edited, end_edited, incoming_edited, instr_edited, phi_edited};
+ghost use Rattle.ir_tree.specs.Edited.{argument_edited, incoming_edited, instr_edited};
 
-use ir_edit::Edit;
+use crate::edit::Edit;
+use crate::operands::{argument_edited, arguments_edited, edges_edited};
 use ir_tree::{
-    Argument, BinaryOp, CastOp, Duplicate, Flags, Incoming, Instr, Operand, Phi, Predicate, Reg,
-    Rows, Shape, Terminator,
+    Argument, BinaryOp, CastOp, Duplicate, Flags, Incoming, Instr, Operand, Predicate, Reg, Shape,
 };
 use std::alloc::{AllocError, Global};
-
-// ---- operands
-
-fn argument_edited<E: Edit>(
-    alloc: Global,
-    edit: &E,
-    argument: &Argument,
-) -> Result<Argument, AllocError>
-    ensures { IfOk result (λ a. a ≡ argument_edited (E.operand_of edit.now) argument.now) }
-{
-    let operand = edit.operand(alloc, &argument.operand)?;
-    Ok(Argument {
-        reg: argument.reg,
-        operand,
-    })
-}
-
-fn arguments_edited<E: Edit>(
-    alloc: Global,
-    edit: &E,
-    arguments: &[Argument],
-) -> Result<Rows<Argument>, AllocError>
-    ensures { IfOk result (λ rows. rows ≡ map (argument_edited (E.operand_of edit.now)) arguments.now) }
-{
-    let mut rows = Rows::new(alloc);
-    for old in arguments {
-        rows.push(argument_edited(alloc, edit, old)?)?;
-    }
-    Ok(rows)
-}
-
-fn entries_edited<E: Edit>(
-    alloc: Global,
-    edit: &E,
-    incoming: &[Incoming],
-) -> Result<Rows<Incoming>, AllocError>
-    ensures { IfOk result (λ rows. rows ≡ map (incoming_edited (λ x. x) (E.operand_of edit.now)) incoming.now) }
-{
-    let mut rows = Rows::new(alloc);
-    for edge in incoming {
-        let value = edit.operand(alloc, &edge.value)?;
-        rows.push(Incoming {
-            from: edge.from,
-            value,
-        })?;
-    }
-    Ok(rows)
-}
-
-// ---- instructions
-
-// Each kind by itself.
 
 fn binary_edited<E: Edit>(
     alloc: Global,
@@ -236,21 +184,23 @@ fn call_edited<E: Edit>(
     })
 }
 
-fn phi_edited<E: Edit>(
+fn stray_phi_edited<E: Edit>(
     alloc: Global,
     edit: &E,
     reg: Reg,
     incoming: &[Incoming],
 ) -> Result<Instr, AllocError>
-    ensures { IfOk result (λ i. i ≡ Instr.Phi reg (map (incoming_edited (λ x. x) (E.operand_of edit.now)) incoming.now)) }
+    ensures { IfOk result (λ i. i ≡ Instr.Phi reg (map (incoming_edited (E.number_of edit.now) (E.operand_of edit.now)) incoming.now)) }
 {
-    let incoming = entries_edited(alloc, edit, incoming)?;
+    let incoming = edges_edited(alloc, edit, incoming)?;
     Ok(Instr::Phi { reg, incoming })
 }
 
-/// The instruction with each operand changed as the edit says. Numbers stay.
+/// The instruction with each operand changed by this edit, and each number of a block from which a value comes.
+///
+/// A number that the edit refuses is answered as want of memory.
 pub fn instr_edited<E: Edit>(alloc: Global, edit: &E, instr: &Instr) -> Result<Instr, AllocError>
-    ensures { IfOk result (λ i. i ≡ instr_edited (λ x. x) (E.operand_of edit.now) instr.now) }
+    ensures { IfOk result (λ i. i ≡ instr_edited (E.number_of edit.now) (E.operand_of edit.now) instr.now) }
 {
     match instr {
         Instr::Binary {
@@ -301,68 +251,6 @@ pub fn instr_edited<E: Edit>(alloc: Global, edit: &E, instr: &Instr) -> Result<I
             callee,
             arguments,
         } => call_edited(alloc, edit, *result, callee, arguments.as_slice()),
-        Instr::Phi { reg, incoming } => phi_edited(alloc, edit, *reg, incoming.as_slice()),
-    }
-}
-
-// ---- blocks
-
-/// The phis with each operand changed as the edit says. Numbers stay.
-pub fn phis_edited<E: Edit>(alloc: Global, edit: &E, phis: &[Phi]) -> Result<Rows<Phi>, AllocError>
-    ensures { IfOk result (λ rows. rows ≡ map (phi_edited (λ x. x) (E.operand_of edit.now)) phis.now) }
-{
-    let mut rows = Rows::new(alloc);
-    for phi in phis {
-        let incoming = entries_edited(alloc, edit, phi.incoming.as_slice())?;
-        rows.push(Phi {
-            local: phi.local,
-            reg: phi.reg,
-            incoming,
-        })?;
-    }
-    Ok(rows)
-}
-
-/// The terminator with each operand changed as the edit says. Numbers stay.
-pub fn end_edited<E: Edit>(
-    alloc: Global,
-    edit: &E,
-    end: &Terminator,
-) -> Result<Terminator, AllocError>
-    ensures { IfOk result (λ e. e ≡ end_edited (λ x. x) (E.operand_of edit.now) end.now) }
-{
-    match end {
-        Terminator::Return(Some(value)) => {
-            let value = argument_edited(alloc, edit, value)?;
-            Ok(Terminator::Return(Some(value)))
-        }
-        Terminator::Branch {
-            condition,
-            if_true,
-            if_false,
-        } => {
-            let condition = edit.operand(alloc, condition)?;
-            Ok(Terminator::Branch {
-                condition,
-                if_true: *if_true,
-                if_false: *if_false,
-            })
-        }
-        Terminator::Switch {
-            width,
-            value,
-            default,
-            cases,
-        } => {
-            let value = edit.operand(alloc, value)?;
-            let cases = cases.duplicate(alloc)?;
-            Ok(Terminator::Switch {
-                width: *width,
-                value,
-                default: *default,
-                cases,
-            })
-        }
-        _ => end.duplicate(alloc),
+        Instr::Phi { reg, incoming } => stray_phi_edited(alloc, edit, *reg, incoming.as_slice()),
     }
 }

@@ -1,6 +1,0 @@
-use Rattle.std.proofs.Common.{◌≡◌, ◌++◌, drop, map}
-use Rattle.ir_tree.specs.Edited.{incoming_edited}
-use Rattle.ir_edit.proofs.walk.edges.Given as goal
-
-abbrev pub invariant-loop-edge : goal.invariant-loop-edge
-invariant-loop-edge g l = l.rows ++ map (incoming_edited (g.E.Edit.number_of l.edit) (g.E.Edit.operand_of l.edit)) (drop l.edge-index l.incoming) ≡ map (incoming_edited (g.E.Edit.number_of l.edit) (g.E.Edit.operand_of l.edit)) l.incoming
