@@ -1,5 +1,6 @@
 -- A set is closed in a function's blocks exactly where it is closed under the function's uses.
 use Rattle.std.proofs.Common.{◌≡◌, ℕ, ◌==◌, ◌||◌, Bool, true, false, cond, List, [], ◌∷◌, ◌++◌, Option, Some, None, refl, sym, ◌∙◌, ap, subst, arith}
+use Rattle.std.specs.Prelude.{flat_map}
 use Rattle.std.proofs.lemmas.Bool.Decides.{nat_tests}
 use Rattle.ir_tree.specs.declared.block.Block.{Block}
 use Rattle.ir_tree.specs.declared.block.Terminator.{Terminator}
@@ -14,10 +15,25 @@ use Rattle.ir_tree.specs.declared.operand.Argument.{Argument}
 use Rattle.ir_tree.specs.declared.operand.Operand.{Operand}
 use Rattle.ir_tree.specs.declared.operand.Operand.TheVariants.{Local, Number, Null, Poison, Symbol as Named}
 use Rattle.ir_better.specs.Needed.{AllKept, EdgesKept, EndReads, IsKept, LinesClosed, PhisKept, Reads, is_effect, is_needed, local_kept}
+use Rattle.ir_edit.specs.Uses.{block_uses as of_parts, end_uses as of_terminator}
 use Rattle.dead_code.specs.declared.uses.Use.{Use}
 use Rattle.dead_code.specs.Closure.{AllIn, IsClosedUnder, IsLeastUnder}
 use Rattle.dead_code.specs.Least.{AreBlocksClosed, IsBlockClosed, IsLeastClosed}
-use Rattle.dead_code.specs.Uses.{arguments_uses, block_uses, blocks_uses, edges_uses, end_uses, instr_uses, is_reader, line_uses, lines_uses, named_uses, operand_uses, phis_uses, read_by}
+use Rattle.dead_code.specs.Uses.{arguments_uses, blocks_uses, edges_uses, instr_uses, is_reader, line_uses, named_uses, operand_uses, phi_uses, read_by}
+
+-- ---- the uses of the parts of a block
+
+abbrev phis_uses : List Phi → List Use
+phis_uses ps = flat_map phi_uses ps
+
+abbrev lines_uses : List Line → List Use
+lines_uses ls = flat_map line_uses ls
+
+abbrev end_uses : Terminator → List Use
+end_uses e = of_terminator (operand_uses None) e
+
+abbrev block_uses : Block → List Use
+block_uses b = of_parts phi_uses line_uses (operand_uses None) b
 
 -- ---- uses one by one
 
@@ -226,14 +242,14 @@ of_end s (Switch width value default cases) h = of_operand s None value (λ c. h
 of_end s Unreachable h = tt
 
 to_block : (s : ℕ → Bool) (b : Block) → AreRead s (block_uses b) → IsBlockClosed s b
-unfolding block_uses
+unfolding of_parts
 to_block s b h =
     let p : AreRead s (phis_uses b.phis) × AreRead s (lines_uses b.lines ++ end_uses b.end) = parts s (phis_uses b.phis) (lines_uses b.lines ++ end_uses b.end) h in
     let q : AreRead s (lines_uses b.lines) × AreRead s (end_uses b.end) = parts s (lines_uses b.lines) (end_uses b.end) p.1 in
     (to_phis s b.phis p.0, (to_lines s b.lines q.0, to_end s b.end q.1))
 
 of_block : (s : ℕ → Bool) (b : Block) → IsBlockClosed s b → AreRead s (block_uses b)
-unfolding block_uses
+unfolding of_parts
 of_block s b h =
     both s (phis_uses b.phis) (lines_uses b.lines ++ end_uses b.end) (of_phis s b.phis h.0)
     (both s (lines_uses b.lines) (end_uses b.end) (of_lines s b.lines h.1.0) (of_end s b.end h.1.1))

@@ -1,8 +1,6 @@
 -- The uses of locals in a function, in the order of its text.
 use Rattle.std.specs.Prelude.{ℕ, Bool, true, false, ◌==◌, if◌then◌else◌, List, [], ◌∷◌, ◌++◌, Option, Some, None}
 use Rattle.ir_tree.specs.declared.block.Block.{Block}
-use Rattle.ir_tree.specs.declared.block.Terminator.{Terminator}
-use Rattle.ir_tree.specs.declared.block.Terminator.TheVariants.{Branch, Jump, Return, Switch, Unreachable}
 use Rattle.ir_tree.specs.declared.instr.Incoming.{Incoming}
 use Rattle.ir_tree.specs.declared.instr.Instr.{Instr}
 use Rattle.ir_tree.specs.declared.instr.Instr.TheVariants.{Address, Alloca, Binary, Call, Cast, Freeze, Icmp, Load, Phi as StrayPhi, Select, Store}
@@ -12,6 +10,7 @@ use Rattle.ir_tree.specs.declared.operand.Argument.{Argument}
 use Rattle.ir_tree.specs.declared.operand.Operand.{Operand}
 use Rattle.ir_tree.specs.declared.operand.Operand.TheVariants.{Local}
 use Rattle.ir_better.specs.Needed.{is_effect}
+use Rattle.ir_edit.specs.Uses.{blocks_uses as uses_found}
 use Rattle.dead_code.specs.declared.uses.Use.{Use}
 
 abbrev pub operand_uses : Option ℕ → Operand → List Use
@@ -40,9 +39,8 @@ instr_uses reader (Address inbounds shape base indices) = operand_uses reader ba
 instr_uses reader (Call result callee arguments) = operand_uses reader callee ++ arguments_uses reader arguments
 instr_uses reader (StrayPhi reg incoming) = []
 
-abbrev pub phis_uses : List Phi → List Use
-phis_uses [] = []
-phis_uses (p ∷ ps) = edges_uses (Some p.local) p.incoming ++ phis_uses ps
+abbrev pub phi_uses : Phi → List Use
+phi_uses p = edges_uses (Some p.local) p.incoming
 
 -- an instruction without an effect and without a local is read by nobody
 abbrev pub named_uses : Option ℕ → Instr → List Use
@@ -52,24 +50,8 @@ named_uses (Some x) i = instr_uses (Some x) i
 abbrev pub line_uses : Line → List Use
 line_uses line = if is_effect line.instr then instr_uses None line.instr else named_uses line.local line.instr
 
-abbrev pub lines_uses : List Line → List Use
-lines_uses [] = []
-lines_uses (line ∷ rest) = line_uses line ++ lines_uses rest
-
-abbrev pub end_uses : Terminator → List Use
-end_uses (Return None) = []
-end_uses (Return (Some a)) = operand_uses None a.operand
-end_uses (Jump target) = []
-end_uses (Branch condition if_true if_false) = operand_uses None condition
-end_uses (Switch width value default cases) = operand_uses None value
-end_uses Unreachable = []
-
-unfoldable pub block_uses : Block → List Use
-block_uses b = phis_uses b.phis ++ (lines_uses b.lines ++ end_uses b.end)
-
 abbrev pub blocks_uses : List Block → List Use
-blocks_uses [] = []
-blocks_uses (b ∷ bs) = block_uses b ++ blocks_uses bs
+blocks_uses bs = uses_found phi_uses line_uses (operand_uses None) bs
 
 -- ---- what one reader reads
 

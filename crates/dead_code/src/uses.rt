@@ -1,9 +1,10 @@
 //! The uses of locals in a function, in the order of its text.
 ghost use Rattle.std.specs.Prelude.{◌≡◌, ◌++◌, IfOk, OnOk, Some, None};
 ghost use Rattle.ir_better.specs.Needed.{is_effect};
-ghost use Rattle.dead_code.specs.Uses.{operand_uses, arguments_uses, edges_uses, instr_uses, phis_uses, line_uses, lines_uses, end_uses, block_uses, blocks_uses};
+ghost use Rattle.dead_code.specs.Uses.{operand_uses, arguments_uses, edges_uses, instr_uses, blocks_uses};
 
-use ir_tree::{Argument, Block, Function, Incoming, Instr, Line, Operand, Phi, Terminator};
+use ir_edit::{FindUses, push_uses};
+use ir_tree::{Argument, Function, Incoming, Instr, Line, Operand, Phi};
 use std::alloc::{AllocError, Global};
 
 /// That the local `read` is read by what gives the local `reader` its value, or by a store, a call or
@@ -102,15 +103,6 @@ fn push_instr(uses: &mut Vec<Use>, reader: Option<u32>, instr: &Instr) -> Result
     }
 }
 
-fn push_phis(uses: &mut Vec<Use>, phis: &[Phi]) -> Result<(), AllocError>
-    ensures { OnOk result (uses.new.items ≡ uses.old.items ++ phis_uses phis.now) }
-{
-    for phi in phis {
-        push_edges(uses, Some(phi.local), phi.incoming.as_slice())?;
-    }
-    Ok(())
-}
-
 /// Whether an instruction has an effect beside its value: a store or a call.
 pub(crate) fn is_effect(instr: &Instr) -> bool
     ensures { result ≡ is_effect instr.now }
@@ -118,56 +110,32 @@ pub(crate) fn is_effect(instr: &Instr) -> bool
     matches!(instr, Instr::Store { .. } | Instr::Call { .. })
 }
 
-fn push_line(uses: &mut Vec<Use>, line: &Line) -> Result<(), AllocError>
-    ensures { OnOk result (uses.new.items ≡ uses.old.items ++ line_uses line.now) }
-{
-    if is_effect(&line.instr) {
-        return push_instr(uses, None, &line.instr);
-    }
-    match line.local {
-        Some(local) => push_instr(uses, Some(local), &line.instr),
-        None => Ok(()),
-    }
-}
+impl FindUses for Use {
+    ghost use Rattle.dead_code.specs.Uses.{line_uses, operand_uses, phi_uses};
 
-fn push_lines(uses: &mut Vec<Use>, lines: &[Line]) -> Result<(), AllocError>
-    ensures { OnOk result (uses.new.items ≡ uses.old.items ++ lines_uses lines.now) }
-{
-    for line in lines {
-        push_line(uses, line)?;
-    }
-    Ok(())
-}
+    ghost of_phi = { phi_uses };
 
-fn push_end(uses: &mut Vec<Use>, end: &Terminator) -> Result<(), AllocError>
-    ensures { OnOk result (uses.new.items ≡ uses.old.items ++ end_uses end.now) }
-{
-    match end {
-        Terminator::Return(Some(value)) => push_operand(uses, None, &value.operand),
-        Terminator::Return(None) => Ok(()),
-        Terminator::Jump(_) => Ok(()),
-        Terminator::Branch { condition, .. } => push_operand(uses, None, condition),
-        Terminator::Switch { value, .. } => push_operand(uses, None, value),
-        Terminator::Unreachable => Ok(()),
-    }
-}
+    ghost of_line = { line_uses };
 
-#[tactic(auto, unfolding(crate::specs::Uses::block_uses))]
-fn push_block(uses: &mut Vec<Use>, block: &Block) -> Result<(), AllocError>
-    ensures { OnOk result (uses.new.items ≡ uses.old.items ++ block_uses block.now) }
-{
-    push_phis(uses, block.phis.as_slice())?;
-    push_lines(uses, block.lines.as_slice())?;
-    push_end(uses, &block.end)
-}
+    ghost of_read = { operand_uses None };
 
-fn push_blocks(uses: &mut Vec<Use>, blocks: &[Block]) -> Result<(), AllocError>
-    ensures { OnOk result (uses.new.items ≡ uses.old.items ++ blocks_uses blocks.now) }
-{
-    for block in blocks {
-        push_block(uses, block)?;
+    fn push_phi(uses: &mut Vec<Use>, phi: &Phi) -> Result<(), AllocError> {
+        push_edges(uses, Some(phi.local), phi.incoming.as_slice())
     }
-    Ok(())
+
+    fn push_line(uses: &mut Vec<Use>, line: &Line) -> Result<(), AllocError> {
+        if is_effect(&line.instr) {
+            return push_instr(uses, None, &line.instr);
+        }
+        match line.local {
+            Some(local) => push_instr(uses, Some(local), &line.instr),
+            None => Ok(()),
+        }
+    }
+
+    fn push_read(uses: &mut Vec<Use>, operand: &Operand) -> Result<(), AllocError> {
+        push_operand(uses, None, operand)
+    }
 }
 
 /// The uses of a function.
@@ -175,6 +143,6 @@ pub(crate) fn uses_of(alloc: Global, f: &Function) -> Result<Vec<Use>, AllocErro
     ensures { IfOk result (λ uses. uses.items ≡ blocks_uses f.now.blocks) }
 {
     let mut uses = Vec::new(alloc);
-    push_blocks(&mut uses, f.blocks.as_slice())?;
+    push_uses(&mut uses, f.blocks.as_slice())?;
     Ok(uses)
 }

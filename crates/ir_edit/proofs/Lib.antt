@@ -8,4 +8,5 @@ mod RenamedPaths
 mod RenamedSound
 mod Replacing
 mod Squares
+mod Stepping
 pub mod Tally

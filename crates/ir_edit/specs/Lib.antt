@@ -5,3 +5,4 @@ pub mod OneToOne
 pub mod Replacements
 pub mod Sounds
 pub mod Substituted
+pub mod Uses

@@ -1,8 +1,9 @@
 //! The uses of locals in a function, in the order of its text.
 ghost use Rattle.std.specs.Prelude.{◌≡◌, ◌++◌, IfOk, OnOk, Some, None};
-ghost use Rattle.slot_promote.specs.Uses.{operand_uses, argument_uses, entry_uses, instr_uses, phi_uses, line_uses, end_uses, block_uses, uses};
+ghost use Rattle.slot_promote.specs.Uses.{operand_uses, argument_uses, entry_uses, instr_uses, uses};
 
-use ir_tree::{Argument, Block, Incoming, Instr, Line, Operand, Phi, Reg, Terminator};
+use ir_edit::{FindUses, push_uses};
+use ir_tree::{Argument, Block, Incoming, Instr, Line, Operand, Phi, Reg};
 use std::alloc::{AllocError, Global};
 
 /// A use of a local: as the address of a load or a store of the type `access`, or in any other way where that is
@@ -125,44 +126,26 @@ fn push_instr(uses: &mut Vec<Use>, instr: &Instr) -> Result<(), AllocError>
     }
 }
 
-fn push_phis(uses: &mut Vec<Use>, phis: &[Phi]) -> Result<(), AllocError>
-    ensures { OnOk result (uses.new.items ≡ uses.old.items ++ phi_uses phis.now) }
-{
-    for phi in phis {
-        push_entries(uses, phi.incoming.as_slice())?;
-    }
-    Ok(())
-}
+impl FindUses for Use {
+    ghost use Rattle.slot_promote.specs.Uses.{entry_uses, instr_uses, operand_uses};
 
-fn push_lines(uses: &mut Vec<Use>, lines: &[Line]) -> Result<(), AllocError>
-    ensures { OnOk result (uses.new.items ≡ uses.old.items ++ line_uses lines.now) }
-{
-    for line in lines {
-        push_instr(uses, &line.instr)?;
-    }
-    Ok(())
-}
+    ghost of_phi = { λ p. entry_uses p.incoming };
 
-fn push_end(uses: &mut Vec<Use>, end: &Terminator) -> Result<(), AllocError>
-    ensures { OnOk result (uses.new.items ≡ uses.old.items ++ end_uses end.now) }
-{
-    match end {
-        Terminator::Return(Some(value)) => push_operand(uses, None, &value.operand),
-        Terminator::Return(None) => Ok(()),
-        Terminator::Jump(_) => Ok(()),
-        Terminator::Branch { condition, .. } => push_operand(uses, None, condition),
-        Terminator::Switch { value, .. } => push_operand(uses, None, value),
-        Terminator::Unreachable => Ok(()),
-    }
-}
+    ghost of_line = { λ l. instr_uses l.instr };
 
-#[tactic(auto, unfolding(crate::specs::Uses::block_uses))]
-fn push_block(uses: &mut Vec<Use>, block: &Block) -> Result<(), AllocError>
-    ensures { OnOk result (uses.new.items ≡ uses.old.items ++ block_uses block.now) }
-{
-    push_phis(uses, block.phis.as_slice())?;
-    push_lines(uses, block.lines.as_slice())?;
-    push_end(uses, &block.end)
+    ghost of_read = { operand_uses None };
+
+    fn push_phi(uses: &mut Vec<Use>, phi: &Phi) -> Result<(), AllocError> {
+        push_entries(uses, phi.incoming.as_slice())
+    }
+
+    fn push_line(uses: &mut Vec<Use>, line: &Line) -> Result<(), AllocError> {
+        push_instr(uses, &line.instr)
+    }
+
+    fn push_read(uses: &mut Vec<Use>, operand: &Operand) -> Result<(), AllocError> {
+        push_operand(uses, None, operand)
+    }
 }
 
 /// The uses in these blocks.
@@ -170,8 +153,6 @@ pub(crate) fn uses_in(alloc: Global, blocks: &[Block]) -> Result<Vec<Use>, Alloc
     ensures { IfOk result (λ us. us.items ≡ uses blocks.now) }
 {
     let mut uses = Vec::new(alloc);
-    for block in blocks {
-        push_block(&mut uses, block)?;
-    }
+    push_uses(&mut uses, blocks)?;
     Ok(uses)
 }
