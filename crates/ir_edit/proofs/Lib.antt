@@ -8,5 +8,5 @@ mod RenamedPaths
 mod RenamedSound
 mod Replacing
 mod Squares
-mod Stepping
+pub mod Stepping
 pub mod Tally

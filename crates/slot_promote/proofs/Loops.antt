@@ -26,15 +26,6 @@ use Rattle.slot_promote.specs.declared.slots.Place.{Place}
 use Rattle.slot_promote.specs.declared.slots.Slot.{Slot}
 use Rattle.slot_promote.specs.declared.uses.Use.{Use}
 
--- ---- what elements give, one after another
-
-pub given_more : {X Y : Type 0} (gives : X → List Y) (all_given : List X → List Y) → ((x : X) (xs : List X) → all_given (x ∷ xs) ≡ gives x ++ all_given xs) → (xs : List X) (i : ℕ) (x : X) (ys more : List Y)
-    → i < length xs → x ≡ get_or xs i x → more ≡ ys ++ gives x → more ++ all_given (drop (i + 1) xs) ≡ ys ++ all_given (drop i xs)
-given_more gives all_given parts xs i x ys more lt x_is pushed =
-    ap (λ l. l ++ all_given (drop (i + 1) xs)) pushed
-    ∙ append_assoc ys (gives x) (all_given (drop (i + 1) xs))
-    ∙ ap (λ l. ys ++ l) (sym (parts x (drop (i + 1) xs)) ∙ sym (ap all_given (drop_more xs i x lt ∙ ap (λ y. y ∷ drop (i + 1) xs) (sym x_is))))
-
 -- ---- slots
 
 pub slot_kept : (us : List Use) (slots : List Slot) (i : ℕ) (d : Slot) (kept more : List Slot) → i < length slots → is_accessed_as (get_or slots i d).reg (get_or slots i d).local us ≡ true → more ≡ kept ++ get_or slots i d ∷ []

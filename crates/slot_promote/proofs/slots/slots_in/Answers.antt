@@ -2,7 +2,7 @@ use Rattle.std.proofs.Common.{◌++◌, List, ◌∙◌, refl, ap}
 use Rattle.ir_tree.specs.declared.block.Block.{Block}
 use Rattle.ir_tree.specs.declared.instr.Line.{Line}
 use Rattle.slot_promote.specs.Slots.{line_slots, slots}
-use Rattle.slot_promote.proofs.Loops.{given_more}
+use Rattle.ir_edit.proofs.Stepping.{given_more}
 use Rattle.slot_promote.proofs.slots.slots_in.Goals as goal
 
 pub loop-block-preserved : goal.loop-block-preserved
