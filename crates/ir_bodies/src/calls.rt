@@ -5,9 +5,8 @@ ghost use Rattle.ir_lex.specs.Tok.{tok};
 ghost use Rattle.lto_forms.specs.Alphabet.{among};
 ghost use Rattle.lto_forms.specs.declared.fault.ReadError.TheVariants.{NoMemory};
 ghost use Rattle.lto_forms.specs.Readers.{Gives, next_is};
-ghost use Rattle.lto_forms.specs.Rules.{is_among, is_class, is_exact, is_valued};
+ghost use Rattle.lto_forms.specs.Rules.{is_among, is_exact, is_valued};
 ghost use Rattle.ir_read.specs.Classes.{tokens, itself};
-ghost use Rattle.ir_read.specs.FunctionHeadsAt.{end_of_none_at};
 ghost use Rattle.ir_read.specs.Operands.{IsReg, REG, type_refusal, reg_of, classes_of, operand_of};
 ghost use Rattle.ir_tree.specs.declared.operand.Reg.TheVariants.{Ptr};
 ghost use Rattle.ir_operands.specs.Adding.{pushed_at};
@@ -19,9 +18,9 @@ ghost use Rattle.ir_bodies.specs.CallsAt.{CONVENTIONS, convention_at, convention
 use ir_lex::{Head, Token};
 use ir_operands::{Listing, address_at, operand_at, push};
 use ir_read::{
-    Argument, Instr, Name, Operand, Tokens, attachments_at, call_attributes_at, expect,
-    operand_means, parameter_attribute_at, parameter_attributes_at, reg_at, reg_of, result_at,
-    type_refusal,
+    Argument, Instr, Name, Operand, Tokens, attachments_at, call_attributes_at, end_of_none_at,
+    expect, operand_means, parameter_attribute_at, parameter_attributes_at, reg_at, reg_of,
+    result_at, type_refusal,
 };
 use ir_tree::{Reg, Rows};
 use lto_forms::{Fault, FaultKind, ReadError};
@@ -116,30 +115,6 @@ fn some_types_at<'a>(alloc: Global, tokens: &mut Tokens<'_, 'a>) -> Result<Vec<N
 {
     let first = written_type_at(tokens)?;
     types_behind_at(alloc, first, tokens)
-}
-
-/// Takes the `)` behind a `(`, where a type might have stood.
-#[tactic(auto, unfolding(lto_forms::specs::Rules::is_class))]
-fn end_of_none_at(tokens: &mut Tokens) -> Result<(), ReadError>
-    ensures { Gives (λ x. (tt, tokens.new)) result (end_of_none_at tokens.old) }
-{
-    let left = tokens.left();
-    match tokens.take() {
-        None => Err(ReadError::Fault(Fault {
-            left,
-            kind: FaultKind::Syntax,
-        })),
-        Some(t) => {
-            if t.head.is(Head::CloseParen) {
-                Ok(())
-            } else {
-                Err(ReadError::Fault(Fault {
-                    left,
-                    kind: type_refusal(t.head),
-                }))
-            }
-        }
-    }
 }
 
 #[tactic(auto, unfolding(crate::specs::CallsAt::listed_types_at))]

@@ -393,7 +393,7 @@ fn some_params_at<'a>(
 
 /// Takes the `)` behind a `(`, where a type might have stood.
 #[tactic(auto, unfolding(lto_forms::specs::Rules::is_class))]
-fn end_of_none_at(tokens: &mut Tokens) -> Result<(), ReadError>
+pub fn end_of_none_at(tokens: &mut Tokens) -> Result<(), ReadError>
     ensures { Gives (λ x. (tt, tokens.new)) result (end_of_none_at tokens.old) }
 {
     let left = tokens.left();

@@ -31,8 +31,8 @@ pub use attributes::{
 pub use brackets::{Bracket, BracketMove, group_at, move_of};
 pub use finished::done;
 pub use function_heads::{
-    Role, comes_qualifier, head_at, is_local, is_qualifier, linkage_by, name_refusal,
-    qualifier_word_at, with_linkage,
+    Role, comes_qualifier, end_of_none_at, head_at, is_local, is_qualifier, linkage_by,
+    name_refusal, qualifier_word_at, with_linkage,
 };
 pub use literals::literal;
 pub use metadata::{attached_at, attachments_at, meta_at, metadata_line_at, rest_of_line_at};
