@@ -40,7 +40,6 @@ fn variable_fault(
 }
 
 /// The first fault of a global and of what was found before.
-#[tactic(auto, using(crate::proofs::Modules::past_function))]
 fn global_fault(
     alloc: Global,
     global: &GlobalValue,
@@ -87,6 +86,5 @@ fn globals_fault(
 pub fn module_fault(alloc: Global, parsed: &Parsed) -> Result<Option<VerifyFault>, AllocError>
     ensures { IfOk result (λ fault. MatchOption fault (All GlobalSound parsed.now.0.globals) (IsLeastFault parsed.now.0.globals parsed.now.1)) }
 {
-    let fault = globals_fault(alloc, parsed.module().globals.as_slice(), parsed.lines())?;
-    Ok(fault)
+    globals_fault(alloc, parsed.module().globals.as_slice(), parsed.lines())
 }

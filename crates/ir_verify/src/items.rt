@@ -144,10 +144,7 @@ fn end_differs(alloc: Global, end: &Terminator) -> Result<bool, AllocError>
     ensures { IfOk result (λ differ. IsTrue differ ↔ EndDiffers end.now) }
 {
     match end {
-        Terminator::Switch { cases, .. } => {
-            let differ = cases_differ(alloc, cases.as_slice())?;
-            Ok(differ)
-        }
+        Terminator::Switch { cases, .. } => cases_differ(alloc, cases.as_slice()),
         _ => Ok(true),
     }
 }

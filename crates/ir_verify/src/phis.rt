@@ -101,6 +101,5 @@ pub fn on_edges(
     if !same_counts(alloc, sources, preds.of(block))? {
         return Ok(false);
     }
-    let agree = entries_agree(alloc, entries)?;
-    Ok(agree)
+    entries_agree(alloc, entries)
 }

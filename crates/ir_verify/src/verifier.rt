@@ -1,6 +1,6 @@
 //! The verifier of whole modules.
-ghost use Rattle.std.specs.Prelude.{◌≡◌, IfOk, IsErrOf};
-ghost use Rattle.ir_tree.specs.Wholes.{IsVerified};
+ghost use Rattle.std.specs.Prelude.{◌≡◌, All, IfOk, OnOk, IsErrOf};
+ghost use Rattle.ir_tree.specs.Wholes.{GlobalSound, IsVerified};
 ghost use Rattle.ir_verify.specs.Modules.{IsLeastFault};
 ghost use Rattle.ir_verify.specs.declared.fault.VerifyError.TheVariants.{Fault};
 ghost use Rattle.ir_verify.specs.declared.fault.VerifyFault.{VerifyFault};
@@ -9,6 +9,17 @@ use crate::fault::VerifyError;
 use crate::globals::module_fault;
 use ir_tree::{Parsed, Verified};
 use std::alloc::Global;
+
+/// Refuses a module that has a fault.
+fn refuse_fault(alloc: Global, parsed: &Parsed) -> Result<(), VerifyError>
+    ensures sound { OnOk result (All GlobalSound parsed.now.0.globals) }
+    ensures fault { (fault : VerifyFault) → IsErrOf result (Fault fault) → IsLeastFault parsed.now.0.globals parsed.now.1 fault }
+{
+    match module_fault(alloc, parsed)? {
+        Some(fault) => Err(VerifyError::Fault(fault)),
+        None => Ok(()),
+    }
+}
 
 /// Verifies a module (LangRef, "Well-Formedness"): the module itself, where every function is sound and every initialiser fits its
 /// shape, and else its fault, on the least line and there of the least rule.
@@ -21,9 +32,7 @@ pub fn verify(alloc: Global, parsed: Parsed) -> Result<Verified, VerifyError>
     ensures sound { IfOk result (λ verified. IsVerified parsed.0) }
     ensures fault { (fault : VerifyFault) → IsErrOf result (Fault fault) → IsLeastFault parsed.0.globals parsed.1 fault }
 {
-    if let Some(fault) = module_fault(alloc, &parsed)? {
-        return Err(VerifyError::Fault(fault));
-    }
+    refuse_fault(alloc, &parsed)?;
     let (module, _lines) = parsed.into_parts();
     Ok(Verified::of(module))
 }

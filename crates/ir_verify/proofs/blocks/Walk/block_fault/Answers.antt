@@ -4,6 +4,12 @@ use Rattle.ir_verify.proofs.Going.{went_on}
 use Rattle.ir_verify.proofs.Walked.{end_formed, end_below, went_end}
 use Rattle.ir_verify.proofs.blocks.Walk.block_fault.Goals as goal
 
+pub end_broken-requires-clause-known : goal.end_broken-requires-clause-known
+end_broken-requires-clause-known c = c.requires.walk.known
+
+pub end_broken-requires-clause-formed : goal.end_broken-requires-clause-formed
+end_broken-requires-clause-formed c = c.requires.walk.formed
+
 pub end_broken-requires-clause-item : goal.end_broken-requires-clause-item
 end_broken-requires-clause-item c = end_formed c.args.self.now.function.now c.args.self.now.lines.now c.requires.walk.formed c.requires.walk.lined c.args.place c.args.block.now c.args.at c.requires.stands
 

@@ -4,6 +4,12 @@ use Rattle.ir_tree.specs.declared.instr.Line.{Line}
 use Rattle.ir_verify.proofs.Walked.{line_formed, line_below, went_line}
 use Rattle.ir_verify.proofs.blocks.Walk.lines_fault.Goals as goal
 
+pub line_broken-requires-clause-known : goal.line_broken-requires-clause-known
+line_broken-requires-clause-known c = c.requires.walk.known
+
+pub line_broken-requires-clause-formed : goal.line_broken-requires-clause-formed
+line_broken-requires-clause-formed c = c.requires.walk.formed
+
 pub line_broken-requires-clause-item : goal.line_broken-requires-clause-item
 line_broken-requires-clause-item c =
     line_formed c.args.self.now.function.now c.args.self.now.lines.now c.requires.walk.formed c.requires.walk.lined c.args.place c.args.block.now c.args.at c.requires.stands

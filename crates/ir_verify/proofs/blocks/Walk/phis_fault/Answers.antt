@@ -3,6 +3,12 @@ use Rattle.ir_tree.specs.declared.instr.Phi.{Phi}
 use Rattle.ir_verify.proofs.Walked.{phi_formed, phi_below, went_phi}
 use Rattle.ir_verify.proofs.blocks.Walk.phis_fault.Goals as goal
 
+pub phi_broken-requires-clause-known : goal.phi_broken-requires-clause-known
+phi_broken-requires-clause-known c = c.requires.walk.known
+
+pub phi_broken-requires-clause-formed : goal.phi_broken-requires-clause-formed
+phi_broken-requires-clause-formed c = c.requires.walk.formed
+
 pub phi_broken-requires-clause-item : goal.phi_broken-requires-clause-item
 phi_broken-requires-clause-item c =
     phi_formed c.args.self.now.function.now c.args.self.now.lines.now c.requires.walk.formed c.requires.walk.lined c.args.place c.args.block.now c.args.at c.requires.stands
