@@ -13,3 +13,4 @@ pub mod DomTree
 pub mod DominanceOf
 pub mod Availability
 pub mod Along
+pub mod Pushed
