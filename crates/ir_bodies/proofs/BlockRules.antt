@@ -17,12 +17,12 @@ use Rattle.lto_forms.proofs.Rules as rules
 use Rattle.lto_forms.proofs.Rules.{apart_from, contains-append}
 use Rattle.ir_instructions.specs.Addressing.{any_slots}
 use Rattle.ir_read.specs.Classes.{tokens, NUMERALS, refusal, the, itself}
-use Rattle.ir_read.specs.declared.function_heads.Role.TheVariants as roles
+use Rattle.ir_heads.specs.declared.function_heads.Role.TheVariants as roles
 use Rattle.ir_read.specs.Operands.{named}
 use Rattle.ir_operands.specs.ShapeForms.{any_shape}
 use Rattle.ir_instructions.specs.Terminators.{ENDS}
-use Rattle.ir_read.proofs.AttributeRules.{definition_attributes_rule}
-use Rattle.ir_read.proofs.FunctionHeadRules.{head_rule}
+use Rattle.ir_heads.proofs.AttributeRules.{definition_attributes_rule}
+use Rattle.ir_heads.proofs.FunctionHeadRules.{head_rule}
 use Rattle.ir_read.proofs.Singles.{sample, not_number, not_limit, the_opens, one_opens, open_brace_rule, close_brace_rule}
 use Rattle.ir_instructions.proofs.TerminatorRules.{terminator_rule, terminator_opens}
 use Rattle.ir_bodies.specs.Blocks.{LABEL, label, any_label, any_local, keep, lines, block_of, block_behind, block, any_lines, any_block_behind, any_block, at_will, blocks, any_blocks, FURTHER_BLOCKS, INSTRUCTIONS, definition, any_definition}

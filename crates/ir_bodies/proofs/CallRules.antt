@@ -10,17 +10,17 @@ use Rattle.lto_forms.specs.declared.fault.FaultKind.{FaultKind}
 use Rattle.lto_forms.specs.declared.fault.FaultKind.TheVariants.{Syntax, Number, Limit}
 use Rattle.lto_forms.specs.Rules.{Rule, Opens, is_class}
 use Rattle.lto_forms.proofs.Rules as rules
-use Rattle.ir_read.specs.Attributes.{parameter_attribute}
-use Rattle.ir_read.specs.AttributesAt.{PARAMETER, CALL}
+use Rattle.ir_heads.specs.Attributes.{parameter_attribute}
+use Rattle.ir_heads.specs.AttributesAt.{PARAMETER, CALL}
 use Rattle.ir_read.specs.Classes.{tokens, refusal, the, itself}
 use Rattle.ir_read.specs.declared.raw.Operand.TheVariants as operands
-use Rattle.ir_read.specs.FunctionHeads.{end_of_none}
-use Rattle.ir_read.specs.FunctionHeadsAt.{end_of_none_at}
+use Rattle.ir_heads.specs.FunctionHeads.{end_of_none}
+use Rattle.ir_heads.specs.FunctionHeadsAt.{end_of_none_at}
 use Rattle.ir_read.specs.MetadataAt.{COMMA, PAREN}
 use Rattle.ir_read.specs.Operands.{REG, RESULT, POINTER_OPERAND, type_refusal, reg_of, operand_of}
 use Rattle.ir_operands.specs.ShapeForms.{any_shape, memory_shape}
 use Rattle.ir_operands.specs.ValuesAt.{ADDRESS}
-use Rattle.ir_read.proofs.AttributeRules.{parameter_attribute_rule, parameter_attribute_opens, parameter_attributes_rule, call_attributes_rule}
+use Rattle.ir_heads.proofs.AttributeRules.{parameter_attribute_rule, parameter_attribute_opens, parameter_attributes_rule, call_attributes_rule}
 use Rattle.ir_read.proofs.Nodes.{attachments_rule}
 use Rattle.ir_read.proofs.OperandRules.{type_not_number, type_not_limit, operand_within, reg_rule, result_rule}
 use Rattle.ir_read.proofs.Singles.{word, mark, not_number, not_limit, the_opens, comma_rule, open_paren_rule, close_paren_rule, close_paren_real}

@@ -5,15 +5,15 @@ use Rattle.ir_lex.specs.Tok.{Tok}
 use Rattle.lto_forms.specs.Alphabet.{among}
 use Rattle.lto_forms.specs.declared.fault.Fault.{Fault}
 use Rattle.lto_forms.specs.Readers.{Reader, done, follow, ◌>>=◌}
-use Rattle.ir_read.specs.AttributesAt.{definition_attributes_at}
+use Rattle.ir_heads.specs.AttributesAt.{definition_attributes_at}
 use Rattle.ir_read.specs.Classes.{tokens, the_at}
-use Rattle.ir_read.specs.declared.attributes.Kept.{Kept}
-use Rattle.ir_read.specs.declared.function_heads.Role.TheVariants as roles
+use Rattle.ir_heads.specs.declared.attributes.Kept.{Kept}
+use Rattle.ir_heads.specs.declared.function_heads.Role.TheVariants as roles
 use Rattle.ir_read.specs.declared.raw.Block.{Block}
 use Rattle.ir_read.specs.declared.raw.Head.{Head}
 use Rattle.ir_read.specs.declared.raw.Item.{Item}
 use Rattle.ir_read.specs.declared.raw.Item.TheVariants.{Definition}
-use Rattle.ir_read.specs.FunctionHeadsAt.{head_at}
+use Rattle.ir_heads.specs.FunctionHeadsAt.{head_at}
 use Rattle.ir_operands.specs.Adding.{pushed_at}
 use Rattle.ir_bodies.specs.Adding.{added_at, joined_at}
 use Rattle.ir_bodies.specs.Blocks.{LABEL, FURTHER_BLOCKS, INSTRUCTIONS, with_kept}

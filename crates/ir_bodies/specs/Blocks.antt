@@ -9,17 +9,17 @@ use Rattle.lto_forms.specs.Chained.{Chain}
 use Rattle.lto_forms.specs.Forms.{Form, ◌>>=◌, either, gives, token, Many, Star}
 use Rattle.lto_forms.specs.Rules.{is_valued}
 use Rattle.ir_instructions.specs.Addressing.{slots_fit, any_slots}
-use Rattle.ir_read.specs.Attributes.{definition_attributes}
+use Rattle.ir_heads.specs.Attributes.{definition_attributes}
 use Rattle.ir_read.specs.Classes.{tokens, refusal, the, one_of, itself}
-use Rattle.ir_read.specs.declared.attributes.Kept.{Kept}
-use Rattle.ir_read.specs.declared.function_heads.Role.TheVariants as roles
+use Rattle.ir_heads.specs.declared.attributes.Kept.{Kept}
+use Rattle.ir_heads.specs.declared.function_heads.Role.TheVariants as roles
 use Rattle.ir_read.specs.declared.raw.Block.{Block}
 use Rattle.ir_read.specs.declared.raw.Head.{Head}
 use Rattle.ir_read.specs.declared.raw.Item.{Item}
 use Rattle.ir_read.specs.declared.raw.Item.TheVariants.{Definition}
 use Rattle.ir_read.specs.declared.raw.Line.{Line}
 use Rattle.ir_instructions.specs.declared.terminators.Ended.{Ended}
-use Rattle.ir_read.specs.FunctionHeads.{head, any_head}
+use Rattle.ir_heads.specs.FunctionHeads.{head, any_head}
 use Rattle.ir_read.specs.Operands.{LOCAL, local, named}
 use Rattle.ir_operands.specs.ShapeForms.{any_shape, memory_shape}
 use Rattle.ir_instructions.specs.Terminators.{terminator}

@@ -7,15 +7,15 @@ use Rattle.ir_lex.specs.Tok.{Tok}
 use Rattle.lto_forms.specs.Alphabet.{among}
 use Rattle.lto_forms.specs.Readers.{Reader, ◌>>=◌, done, pick, many_at, optional_at, token_at}
 use Rattle.lto_forms.specs.Rules.{is_valued}
-use Rattle.ir_read.specs.AttributesAt.{definition_attributes_at}
+use Rattle.ir_heads.specs.AttributesAt.{definition_attributes_at}
 use Rattle.ir_read.specs.Classes.{tokens, refusal, the_at}
-use Rattle.ir_read.specs.declared.function_heads.Role.TheVariants as roles
+use Rattle.ir_heads.specs.declared.function_heads.Role.TheVariants as roles
 use Rattle.ir_read.specs.declared.raw.Block.{Block}
 use Rattle.ir_read.specs.declared.raw.Head.{Head}
 use Rattle.ir_read.specs.declared.raw.Item.{Item}
 use Rattle.ir_read.specs.declared.raw.Item.TheVariants.{Definition}
 use Rattle.ir_read.specs.declared.raw.Line.{Line}
-use Rattle.ir_read.specs.FunctionHeadsAt.{head_at}
+use Rattle.ir_heads.specs.FunctionHeadsAt.{head_at}
 use Rattle.ir_read.specs.Operands.{named}
 use Rattle.ir_instructions.specs.Terminators.{ENDS}
 use Rattle.ir_instructions.specs.TerminatorsAt.{terminator_at}

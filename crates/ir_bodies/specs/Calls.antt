@@ -9,14 +9,14 @@ use Rattle.lto_forms.specs.declared.fault.FaultKind.{FaultKind}
 use Rattle.lto_forms.specs.declared.fault.FaultKind.TheVariants.{Syntax}
 use Rattle.lto_forms.specs.Forms.{Form, ◌>>=◌, either, gives, optional, Star, token}
 use Rattle.lto_forms.specs.Rules.{is_among, is_exact, is_valued}
-use Rattle.ir_read.specs.Attributes.{parameter_attribute, parameter_attributes, call_attributes}
+use Rattle.ir_heads.specs.Attributes.{parameter_attribute, parameter_attributes, call_attributes}
 use Rattle.ir_read.specs.Classes.{tokens, refusal, the, itself}
 use Rattle.ir_read.specs.declared.raw.Argument.{Argument}
 use Rattle.ir_read.specs.declared.raw.Instr.{Instr}
 use Rattle.ir_read.specs.declared.raw.Instr.TheVariants as instrs
 use Rattle.ir_read.specs.declared.raw.Operand.{Operand}
 use Rattle.ir_read.specs.declared.shape.Typed.{Typed}
-use Rattle.ir_read.specs.FunctionHeads.{end_of_none}
+use Rattle.ir_heads.specs.FunctionHeads.{end_of_none}
 use Rattle.ir_read.specs.Metadata.{attachments}
 use Rattle.ir_read.specs.Operands.{REG, type_refusal, reg_of, reg, result, classes_of, operand_of}
 use Rattle.ir_operands.specs.Values.{address, operand}

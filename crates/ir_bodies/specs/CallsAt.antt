@@ -8,12 +8,12 @@ use Rattle.ir_tree.specs.declared.operand.Reg.TheVariants.{Ptr}
 use Rattle.lto_forms.specs.Alphabet.{among}
 use Rattle.lto_forms.specs.Readers.{Reader, ◌>>=◌, done, pick, optional_at, star_at, token_at}
 use Rattle.lto_forms.specs.Rules.{is_among, is_exact, is_valued}
-use Rattle.ir_read.specs.AttributesAt.{PARAMETER, parameter_attribute_at, parameter_attributes_at, call_attributes_at}
+use Rattle.ir_heads.specs.AttributesAt.{PARAMETER, parameter_attribute_at, parameter_attributes_at, call_attributes_at}
 use Rattle.ir_read.specs.Classes.{tokens, the_at, itself}
 use Rattle.ir_read.specs.declared.raw.Argument.{Argument}
 use Rattle.ir_read.specs.declared.raw.Instr.{Instr}
 use Rattle.ir_read.specs.declared.raw.Operand.{Operand}
-use Rattle.ir_read.specs.FunctionHeadsAt.{end_of_none_at}
+use Rattle.ir_heads.specs.FunctionHeadsAt.{end_of_none_at}
 use Rattle.ir_read.specs.MetadataAt.{COMMA, PAREN, attachments_at}
 use Rattle.ir_read.specs.Operands.{REG, type_refusal, reg_of, classes_of, operand_of}
 use Rattle.ir_read.specs.OperandsAt.{reg_at, result_at}

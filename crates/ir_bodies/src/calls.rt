@@ -17,11 +17,8 @@ ghost use Rattle.ir_bodies.specs.CallsAt.{CONVENTIONS, convention_at, convention
 
 use ir_lex::{Head, Token};
 use ir_operands::{Listing, address_at, operand_at, push};
-use ir_read::{
-    Argument, Instr, Name, Operand, Tokens, attachments_at, call_attributes_at, end_of_none_at,
-    expect, operand_means, parameter_attribute_at, parameter_attributes_at, reg_at, reg_of,
-    result_at, type_refusal,
-};
+use ir_heads::{call_attributes_at, end_of_none_at, parameter_attribute_at, parameter_attributes_at};
+use ir_read::{Argument, Instr, Name, Operand, Tokens, attachments_at, expect, operand_means, reg_at, reg_of, result_at, type_refusal};
 use ir_tree::{Reg, Rows};
 use lto_forms::{Fault, FaultKind, ReadError};
 use std::alloc::Global;

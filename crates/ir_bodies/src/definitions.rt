@@ -10,7 +10,8 @@ ghost use Rattle.ir_bodies.specs.BlocksAt.{heading_at, braced_at, defined_at, de
 use crate::blocks::{Blocks, blocks_into};
 use ir_lex::Head;
 use ir_operands::push;
-use ir_read::{Item, Kept, Role, Tokens, definition_attributes_at, done, expect, head_at};
+use ir_heads::{Kept, Role, definition_attributes_at, head_at};
+use ir_read::{Item, Tokens, done, expect};
 use lto_forms::ReadError;
 use std::alloc::Global;
 

@@ -19,13 +19,13 @@ use Rattle.lto_forms.specs.Rules.{Rule, Opens, in_range, is_among, is_class, is_
 use Rattle.lto_forms.proofs.Composed.{with_wide}
 use Rattle.lto_forms.proofs.Rules as rules
 use Rattle.ir_read.specs.Classes.{tokens, IsReal, the, the_at, one_of, one_of_at, itself}
-use Rattle.ir_read.specs.FunctionHeads.{LINKAGES, linkage_word, QUALIFIERS, nothing_of, name_refusal}
+use Rattle.ir_heads.specs.FunctionHeads.{LINKAGES, linkage_word, QUALIFIERS, nothing_of, name_refusal}
 use Rattle.ir_instructions.specs.InstructionsAt.{ALIGN}
 use Rattle.ir_read.specs.MetadataAt.{COMMA, PAREN}
 use Rattle.ir_read.specs.Operands.{global_named}
 use Rattle.ir_operands.specs.ShapeForms.{any_shape, memory_shape}
-use Rattle.ir_read.proofs.AttributeRules.{alignment_rule}
-use Rattle.ir_read.proofs.FunctionHeadRules.{external_real, hidden_real, named_rule}
+use Rattle.ir_read.proofs.Alignments.{alignment_rule}
+use Rattle.ir_heads.proofs.FunctionHeadRules.{external_real, hidden_real, named_rule}
 use Rattle.ir_read.proofs.Nodes.{attached_rule}
 use Rattle.ir_read.proofs.OperandRules.{global_is}
 use Rattle.ir_operands.proofs.ShapeRules.{SHAPE, memory_shape_rule}

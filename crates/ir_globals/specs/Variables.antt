@@ -15,7 +15,7 @@ use Rattle.ir_read.specs.declared.raw.Init.{Init}
 use Rattle.ir_read.specs.declared.raw.Item.{Item}
 use Rattle.ir_read.specs.declared.raw.Item.TheVariants as items
 use Rattle.ir_read.specs.declared.shape.Typed.{Typed}
-use Rattle.ir_read.specs.FunctionHeads.{LINKAGES, linkage_word, QUALIFIERS, nothing_of, with_linkage, name_refusal}
+use Rattle.ir_heads.specs.FunctionHeads.{LINKAGES, linkage_word, QUALIFIERS, nothing_of, with_linkage, name_refusal}
 use Rattle.ir_read.specs.Metadata.{attached}
 use Rattle.ir_read.specs.Operands.{global_named}
 use Rattle.ir_globals.specs.Initialisers.{scalar_of, initialiser}

@@ -7,7 +7,7 @@ ghost use Rattle.lto_forms.specs.Alphabet.{contains, among};
 ghost use Rattle.lto_forms.specs.Readers.{Gives, next_is};
 ghost use Rattle.lto_forms.specs.Rules.{is_valued};
 ghost use Rattle.ir_read.specs.Classes.{tokens, one_of_at};
-ghost use Rattle.ir_read.specs.FunctionHeads.{LINKAGES, linkage_word, name_refusal};
+ghost use Rattle.ir_heads.specs.FunctionHeads.{LINKAGES, linkage_word, name_refusal};
 ghost use Rattle.ir_read.specs.Operands.{IsReg, global_named};
 ghost use Rattle.ir_operands.specs.Adding.{pushed_at};
 ghost use Rattle.ir_globals.specs.Variables.{KINDS, NAMES, is_constant, is_declared, with_align};
@@ -16,10 +16,8 @@ ghost use Rattle.ir_globals.specs.VariablesAt.{variable_name_at, linkage_at, qua
 use crate::initialisers::{initialiser_at, scalar_of, shape_at};
 use ir_lex::{Head, Token};
 use ir_operands::push;
-use ir_read::{
-    Init, Item, Name, Tokens, Variable, alignment_at, attached_at, comes_qualifier, done, expect,
-    global_named, linkage_by, name_refusal, qualifier_word_at, refusal, with_linkage,
-};
+use ir_heads::{comes_qualifier, linkage_by, name_refusal, qualifier_word_at, with_linkage};
+use ir_read::{Init, Item, Name, Tokens, Variable, alignment_at, attached_at, done, expect, global_named, refusal};
 use ir_tree::{Linkage, Reg};
 use lto_forms::{Fault, FaultKind, ReadError};
 use std::alloc::Global;

@@ -11,7 +11,7 @@ use Rattle.ir_instructions.specs.InstructionsAt.{ALIGN, aligned_at, align_at, lo
 use Rattle.ir_read.specs.MetadataAt.{COMMA}
 use Rattle.ir_read.specs.Operands.{SCALAR}
 use Rattle.ir_operands.specs.ShapeForms.{any_shape, memory_shape}
-use Rattle.ir_read.proofs.AttributeRules.{alignment_rule}
+use Rattle.ir_read.proofs.Alignments.{alignment_rule}
 use Rattle.ir_read.proofs.Nodes.{attached_rule, attachments_rule}
 use Rattle.ir_read.proofs.OperandRules.{scalar_rule}
 use Rattle.ir_read.proofs.Singles.{comma_rule, align_rule}

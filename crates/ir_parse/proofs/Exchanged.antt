@@ -18,9 +18,9 @@ use Rattle.lto_forms.specs.declared.fault.Fault.{Fault}
 use Rattle.lto_forms.specs.declared.fault.FaultKind.TheVariants.{Syntax, Profile, Number, Limit}
 use Rattle.lto_forms.specs.declared.fault.FaultKind.{FaultKind}
 use Rattle.ir_read.specs.Classes.{tokens, IsReal}
-use Rattle.ir_read.specs.FunctionHeads.{GLOBAL}
+use Rattle.ir_heads.specs.FunctionHeads.{GLOBAL}
 use Rattle.ir_read.specs.Operands.{REG}
-use Rattle.ir_read.specs.Targets.{STRING}
+use Rattle.ir_heads.specs.Targets.{STRING}
 use Rattle.ir_operands.specs.ShapeForms.{OPEN_ANGLE, OPEN_BRACE}
 use Rattle.ir_parse.specs.Refusals.{MEMORY, WORD, last_is}
 

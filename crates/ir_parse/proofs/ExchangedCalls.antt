@@ -15,8 +15,8 @@ use Rattle.lto_forms.specs.Readers.{done, follow, ◌>>=◌}
 use Rattle.lto_forms.specs.Rules.{is_among, is_class, is_valued}
 use Rattle.lto_forms.specs.declared.fault.FaultKind.TheVariants.{Syntax}
 use Rattle.lto_forms.specs.declared.fault.FaultKind.{FaultKind}
-use Rattle.ir_read.specs.Attributes.{call_attributes}
-use Rattle.ir_read.specs.AttributesAt.{call_attributes_at}
+use Rattle.ir_heads.specs.Attributes.{call_attributes}
+use Rattle.ir_heads.specs.AttributesAt.{call_attributes_at}
 use Rattle.ir_read.specs.Classes.{tokens, IsReal, refusal, the, the_at, itself}
 use Rattle.ir_read.specs.Metadata.{attachments}
 use Rattle.ir_read.specs.MetadataAt.{COMMA, PAREN, attachments_at}

@@ -22,15 +22,15 @@ use Rattle.lto_forms.specs.Rules.{disjoint, in_range, is_class, is_valued}
 use Rattle.lto_forms.specs.declared.fault.Fault.{Fault}
 use Rattle.lto_forms.specs.declared.fault.FaultKind.TheVariants.{Profile, Limit}
 use Rattle.lto_forms.specs.declared.fault.FaultKind.{FaultKind}
-use Rattle.ir_read.specs.AttributesAt.{HEAD, attribute_group_at}
+use Rattle.ir_heads.specs.AttributesAt.{HEAD, attribute_group_at}
 use Rattle.ir_read.specs.Classes.{tokens, IsReal, refusal, the, the_at}
-use Rattle.ir_read.specs.FunctionHeads.{name_refusal}
+use Rattle.ir_heads.specs.FunctionHeads.{name_refusal}
 use Rattle.ir_read.specs.Metadata.{META}
 use Rattle.ir_read.specs.Operands.{LOCAL, REG, global_named}
 use Rattle.ir_operands.specs.ShapeForms.{OPEN_BRACE, any_shape}
-use Rattle.ir_read.specs.Targets.{STRING, layout_line, triple_line}
-use Rattle.ir_read.specs.TargetsAt.{comdat_line_at, source_line_at, target_line_at, LAYOUT, layout_line_at, triple_line_at}
-use Rattle.ir_read.specs.declared.function_heads.Role.TheVariants as roles
+use Rattle.ir_heads.specs.Targets.{STRING, layout_line, triple_line}
+use Rattle.ir_heads.specs.TargetsAt.{comdat_line_at, source_line_at, target_line_at, LAYOUT, layout_line_at, triple_line_at}
+use Rattle.ir_heads.specs.declared.function_heads.Role.TheVariants as roles
 use Rattle.ir_read.specs.declared.places.Before.TheVariants as befores
 use Rattle.ir_read.specs.declared.places.Before.{Before}
 use Rattle.ir_read.specs.declared.places.Position.{Position}

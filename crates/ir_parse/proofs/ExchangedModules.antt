@@ -17,11 +17,11 @@ use Rattle.lto_forms.specs.Readers.{Reader, done, ended, fault_at, follow, ◌>>
 use Rattle.lto_forms.specs.declared.fault.Fault.{Fault}
 use Rattle.lto_forms.specs.declared.fault.FaultKind.TheVariants.{Syntax, Profile, Number, Limit}
 use Rattle.lto_forms.specs.declared.fault.FaultKind.{FaultKind}
-use Rattle.ir_read.specs.AttributesAt.{HEAD}
+use Rattle.ir_heads.specs.AttributesAt.{HEAD}
 use Rattle.ir_read.specs.Classes.{tokens, refusal}
-use Rattle.ir_read.specs.FunctionHeads.{NUMBERED, name_refusal}
+use Rattle.ir_heads.specs.FunctionHeads.{NUMBERED, name_refusal}
 use Rattle.ir_read.specs.Metadata.{META}
-use Rattle.ir_read.specs.Targets.{STRING}
+use Rattle.ir_heads.specs.Targets.{STRING}
 use Rattle.ir_read.specs.declared.places.Before.TheVariants as befores
 use Rattle.ir_read.specs.declared.places.Before.{Before}
 use Rattle.ir_read.specs.declared.places.Position.{Position}

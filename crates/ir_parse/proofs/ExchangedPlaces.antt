@@ -10,9 +10,9 @@ use Rattle.lto_forms.specs.Alphabet.{among, contains}
 use Rattle.lto_forms.specs.declared.fault.FaultKind.TheVariants.{Syntax, Profile}
 use Rattle.lto_forms.specs.declared.fault.FaultKind.{FaultKind}
 use Rattle.ir_read.specs.Classes.{IsReal, tokens}
-use Rattle.ir_read.specs.FunctionHeads.{GLOBAL, NUMBERED}
+use Rattle.ir_heads.specs.FunctionHeads.{GLOBAL, NUMBERED}
 use Rattle.ir_read.specs.Operands.{REG}
-use Rattle.ir_read.specs.Targets.{STRING}
+use Rattle.ir_heads.specs.Targets.{STRING}
 use Rattle.ir_operands.specs.ShapeForms.{OPEN_BRACE}
 use Rattle.ir_parse.specs.Modules.{any_module, module_of}
 use Rattle.ir_parse.specs.NamedCalls.{in_module}

@@ -19,8 +19,8 @@ use Rattle.lto_forms.specs.declared.fault.FaultKind.TheVariants.{Profile}
 use Rattle.lto_forms.specs.declared.fault.FaultKind.{FaultKind}
 use Rattle.ir_read.specs.Classes.{tokens, IsReal, refusal, the, the_at, one_of, one_of_at, itself}
 use Rattle.ir_read.specs.Operands.{REG}
-use Rattle.ir_read.specs.Targets.{STRING, fits_item, has_64_bits, fits_layout, is_layout, layout_line, triple_line, target_line, source_line, comdat_line}
-use Rattle.ir_read.specs.TargetsAt.{LAYOUT, layout_line_at, triple_line_at, target_line_at, source_line_at, comdat_line_at}
+use Rattle.ir_heads.specs.Targets.{STRING, fits_item, has_64_bits, fits_layout, is_layout, layout_line, triple_line, target_line, source_line, comdat_line}
+use Rattle.ir_heads.specs.TargetsAt.{LAYOUT, layout_line_at, triple_line_at, target_line_at, source_line_at, comdat_line_at}
 use Rattle.ir_read.specs.declared.raw.Item.TheVariants.{Datalayout, Triple}
 use Rattle.ir_read.proofs.Singles.{sample, word, the_rule, string_real}
 use Rattle.ir_operands.specs.ShapeForms.{OPEN_ANGLE}

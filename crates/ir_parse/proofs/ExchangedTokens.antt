@@ -19,11 +19,11 @@ use Rattle.lto_forms.specs.Rules.{Rule, disjoint, in_range, is_among, is_class, 
 use Rattle.lto_forms.specs.declared.fault.FaultKind.TheVariants.{Syntax, Profile, Number, Limit}
 use Rattle.lto_forms.specs.declared.fault.FaultKind.{FaultKind}
 use Rattle.ir_read.specs.Classes.{tokens, IsReal, refusal, the, the_at, one_of, one_of_at}
-use Rattle.ir_read.specs.FunctionHeads.{name_refusal}
+use Rattle.ir_heads.specs.FunctionHeads.{name_refusal}
 use Rattle.ir_read.specs.Operands.{REG, memory_refusal, type_refusal}
-use Rattle.ir_read.specs.Targets.{STRING}
+use Rattle.ir_heads.specs.Targets.{STRING}
 use Rattle.ir_operands.specs.ShapeForms.{OPEN_ANGLE, angle_refusal}
-use Rattle.ir_read.proofs.FunctionHeadRules.{name_not_number, name_not_limit}
+use Rattle.ir_heads.proofs.FunctionHeadRules.{name_not_number, name_not_limit}
 use Rattle.ir_read.proofs.OperandRules.{type_not_number, type_not_limit, memory_not_number, memory_not_limit}
 use Rattle.ir_read.proofs.Singles.{word, not_number, not_limit}
 use Rattle.ir_parse.specs.Refusals.{MEMORY, WORD}

@@ -18,12 +18,12 @@ use Rattle.lto_forms.specs.Readers.{pick}
 use Rattle.lto_forms.specs.Rules.{in_range, is_among, is_class, is_valued}
 use Rattle.lto_forms.specs.declared.fault.FaultKind.{FaultKind}
 use Rattle.ir_read.specs.Classes.{tokens, IsReal, the, the_at, one_of, one_of_at}
-use Rattle.ir_read.specs.FunctionHeads.{LINKAGES, linkage_word, QUALIFIERS, nothing_of, name_refusal}
+use Rattle.ir_heads.specs.FunctionHeads.{LINKAGES, linkage_word, QUALIFIERS, nothing_of, name_refusal}
 use Rattle.ir_instructions.specs.InstructionsAt.{ALIGN}
 use Rattle.ir_read.specs.MetadataAt.{COMMA, PAREN}
 use Rattle.ir_read.specs.Operands.{global_named}
 use Rattle.ir_operands.specs.ShapeForms.{any_shape}
-use Rattle.ir_read.proofs.FunctionHeadRules.{external_real, named_rule, global_real}
+use Rattle.ir_heads.proofs.FunctionHeadRules.{external_real, named_rule, global_real}
 use Rattle.ir_read.proofs.OperandRules.{global_is}
 use Rattle.ir_read.proofs.Singles.{sample, word, the_rule}
 use Rattle.ir_globals.specs.Initialisers.{scalar_of}

@@ -24,9 +24,9 @@ use Rattle.ir_bodies.proofs.BlockRules.{definition_rule, definition_opens}
 use Rattle.ir_globals.specs.Variables.{NAMES, any_variable_name, variable_line}
 use Rattle.ir_globals.proofs.TypeDefinitionRules.{type_line_rule}
 use Rattle.ir_globals.proofs.VariableRules.{variable_line_rule, variable_line_opens}
-use Rattle.ir_read.specs.AttributesAt.{HEAD}
+use Rattle.ir_heads.specs.AttributesAt.{HEAD}
 use Rattle.ir_read.specs.Classes.{tokens, IsReal, the, the_at}
-use Rattle.ir_read.specs.declared.function_heads.Role.TheVariants as roles
+use Rattle.ir_heads.specs.declared.function_heads.Role.TheVariants as roles
 use Rattle.ir_read.specs.declared.raw.Item.{Item}
 use Rattle.ir_read.specs.declared.places.Before.{Before}
 use Rattle.ir_read.specs.declared.places.Before.TheVariants as befores
@@ -38,13 +38,13 @@ use Rattle.ir_read.specs.MetadataAt.{PAREN}
 use Rattle.ir_read.specs.MetadataBehind.{BRACES}
 use Rattle.ir_read.specs.Operands.{LOCAL}
 use Rattle.ir_operands.specs.ShapeForms.{any_shape, memory_shape}
-use Rattle.ir_read.proofs.AttributeRules.{head_attribute_rule, attribute_group_rule}
+use Rattle.ir_heads.proofs.AttributeRules.{head_attribute_rule, attribute_group_rule}
 use Rattle.ir_operands.proofs.Barred.{barred_here}
-use Rattle.ir_read.proofs.FunctionHeadRules.{head_rule}
+use Rattle.ir_heads.proofs.FunctionHeadRules.{head_rule}
 use Rattle.ir_read.proofs.MetadataBehindRules.{metadata_behind_rule, node_yet_rule}
 use Rattle.ir_read.proofs.Nodes.{attached_rule, attached_opens, metadata_line_rule}
 use Rattle.ir_read.proofs.Singles.{word, the_rule, the_opens}
-use Rattle.ir_read.proofs.TargetRules.{target_line_rule, source_line_rule, comdat_line_rule}
+use Rattle.ir_heads.proofs.TargetRules.{target_line_rule, source_line_rule, comdat_line_rule}
 
 -- what may go on behind an item, or an attribute behind a declaration's head
 abbrev pub MORE : List ℕ

@@ -21,16 +21,16 @@ use Rattle.lto_forms.specs.declared.fault.Fault.{Fault}
 use Rattle.lto_forms.specs.declared.fault.FaultKind.TheVariants.{Syntax, Profile, Limit}
 use Rattle.lto_forms.specs.declared.fault.FaultKind.{FaultKind}
 use Rattle.ir_instructions.specs.Addressing.{any_slots}
-use Rattle.ir_read.specs.AttributesAt.{definition_attributes_at}
+use Rattle.ir_heads.specs.AttributesAt.{definition_attributes_at}
 use Rattle.ir_read.specs.Classes.{NUMERALS, itself, one_of, one_of_at, refusal, the, tokens}
-use Rattle.ir_read.specs.FunctionHeads.{end_of_none}
-use Rattle.ir_read.specs.FunctionHeadsAt.{end_of_none_at, head_at}
+use Rattle.ir_heads.specs.FunctionHeads.{end_of_none}
+use Rattle.ir_heads.specs.FunctionHeadsAt.{end_of_none_at, head_at}
 use Rattle.ir_read.specs.MetadataAt.{COMMA, PAREN}
 use Rattle.ir_read.specs.Operands.{LOCAL, POINTER_OPERAND, REG, RESULT, named, operand_of, result, result_of, reg_of, type_refusal}
 use Rattle.ir_read.specs.OperandsAt.{local_at, result_at}
 use Rattle.ir_operands.specs.ShapeForms.{any_shape}
 use Rattle.ir_operands.specs.ValuesAt.{ADDRESS, address_at}
-use Rattle.ir_read.specs.declared.function_heads.Role.TheVariants as roles
+use Rattle.ir_heads.specs.declared.function_heads.Role.TheVariants as roles
 use Rattle.ir_instructions.specs.Terminators.{ENDS}
 use Rattle.ir_read.specs.declared.places.Before.TheVariants as befores
 use Rattle.ir_read.specs.declared.places.Before.{Before}
@@ -38,8 +38,8 @@ use Rattle.ir_read.specs.declared.places.Position.{Position}
 use Rattle.ir_read.specs.declared.raw.Item.{Item}
 use Rattle.ir_read.specs.declared.raw.Line.{Line}
 use Rattle.ir_read.specs.declared.raw.Operand.{Operand}
-use Rattle.ir_read.proofs.AttributeRules.{definition_attributes_rule}
-use Rattle.ir_read.proofs.FunctionHeadRules.{head_rule}
+use Rattle.ir_heads.proofs.AttributeRules.{definition_attributes_rule}
+use Rattle.ir_heads.proofs.FunctionHeadRules.{head_rule}
 use Rattle.ir_read.proofs.OperandRules.{result_rule, type_not_limit, type_not_number}
 use Rattle.ir_read.proofs.Singles.{close_paren_real, close_paren_rule, equals_rule, mark, not_limit, not_number, one_rule, open_brace_rule, open_paren_rule, sample, word}
 use Rattle.ir_instructions.proofs.TerminatorRules.{terminator_rule}

@@ -14,7 +14,7 @@ use Rattle.lto_forms.proofs.Composed.{cut_is}
 use Rattle.lto_forms.proofs.Whole as whole
 use Rattle.ir_read.specs.Classes.{tokens}
 use Rattle.ir_read.specs.declared.raw.Item.{Item}
-use Rattle.ir_read.proofs.FunctionHeadRules.{name_not_number}
+use Rattle.ir_heads.proofs.FunctionHeadRules.{name_not_number}
 use Rattle.ir_parse.specs.ItemFormsAt.{ITEM, items_at}
 use Rattle.ir_parse.specs.Modules.{FURTHER_PARAMETERS, GLOBAL_NAMES, any_module, item_refusal, last_tokens, module_of, whole_module}
 use Rattle.ir_parse.proofs.ItemRules.{ANY, items_rule}

@@ -12,8 +12,8 @@ use Rattle.lto_forms.specs.declared.fault.FaultKind.TheVariants.{Syntax, Profile
 use Rattle.lto_forms.proofs.Composed.{cons_is, cut_is, wrong}
 use Rattle.lto_forms.proofs.Rules.{apart_from}
 use Rattle.ir_read.specs.Classes.{tokens}
-use Rattle.ir_read.specs.FunctionHeads.{NUMBERED}
-use Rattle.ir_read.specs.Targets.{STRING}
+use Rattle.ir_heads.specs.FunctionHeads.{NUMBERED}
+use Rattle.ir_heads.specs.Targets.{STRING}
 use Rattle.ir_parse.specs.Modules.{any_module, module_of, whole_module}
 use Rattle.ir_parse.specs.Kinds.{grammar_fault}
 use Rattle.ir_parse.specs.Refusals.{BeginsVector, GoesOn, INTEGER, IsRefusedFor, LeftOut, MARKER, NumberGoesOn, REFUSED_EVERYWHERE, TARGET, TYPE, WithinRange, everywhere, of_integer, of_marker, of_name, of_target, of_type, of_vector}

@@ -21,7 +21,7 @@ use Rattle.lto_forms.proofs.Rules.{apart_from, within_of}
 use Rattle.ir_read.specs.Brackets.{brackets, opening, move_of, group_at}
 use Rattle.ir_read.specs.Classes.{tokens, REFUSED, refusal, the_at, one_of_at}
 use Rattle.ir_read.specs.Decimals.{ALIGNMENTS, alignment_of, decimal, is_alignment}
-use Rattle.ir_read.specs.FunctionHeads.{NUMBERED, name_refusal}
+use Rattle.ir_heads.specs.FunctionHeads.{NUMBERED, name_refusal}
 use Rattle.ir_read.specs.Metadata.{ended_by, line_step, open_behind}
 use Rattle.ir_read.specs.Operands.{REFUSED_TYPES, memory_refusal, type_refusal}
 use Rattle.ir_operands.specs.ShapeForms.{OPEN_ANGLE, angle_refusal}

@@ -6,7 +6,7 @@ use Rattle.ir_lex.specs.Tok.{Tok}
 use Rattle.lto_forms.specs.Alphabet.{among}
 use Rattle.ir_parse.proofs.ToldAttributes.{definition_attributes_told}
 use Rattle.ir_read.specs.Classes.{tokens, refusal}
-use Rattle.ir_read.specs.declared.function_heads.Role.TheVariants as roles
+use Rattle.ir_heads.specs.declared.function_heads.Role.TheVariants as roles
 use Rattle.ir_read.specs.declared.raw.Block.{Block}
 use Rattle.ir_read.specs.declared.raw.Head.{Head}
 use Rattle.ir_parse.proofs.ToldFunctionHeads.{head_told}

@@ -13,7 +13,7 @@ use Rattle.ir_parse.proofs.ToldTypeDefinitions.{type_line_told}
 use Rattle.ir_globals.specs.Variables.{NAMES}
 use Rattle.ir_globals.specs.VariablesAt.{variable_line_at}
 use Rattle.ir_parse.proofs.ToldVariables.{variable_line_told}
-use Rattle.ir_read.specs.AttributesAt.{HEAD, attribute_group_at}
+use Rattle.ir_heads.specs.AttributesAt.{HEAD, attribute_group_at}
 use Rattle.ir_parse.proofs.ToldAttributes.{head_attribute_told, attribute_group_told}
 use Rattle.ir_read.specs.Classes.{tokens}
 use Rattle.ir_parse.proofs.ToldFunctionHeads.{head_told}
@@ -24,9 +24,9 @@ use Rattle.ir_parse.proofs.ToldMetadata.{attached_told, metadata_line_told}
 use Rattle.ir_read.specs.MetadataBehindAt.{metadata_behind_at, node_yet_at}
 use Rattle.ir_parse.proofs.ToldMetadataBehind.{metadata_behind_told, node_yet_told}
 use Rattle.ir_read.specs.Operands.{LOCAL}
-use Rattle.ir_read.specs.TargetsAt.{target_line_at, source_line_at, comdat_line_at}
+use Rattle.ir_heads.specs.TargetsAt.{target_line_at, source_line_at, comdat_line_at}
 use Rattle.ir_parse.proofs.ToldTargets.{target_line_told, source_line_told, comdat_line_told}
-use Rattle.ir_read.specs.declared.function_heads.Role.TheVariants as roles
+use Rattle.ir_heads.specs.declared.function_heads.Role.TheVariants as roles
 use Rattle.ir_read.specs.declared.places.Before.{Before}
 use Rattle.ir_read.specs.declared.places.Before.TheVariants as befores
 use Rattle.ir_read.specs.declared.places.Position.{Position}

@@ -5,8 +5,8 @@ use Rattle.ir_lex.specs.Heads.{number}
 use Rattle.ir_lex.specs.Tok.{Tok}
 use Rattle.lto_forms.specs.Alphabet.{among}
 use Rattle.ir_read.specs.Classes.{tokens, itself, refusal}
-use Rattle.ir_read.specs.Targets.{STRING, is_layout, fits_layout}
-use Rattle.ir_read.specs.TargetsAt.{LAYOUT, layout_line_at, triple_line_at, target_line_at, source_line_at, comdat_line_at}
+use Rattle.ir_heads.specs.Targets.{STRING, is_layout, fits_layout}
+use Rattle.ir_heads.specs.TargetsAt.{LAYOUT, layout_line_at, triple_line_at, target_line_at, source_line_at, comdat_line_at}
 use Rattle.std.proofs.Common.{Ok, Err, Bool, true, false, cond, nat_eq, ◌≡◌, refl}
 use Rattle.lto_forms.specs.declared.fault.FaultKind.TheVariants.{Profile}
 use Rattle.ir_lex.specs.Quotes.{content}

@@ -5,7 +5,7 @@ use Rattle.ir_globals.specs.TypeDefinitions.{defined, type_line}
 use Rattle.ir_globals.specs.Variables.{aligned, behind_kind, further, in_comdat, is_declared, marked, tail, value, variable_line, variable_name, with_align}
 use Rattle.ir_lex.specs.Tok.{Tok}
 use Rattle.ir_names.specs.Types.{shape_if}
-use Rattle.ir_read.specs.FunctionHeads.{with_linkage}
+use Rattle.ir_heads.specs.FunctionHeads.{with_linkage}
 use Rattle.ir_operands.specs.ShapeForms.{memory_shape}
 use Rattle.ir_read.specs.declared.raw.Init.{Init}
 use Rattle.ir_tree.specs.Formed.{IsResult}

@@ -12,13 +12,13 @@ use Rattle.lto_forms.specs.Forms.{Form, ◌>>=◌, either, gives, Star}
 use Rattle.ir_bodies.specs.Blocks.{definition, any_definition}
 use Rattle.ir_globals.specs.TypeDefinitions.{type_line}
 use Rattle.ir_globals.specs.Variables.{variable_name, any_variable_name, variable_line}
-use Rattle.ir_read.specs.Attributes.{head_attribute, attribute_group}
+use Rattle.ir_heads.specs.Attributes.{head_attribute, attribute_group}
 use Rattle.ir_read.specs.Classes.{the}
-use Rattle.ir_read.specs.FunctionHeads.{head, any_head}
+use Rattle.ir_heads.specs.FunctionHeads.{head, any_head}
 use Rattle.ir_read.specs.Metadata.{attached, metadata_line}
 use Rattle.ir_read.specs.MetadataBehind.{metadata_behind, node_yet}
-use Rattle.ir_read.specs.Targets.{target_line, source_line, comdat_line}
-use Rattle.ir_read.specs.declared.function_heads.Role.TheVariants as roles
+use Rattle.ir_heads.specs.Targets.{target_line, source_line, comdat_line}
+use Rattle.ir_heads.specs.declared.function_heads.Role.TheVariants as roles
 use Rattle.ir_read.specs.declared.places.Before.{Before}
 use Rattle.ir_read.specs.declared.places.Before.TheVariants as befores
 use Rattle.ir_read.specs.declared.places.Position.{Position}

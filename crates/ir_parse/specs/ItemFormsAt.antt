@@ -12,16 +12,16 @@ use Rattle.ir_bodies.specs.BlocksAt.{DEFINE, definition_at}
 use Rattle.ir_globals.specs.TypeDefinitionsAt.{type_line_at}
 use Rattle.ir_globals.specs.Variables.{NAMES}
 use Rattle.ir_globals.specs.VariablesAt.{variable_line_at}
-use Rattle.ir_read.specs.AttributesAt.{HEAD, head_attribute_at, attribute_group_at}
+use Rattle.ir_heads.specs.AttributesAt.{HEAD, head_attribute_at, attribute_group_at}
 use Rattle.ir_read.specs.Classes.{tokens, the_at}
-use Rattle.ir_read.specs.FunctionHeadsAt.{head_at}
+use Rattle.ir_heads.specs.FunctionHeadsAt.{head_at}
 use Rattle.ir_parse.specs.ItemForms.{Found, declared, at_place, anywhere, keep}
 use Rattle.ir_read.specs.Metadata.{META}
 use Rattle.ir_read.specs.MetadataAt.{attached_at, metadata_line_at}
 use Rattle.ir_read.specs.MetadataBehindAt.{metadata_behind_at, node_yet_at}
 use Rattle.ir_read.specs.Operands.{LOCAL}
-use Rattle.ir_read.specs.TargetsAt.{target_line_at, source_line_at, comdat_line_at}
-use Rattle.ir_read.specs.declared.function_heads.Role.TheVariants as roles
+use Rattle.ir_heads.specs.TargetsAt.{target_line_at, source_line_at, comdat_line_at}
+use Rattle.ir_heads.specs.declared.function_heads.Role.TheVariants as roles
 use Rattle.ir_read.specs.declared.places.Before.{Before}
 use Rattle.ir_read.specs.declared.places.Before.TheVariants as befores
 use Rattle.ir_read.specs.declared.places.Position.{Position}

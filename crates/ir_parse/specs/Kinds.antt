@@ -7,7 +7,7 @@ use Rattle.lto_forms.specs.declared.fault.FaultKind.TheVariants as refusal
 use Rattle.ir_names.specs.declared.fault.FaultKind as name_kind
 use Rattle.ir_names.specs.declared.fault.FaultKind.TheVariants as broken
 use Rattle.ir_read.specs.Classes.{tokens}
-use Rattle.ir_read.specs.Targets.{STRING}
+use Rattle.ir_heads.specs.Targets.{STRING}
 use Rattle.ir_parse.specs.declared.fault.FaultKind.{FaultKind}
 use Rattle.ir_parse.specs.declared.fault.FaultKind.TheVariants as kinds
 

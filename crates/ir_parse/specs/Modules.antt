@@ -7,7 +7,7 @@ use Rattle.lto_forms.specs.declared.fault.Fault.{Fault}
 use Rattle.lto_forms.specs.declared.fault.FaultKind.{FaultKind}
 use Rattle.lto_forms.specs.Forms.{Form}
 use Rattle.lto_forms.specs.Readers.{whole_of}
-use Rattle.ir_read.specs.FunctionHeads.{name_refusal}
+use Rattle.ir_heads.specs.FunctionHeads.{name_refusal}
 use Rattle.ir_read.specs.declared.raw.Item.{Item}
 use Rattle.ir_parse.specs.ItemForms.{items, any_items}
 use Rattle.ir_parse.specs.ItemFormsAt.{items_at}

@@ -6,11 +6,11 @@ use Rattle.ir_lex.specs.declared.head.Head.TheVariants as heads
 use Rattle.lto_forms.specs.Chained.{Chain}
 use Rattle.lto_forms.specs.Forms.{Form, ◌>>=◌, gives, optional, Star}
 use Rattle.ir_instructions.specs.Addressing.{any_slots}
-use Rattle.ir_read.specs.Attributes.{definition_attributes}
+use Rattle.ir_heads.specs.Attributes.{definition_attributes}
 use Rattle.ir_read.specs.Classes.{the}
-use Rattle.ir_read.specs.FunctionHeads.{any_head}
+use Rattle.ir_heads.specs.FunctionHeads.{any_head}
 use Rattle.ir_operands.specs.ShapeForms.{any_shape}
-use Rattle.ir_read.specs.declared.function_heads.Role.TheVariants as roles
+use Rattle.ir_heads.specs.declared.function_heads.Role.TheVariants as roles
 use Rattle.ir_bodies.specs.Blocks.{INSTRUCTIONS, any_block, any_label, any_local, at_will}
 use Rattle.ir_bodies.specs.Calls.{conventions, types}
 use Rattle.ir_bodies.specs.Lines.{line}

@@ -6,9 +6,9 @@ use Rattle.ir_lex.specs.declared.head.Head.TheVariants as heads
 use Rattle.lto_forms.specs.Alphabet.{among, is_literal, is_number}
 use Rattle.lto_forms.specs.Faults.{Extends, Viable}
 use Rattle.ir_read.specs.Classes.{IsReal, tokens}
-use Rattle.ir_read.specs.FunctionHeads.{GLOBAL, NUMBERED}
+use Rattle.ir_heads.specs.FunctionHeads.{GLOBAL, NUMBERED}
 use Rattle.ir_read.specs.Operands.{REG}
-use Rattle.ir_read.specs.Targets.{STRING}
+use Rattle.ir_heads.specs.Targets.{STRING}
 use Rattle.ir_operands.specs.ShapeForms.{OPEN_ANGLE, OPEN_BRACE}
 use Rattle.ir_parse.specs.Modules.{any_module, whole_module}
 use Rattle.ir_parse.specs.NamedCalls.{in_module}

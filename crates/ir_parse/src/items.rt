@@ -5,8 +5,8 @@ ghost use Rattle.ir_lex.specs.Heads.{number};
 ghost use Rattle.lto_forms.specs.Alphabet.{contains, among};
 ghost use Rattle.lto_forms.specs.declared.fault.ReadError.TheVariants.{NoMemory};
 ghost use Rattle.lto_forms.specs.Readers.{Gives, next_is};
-ghost use Rattle.ir_read.specs.AttributesAt.{HEAD, attribute_group_at};
-ghost use Rattle.ir_read.specs.TargetsAt.{layout_line_at, target_line_at, triple_line_at};
+ghost use Rattle.ir_heads.specs.AttributesAt.{HEAD, attribute_group_at};
+ghost use Rattle.ir_heads.specs.TargetsAt.{layout_line_at, target_line_at, triple_line_at};
 ghost use Rattle.ir_read.specs.Classes.{tokens};
 ghost use Rattle.ir_bodies.specs.BlocksAt.{definition_at};
 ghost use Rattle.ir_globals.specs.TypeDefinitionsAt.{type_line_at};
@@ -21,11 +21,8 @@ use ir_globals::{
 };
 use ir_lex::Head;
 use ir_operands::push;
-use ir_read::{
-    Before, Item, Position, Role, Tokens, attached_at, comdat_line_at, expect, head_at,
-    head_attribute_at, is_attribute_word, metadata_behind_at, metadata_line_at, node_yet_at,
-    source_line_at,
-};
+use ir_heads::{Role, comdat_line_at, head_at, head_attribute_at, is_attribute_word, source_line_at};
+use ir_read::{Before, Item, Position, Tokens, attached_at, expect, metadata_behind_at, metadata_line_at, node_yet_at};
 use lto_forms::{Fault, FaultKind, ReadError};
 use std::alloc::Global;
 
@@ -55,7 +52,7 @@ fn triple_into<'a>(
 }
 
 /// Reads a line on the target, and adds it: `target triple = "x86_64-pc-linux-gnu"`.
-#[tactic(auto, unfolding(crate::specs::Putting::behind_at, crate::specs::ItemFormsAt::kept_at, ir_read::specs::TargetsAt::target_line_at))]
+#[tactic(auto, unfolding(crate::specs::Putting::behind_at, crate::specs::ItemFormsAt::kept_at, ir_heads::specs::TargetsAt::target_line_at))]
 fn target_into<'a>(
     alloc: Global,
     items: &mut Vec<Item<'a>>,

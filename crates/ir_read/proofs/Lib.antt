@@ -1,10 +1,7 @@
-pub mod AttributeRules
+pub mod Alignments
 pub mod Digits
-pub mod Fronts
-pub mod FunctionHeadRules
 pub mod Groups
 pub mod Heads
-pub mod Layouts
 pub mod LineStarts
 pub mod Lines
 pub mod LiteralRange
@@ -12,6 +9,5 @@ pub mod MetadataBehindRules
 pub mod Nodes
 pub mod OperandRules
 pub mod Singles
-pub mod TargetRules
 pub mod Widths
 pub mod Words

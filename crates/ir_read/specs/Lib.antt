@@ -1,5 +1,3 @@
-pub mod Attributes
-pub mod AttributesAt
 pub mod Brackets
 pub mod BracketViews
 pub mod Classes
@@ -15,9 +13,5 @@ pub mod ShapeCode
 pub mod Literals
 pub mod Operands
 pub mod OperandsAt
-pub mod Targets
-pub mod TargetsAt
-pub mod FunctionHeads
-pub mod FunctionHeadsAt
 pub mod MetadataBehind
 pub mod MetadataBehindAt

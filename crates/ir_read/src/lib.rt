@@ -6,10 +6,8 @@
 #![tactic(auto)]
 
 mod address;
-mod attributes;
 mod brackets;
 mod finished;
-mod function_heads;
 mod literals;
 mod metadata;
 mod metadata_behind;
@@ -19,21 +17,12 @@ mod operands;
 mod places;
 mod raw;
 mod shape;
-mod targets;
 mod terminals;
 mod tokens;
 
 pub use address::{Address, Index, Level, Steps};
-pub use attributes::{
-    Attribute, Kept, Place, attribute_group_at, call_attributes_at, definition_attributes_at,
-    head_attribute_at, is_attribute_word, parameter_attribute_at, parameter_attributes_at,
-};
 pub use brackets::{Bracket, BracketMove, group_at, move_of};
 pub use finished::done;
-pub use function_heads::{
-    Role, comes_qualifier, end_of_none_at, head_at, is_local, is_qualifier, linkage_by,
-    name_refusal, qualifier_word_at, with_linkage,
-};
 pub use literals::literal;
 pub use metadata::{attached_at, attachments_at, meta_at, metadata_line_at, rest_of_line_at};
 pub use metadata_behind::{metadata_behind_at, node_yet_at};
@@ -49,6 +38,5 @@ pub use raw::{
     Param, Terminator, Variable,
 };
 pub use shape::{Shape, ShapeNode, Typed};
-pub use targets::{comdat_line_at, layout_line_at, source_line_at, triple_line_at};
 pub use terminals::{expect, refusal};
 pub use tokens::Tokens;

@@ -6,11 +6,11 @@ use Rattle.ir_lex.specs.Pieces.{Piece}
 use Rattle.ir_lex.specs.declared.token.Kind.TheVariants as kinds
 use Rattle.ir_print.specs.Functions.{attributes}
 use Rattle.ir_print.specs.Tokens.{space, word, optional}
-use Rattle.ir_read.specs.Attributes.{WORDS, kept_of, word_kept, word_tail, word_attribute, function_attribute, head_attribute, definition_attribute, definition_attributes, with_attribute, none_kept}
+use Rattle.ir_heads.specs.Attributes.{WORDS, kept_of, word_kept, word_tail, word_attribute, function_attribute, head_attribute, definition_attribute, definition_attributes, with_attribute, none_kept}
 use Rattle.ir_read.specs.Classes.{refusal, one_of}
-use Rattle.ir_read.specs.declared.attributes.Attribute.{Attribute}
-use Rattle.ir_read.specs.declared.attributes.Attribute.TheVariants.{Noinline, Optnone}
-use Rattle.ir_read.specs.declared.attributes.Kept.{Kept}
+use Rattle.ir_heads.specs.declared.attributes.Attribute.{Attribute}
+use Rattle.ir_heads.specs.declared.attributes.Attribute.TheVariants.{Noinline, Optnone}
+use Rattle.ir_heads.specs.declared.attributes.Kept.{Kept}
 use Rattle.ir_tree.specs.declared.function.Function.{Function}
 use Rattle.lto_forms.specs.Forms.{Star}
 use Rattle.read_again.specs.PartsPrinted.{IsKept}

@@ -11,7 +11,7 @@ use Rattle.ir_print.specs.Operands as printed
 use Rattle.ir_print.specs.Operands.{further_typed, all_typed}
 use Rattle.ir_print.specs.Tokens.{tight, space, mark}
 use Rattle.ir_print.specs.Types.{result}
-use Rattle.ir_read.specs.Attributes.{parameter_attributes, call_attributes}
+use Rattle.ir_heads.specs.Attributes.{parameter_attributes, call_attributes}
 use Rattle.ir_read.specs.Classes.{tokens, refusal}
 use Rattle.ir_read.specs.Operands.{type_refusal, classes_of, operand_of, simple}
 use Rattle.ir_operands.specs.ShapeForms.{memory_shape}

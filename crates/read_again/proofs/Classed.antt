@@ -7,9 +7,9 @@ use Rattle.ir_lex.specs.Pieces.{Piece}
 use Rattle.ir_lex.specs.Tok.{Tok}
 use Rattle.ir_read.proofs.OperandRules.{global_is}
 use Rattle.ir_read.specs.Classes.{tokens}
-use Rattle.ir_read.specs.FunctionHeads.{head, name_refusal, names_of}
+use Rattle.ir_heads.specs.FunctionHeads.{head, name_refusal, names_of}
 use Rattle.ir_read.specs.Operands.{global_named}
-use Rattle.ir_read.specs.declared.function_heads.Role.{Role}
+use Rattle.ir_heads.specs.declared.function_heads.Role.{Role}
 use Rattle.ir_read.specs.declared.raw.Head.{Head}
 use Rattle.lto_forms.specs.Alphabet.{contains}
 use Rattle.lto_forms.specs.declared.fault.FaultKind.{FaultKind}

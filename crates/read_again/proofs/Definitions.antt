@@ -5,7 +5,7 @@ use Rattle.ir_bodies.specs.Blocks.{FURTHER_BLOCKS, INSTRUCTIONS}
 use Rattle.ir_lex.specs.Pieces.{Piece}
 use Rattle.ir_print.specs.Functions as printed
 use Rattle.ir_print.specs.Tokens.{tight, space, next_line}
-use Rattle.ir_read.specs.declared.attributes.Kept.{Kept}
+use Rattle.ir_heads.specs.declared.attributes.Kept.{Kept}
 use Rattle.ir_tree.specs.declared.function.Function.{Function}
 use Rattle.read_again.specs.Printed.{IsDefinition}
 use Rattle.read_again.specs.Readable.{DefinitionReadable}

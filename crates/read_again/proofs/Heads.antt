@@ -11,13 +11,13 @@ use Rattle.ir_print.specs.Functions.{signature, attributes, body, definition}
 use Rattle.ir_print.specs.Tokens.{tight, space, word, mark, comma, global}
 use Rattle.ir_print.specs.Types.{register, result}
 use Rattle.ir_read.specs.Operands.{global_by, global_named}
-use Rattle.ir_read.specs.Attributes.{parameter_attributes}
+use Rattle.ir_heads.specs.Attributes.{parameter_attributes}
 use Rattle.ir_read.specs.Classes.{refusal, itself}
-use Rattle.ir_read.specs.FunctionHeads as read
-use Rattle.ir_read.specs.FunctionHeads.{linkages_of, linkage_by, linkage_word, linking, leading, at_will, with_linkage, prefix, names_of, name_refusal, function_name, param, further_param, some_params, listed_params, params, head, is_local}
+use Rattle.ir_heads.specs.FunctionHeads as read
+use Rattle.ir_heads.specs.FunctionHeads.{linkages_of, linkage_by, linkage_word, linking, leading, at_will, with_linkage, prefix, names_of, name_refusal, function_name, param, further_param, some_params, listed_params, params, head, is_local}
 use Rattle.ir_read.specs.Operands.{type_refusal}
-use Rattle.ir_read.specs.declared.function_heads.Role.{Role}
-use Rattle.ir_read.specs.declared.function_heads.Role.TheVariants as roles
+use Rattle.ir_heads.specs.declared.function_heads.Role.{Role}
+use Rattle.ir_heads.specs.declared.function_heads.Role.TheVariants as roles
 use Rattle.ir_read.specs.declared.raw.Param as raw_param
 use Rattle.ir_tree.specs.Names.{quoted}
 use Rattle.ir_tree.specs.declared.function.Function.{Function}

@@ -5,7 +5,7 @@ use Rattle.ir_parse.specs.ItemForms.{Found, unnamed, beside, naming, at_place, o
 use Rattle.ir_lex.specs.Pieces.{Piece}
 use Rattle.ir_print.specs.Functions as functions
 use Rattle.ir_print.specs.Modules as printed
-use Rattle.ir_read.specs.Targets.{target_line}
+use Rattle.ir_heads.specs.Targets.{target_line}
 use Rattle.ir_read.specs.declared.places.Before.{Before}
 use Rattle.ir_read.specs.declared.places.Before.TheVariants as befores
 use Rattle.ir_read.specs.declared.places.Position.{Position}

@@ -14,7 +14,7 @@ use Rattle.ir_print.specs.Variables as printed
 use Rattle.ir_print.specs.Variables.{kind_word, given}
 use Rattle.ir_read.specs.Operands.{global_by, global_named}
 use Rattle.ir_read.specs.Classes.{refusal, one_of}
-use Rattle.ir_read.specs.FunctionHeads.{LINKAGES, linkage_by, linkage_word, with_linkage, name_refusal}
+use Rattle.ir_heads.specs.FunctionHeads.{LINKAGES, linkage_by, linkage_word, with_linkage, name_refusal}
 use Rattle.ir_operands.specs.ShapeForms.{memory_shape}
 use Rattle.ir_read.specs.Shapes.{Written}
 use Rattle.ir_tree.specs.Initials.{Initial}

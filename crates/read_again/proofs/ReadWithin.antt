@@ -20,7 +20,7 @@ use Rattle.ir_names.specs.declared.fault.Fault.{Fault}
 use Rattle.ir_names.specs.declared.groups.Groups.{Groups}
 use Rattle.ir_parse.specs.Targets.{last_or, layout_string, text_of}
 use Rattle.ir_parse.specs.Values.{put, value_in, values_in}
-use Rattle.ir_read.specs.Targets.{fits_layout}
+use Rattle.ir_heads.specs.Targets.{fits_layout}
 use Rattle.ir_read.specs.declared.raw.Block as raw_block
 use Rattle.ir_read.specs.declared.raw.Head.{Head}
 use Rattle.ir_read.specs.declared.raw.Init as raw_init

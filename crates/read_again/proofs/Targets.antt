@@ -9,7 +9,7 @@ use Rattle.ir_lex.specs.declared.token.Kind.TheVariants as kinds
 use Rattle.ir_print.specs.Modules as printed
 use Rattle.ir_print.specs.Tokens.{tight, space, word, closed, string}
 use Rattle.ir_read.specs.Classes.{refusal, the, one_of, itself}
-use Rattle.ir_read.specs.Targets.{STRING, fits_layout, is_layout, layout_line, triple_line, target_line}
+use Rattle.ir_heads.specs.Targets.{STRING, fits_layout, is_layout, layout_line, triple_line, target_line}
 use Rattle.ir_tree.specs.Names.{AllBytes}
 use Rattle.lto_forms.specs.Alphabet.{contains}
 use Rattle.lto_forms.specs.declared.fault.FaultKind.{FaultKind}

@@ -5,10 +5,10 @@ use Rattle.ir_parse.specs.Modules.{FURTHER_PARAMETERS}
 use Rattle.ir_lex.specs.Heads.{number}
 use Rattle.ir_lex.specs.Tok.{Tok}
 use Rattle.ir_lex.specs.declared.head.Head.TheVariants as heads
-use Rattle.ir_read.specs.FunctionHeads.{GLOBAL as function_names, NUMBERED, function_name, head, is_local, listed_params, params, some_params}
+use Rattle.ir_heads.specs.FunctionHeads.{GLOBAL as function_names, NUMBERED, function_name, head, is_local, listed_params, params, some_params}
 use Rattle.ir_operands.specs.Values.{GLOBAL}
-use Rattle.ir_read.specs.declared.function_heads.Role.{Role}
-use Rattle.ir_read.specs.declared.function_heads.Role.TheVariants as roles
+use Rattle.ir_heads.specs.declared.function_heads.Role.{Role}
+use Rattle.ir_heads.specs.declared.function_heads.Role.TheVariants as roles
 use Rattle.ir_read.specs.declared.raw.Head.{Head}
 use Rattle.ir_read.specs.declared.raw.Param.{Param}
 use Rattle.ir_tree.specs.declared.function.Linkage.{Linkage}

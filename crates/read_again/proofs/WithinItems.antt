@@ -12,11 +12,11 @@ use Rattle.ir_lex.specs.Quotes.{content}
 use Rattle.ir_lex.specs.Tok.{Tok}
 use Rattle.ir_lex.specs.declared.head.Head.TheVariants as heads
 use Rattle.ir_names.specs.Types.{shape_if}
-use Rattle.ir_read.specs.Attributes.{attribute_group}
+use Rattle.ir_heads.specs.Attributes.{attribute_group}
 use Rattle.ir_read.specs.Classes.{refusal}
 use Rattle.ir_operands.specs.ShapeForms.{memory_shape}
-use Rattle.ir_read.specs.Targets.{fits_layout, is_layout, layout_line, target_line, triple_line}
-use Rattle.ir_read.specs.declared.function_heads.Role.TheVariants as roles
+use Rattle.ir_heads.specs.Targets.{fits_layout, is_layout, layout_line, target_line, triple_line}
+use Rattle.ir_heads.specs.declared.function_heads.Role.TheVariants as roles
 use Rattle.ir_read.specs.declared.places.Before.{Before}
 use Rattle.ir_read.specs.declared.places.Before.TheVariants as befores
 use Rattle.ir_read.specs.declared.places.Position.{Position}

@@ -3,7 +3,7 @@
 use Rattle.std.specs.Prelude.{◌≡◌, ℕ, ◌≤◌, true, List, [], ◌∷◌, length}
 use Rattle.std.specs.List.{AllByRecursion as Each}
 use Rattle.ir_parse.specs.Modules.{FURTHER_PARAMETERS, GLOBAL_NAMES}
-use Rattle.ir_read.specs.Targets.{fits_layout}
+use Rattle.ir_heads.specs.Targets.{fits_layout}
 use Rattle.ir_tree.specs.Names.{AllBytes}
 use Rattle.ir_tree.specs.declared.block.Block.{Block}
 use Rattle.ir_tree.specs.declared.function.Function.{Function}

@@ -23,7 +23,7 @@ use Rattle.ir_read.specs.Shapes.{Written, WrittenParts}
 use Rattle.ir_read.specs.declared.address.Index.{Index}
 use Rattle.ir_read.specs.declared.address.Level.{Level}
 use Rattle.ir_read.specs.declared.address.Steps.{Steps}
-use Rattle.ir_read.specs.declared.attributes.Kept.{Kept}
+use Rattle.ir_heads.specs.declared.attributes.Kept.{Kept}
 use Rattle.ir_read.specs.declared.raw.Argument as raw_argument
 use Rattle.ir_read.specs.declared.raw.Case as raw_case
 use Rattle.ir_read.specs.declared.raw.Head.{Head}

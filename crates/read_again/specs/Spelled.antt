@@ -11,7 +11,7 @@ use Rattle.ir_names.specs.Symbols.{symbol_name}
 use Rattle.ir_names.specs.Types.{shape_if}
 use Rattle.ir_read.specs.Shapes as shapes
 use Rattle.ir_read.specs.Shapes.{Written, WrittenParts}
-use Rattle.ir_read.specs.Targets.{fits_layout}
+use Rattle.ir_heads.specs.Targets.{fits_layout}
 use Rattle.ir_read.specs.declared.raw.Argument.{Argument}
 use Rattle.ir_read.specs.declared.raw.Block.{Block}
 use Rattle.ir_read.specs.declared.raw.Case.{Case}

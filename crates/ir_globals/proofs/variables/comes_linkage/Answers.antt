@@ -1,6 +1,6 @@
 use Rattle.std.proofs.Common.{sym, ◌∙◌}
 use Rattle.ir_read.proofs.Heads.{next_head}
-use Rattle.ir_read.specs.FunctionHeads.{LINKAGES}
+use Rattle.ir_heads.specs.FunctionHeads.{LINKAGES}
 use Rattle.ir_globals.proofs.variables.comes_linkage.Goals as goal
 
 pub returns-in-Some : goal.returns-in-Some

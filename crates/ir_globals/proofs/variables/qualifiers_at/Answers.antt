@@ -2,7 +2,7 @@ use Rattle.lto_forms.specs.Alphabet.{among}
 use Rattle.lto_forms.specs.Readers.{dropped}
 use Rattle.lto_forms.proofs.Stars.{takes, folds_on}
 use Rattle.ir_read.specs.Classes.{tokens}
-use Rattle.ir_read.specs.FunctionHeads.{QUALIFIERS}
+use Rattle.ir_heads.specs.FunctionHeads.{QUALIFIERS}
 use Rattle.ir_globals.proofs.VariableRules.{qualifier_word_rule}
 use Rattle.ir_globals.proofs.variables.qualifiers_at.Goals as goal
 

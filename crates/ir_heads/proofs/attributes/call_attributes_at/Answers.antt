@@ -1,0 +1,13 @@
+use Rattle.lto_forms.specs.Alphabet.{among}
+use Rattle.lto_forms.specs.Readers.{dropped}
+use Rattle.lto_forms.proofs.Stars.{takes, folds_on}
+use Rattle.ir_read.specs.Classes.{tokens}
+use Rattle.ir_heads.specs.AttributesAt.{CALL}
+use Rattle.ir_heads.proofs.AttributeRules.{call_attribute_rule}
+use Rattle.ir_heads.proofs.attributes.call_attributes_at.Goals as goal
+
+pub each-smaller : goal.each-smaller
+each-smaller c = takes tokens (among tokens CALL) call_attribute_rule.law _ _ _ c.in_ok-call_attribute_at.ensures
+
+pub each-preserved : goal.each-preserved
+each-preserved c = folds_on tokens (among tokens CALL) call_attribute_rule.law dropped tt _ _ _ _ c.each-test.ensures c.in_ok-call_attribute_at.ensures c.each.invariant

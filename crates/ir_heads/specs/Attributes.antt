@@ -1,0 +1,205 @@
+-- Attributes of parameters, functions and calls, and groups of them (LangRef, "Parameter Attributes",
+-- "Function Attributes", "Attribute Groups").
+use Rattle.std.specs.Prelude.{ℕ, true, false, List, [], ◌∷◌, ◌++◌, map}
+use Rattle.std.specs.List.{fold}
+use Rattle.ir_lex.specs.declared.head.Head.TheVariants as heads
+use Rattle.ir_lex.specs.declared.head.Head.{Head}
+use Rattle.ir_lex.specs.Heads.{number}
+use Rattle.ir_lex.specs.Tok.{Tok}
+use Rattle.lto_forms.specs.Forms.{Form, ◌>>=◌, either, gives, optional, Star, token}
+use Rattle.lto_forms.specs.Rules.{is_valued}
+use Rattle.ir_read.specs.Brackets.{group}
+use Rattle.ir_read.specs.Classes.{tokens, refusal, the, one_of}
+use Rattle.ir_read.specs.Decimals.{is_alignment}
+use Rattle.ir_read.specs.Metadata.{attached}
+use Rattle.ir_read.specs.Operands.{group_named}
+use Rattle.ir_heads.specs.declared.attributes.Attribute.{Attribute}
+use Rattle.ir_heads.specs.declared.attributes.Attribute.TheVariants.{Dropped, Noinline, Optnone, Group}
+use Rattle.ir_heads.specs.declared.attributes.Kept.{Kept}
+use Rattle.ir_heads.specs.declared.attributes.Place.{Place}
+use Rattle.ir_heads.specs.declared.attributes.Place.TheVariants as places
+use Rattle.ir_read.specs.declared.raw.Item.{Item}
+use Rattle.ir_read.specs.declared.raw.Item.TheVariants.{Attributes}
+use Rattle.ir_read.specs.declared.brackets.Bracket.TheVariants.{Paren}
+
+-- ---- of parameters and results
+
+-- an alignment, or a group in brackets
+unfoldable pub aligned : Form Tok (Unit {0})
+aligned = either
+    (do
+      _ ← token is_alignment
+      gives tt)
+    (group Paren)
+
+-- pattr = word / word (..) / align N / align (..)
+unfoldable pub parameter_attribute : Form Tok (Unit {0})
+parameter_attribute = either
+    (the heads.ParameterWord)
+    (either
+    (do
+      _ ← the heads.ParameterGroup
+      group Paren)
+    (do
+      _ ← the heads.Align
+      aligned))
+
+unfoldable pub parameter_attributes : Form Tok (Unit {0})
+parameter_attributes = do
+  _ ← Star parameter_attribute
+  gives tt
+
+-- ---- of functions and calls
+
+-- words that begin no item, no instruction and no terminator, and belong to no part of the language that is left out
+abbrev pub OTHER_WORDS : List Head
+OTHER_WORDS =
+    heads.MemoryInteger ∷ heads.RegisterInteger ∷ heads.Ptr ∷ heads.Void ∷ heads.RefusedType
+    ∷ heads.Datalayout ∷ heads.Triple ∷ heads.Type ∷ heads.Opaque ∷ heads.Comdat ∷ heads.Any ∷ heads.GlobalVariable ∷ heads.Constant
+    ∷ heads.Private ∷ heads.Internal ∷ heads.External ∷ heads.Linkonce ∷ heads.LinkonceOdr ∷ heads.Weak ∷ heads.WeakOdr ∷ heads.AvailableExternally
+    ∷ heads.Visibility ∷ heads.UnnamedAddr ∷ heads.CallingConvention ∷ heads.ZeroInitializer ∷ heads.Times ∷ heads.True ∷ heads.False ∷ heads.Null ∷ heads.Poison
+    ∷ heads.Inbounds ∷ heads.Nusw ∷ heads.Nuw ∷ heads.Nsw ∷ heads.Exact ∷ heads.Disjoint ∷ heads.Samesign ∷ heads.Nneg
+    ∷ heads.Eq ∷ heads.Ne ∷ heads.Ugt ∷ heads.Uge ∷ heads.Ult ∷ heads.Ule ∷ heads.Sgt ∷ heads.Sge ∷ heads.Slt ∷ heads.Sle ∷ heads.To ∷ heads.LabelType
+    ∷ heads.ParameterWord ∷ heads.ParameterGroup ∷ heads.Noinline ∷ heads.Optnone ∷ []
+
+abbrev pub WORDS : List ℕ
+WORDS = map number (heads.Word ∷ OTHER_WORDS)
+
+-- behind a call an `align` is a word like others
+abbrev pub CALL_WORDS : List ℕ
+CALL_WORDS = number heads.Align ∷ WORDS
+
+-- in a group words that are refused elsewhere are dropped
+abbrev pub GROUP_WORDS : List ℕ
+GROUP_WORDS = number heads.RefusedWord ∷ number heads.RefusedInteger ∷ CALL_WORDS
+
+-- the words that are attributes there
+abbrev pub words_of : Place → List ℕ
+words_of places.Head = WORDS
+words_of places.Call = CALL_WORDS
+words_of places.Group = GROUP_WORDS
+
+-- what is kept of an attribute that is one word
+abbrev pub kept_of : Head → Attribute
+kept_of heads.Noinline = Noinline
+kept_of heads.Optnone = Optnone
+kept_of h = Dropped
+
+abbrev pub word_kept : Tok → Attribute
+word_kept t = kept_of t.head
+
+-- [(..)] / [= Number]
+unfoldable pub word_tail : Form Tok (Unit {0})
+word_tail = either
+    (group Paren)
+    (either
+    (do
+      _ ← the heads.Equals
+      the heads.Number)
+    (gives tt))
+
+-- Word [(..)] / Word = Number
+unfoldable pub word_attribute : List ℕ → Form Tok Attribute
+word_attribute words = do
+  kept ← one_of words word_kept
+  _ ← word_tail
+  gives kept
+
+-- = Str
+unfoldable pub string_value : Form Tok (Unit {0})
+string_value = do
+  _ ← the heads.Equals
+  the heads.Str
+
+-- Str [= Str]
+unfoldable pub string_attribute : Form Tok Attribute
+string_attribute = do
+  _ ← the heads.Str
+  _ ← optional string_value
+  gives Dropped
+
+unfoldable pub function_attribute : List ℕ → Form Tok Attribute
+function_attribute words = either string_attribute (word_attribute words)
+
+abbrev pub GROUP : List ℕ
+GROUP = number heads.Group ∷ []
+
+-- the name of an attribute group, whose number is below 2^32
+abbrev pub group_name : Form Tok Tok
+group_name = token (is_valued tokens refusal GROUP group_named)
+
+unfoldable pub group_attribute : Form Tok Attribute
+group_attribute = do
+  name ← group_name
+  gives (Group name)
+
+-- what stands behind the arguments of a call: {fattr / Group}
+unfoldable pub call_attribute : Form Tok Attribute
+call_attribute = either group_attribute (function_attribute CALL_WORDS)
+
+unfoldable pub call_attributes : Form Tok (Unit {0})
+call_attributes = do
+  _ ← Star call_attribute
+  gives tt
+
+-- ---- behind the head of a function
+
+-- align N / align [(..)] / align = Number
+unfoldable pub head_alignment : Form Tok Attribute
+head_alignment = do
+  _ ← the heads.Align
+  _ ← either
+      (do
+        _ ← token is_alignment
+        gives tt)
+      word_tail
+  gives Dropped
+
+-- {fattr / unnamed_addr / local_unnamed_addr / Group / comdat [(Comdat)] / align N}: the words but `align` are words as others
+unfoldable pub head_attribute : Form Tok Attribute
+head_attribute = either group_attribute (either head_alignment (function_attribute WORDS))
+
+unfoldable pub attached_attribute : Form Tok Attribute
+attached_attribute = do
+  _ ← attached
+  gives Dropped
+
+-- of a definition: metadata may stand among them
+unfoldable pub definition_attribute : Form Tok Attribute
+definition_attribute = either attached_attribute head_attribute
+
+-- what is kept of attributes
+abbrev pub with_attribute : Kept → Attribute → Kept
+with_attribute k Dropped = k
+with_attribute k Noinline = record { noinline = true; optnone = k.optnone; groups = k.groups }
+with_attribute k Optnone = record { noinline = k.noinline; optnone = true; groups = k.groups }
+with_attribute k (Group g) = record { noinline = k.noinline; optnone = k.optnone; groups = k.groups ++ g ∷ [] }
+
+abbrev pub none_kept : Kept
+none_kept = record { noinline = false; optnone = false; groups = [] }
+
+unfoldable pub definition_attributes : Form Tok Kept
+definition_attributes = do
+  all ← Star definition_attribute
+  gives (fold with_attribute none_kept all)
+
+-- ---- attributes Group = { {fattr} }
+
+-- what a group of attributes says
+abbrev pub group_item : Tok → Kept → Item
+group_item name k = Attributes name k.noinline k.optnone
+
+unfoldable pub grouped : Form Tok Kept
+grouped = do
+  all ← Star (function_attribute GROUP_WORDS)
+  gives (fold with_attribute none_kept all)
+
+unfoldable pub attribute_group : Form Tok Item
+attribute_group = do
+  _ ← the heads.Attributes
+  name ← group_name
+  _ ← the heads.Equals
+  _ ← the heads.OpenBrace
+  kept ← grouped
+  _ ← the heads.CloseBrace
+  gives (group_item name kept)

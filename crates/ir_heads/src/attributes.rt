@@ -1,0 +1,568 @@
+//! Reads attributes of parameters, functions and calls, and keeps of them what the link needs (LangRef,
+//! "Parameter Attributes", "Function Attributes", "Attribute Groups").
+
+ghost use Rattle.std.specs.Prelude.{◌≡◌, IfOk};
+ghost use Rattle.ir_lex.specs.Heads.{number};
+ghost use Rattle.ir_lex.specs.Tok.{tok};
+ghost use Rattle.lto_forms.specs.Alphabet.{contains, among};
+ghost use Rattle.lto_forms.specs.Readers.{Gives, next_is};
+ghost use Rattle.lto_forms.specs.Rules.{is_valued};
+ghost use Rattle.ir_heads.specs.Attributes.{WORDS, GROUP, words_of, kept_of, word_kept, none_kept, with_attribute, group_item};
+ghost use Rattle.ir_heads.specs.AttributesAt.{PARAMETER, CALL, DEFINITION, GROUPED, head_alignment_at, head_attribute_at, definition_attribute_at, definition_attributes_at, grouped_at, ended_group_at, named_group_at, attribute_group_at, aligned_at, parameter_attribute_at, parameter_attributes_at, word_tail_at, word_attribute_at, string_value_at, string_attribute_at, function_attribute_at, group_name_at, group_attribute_at, call_attribute_at, call_attributes_at};
+ghost use Rattle.ir_read.specs.Classes.{tokens, refusal, one_of_at};
+ghost use Rattle.ir_read.specs.Metadata.{META};
+ghost use Rattle.ir_read.specs.Operands.{group_named};
+
+use ir_lex::{Head, Token};
+use ir_read::{
+    Bracket, Item, Name, Tokens, alignment_at, attached_at, done, expect, group_at, group_named,
+    refusal,
+};
+use ir_tree::Rows;
+use lto_forms::{Fault, FaultKind, ReadError};
+use std::alloc::{AllocError, Global};
+
+/// What is kept of an attribute.
+#[derive(Drop)]
+pub enum Attribute<'a> {
+    Dropped,
+    Noinline,
+    Optnone,
+    /// The attributes of a group, which may stand anywhere in the module.
+    Group(Name<'a>),
+}
+
+/// What is kept of the attributes of a function: whether these two are among them, and the groups
+/// that are named, in order.
+#[derive(Drop)]
+pub struct Kept<'a> {
+    pub noinline: bool,
+    pub optnone: bool,
+    pub groups: Rows<Name<'a>>,
+}
+
+/// Where an attribute that is one word stands.
+#[derive(Clone, Copy)]
+pub enum Place {
+    /// Behind the head of a function.
+    Head,
+    /// Behind the arguments of a call.
+    Call,
+    /// In an attribute group.
+    Group,
+}
+
+/// Whether a word of this class begins no item, no instruction and no terminator.
+pub fn is_attribute_word(head: Head) -> bool
+    ensures { result ≡ contains WORDS (number head) }
+{
+    matches!(
+        head,
+        Head::Word
+            | Head::MemoryInteger
+            | Head::RegisterInteger
+            | Head::Ptr
+            | Head::Void
+            | Head::RefusedType
+            | Head::Datalayout
+            | Head::Triple
+            | Head::Type
+            | Head::Opaque
+            | Head::Comdat
+            | Head::Any
+            | Head::GlobalVariable
+            | Head::Constant
+            | Head::Private
+            | Head::Internal
+            | Head::External
+            | Head::Linkonce
+            | Head::LinkonceOdr
+            | Head::Weak
+            | Head::WeakOdr
+            | Head::AvailableExternally
+            | Head::Visibility
+            | Head::UnnamedAddr
+            | Head::CallingConvention
+            | Head::ZeroInitializer
+            | Head::Times
+            | Head::True
+            | Head::False
+            | Head::Null
+            | Head::Poison
+            | Head::Inbounds
+            | Head::Nusw
+            | Head::Nuw
+            | Head::Nsw
+            | Head::Exact
+            | Head::Disjoint
+            | Head::Samesign
+            | Head::Nneg
+            | Head::Eq
+            | Head::Ne
+            | Head::Ugt
+            | Head::Uge
+            | Head::Ult
+            | Head::Ule
+            | Head::Sgt
+            | Head::Sge
+            | Head::Slt
+            | Head::Sle
+            | Head::To
+            | Head::LabelType
+            | Head::ParameterWord
+            | Head::ParameterGroup
+            | Head::Noinline
+            | Head::Optnone
+    )
+}
+
+/// Whether a word of this class is an attribute there.
+fn is_word_of(place: Place, head: Head) -> bool
+    ensures { result ≡ contains (words_of place) (number head) }
+{
+    match place {
+        Place::Head => is_attribute_word(head),
+        Place::Call => head.is(Head::Align) || is_attribute_word(head),
+        Place::Group => {
+            head.is(Head::RefusedWord)
+                || head.is(Head::RefusedInteger)
+                || head.is(Head::Align)
+                || is_attribute_word(head)
+        }
+    }
+}
+
+fn kept_of<'a>(head: Head) -> Attribute<'a>
+    ensures { result ≡ kept_of head }
+{
+    match head {
+        Head::Noinline => Attribute::Noinline,
+        Head::Optnone => Attribute::Optnone,
+        _ => Attribute::Dropped,
+    }
+}
+
+#[tactic(auto, unfolding(crate::specs::AttributesAt::aligned_at))]
+fn aligned_at(alloc: Global, tokens: &mut Tokens) -> Result<(), ReadError>
+    ensures { Gives (λ x. (tt, tokens.new)) result (aligned_at tokens.old) }
+{
+    if tokens.comes(Head::Number) {
+        alignment_at(tokens)?;
+        Ok(())
+    } else {
+        group_at(alloc, Bracket::Paren, tokens)
+    }
+}
+
+#[tactic(auto, unfolding(crate::specs::AttributesAt::parameter_attribute_at))]
+pub fn parameter_attribute_at(alloc: Global, tokens: &mut Tokens) -> Result<(), ReadError>
+    ensures { Gives (λ x. (tt, tokens.new)) result (parameter_attribute_at tokens.old) }
+{
+    if tokens.comes(Head::ParameterWord) {
+        expect(Head::ParameterWord, tokens)
+    } else if tokens.comes(Head::ParameterGroup) {
+        expect(Head::ParameterGroup, tokens)?;
+        group_at(alloc, Bracket::Paren, tokens)
+    } else {
+        expect(Head::Align, tokens)?;
+        aligned_at(alloc, tokens)
+    }
+}
+
+/// Whether an attribute of a parameter comes.
+fn comes_parameter_attribute(rest: &Tokens) -> bool
+    ensures { result ≡ next_is (among tokens PARAMETER) rest.now }
+{
+    match rest.head() {
+        Some(head) => matches!(
+            head,
+            Head::ParameterWord | Head::ParameterGroup | Head::Align
+        ),
+        None => false,
+    }
+}
+
+/// Reads the attributes of a parameter, a result or an argument: `noundef align 8 captures(none)`.
+#[tactic(auto, unfolding(crate::specs::AttributesAt::parameter_attributes_at))]
+pub fn parameter_attributes_at(alloc: Global, tokens: &mut Tokens) -> Result<(), ReadError>
+    ensures { Gives (λ x. (tt, tokens.new)) result (parameter_attributes_at tokens.old) }
+{
+    'each: while comes_parameter_attribute(tokens) {
+        parameter_attribute_at(alloc, tokens)?;
+    }
+    Ok(())
+}
+
+#[tactic(auto, unfolding(crate::specs::AttributesAt::word_tail_at))]
+fn word_tail_at(alloc: Global, tokens: &mut Tokens) -> Result<(), ReadError>
+    ensures { Gives (λ x. (tt, tokens.new)) result (word_tail_at tokens.old) }
+{
+    if tokens.comes(Head::OpenParen) {
+        group_at(alloc, Bracket::Paren, tokens)
+    } else if tokens.comes(Head::Equals) {
+        expect(Head::Equals, tokens)?;
+        expect(Head::Number, tokens)
+    } else {
+        Ok(())
+    }
+}
+
+#[tactic(auto, unfolding(lto_forms::specs::Rules::is_among))]
+fn word_at<'a>(place: Place, tokens: &mut Tokens<'_, 'a>) -> Result<Attribute<'a>, ReadError>
+    ensures { Gives (λ x. (x, tokens.new)) result (one_of_at (words_of place) word_kept tokens.old) }
+{
+    let left = tokens.left();
+    match tokens.take() {
+        None => Err(ReadError::Fault(Fault {
+            left,
+            kind: FaultKind::Syntax,
+        })),
+        Some(t) => {
+            if is_word_of(place, t.head) {
+                Ok(kept_of(t.head))
+            } else {
+                Err(ReadError::Fault(Fault {
+                    left,
+                    kind: refusal(t.head),
+                }))
+            }
+        }
+    }
+}
+
+#[tactic(auto, unfolding(crate::specs::AttributesAt::word_attribute_at))]
+fn word_attribute_at<'a>(
+    alloc: Global,
+    place: Place,
+    tokens: &mut Tokens<'_, 'a>,
+) -> Result<Attribute<'a>, ReadError>
+    ensures { Gives (λ x. (x, tokens.new)) result (word_attribute_at (words_of place) tokens.old) }
+{
+    let kept = word_at(place, tokens)?;
+    word_tail_at(alloc, tokens)?;
+    Ok(kept)
+}
+
+#[tactic(auto, unfolding(crate::specs::AttributesAt::string_value_at))]
+fn string_value_at(tokens: &mut Tokens) -> Result<(), ReadError>
+    ensures { Gives (λ x. (tt, tokens.new)) result (string_value_at tokens.old) }
+{
+    expect(Head::Equals, tokens)?;
+    expect(Head::Str, tokens)
+}
+
+#[tactic(auto, unfolding(crate::specs::AttributesAt::string_attribute_at))]
+fn string_attribute_at<'a>(tokens: &mut Tokens<'_, 'a>) -> Result<Attribute<'a>, ReadError>
+    ensures { Gives (λ x. (x, tokens.new)) result (string_attribute_at tokens.old) }
+{
+    expect(Head::Str, tokens)?;
+    if tokens.comes(Head::Equals) {
+        string_value_at(tokens)?;
+    }
+    Ok(Attribute::Dropped)
+}
+
+#[tactic(auto, unfolding(crate::specs::AttributesAt::function_attribute_at))]
+fn function_attribute_at<'a>(
+    alloc: Global,
+    place: Place,
+    tokens: &mut Tokens<'_, 'a>,
+) -> Result<Attribute<'a>, ReadError>
+    ensures { Gives (λ x. (x, tokens.new)) result (function_attribute_at (words_of place) tokens.old) }
+{
+    if tokens.comes(Head::Str) {
+        string_attribute_at(tokens)
+    } else {
+        word_attribute_at(alloc, place, tokens)
+    }
+}
+
+#[tactic(auto, unfolding(lto_forms::specs::Rules::is_valued))]
+fn group_means<'a>(t: &Token<'a>) -> Result<Name<'a>, FaultKind>
+    ensures { result ≡ is_valued tokens refusal GROUP group_named (tok t.now) }
+{
+    if t.head.is(Head::Group) {
+        match group_named(t) {
+            None => Err(FaultKind::Number),
+            Some(name) => Ok(name),
+        }
+    } else {
+        Err(refusal(t.head))
+    }
+}
+
+/// Takes the name of an attribute group.
+fn group_name_at<'a>(tokens: &mut Tokens<'_, 'a>) -> Result<Name<'a>, ReadError>
+    ensures { Gives (λ x. (x, tokens.new)) result (group_name_at tokens.old) }
+{
+    let left = tokens.left();
+    match tokens.take() {
+        None => Err(ReadError::Fault(Fault {
+            left,
+            kind: FaultKind::Syntax,
+        })),
+        Some(t) => match group_means(&t) {
+            Ok(x) => Ok(x),
+            Err(kind) => Err(ReadError::Fault(Fault { left, kind })),
+        },
+    }
+}
+
+#[tactic(auto, unfolding(crate::specs::AttributesAt::group_attribute_at))]
+fn group_attribute_at<'a>(tokens: &mut Tokens<'_, 'a>) -> Result<Attribute<'a>, ReadError>
+    ensures { Gives (λ x. (x, tokens.new)) result (group_attribute_at tokens.old) }
+{
+    let name = group_name_at(tokens)?;
+    Ok(Attribute::Group(name))
+}
+
+#[tactic(auto, unfolding(crate::specs::AttributesAt::call_attribute_at))]
+fn call_attribute_at<'a>(
+    alloc: Global,
+    tokens: &mut Tokens<'_, 'a>,
+) -> Result<Attribute<'a>, ReadError>
+    ensures { Gives (λ x. (x, tokens.new)) result (call_attribute_at tokens.old) }
+{
+    if tokens.comes(Head::Group) {
+        group_attribute_at(tokens)
+    } else {
+        function_attribute_at(alloc, Place::Call, tokens)
+    }
+}
+
+fn begins_call_attribute(head: Head) -> bool
+    ensures { result ≡ contains CALL (number head) }
+{
+    head.is(Head::Group) || head.is(Head::Str) || is_word_of(Place::Call, head)
+}
+
+/// Whether an attribute comes that may stand behind the arguments of a call.
+fn comes_call_attribute(rest: &Tokens) -> bool
+    ensures { result ≡ next_is (among tokens CALL) rest.now }
+{
+    match rest.head() {
+        Some(head) => begins_call_attribute(head),
+        None => false,
+    }
+}
+
+/// Reads what stands behind the arguments of a call, and drops it.
+#[tactic(auto, unfolding(crate::specs::AttributesAt::call_attributes_at))]
+pub fn call_attributes_at(alloc: Global, tokens: &mut Tokens) -> Result<(), ReadError>
+    ensures { Gives (λ x. (tt, tokens.new)) result (call_attributes_at tokens.old) }
+{
+    'each: while comes_call_attribute(tokens) {
+        call_attribute_at(alloc, tokens)?;
+    }
+    Ok(())
+}
+
+#[tactic(auto, unfolding(crate::specs::AttributesAt::head_alignment_at))]
+fn head_alignment_at<'a>(
+    alloc: Global,
+    tokens: &mut Tokens<'_, 'a>,
+) -> Result<Attribute<'a>, ReadError>
+    ensures { Gives (λ x. (x, tokens.new)) result (head_alignment_at tokens.old) }
+{
+    expect(Head::Align, tokens)?;
+    if tokens.comes(Head::Number) {
+        alignment_at(tokens)?;
+    } else {
+        word_tail_at(alloc, tokens)?;
+    }
+    Ok(Attribute::Dropped)
+}
+
+#[tactic(auto, unfolding(crate::specs::AttributesAt::head_attribute_at))]
+pub fn head_attribute_at<'a>(
+    alloc: Global,
+    tokens: &mut Tokens<'_, 'a>,
+) -> Result<Attribute<'a>, ReadError>
+    ensures { Gives (λ x. (x, tokens.new)) result (head_attribute_at tokens.old) }
+{
+    if tokens.comes(Head::Group) {
+        group_attribute_at(tokens)
+    } else if tokens.comes(Head::Align) {
+        head_alignment_at(alloc, tokens)
+    } else {
+        function_attribute_at(alloc, Place::Head, tokens)
+    }
+}
+
+/// Whether metadata comes.
+fn comes_metadata(rest: &Tokens) -> bool
+    ensures { result ≡ next_is (among tokens META) rest.now }
+{
+    match rest.head() {
+        Some(head) => matches!(head, Head::Meta | Head::Bang),
+        None => false,
+    }
+}
+
+#[tactic(auto, unfolding(crate::specs::AttributesAt::attached_attribute_at, crate::specs::AttributesAt::definition_attribute_at))]
+fn definition_attribute_at<'a>(
+    alloc: Global,
+    tokens: &mut Tokens<'_, 'a>,
+) -> Result<Attribute<'a>, ReadError>
+    ensures { Gives (λ x. (x, tokens.new)) result (definition_attribute_at tokens.old) }
+{
+    if comes_metadata(tokens) {
+        attached_at(alloc, tokens)?;
+        Ok(Attribute::Dropped)
+    } else {
+        head_attribute_at(alloc, tokens)
+    }
+}
+
+fn begins_definition_attribute(head: Head) -> bool
+    ensures { result ≡ contains DEFINITION (number head) }
+{
+    head.is(Head::Meta)
+        || head.is(Head::Bang)
+        || head.is(Head::Group)
+        || head.is(Head::Align)
+        || head.is(Head::Str)
+        || is_word_of(Place::Head, head)
+}
+
+/// Whether an attribute of a definition comes.
+fn comes_definition_attribute(rest: &Tokens) -> bool
+    ensures { result ≡ next_is (among tokens DEFINITION) rest.now }
+{
+    match rest.head() {
+        Some(head) => begins_definition_attribute(head),
+        None => false,
+    }
+}
+
+impl<'a> Kept<'a> {
+    /// Nothing.
+    fn new(alloc: Global) -> Self
+        ensures { result ≡ none_kept }
+    {
+        Kept {
+            noinline: false,
+            optnone: false,
+            groups: Rows::new(alloc),
+        }
+    }
+
+    /// What is kept with one attribute more.
+    fn with(self, attribute: Attribute<'a>) -> Result<Kept<'a>, AllocError>
+        ensures { IfOk result (λ x. x ≡ with_attribute self.entry attribute.entry) }
+    {
+        match attribute {
+            Attribute::Dropped => Ok(self),
+            Attribute::Noinline => Ok(Kept {
+                noinline: true,
+                ..self
+            }),
+            Attribute::Optnone => Ok(Kept {
+                optnone: true,
+                ..self
+            }),
+            Attribute::Group(name) => {
+                let mut groups = self.groups;
+                groups.push(name)?;
+                Ok(Kept {
+                    noinline: self.noinline,
+                    optnone: self.optnone,
+                    groups,
+                })
+            }
+        }
+    }
+}
+
+/// Reads what stands between the head of a definition and its body, and keeps what the link needs.
+#[tactic(auto, unfolding(crate::specs::AttributesAt::definition_attributes_at))]
+pub fn definition_attributes_at<'a>(
+    alloc: Global,
+    tokens: &mut Tokens<'_, 'a>,
+) -> Result<Kept<'a>, ReadError>
+    ensures { Gives (λ x. (x, tokens.new)) result (definition_attributes_at tokens.old) }
+{
+    let mut kept = Kept::new(alloc);
+    'each: while comes_definition_attribute(tokens) {
+        let attribute = definition_attribute_at(alloc, tokens)?;
+        kept = kept.with(attribute)?;
+    }
+    Ok(kept)
+}
+
+fn begins_grouped(head: Head) -> bool
+    ensures { result ≡ contains GROUPED (number head) }
+{
+    head.is(Head::Str) || is_word_of(Place::Group, head)
+}
+
+/// Whether an attribute of a group comes.
+fn comes_grouped(rest: &Tokens) -> bool
+    ensures { result ≡ next_is (among tokens GROUPED) rest.now }
+{
+    match rest.head() {
+        Some(head) => begins_grouped(head),
+        None => false,
+    }
+}
+
+#[tactic(auto, unfolding(crate::specs::AttributesAt::grouped_at))]
+fn grouped_at<'a>(alloc: Global, tokens: &mut Tokens<'_, 'a>) -> Result<Kept<'a>, ReadError>
+    ensures { Gives (λ x. (x, tokens.new)) result (grouped_at tokens.old) }
+{
+    let mut kept = Kept::new(alloc);
+    'each: while comes_grouped(tokens) {
+        let attribute = function_attribute_at(alloc, Place::Group, tokens)?;
+        kept = kept.with(attribute)?;
+    }
+    Ok(kept)
+}
+
+fn group_item<'a>(group: Name<'a>, kept: Kept<'a>) -> Item<'a>
+    ensures { result ≡ group_item group.entry kept.entry }
+{
+    Item::Attributes {
+        group,
+        noinline: kept.noinline,
+        optnone: kept.optnone,
+    }
+}
+
+/// Reads what follows the attributes of a group.
+fn ended_group_at<'a>(
+    group: Name<'a>,
+    kept: Kept<'a>,
+    tokens: &mut Tokens<'_, 'a>,
+) -> Result<Item<'a>, ReadError>
+    ensures { Gives (λ x. (x, tokens.new)) result (ended_group_at group.entry kept.entry tokens.old) }
+{
+    expect(Head::CloseBrace, tokens)?;
+    done(group_item(group, kept))
+}
+
+/// Reads what follows the name of an attribute group.
+fn named_group_at<'a>(
+    alloc: Global,
+    group: Name<'a>,
+    tokens: &mut Tokens<'_, 'a>,
+) -> Result<Item<'a>, ReadError>
+    ensures { Gives (λ x. (x, tokens.new)) result (named_group_at group.entry tokens.old) }
+{
+    expect(Head::Equals, tokens)?;
+    expect(Head::OpenBrace, tokens)?;
+    let kept = grouped_at(alloc, tokens)?;
+    ended_group_at(group, kept, tokens)
+}
+
+/// Reads an attribute group: `attributes #0 = { nounwind "frame-pointer"="all" }`.
+#[tactic(auto, unfolding(crate::specs::AttributesAt::attribute_group_at))]
+pub fn attribute_group_at<'a>(
+    alloc: Global,
+    tokens: &mut Tokens<'_, 'a>,
+) -> Result<Item<'a>, ReadError>
+    ensures { Gives (λ x. (x, tokens.new)) result (attribute_group_at tokens.old) }
+{
+    expect(Head::Attributes, tokens)?;
+    let group = group_name_at(tokens)?;
+    named_group_at(alloc, group, tokens)
+}

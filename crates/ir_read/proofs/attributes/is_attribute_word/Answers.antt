@@ -1,8 +1,0 @@
-use Rattle.std.proofs.Common.{sym}
-use Rattle.ir_lex.specs.declared.head.Head.TheVariants as heads
-use Rattle.ir_read.specs.Attributes.{OTHER_WORDS}
-use Rattle.ir_read.proofs.Heads.{is_in}
-use Rattle.ir_read.proofs.attributes.is_attribute_word.Goals as goal
-
-pub returns-in-Word : goal.returns-in-Word
-returns-in-Word c = sym (is_in heads.Word OTHER_WORDS c.args.head c.in-Word.is)
