@@ -7,9 +7,9 @@ use Rattle.ir_edit.specs.Numbered.{in_text_order}
 use Rattle.ir_edit.specs.Sounds.{TextOrderIsSound}
 use Rattle.ir_meaning.specs.Near.{BetterThan}
 use Rattle.ir_meaning.specs.Program.{Program}
-use Rattle.ir_better.specs.Formed.{IsFormed}
-use Rattle.ir_better.proofs.Alike.Itself.{same_better}
-use Rattle.ir_better.proofs.Between.InARow.{in_a_row}
+use Rattle.ir_meaning.specs.Formed.{IsFormed}
+use Rattle.ir_meaning.proofs.Alike.Itself.{same_better}
+use Rattle.ir_meaning.proofs.Between.InARow.{in_a_row}
 use Rattle.block_trim.specs.MergeLaws.{MergeIsBetter, MergeIsSound}
 use Rattle.block_trim.specs.Laws.{TrimIsBetter, TrimIsSound}
 use Rattle.branch_simplify.specs.Laws.{SimplifiedIsBetter, SimplifiedIsSound}

@@ -7,8 +7,8 @@ use Rattle.ir_tree.specs.declared.block.Block.{Block}
 use Rattle.ir_tree.specs.declared.function.Function.{Function}
 use Rattle.ir_tree.specs.declared.function.Param.{Param}
 use Rattle.ir_tree.specs.declared.operand.Operand.{Operand}
-use Rattle.ir_better.specs.Facts.{Facts, blocks_replaced}
-use Rattle.ir_better.specs.Needed.{needed_blocks}
+use Rattle.ir_meaning.specs.Facts.{Facts, blocks_replaced}
+use Rattle.ir_meaning.specs.Needed.{needed_blocks}
 use Rattle.ir_tree.specs.Edited.{param_edited}
 use Rattle.ir_edit.specs.Numbered.{in_text_order, new_number, numbers_of}
 use Rattle.block_trim.specs.Merged.{IsMergeOf, Joins, joined_block, joined_blocks}

@@ -20,9 +20,9 @@ use Rattle.ir_tree.specs.declared.operand.Operand.TheVariants as operand
 use Rattle.ir_tree.specs.declared.operand.Reg.{Reg}
 use Rattle.ir_tree.specs.declared.operand.Symbol.{Symbol}
 use Rattle.ir_meaning.specs.Act.{find_block}
-use Rattle.ir_better.specs.Facts.{Facts, Has, behind_lines, behind_local, blocks_replaced, edges_replaced, end_replaced, is_local, lines_replaced, phis_replaced, replaced, replaced_local, with_fact, without}
-use Rattle.ir_better.specs.Needed.{is_needed, needed_blocks, needed_lines, needed_phis}
-use Rattle.ir_better.specs.Promote.{Current, Fetches, Makes, Other, Use, Writes, behind, changed, chosen_value}
+use Rattle.ir_meaning.specs.Facts.{Facts, Has, behind_lines, behind_local, blocks_replaced, edges_replaced, end_replaced, is_local, lines_replaced, phis_replaced, replaced, replaced_local, with_fact, without}
+use Rattle.ir_meaning.specs.Needed.{is_needed, needed_blocks, needed_lines, needed_phis}
+use Rattle.ir_meaning.specs.Promote.{Current, Fetches, Makes, Other, Use, Writes, behind, changed, chosen_value}
 use Rattle.ir_tree.specs.Edited.{argument_edited, block_edited, end_edited, incoming_edited, instr_edited, line_edited, operand_renamed, phi_edited, with_operands}
 use Rattle.ir_edit.specs.Numbered.{in_text_order, later_or, new_number, numbers_of}
 use Rattle.ir_edit.specs.Substituted.{replacement}
@@ -37,7 +37,7 @@ use Rattle.slot_promote.specs.Promoted.{End, blocks_with, end_at, end_with, entr
 use Rattle.slot_promote.specs.Slots.{promoted_slots}
 use Rattle.slot_promote.specs.Values.{at_start, behind_line, fetches, goes, instr_with, is_there, load_with, makes, placed, reg_of, regs, use_of, without_slots, writes}
 use Rattle.slot_promote.specs.Values as slots
-use Rattle.ir_better.specs.Counted.{sources, times}
+use Rattle.ir_meaning.specs.Counted.{sources, times}
 use Rattle.inline_site.specs.Laws.{InlinedIsKnown, InlinedIsSound}
 use Rattle.back_end.specs.Inlinable.{AreSound}
 use Rattle.back_end.specs.Laws.{AreKnown, MadeIsKnown}

@@ -13,7 +13,7 @@ use Rattle.ir_tree.specs.declared.instr.Phi.{Phi}
 use Rattle.ir_tree.specs.declared.operand.Argument.{Argument}
 use Rattle.ir_tree.specs.declared.operand.Reg.{Reg}
 use Rattle.ir_tree.specs.declared.operand.Symbol.{Symbol}
-use Rattle.ir_better.proofs.Everywhere.{all_back, all_front}
+use Rattle.ir_meaning.proofs.Everywhere.{all_back, all_front}
 
 module _ (known : List Symbol) where
   abbrev pub ArgsKnown : List Argument → Type 0

@@ -3,7 +3,7 @@ use Rattle.std.proofs.Common.{◌≡◌, ◌∙◌, ℕ, zero, suc, Bool, true, 
 use Rattle.ir_tree.specs.Rules.{Sound}
 use Rattle.ir_tree.specs.declared.function.Function.{Function}
 use Rattle.ir_edit.specs.Numbered.{in_text_order}
-use Rattle.ir_better.proofs.Entries.{apart}
+use Rattle.ir_meaning.proofs.Entries.{apart}
 use Rattle.block_trim.specs.MergeLaws.{MergeIsOne}
 use Rattle.block_trim.specs.Merged.{IsMergeOf}
 use Rattle.block_trim.specs.Laws.{TrimIsOne, TrimIsSound}

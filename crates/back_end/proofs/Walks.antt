@@ -5,8 +5,8 @@ use Rattle.ir_tree.specs.Rules.{Sound}
 use Rattle.ir_tree.specs.declared.function.Function.{Function}
 use Rattle.ir_tree.specs.declared.instr.Line.{Line}
 use Rattle.ir_tree.specs.declared.operand.Symbol.{Symbol}
-use Rattle.ir_better.proofs.Alike.Itself.{same_better}
-use Rattle.ir_better.proofs.Between.InARow.{in_a_row}
+use Rattle.ir_meaning.proofs.Alike.Itself.{same_better}
+use Rattle.ir_meaning.proofs.Between.InARow.{in_a_row}
 use Rattle.inline_site.specs.Inlined.{IsInlined}
 use Rattle.inline_site.specs.Laws.{InlinedIsBetter, InlinedIsOne, InlinedIsSound}
 use Rattle.inline_site.proofs.Standing.{one_line}

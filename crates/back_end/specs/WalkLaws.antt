@@ -5,7 +5,7 @@ use Rattle.ir_tree.specs.declared.block.Block.{Block}
 use Rattle.ir_tree.specs.declared.function.Function.{Function}
 use Rattle.ir_meaning.specs.Near.{BetterThan}
 use Rattle.ir_meaning.specs.Program.{Program}
-use Rattle.ir_better.specs.Formed.{IsFormed}
+use Rattle.ir_meaning.specs.Formed.{IsFormed}
 use Rattle.inline_site.specs.Copies.{behind_call, first_free}
 use Rattle.inline_site.specs.Inlined.{IsInlined}
 use Rattle.inline_site.specs.Sites.{counted_in}

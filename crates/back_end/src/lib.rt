@@ -15,7 +15,7 @@
 //! made of ([`made_has_interface`]), names no symbol that neither this nor a body names ([`made_is_known`]), and there is one
 //! function only that is made of each sound one ([`made_is_one`]).
 //!
-//! Below this crate stand the passes, and `ir_meaning` and `ir_better` for what is proved. The cost is that of
+//! Below this crate stand the passes, and `ir_meaning` for what is proved. The cost is that of
 //! the passes; a walk goes over the function once, and costs what the function and the bodies that it takes are long.
 #![tactic(auto)]
 

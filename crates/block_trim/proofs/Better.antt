@@ -18,14 +18,14 @@ use Rattle.ir_meaning.specs.Frame.{Locals, Signature, value_of}
 use Rattle.ir_meaning.specs.Near.{BetterThan}
 use Rattle.ir_meaning.specs.Program.{Program}
 use Rattle.ir_meaning.specs.declared.value.Value.{Value}
-use Rattle.ir_better.specs.Formed.{IsFormed}
-use Rattle.ir_better.specs.Reshape.{GoesQuietly, IsShape, IsStuck, Layout, LeavesAlike, Spot, laid, spot_of}
-use Rattle.ir_better.proofs.Alike.Itself.{same_better}
-use Rattle.ir_better.proofs.Between.InARow.{in_a_row}
-use Rattle.ir_better.proofs.Blocks.Reshaped.{reshaped_is_better}
-use Rattle.ir_better.specs.Counted.{sources, times}
-use Rattle.ir_better.proofs.Counting.{distinct_rest, edges_from, not_again, number_at, numbers_in, out_to}
-use Rattle.ir_better.proofs.Exits.{end_in, end_of, exit_among, found_at, number_found}
+use Rattle.ir_meaning.specs.Formed.{IsFormed}
+use Rattle.ir_meaning.specs.Reshape.{GoesQuietly, IsShape, IsStuck, Layout, LeavesAlike, Spot, laid, spot_of}
+use Rattle.ir_meaning.proofs.Alike.Itself.{same_better}
+use Rattle.ir_meaning.proofs.Between.InARow.{in_a_row}
+use Rattle.ir_meaning.proofs.Blocks.Reshaped.{reshaped_is_better}
+use Rattle.ir_meaning.specs.Counted.{sources, times}
+use Rattle.ir_meaning.proofs.Counting.{distinct_rest, edges_from, not_again, number_at, numbers_in, out_to}
+use Rattle.ir_meaning.proofs.Exits.{end_in, end_of, exit_among, found_at, number_found}
 use Rattle.block_trim.specs.MergeLaws.{MergeIsBetter}
 use Rattle.block_trim.specs.Merged.{CanJoin, IsOneOf, Joins, behind_entry, entry_named, joined, joined_block, joined_blocks, phi_named, renamed}
 use Rattle.block_trim.proofs.Fitting.{Fits, fits_still, in_behind, sound_fits}

@@ -19,8 +19,8 @@ use Rattle.ir_tree.specs.declared.instr.Phi.{Phi}
 use Rattle.ir_tree.specs.declared.operand.Operand.{Operand}
 use Rattle.ir_tree.specs.declared.operand.Operand.TheVariants as operand
 use Rattle.ir_edit.proofs.Tally.{distinct_less, tally, tally_both}
-use Rattle.ir_better.proofs.Counting.{distinct_rest, not_again, numbers_in}
-use Rattle.ir_better.proofs.Everywhere.{all_back, all_front}
+use Rattle.ir_meaning.proofs.Counting.{distinct_rest, not_again, numbers_in}
+use Rattle.ir_meaning.proofs.Everywhere.{all_back, all_front}
 use Rattle.block_trim.specs.Merged.{CanJoin, joined, joined_block, joined_blocks, phi_named, renamed}
 use Rattle.block_trim.specs.Working.{IsNumber}
 use Rattle.block_trim.proofs.Fitting.{Fits}

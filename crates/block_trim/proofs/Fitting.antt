@@ -11,9 +11,9 @@ use Rattle.ir_tree.specs.declared.block.Terminator.{Terminator}
 use Rattle.ir_tree.specs.declared.function.Function.{Function}
 use Rattle.ir_tree.specs.declared.instr.Incoming.{Incoming}
 use Rattle.ir_tree.specs.declared.instr.Phi.{Phi}
-use Rattle.ir_better.specs.Counted.{sources, times}
-use Rattle.ir_better.proofs.Counting.{distinct_rest, not_again, number_at, numbers_in}
-use Rattle.ir_better.proofs.Entries.{apart, entries_counted}
+use Rattle.ir_meaning.specs.Counted.{sources, times}
+use Rattle.ir_meaning.proofs.Counting.{distinct_rest, not_again, number_at, numbers_in}
+use Rattle.ir_meaning.proofs.Entries.{apart, entries_counted}
 use Rattle.block_trim.specs.Merged.{CanJoin, IsOneOf, behind_entry, entry_named, joined, joined_block, joined_blocks, phi_named, renamed}
 
 -- ---- members

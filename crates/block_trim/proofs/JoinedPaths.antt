@@ -14,8 +14,8 @@ use Rattle.ir_tree.specs.declared.function.Function.{Function}
 use Rattle.ir_tree.specs.declared.instr.Line.{Line}
 use Rattle.ir_tree.specs.declared.instr.Phi.{Phi}
 use Rattle.ir_flow.proofs.Solved.{at_end, at_ends}
-use Rattle.ir_better.specs.Counted.{times}
-use Rattle.ir_better.proofs.Counting.{among_times, edges_from, here, later, out_to, place_is}
+use Rattle.ir_meaning.specs.Counted.{times}
+use Rattle.ir_meaning.proofs.Counting.{among_times, edges_from, here, later, out_to, place_is}
 use Rattle.block_trim.specs.Merged.{CanJoin, joined, joined_block, renamed}
 use Rattle.block_trim.proofs.Defined.{holds_more, phi_locals_stay, results_both, room_stays, still_defined}
 use Rattle.block_trim.proofs.Fitting.{Fits}

@@ -25,10 +25,10 @@ use Rattle.ir_tree.specs.declared.operand.Operand.TheVariants as operand
 use Rattle.ir_tree.specs.declared.operand.Reg.{Reg}
 use Rattle.ir_tree.specs.declared.rule.Rule.{Rule}
 use Rattle.ir_tree.specs.declared.rule.Rule.TheVariants.{TypeMismatch, NotAvailable, PhiEdges, PhiPlace, EntryBranch, Index, Cast, CaseTwice}
-use Rattle.ir_better.specs.Counted.{sources, times}
-use Rattle.ir_better.proofs.Counting.{edges_from, here, later, out_to, place_is, times_is}
-use Rattle.ir_better.proofs.Entries.{by_number, entries_of}
-use Rattle.ir_better.proofs.Everywhere.{all_among, all_back, all_front, all_of_times, all_with}
+use Rattle.ir_meaning.specs.Counted.{sources, times}
+use Rattle.ir_meaning.proofs.Counting.{edges_from, here, later, out_to, place_is, times_is}
+use Rattle.ir_meaning.proofs.Entries.{by_number, entries_of}
+use Rattle.ir_meaning.proofs.Everywhere.{all_among, all_back, all_front, all_of_times, all_with}
 use Rattle.block_trim.specs.MergeLaws.{MergeIsSound}
 use Rattle.block_trim.specs.Merged.{CanJoin, IsOneOf, Joins, entry_named, joined, joined_block, phi_named, renamed}
 use Rattle.block_trim.proofs.Defined.{once_still, operand_stays}

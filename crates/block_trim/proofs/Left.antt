@@ -8,7 +8,7 @@ use Rattle.ir_tree.specs.declared.block.Block.{Block}
 use Rattle.ir_tree.specs.declared.block.Terminator.{Terminator}
 use Rattle.ir_tree.specs.declared.block.Terminator.TheVariants.{Branch, Jump, Return, Switch, Unreachable}
 use Rattle.ir_tree.specs.declared.instr.Phi.{Phi}
-use Rattle.ir_better.proofs.Counting.{distinct_rest, not_again, number_at, numbers_in}
+use Rattle.ir_meaning.proofs.Counting.{distinct_rest, not_again, number_at, numbers_in}
 use Rattle.block_trim.specs.Merged.{IsOneOf}
 use Rattle.block_trim.specs.Working.{block_of, blocks_of, blocks_taken, may_go, next_of, target_if, with_block, without}
 use Rattle.block_trim.specs.declared.joining.Content.{Content}

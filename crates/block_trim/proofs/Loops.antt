@@ -6,7 +6,7 @@ use Rattle.std.proofs.lemmas.List.{drop_more}
 use Rattle.ir_tree.specs.Formed.{Distinct, numbers}
 use Rattle.ir_tree.specs.declared.block.Block.{Block}
 use Rattle.ir_tree.specs.declared.function.Function.{Function}
-use Rattle.ir_better.proofs.Counting.{number_at, numbers_in}
+use Rattle.ir_meaning.proofs.Counting.{number_at, numbers_in}
 use Rattle.block_trim.specs.Merged.{IsMergeOf, IsOneOf}
 use Rattle.block_trim.specs.Working.{HasContents, IsContentOf, IsNumber, Joined, block_of, blocks_taken, left, may_go, naming, next, with_block, without}
 use Rattle.block_trim.specs.declared.joining.Content.{Content}

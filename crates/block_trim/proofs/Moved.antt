@@ -7,8 +7,8 @@ use Rattle.ir_tree.specs.Rules.{place}
 use Rattle.ir_tree.specs.declared.block.Block.{Block}
 use Rattle.ir_tree.specs.declared.block.Terminator.{Terminator}
 use Rattle.ir_tree.specs.declared.function.Function.{Function}
-use Rattle.ir_better.specs.Counted.{times}
-use Rattle.ir_better.proofs.Counting.{among_times, edges_from, number_at, numbers_in, out_to, place_is}
+use Rattle.ir_meaning.specs.Counted.{times}
+use Rattle.ir_meaning.proofs.Counting.{among_times, edges_from, number_at, numbers_in, out_to, place_is}
 use Rattle.block_trim.specs.Merged.{CanJoin, IsOneOf, behind_entry, joined, joined_block, joined_blocks}
 use Rattle.block_trim.proofs.Better.{only_from}
 use Rattle.block_trim.proofs.Fitting.{Fits, Stood, fits_still, same_block, stood}

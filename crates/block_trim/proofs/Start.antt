@@ -10,7 +10,7 @@ use Rattle.ir_tree.specs.declared.block.Terminator.TheVariants.{Jump}
 use Rattle.ir_tree.specs.declared.function.Function.{Function}
 use Rattle.ir_tree.specs.declared.instr.Incoming.{Incoming}
 use Rattle.ir_tree.specs.declared.instr.Phi.{Phi}
-use Rattle.ir_better.proofs.Counting.{numbers_in}
+use Rattle.ir_meaning.proofs.Counting.{numbers_in}
 use Rattle.block_trim.specs.Merged.{CanJoin, IsOneOf, behind_entry, entry_named, phi_named}
 use Rattle.block_trim.specs.Working.{HasContents, IsContentOf, IsNumber, Joined, at_work, blocks_of, can_go, has_one_edge, left, may_go, naming, next, with_block}
 use Rattle.block_trim.specs.declared.joining.Content.{Content}

@@ -13,7 +13,7 @@ use Rattle.ir_tree.specs.declared.function.Function.{Function}
 use Rattle.ir_tree.specs.declared.instr.Incoming.{Incoming}
 use Rattle.ir_tree.specs.declared.instr.Line.{Line}
 use Rattle.ir_tree.specs.declared.instr.Phi.{Phi}
-use Rattle.ir_better.proofs.Counting.{numbers_in, place_is}
+use Rattle.ir_meaning.proofs.Counting.{numbers_in, place_is}
 use Rattle.block_trim.specs.Merged.{CanJoin, IsFirst, IsOneOf, Joins, behind_entry, entry_named, joined, joined_block, joined_blocks, phi_named, renamed}
 use Rattle.block_trim.specs.Working.{IsJoined, IsNumber, IsTurnOf, Joined, at_work, block_of, blocks_of, can_go, has_one_edge, left, may_go, naming, next, next_of, target_if, with_block}
 use Rattle.block_trim.specs.declared.joining.Content.{Content}

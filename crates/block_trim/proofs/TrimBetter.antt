@@ -14,13 +14,13 @@ use Rattle.ir_meaning.specs.Act.{Leads', exit_of, find_block, incoming_value, ph
 use Rattle.ir_meaning.specs.Frame.{Locals, Signature, value_of}
 use Rattle.ir_meaning.specs.Near.{BetterThan}
 use Rattle.ir_meaning.specs.Program.{Program}
-use Rattle.ir_better.specs.Formed.{IsFormed}
-use Rattle.ir_better.specs.Reshape.{IsShape, IsStuck, Layout, LeavesAlike, Spot, laid, spot_of}
-use Rattle.ir_better.proofs.Alike.Itself.{same_better}
-use Rattle.ir_better.proofs.Blocks.Reshaped.{reshaped_is_better}
-use Rattle.ir_better.specs.Counted.{times}
-use Rattle.ir_better.proofs.Counting.{among_times, edges_from, out_to}
-use Rattle.ir_better.proofs.Exits.{end_in, end_of, exit_among, found_at, number_found}
+use Rattle.ir_meaning.specs.Formed.{IsFormed}
+use Rattle.ir_meaning.specs.Reshape.{IsShape, IsStuck, Layout, LeavesAlike, Spot, laid, spot_of}
+use Rattle.ir_meaning.proofs.Alike.Itself.{same_better}
+use Rattle.ir_meaning.proofs.Blocks.Reshaped.{reshaped_is_better}
+use Rattle.ir_meaning.specs.Counted.{times}
+use Rattle.ir_meaning.proofs.Counting.{among_times, edges_from, out_to}
+use Rattle.ir_meaning.proofs.Exits.{end_in, end_of, exit_among, found_at, number_found}
 use Rattle.block_trim.specs.Laws.{TrimIsBetter, TrimIsOne}
 use Rattle.block_trim.specs.Trimmed.{AreReached, IsReached, block_in, blocks_in, entries_in, phi_in, trimmed}
 

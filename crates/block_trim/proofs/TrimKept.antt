@@ -11,9 +11,9 @@ use Rattle.ir_tree.specs.declared.function.Function.{Function}
 use Rattle.ir_edit.proofs.Tally.{distinct_less, tally, tally_both}
 use Rattle.ir_flow.specs.Laws.{Passed}
 use Rattle.ir_flow.proofs.Availability.{available-passed}
-use Rattle.ir_better.specs.Counted.{times}
-use Rattle.ir_better.proofs.Counting.{edges_from, here, later, numbers_in, out_to, place_is}
-use Rattle.ir_better.proofs.Entries.{apart, distinct_back}
+use Rattle.ir_meaning.specs.Counted.{times}
+use Rattle.ir_meaning.proofs.Counting.{edges_from, here, later, numbers_in, out_to, place_is}
+use Rattle.ir_meaning.proofs.Entries.{apart, distinct_back}
 use Rattle.block_trim.specs.Trimmed.{AreReached, IsReached, block_in, blocks_in, trimmed}
 use Rattle.block_trim.proofs.Members.{holds_back, holds_either, holds_front, results_taken}
 use Rattle.block_trim.proofs.TrimPlaces.{Stood, defined_less, definitions_stay, numbers_less, phi_locals_stay, stays, stood}

@@ -11,8 +11,8 @@ use Rattle.ir_tree.specs.declared.instr.Line.{Line}
 use Rattle.ir_tree.specs.declared.instr.Phi.{Phi}
 use Rattle.ir_tree.specs.declared.operand.Reg.{Reg}
 use Rattle.ir_edit.proofs.Tally.{tally, tally_both}
-use Rattle.ir_better.specs.Counted.{sources, times}
-use Rattle.ir_better.proofs.Counting.{numbers_in}
+use Rattle.ir_meaning.specs.Counted.{sources, times}
+use Rattle.ir_meaning.proofs.Counting.{numbers_in}
 use Rattle.block_trim.specs.Trimmed.{block_in, blocks_in, entries_in, phi_in}
 
 -- ---- types

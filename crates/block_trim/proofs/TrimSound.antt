@@ -25,10 +25,10 @@ use Rattle.ir_tree.specs.declared.operand.Reg.{Reg}
 use Rattle.ir_tree.specs.declared.rule.Rule.{Rule}
 use Rattle.ir_tree.specs.declared.rule.Rule.TheVariants.{TypeMismatch, NotAvailable, PhiEdges, PhiPlace, EntryBranch, Index, Cast, CaseTwice}
 use Rattle.ir_edit.proofs.Tally.{tally, tally_both, tally_once}
-use Rattle.ir_better.specs.Counted.{times}
-use Rattle.ir_better.proofs.Counting.{among_times, edges_from, number_at, out_to, times_is}
-use Rattle.ir_better.proofs.Entries.{by_number, entries_of}
-use Rattle.ir_better.proofs.Everywhere.{all_back, all_front, all_of_times, all_among, all_unmapped}
+use Rattle.ir_meaning.specs.Counted.{times}
+use Rattle.ir_meaning.proofs.Counting.{among_times, edges_from, number_at, out_to, times_is}
+use Rattle.ir_meaning.proofs.Entries.{by_number, entries_of}
+use Rattle.ir_meaning.proofs.Everywhere.{all_back, all_front, all_of_times, all_among, all_unmapped}
 use Rattle.block_trim.specs.Laws.{TrimIsSound}
 use Rattle.block_trim.specs.Trimmed.{AreReached, IsReached, block_in, blocks_in, entries_in, phi_in, trimmed}
 use Rattle.block_trim.proofs.Members.{counted_of, holds_at, place_of}

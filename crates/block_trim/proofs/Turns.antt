@@ -5,7 +5,7 @@ use Rattle.ir_tree.specs.Formed.{Distinct, numbers}
 use Rattle.ir_tree.specs.Rules.{place}
 use Rattle.ir_tree.specs.declared.block.Block.{Block}
 use Rattle.ir_tree.specs.declared.function.Function.{Function}
-use Rattle.ir_better.proofs.Counting.{place_is}
+use Rattle.ir_meaning.proofs.Counting.{place_is}
 use Rattle.block_trim.specs.Working.{IsTurnOf, next}
 use Rattle.block_trim.specs.declared.joining.Joining.{Joining}
 use Rattle.block_trim.proofs.Loops.{element_at}

@@ -5,7 +5,7 @@ use Rattle.std.proofs.lemmas.Bool.{eq-eqb, eqb-true}
 use Rattle.ir_tree.specs.Flow.{leading, repeated, targets}
 use Rattle.ir_tree.specs.Formed.{Distinct}
 use Rattle.ir_tree.specs.declared.block.Block.{Block}
-use Rattle.ir_better.proofs.Counting.{distinct_rest, not_again, number_at, numbers_in}
+use Rattle.ir_meaning.proofs.Counting.{distinct_rest, not_again, number_at, numbers_in}
 use Rattle.block_trim.specs.Working.{IsNumber, blocks_of, with_block}
 use Rattle.block_trim.specs.declared.joining.Content.{Content}
 

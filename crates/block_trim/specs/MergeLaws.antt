@@ -5,7 +5,7 @@ use Rattle.ir_tree.specs.Rules.{Sound}
 use Rattle.ir_tree.specs.declared.function.Function.{Function}
 use Rattle.ir_meaning.specs.Near.{BetterThan}
 use Rattle.ir_meaning.specs.Program.{Program}
-use Rattle.ir_better.specs.Formed.{IsFormed}
+use Rattle.ir_meaning.specs.Formed.{IsFormed}
 use Rattle.block_trim.specs.Merged.{IsMergeOf}
 
 -- in every program: a join saves a jump, so that each step answers two at most; soundness gives each phi as many entries as

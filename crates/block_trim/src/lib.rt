@@ -11,7 +11,7 @@
 //! Both are better in every program, and sound where the function is.
 //!
 //! Below this crate stand `ir_tree`, `ir_flow` for the blocks that are reached, which are a set of `lto_sets`, and for edges, and
-//! `ir_meaning`, `ir_better` and `ir_edit` for what is proved. Time and memory are linear in the function and the greatest
+//! `ir_meaning` and `ir_edit` for what is proved. Time and memory are linear in the function and the greatest
 //! number of a block: edges are listed once, two blocks are joined in constant time, since their lines stand in linked lists
 //! until all are joined, so that each instruction moves once, and phi entries are renamed by one table.
 #![tactic(auto)]

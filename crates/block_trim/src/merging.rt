@@ -5,7 +5,7 @@ ghost use Rattle.ir_tree.specs.Formed.{Distinct, numbers};
 ghost use Rattle.ir_tree.specs.Rules.{Sound};
 ghost use Rattle.ir_meaning.specs.Near.{BetterThan};
 ghost use Rattle.ir_meaning.specs.Program.{Program};
-ghost use Rattle.ir_better.specs.Formed.{IsFormed};
+ghost use Rattle.ir_meaning.specs.Formed.{IsFormed};
 ghost use Rattle.block_trim.specs.Merged.{IsMergeOf, behind_entry};
 ghost use Rattle.block_trim.specs.Working.{has_one_edge, may_go};
 

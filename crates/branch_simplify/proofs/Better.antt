@@ -25,14 +25,14 @@ use Rattle.ir_meaning.specs.Operate.{bits_of}
 use Rattle.ir_meaning.specs.Program.{Program}
 use Rattle.ir_meaning.specs.declared.value.Value.{Value}
 use Rattle.ir_meaning.specs.declared.value.Value.TheVariants.{Number}
-use Rattle.ir_better.specs.Formed.{IsFormed}
-use Rattle.ir_better.specs.Reshape.{IsShape, IsStuck, Layout, LeavesAlike, Spot, laid, spot_of}
-use Rattle.ir_better.proofs.Alike.Itself.{same_better}
-use Rattle.ir_better.proofs.Blocks.Reshaped.{reshaped_is_better}
-use Rattle.ir_better.specs.Counted.{sources, times}
-use Rattle.ir_better.proofs.Counting.{numbers_in}
-use Rattle.ir_better.proofs.Entries.{apart, entries_of, phis_on_edges}
-use Rattle.ir_better.proofs.Exits.{end_in, end_of, exit_among, found_at, number_found}
+use Rattle.ir_meaning.specs.Formed.{IsFormed}
+use Rattle.ir_meaning.specs.Reshape.{IsShape, IsStuck, Layout, LeavesAlike, Spot, laid, spot_of}
+use Rattle.ir_meaning.proofs.Alike.Itself.{same_better}
+use Rattle.ir_meaning.proofs.Blocks.Reshaped.{reshaped_is_better}
+use Rattle.ir_meaning.specs.Counted.{sources, times}
+use Rattle.ir_meaning.proofs.Counting.{numbers_in}
+use Rattle.ir_meaning.proofs.Entries.{apart, entries_of, phis_on_edges}
+use Rattle.ir_meaning.proofs.Exits.{end_in, end_of, exit_among, found_at, number_found}
 use Rattle.branch_simplify.specs.Decided.{branch_target, constant, jump_or, lost, straight, switch_target}
 use Rattle.branch_simplify.specs.Laws.{SimplifiedIsBetter}
 use Rattle.branch_simplify.specs.Simplified.{entries_left, lost_into, phi_left, simplified}

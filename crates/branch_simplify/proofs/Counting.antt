@@ -8,9 +8,9 @@ use Rattle.ir_tree.specs.declared.block.Block.{Block}
 use Rattle.ir_tree.specs.declared.block.Case.{Case}
 use Rattle.ir_tree.specs.declared.block.Terminator.{Terminator}
 use Rattle.ir_tree.specs.declared.block.Terminator.TheVariants.{Branch, Jump, Return, Switch, Unreachable}
-use Rattle.ir_better.specs.Counted.{times}
-use Rattle.ir_better.proofs.Counting.{distinct_rest, here, not_again, number_at, numbers_in, times_both, times_repeated}
-use Rattle.ir_better.proofs.Exits.{side_among, switch_among}
+use Rattle.ir_meaning.specs.Counted.{times}
+use Rattle.ir_meaning.proofs.Counting.{distinct_rest, here, not_again, number_at, numbers_in, times_both, times_repeated}
+use Rattle.ir_meaning.proofs.Exits.{side_among, switch_among}
 use Rattle.branch_simplify.specs.Decided.{all_but_one, branch_target, constant, decided, jump_or, lost, straight, switch_target, without_first}
 use Rattle.branch_simplify.specs.Simplified.{lost_into}
 

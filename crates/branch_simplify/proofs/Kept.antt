@@ -12,8 +12,8 @@ use Rattle.ir_tree.specs.declared.function.Function.{Function}
 use Rattle.ir_tree.specs.declared.instr.Phi.{Phi}
 use Rattle.ir_tree.specs.declared.operand.Operand.{Operand}
 use Rattle.ir_tree.specs.declared.operand.Operand.TheVariants as operand
-use Rattle.ir_better.specs.Counted.{times}
-use Rattle.ir_better.proofs.Counting.{edges_from, here, later, out_to}
+use Rattle.ir_meaning.specs.Counted.{times}
+use Rattle.ir_meaning.proofs.Counting.{edges_from, here, later, out_to}
 use Rattle.branch_simplify.specs.Decided.{lost, straight}
 use Rattle.branch_simplify.specs.Simplified.{lost_into, phi_left, simplified, simplified_block}
 use Rattle.branch_simplify.proofs.Counting.{edges_stay}

@@ -5,7 +5,7 @@ use Rattle.std.proofs.lemmas.Bool.{eqb-true, leb-true, leb-false}
 use Rattle.std.proofs.lemmas.List.Elements.{All-cons, All-head, All-tail}
 use Rattle.std.proofs.lemmas.List.Recursion.{is_count_by}
 use Rattle.ir_tree.specs.declared.instr.Incoming.{Incoming}
-use Rattle.ir_better.specs.Counted.{sources, times}
+use Rattle.ir_meaning.specs.Counted.{sources, times}
 use Rattle.branch_simplify.specs.Simplified.{entries_left}
 
 module _ (lost : ℕ → ℕ) where

@@ -4,8 +4,8 @@ use Rattle.std.specs.Prelude.{nat_le}
 use Rattle.std.proofs.lemmas.Bool.{eqb-true, eq-eqb, le-leb, lt-leb}
 use Rattle.std.proofs.lemmas.List.{drop_more}
 use Rattle.ir_tree.specs.declared.instr.Incoming.{Incoming}
-use Rattle.ir_better.specs.Counted.{sources, times}
-use Rattle.ir_better.proofs.Counting.{here}
+use Rattle.ir_meaning.specs.Counted.{sources, times}
+use Rattle.ir_meaning.proofs.Counting.{here}
 use Rattle.branch_simplify.specs.Simplified.{entries_left}
 
 times_short : (n : ℕ) (xs : List ℕ) → times n xs ≤ length xs

@@ -7,7 +7,7 @@ use Rattle.ir_tree.specs.declared.block.Block.{Block}
 use Rattle.ir_tree.specs.declared.function.Function.{Function}
 use Rattle.ir_tree.specs.declared.instr.Incoming.{Incoming}
 use Rattle.ir_tree.specs.declared.instr.Phi.{Phi}
-use Rattle.ir_better.specs.Counted.{sources, times}
+use Rattle.ir_meaning.specs.Counted.{sources, times}
 use Rattle.branch_simplify.specs.Decided.{all_but_one, decided, jump_or}
 use Rattle.branch_simplify.specs.Simplified.{entries_left, lost_into, phi_left, simplified, simplified_block}
 use Rattle.branch_simplify.specs.Staying.{ends_stay}

@@ -20,10 +20,10 @@ use Rattle.ir_tree.specs.declared.operand.Operand.{Operand}
 use Rattle.ir_tree.specs.declared.operand.Operand.TheVariants as operand
 use Rattle.ir_tree.specs.declared.rule.Rule.{Rule}
 use Rattle.ir_tree.specs.declared.rule.Rule.TheVariants.{TypeMismatch, NotAvailable, PhiEdges, PhiPlace, EntryBranch, Index, Cast, CaseTwice}
-use Rattle.ir_better.specs.Counted.{times}
-use Rattle.ir_better.proofs.Counting.{edges_from, numbers_in, out_to, times_is}
-use Rattle.ir_better.proofs.Entries.{apart, by_number, entries_of}
-use Rattle.ir_better.proofs.Everywhere.{all_among, all_back, all_front, all_with}
+use Rattle.ir_meaning.specs.Counted.{times}
+use Rattle.ir_meaning.proofs.Counting.{edges_from, numbers_in, out_to, times_is}
+use Rattle.ir_meaning.proofs.Entries.{apart, by_number, entries_of}
+use Rattle.ir_meaning.proofs.Everywhere.{all_among, all_back, all_front, all_with}
 use Rattle.branch_simplify.specs.Decided.{decided, jump_or, straight}
 use Rattle.branch_simplify.specs.Laws.{SimplifiedIsSound}
 use Rattle.branch_simplify.specs.Simplified.{entries_left, lost_into, phi_left, simplified}

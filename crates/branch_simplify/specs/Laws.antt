@@ -3,7 +3,7 @@ use Rattle.ir_tree.specs.declared.function.Function.{Function}
 use Rattle.ir_tree.specs.Rules.{Sound}
 use Rattle.ir_meaning.specs.Near.{BetterThan}
 use Rattle.ir_meaning.specs.Program.{Program}
-use Rattle.ir_better.specs.Formed.{IsFormed}
+use Rattle.ir_meaning.specs.Formed.{IsFormed}
 use Rattle.branch_simplify.specs.Simplified.{simplified}
 
 -- in every program; soundness gives each phi as many entries as its block has edges, so that no value is lost with an edge

@@ -5,7 +5,7 @@ use Rattle.ir_tree.specs.declared.block.Block.{Block}
 use Rattle.ir_tree.specs.declared.function.Function.{Function}
 use Rattle.ir_tree.specs.declared.instr.Incoming.{Incoming}
 use Rattle.ir_tree.specs.declared.instr.Phi.{Phi}
-use Rattle.ir_better.specs.Counted.{sources, times}
+use Rattle.ir_meaning.specs.Counted.{sources, times}
 use Rattle.branch_simplify.specs.Decided.{lost, straight}
 
 -- the numbers of the blocks that lose an edge to the block m, once for each such edge

@@ -1,6 +1,6 @@
 //! How often numbers stand in a list.
 ghost use Rattle.std.specs.Prelude.{◌≡◌, ℕ, ◌+◌, nat_eq, if◌then◌else◌, IfOk, OnOk};
-ghost use Rattle.ir_better.specs.Counted.{times};
+ghost use Rattle.ir_meaning.specs.Counted.{times};
 ghost use Rattle.branch_simplify.specs.Tables.{count_of};
 
 use std::alloc::{AllocError, Global};

@@ -1,6 +1,6 @@
 //! Phi entries that stay as edges are lost.
 ghost use Rattle.std.specs.Prelude.{◌≡◌, ℕ, map, IfOk};
-ghost use Rattle.ir_better.specs.Counted.{sources};
+ghost use Rattle.ir_meaning.specs.Counted.{sources};
 ghost use Rattle.branch_simplify.specs.Simplified.{entries_left, phi_left};
 ghost use Rattle.branch_simplify.specs.Tables.{count_of};
 

@@ -8,7 +8,7 @@
 //! The pass is a definition (`specs/Simplified.antt`), and the call gives exactly it. Of a sound function the result is
 //! better in every program, and sound.
 //!
-//! Below this crate stand `ir_tree`, and `ir_meaning` and `ir_better` for what is proved. Time and memory
+//! Below this crate stand `ir_tree`, and `ir_meaning` for what is proved. Time and memory
 //! are linear in the function: lost edges are gathered once by their target, and each phi's entries are counted once.
 #![tactic(auto)]
 

@@ -3,8 +3,8 @@ ghost use Rattle.std.specs.Prelude.{◌≡◌, map, IfOk};
 ghost use Rattle.ir_tree.specs.Rules.{Sound};
 ghost use Rattle.ir_meaning.specs.Near.{BetterThan};
 ghost use Rattle.ir_meaning.specs.Program.{Program};
-ghost use Rattle.ir_better.specs.Formed.{IsFormed};
-ghost use Rattle.ir_better.specs.Counted.{times};
+ghost use Rattle.ir_meaning.specs.Formed.{IsFormed};
+ghost use Rattle.ir_meaning.specs.Counted.{times};
 ghost use Rattle.branch_simplify.specs.Simplified.{lost_into, phi_left, simplified, simplified_block};
 ghost use Rattle.branch_simplify.specs.Tables.{lost_at};
 

@@ -5,7 +5,7 @@ use Rattle.ir_tree.specs.declared.block.Block.{Block}
 use Rattle.ir_tree.specs.declared.function.Function.{Function}
 use Rattle.ir_tree.specs.declared.instr.Line.{Line}
 use Rattle.ir_tree.specs.declared.instr.Phi.{Phi}
-use Rattle.ir_better.specs.Needed.{is_needed, needed, needed_block, needed_blocks, needed_lines, needed_phis}
+use Rattle.ir_meaning.specs.Needed.{is_needed, needed, needed_block, needed_blocks, needed_lines, needed_phis}
 use Rattle.dead_code.specs.Staying.{block_stays, blocks_stay, lines_stay, phis_stay}
 
 module _ (keeps : ℕ → Bool) where

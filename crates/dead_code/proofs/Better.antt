@@ -3,8 +3,8 @@ use Rattle.std.proofs.Common.{◌≡◌, ℕ, ◌+◌, ◌≤◌, Bool, true, fa
 use Rattle.ir_tree.specs.declared.block.Block.{Block}
 use Rattle.ir_tree.specs.declared.function.Function.{Function}
 use Rattle.ir_meaning.specs.Near.{BetterThan}
-use Rattle.ir_better.specs.Needed.{BlocksClosed, needed}
-use Rattle.ir_better.proofs.Unneeded.Dropped.{needed_is_better}
+use Rattle.ir_meaning.specs.Needed.{BlocksClosed, needed}
+use Rattle.ir_meaning.proofs.Unneeded.Dropped.{needed_is_better}
 use Rattle.dead_code.specs.Laws.{NeededIsBetter, NeededIsOne, longest}
 use Rattle.dead_code.specs.Least.{AreBlocksClosed, IsLeastClosed}
 

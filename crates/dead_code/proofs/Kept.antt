@@ -14,7 +14,7 @@ use Rattle.ir_tree.specs.declared.operand.Operand.{Operand}
 use Rattle.ir_tree.specs.declared.operand.Operand.TheVariants as operand
 use Rattle.ir_tree.specs.declared.operand.Reg.{Reg}
 use Rattle.ir_edit.proofs.Tally.{distinct_less, tally, tally_both}
-use Rattle.ir_better.specs.Needed.{IsKept, is_effect, is_needed, local_kept, needed, needed_block, needed_blocks, needed_lines, needed_phis}
+use Rattle.ir_meaning.specs.Needed.{IsKept, is_effect, is_needed, local_kept, needed, needed_block, needed_blocks, needed_lines, needed_phis}
 
 -- ---- tests
 

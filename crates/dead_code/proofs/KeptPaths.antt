@@ -5,7 +5,7 @@ use Rattle.std.proofs.lemmas.List.{length-map, take_all}
 use Rattle.ir_tree.specs.Flow.{AtEnds, Available, AvailableAt, AvailableAtEnd, IsJustified, Justified, availability, defined_before, defined_in, definitions, edges, entry_row, holds, line_count, locals, parameters, phi_locals, results, room}
 use Rattle.ir_tree.specs.declared.block.Block.{Block}
 use Rattle.ir_tree.specs.declared.function.Function.{Function}
-use Rattle.ir_better.specs.Needed.{needed, needed_block}
+use Rattle.ir_meaning.specs.Needed.{needed, needed_block}
 use Rattle.dead_code.proofs.Kept.{block_at, blocks_are, definitions_stay, edges_stay, local_stays, or_cases, or_left, or_right, same_number}
 
 both_true : (a b : Bool) → a ≡ true → b ≡ true → (a && b) ≡ true

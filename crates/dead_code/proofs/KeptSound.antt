@@ -23,7 +23,7 @@ use Rattle.ir_tree.specs.declared.operand.Reg.{Reg}
 use Rattle.ir_tree.specs.declared.operand.Reg.TheVariants.{Int, Ptr}
 use Rattle.ir_tree.specs.declared.rule.Rule.{Rule}
 use Rattle.ir_tree.specs.declared.rule.Rule.TheVariants.{TypeMismatch, NotAvailable, PhiEdges, PhiPlace, EntryBranch, Index, Cast, CaseTwice}
-use Rattle.ir_better.specs.Needed.{AllKept, EdgesKept, EndReads, IsKept, LinesClosed, PhisKept, Reads, is_needed, needed, needed_block, needed_blocks, needed_lines, needed_phis}
+use Rattle.ir_meaning.specs.Needed.{AllKept, EdgesKept, EndReads, IsKept, LinesClosed, PhisKept, Reads, is_needed, needed, needed_block, needed_blocks, needed_lines, needed_phis}
 use Rattle.dead_code.specs.Laws.{NeededIsSound}
 use Rattle.dead_code.specs.Least.{AreBlocksClosed, IsBlockClosed}
 use Rattle.dead_code.proofs.Kept.{block_at, edges_stay, local_stays, more_of_both, numbers_stay, once_stays, phi_locals_stay, place_stays, results_stay, type_stays}

@@ -11,9 +11,9 @@ use Rattle.ir_tree.specs.declared.operand.Operand.{Operand}
 use Rattle.ir_tree.specs.declared.operand.Operand.TheVariants.{Local, Number, Null, Poison, Symbol as Named}
 use Rattle.ir_meaning.specs.Near.{BetterThan}
 use Rattle.ir_meaning.specs.Program.{Program}
-use Rattle.ir_better.specs.Formed.{IsFormed}
-use Rattle.ir_better.specs.Renumber.{IsOneToOne, block_renumbered, end_renumbered, instr_renumbered, line_renumbered, operand_renumbered, phi_renumbered, param_renumbered, renumbered}
-use Rattle.ir_better.proofs.Numbers.Renumbered.{renumbered_better}
+use Rattle.ir_meaning.specs.Formed.{IsFormed}
+use Rattle.ir_meaning.specs.Renumber.{IsOneToOne, block_renumbered, end_renumbered, instr_renumbered, line_renumbered, operand_renumbered, phi_renumbered, param_renumbered, renumbered}
+use Rattle.ir_meaning.proofs.Numbers.Renumbered.{renumbered_better}
 use Rattle.ir_tree.specs.Edited.{block_edited, edited, end_edited, instr_edited, line_edited, operand_renamed, renamed}
 use Rattle.ir_edit.specs.Numbered.{new_number, numbers_of}
 use Rattle.ir_edit.proofs.Apart.{is_one_to_one}

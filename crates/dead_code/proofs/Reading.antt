@@ -14,7 +14,7 @@ use Rattle.ir_tree.specs.declared.instr.Phi.{Phi}
 use Rattle.ir_tree.specs.declared.operand.Argument.{Argument}
 use Rattle.ir_tree.specs.declared.operand.Operand.{Operand}
 use Rattle.ir_tree.specs.declared.operand.Operand.TheVariants.{Local, Number, Null, Poison, Symbol as Named}
-use Rattle.ir_better.specs.Needed.{AllKept, EdgesKept, EndReads, IsKept, LinesClosed, PhisKept, Reads, is_effect, is_needed, local_kept}
+use Rattle.ir_meaning.specs.Needed.{AllKept, EdgesKept, EndReads, IsKept, LinesClosed, PhisKept, Reads, is_effect, is_needed, local_kept}
 use Rattle.ir_edit.specs.Uses.{block_uses as of_parts, end_uses as of_terminator}
 use Rattle.dead_code.specs.declared.uses.Use.{Use}
 use Rattle.dead_code.specs.Closure.{AllIn, IsClosedUnder, IsLeastUnder}

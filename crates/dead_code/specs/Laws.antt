@@ -5,7 +5,7 @@ use Rattle.ir_tree.specs.declared.function.Function.{Function}
 use Rattle.ir_tree.specs.Rules.{Sound}
 use Rattle.ir_meaning.specs.Near.{BetterThan}
 use Rattle.ir_meaning.specs.Program.{Program}
-use Rattle.ir_better.specs.Formed.{IsFormed}
+use Rattle.ir_meaning.specs.Formed.{IsFormed}
 use Rattle.ir_tree.specs.Edited.{shifted}
 use Rattle.ir_edit.specs.Numbered.{in_text_order}
 use Rattle.dead_code.specs.Least.{IsNeededOf}

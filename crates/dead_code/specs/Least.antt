@@ -2,7 +2,7 @@
 use Rattle.std.specs.Prelude.{◌≡◌, ℕ, Bool, true, List, [], ◌∷◌}
 use Rattle.ir_tree.specs.declared.block.Block.{Block}
 use Rattle.ir_tree.specs.declared.function.Function.{Function}
-use Rattle.ir_better.specs.Needed.{EndReads, LinesClosed, PhisKept, needed}
+use Rattle.ir_meaning.specs.Needed.{EndReads, LinesClosed, PhisKept, needed}
 
 -- the block's stores, calls and terminator read only locals of the set, and so does each phi and each instruction that
 -- gives a local of the set its value

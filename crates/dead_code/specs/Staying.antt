@@ -3,7 +3,7 @@ use Rattle.std.specs.Prelude.{ℕ, Bool, true, ◌&&◌, List, [], ◌∷◌}
 use Rattle.ir_tree.specs.declared.block.Block.{Block}
 use Rattle.ir_tree.specs.declared.instr.Line.{Line}
 use Rattle.ir_tree.specs.declared.instr.Phi.{Phi}
-use Rattle.ir_better.specs.Needed.{is_needed}
+use Rattle.ir_meaning.specs.Needed.{is_needed}
 
 abbrev pub phis_stay : (ℕ → Bool) → List Phi → Bool
 phis_stay keeps [] = true

@@ -9,7 +9,7 @@ use Rattle.ir_tree.specs.declared.instr.Phi.{Phi}
 use Rattle.ir_tree.specs.declared.operand.Argument.{Argument}
 use Rattle.ir_tree.specs.declared.operand.Operand.{Operand}
 use Rattle.ir_tree.specs.declared.operand.Operand.TheVariants.{Local}
-use Rattle.ir_better.specs.Needed.{is_effect}
+use Rattle.ir_meaning.specs.Needed.{is_effect}
 use Rattle.ir_edit.specs.Uses.{blocks_uses as uses_found}
 use Rattle.dead_code.specs.declared.uses.Use.{Use}
 

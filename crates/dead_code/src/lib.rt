@@ -5,7 +5,7 @@
 //! set (`specs/Least.antt`), that it is better in every program, and sound where the function is. Laws: there is one such result, and
 //! functions under other numbers, as `ir_edit` makes them, are better too.
 //!
-//! Below this crate stand `ir_tree`, `ir_edit`, and `ir_meaning` and `ir_better` for what is proved. A use is
+//! Below this crate stand `ir_tree`, `ir_edit`, and `ir_meaning` for what is proved. A use is
 //! looked at once, as its reader is taken from the work list, in lists by the numbers of readers; so time and memory are
 //! linear in the function and the greatest number of a local.
 #![tactic(auto)]

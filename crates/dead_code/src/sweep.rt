@@ -1,7 +1,7 @@
 //! A function without the phis and instructions that nobody needs.
 ghost use Rattle.std.specs.Prelude.{◌≡◌, nat_eq, IfOk, option_map};
 ghost use Rattle.std.specs.HashSet.{contains};
-ghost use Rattle.ir_better.specs.Needed.{is_needed, local_kept, needed, needed_block, needed_blocks, needed_lines, needed_phis};
+ghost use Rattle.ir_meaning.specs.Needed.{is_needed, local_kept, needed, needed_block, needed_blocks, needed_lines, needed_phis};
 
 use crate::uses::is_effect;
 use ir_tree::{Block, Duplicate, Function, Line, Phi, Rows};

@@ -1,6 +1,6 @@
 //! The uses of locals in a function, in the order of its text.
 ghost use Rattle.std.specs.Prelude.{◌≡◌, ◌++◌, IfOk, OnOk, Some, None};
-ghost use Rattle.ir_better.specs.Needed.{is_effect};
+ghost use Rattle.ir_meaning.specs.Needed.{is_effect};
 ghost use Rattle.dead_code.specs.Uses.{operand_uses, arguments_uses, edges_uses, instr_uses, blocks_uses};
 
 use ir_edit::{FindUses, push_uses};

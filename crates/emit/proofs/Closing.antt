@@ -9,7 +9,7 @@ use Rattle.ir_tree.specs.declared.operand.Symbol.{Symbol}
 use Rattle.ir_tree.specs.Symbols.{symbol_eq}
 use Rattle.ir_tree.proofs.Symbols.{symbol_true}
 use Rattle.ir_meaning.specs.Frame.{Missing}
-use Rattle.ir_better.specs.Programs.{Body, Definition, Storage, defined, definition_of, is_declared, kind_of, shared, signature_of, symbol_of, undefined_kind}
+use Rattle.ir_meaning.specs.Programs.{Body, Definition, Storage, defined, definition_of, is_declared, kind_of, shared, signature_of, symbol_of, undefined_kind}
 use Rattle.merge_meaning.specs.Globals.{named_by}
 use Rattle.merge_meaning.specs.Linked.{DefinitionNames, IsClosed, IsDefinition}
 use Rattle.merge_meaning.proofs.Bodies.{definition_names, global_kept}

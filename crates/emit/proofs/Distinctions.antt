@@ -14,7 +14,7 @@ use Rattle.ir_tree.specs.Wholes.{global_symbol, symbols}
 use Rattle.ir_tree.specs.declared.module.GlobalValue.{GlobalValue}
 use Rattle.ir_tree.specs.declared.operand.Symbol.{Symbol}
 use Rattle.ir_tree.proofs.Symbols.{symbol_laws, symbol_same, symbol_true}
-use Rattle.ir_better.specs.Programs.{symbol_of}
+use Rattle.ir_meaning.specs.Programs.{symbol_of}
 use Rattle.merge_meaning.proofs.Emission.{distinct_more}
 use Rattle.merge_meaning.proofs.Looked.{StandsIn, not_first, others_once, some_is, symbol_stands}
 use Rattle.merge_meaning.proofs.Names.{clash, not_true}

@@ -24,7 +24,7 @@ use Rattle.ir_tree.specs.declared.operand.Symbol.{Symbol}
 use Rattle.ir_lex.specs.Pieces.{bytes_of}
 use Rattle.ir_print.specs.Modules.{global_value, global_values, module_text, text_of}
 use Rattle.ir_summary.specs.References.{global_names}
-use Rattle.ir_better.specs.Programs.{shared, symbol_of}
+use Rattle.ir_meaning.specs.Programs.{shared, symbol_of}
 use Rattle.lto_task.specs.Pieces.{IsPieceOf}
 use Rattle.lto_task.specs.declared.piece.Piece.{Piece}
 use Rattle.merge_meaning.specs.Linked.{IsDefinition}

@@ -8,7 +8,7 @@ use Rattle.ir_tree.specs.Wholes.{global_symbol, symbols}
 use Rattle.ir_tree.specs.declared.module.GlobalValue.{GlobalValue}
 use Rattle.ir_tree.specs.declared.module.GlobalValue.TheVariants as global
 use Rattle.ir_tree.specs.declared.operand.Symbol.{Symbol}
-use Rattle.ir_better.specs.Programs.{symbol_of}
+use Rattle.ir_meaning.specs.Programs.{symbol_of}
 use Rattle.merge_meaning.specs.ByName.{IsInOrder, is_named}
 use Rattle.merge_meaning.specs.Hosts.{getchar, putchar}
 use Rattle.merge_meaning.proofs.Standing.{alone, filter_from, first, in_filter, in_map, map_from, nothing}

@@ -5,7 +5,7 @@ use Rattle.std.proofs.lemmas.List.Elements.{filter_agree}
 use Rattle.std.proofs.lemmas.List.Sorted.{ranks_by}
 use Rattle.std.specs.Ordering.{is_lt}
 use Rattle.ir_tree.specs.declared.module.GlobalValue.{GlobalValue}
-use Rattle.ir_better.specs.Programs.{symbol_of}
+use Rattle.ir_meaning.specs.Programs.{symbol_of}
 use Rattle.merge_meaning.specs.ByName.{IsInOrder, is_named, name_cmp}
 use Rattle.merge_meaning.specs.Hosts.{getchar, putchar}
 use Rattle.emit.specs.Emissions.{IsEmission, in_use, is_variable, outside_in_use, settled}

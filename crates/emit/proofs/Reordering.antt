@@ -17,7 +17,7 @@ use Rattle.ir_tree.specs.declared.module.GlobalValue.{GlobalValue}
 use Rattle.ir_tree.specs.declared.module.GlobalValue.TheVariants as global
 use Rattle.ir_tree.specs.declared.operand.Symbol.{Symbol}
 use Rattle.ir_tree.proofs.Symbols.{symbol_same, symbol_true}
-use Rattle.ir_better.specs.Programs.{body_of, defined, is_declared, shared, storage_of, symbol_of}
+use Rattle.ir_meaning.specs.Programs.{body_of, defined, is_declared, shared, storage_of, symbol_of}
 use Rattle.merge_meaning.specs.Globals.{named_by}
 use Rattle.merge_meaning.specs.Linked.{IsDefinition, IsLike, IsReordering, emission}
 use Rattle.merge_meaning.specs.Hosts.{getchar, putchar}

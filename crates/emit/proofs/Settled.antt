@@ -20,7 +20,7 @@ use Rattle.ir_tree.specs.declared.module.GlobalValue.TheVariants as global
 use Rattle.ir_tree.specs.declared.operand.Reg.TheVariants.{Int}
 use Rattle.ir_tree.specs.declared.rule.Rule.{Rule}
 use Rattle.ir_tree.specs.declared.rule.Rule.TheVariants.{TypeMismatch, NotAvailable, PhiEdges, PhiPlace, EntryBranch, Index, Cast, CaseTwice}
-use Rattle.ir_better.specs.Programs.{body_of, storage_of}
+use Rattle.ir_meaning.specs.Programs.{body_of, storage_of}
 use Rattle.merge_meaning.specs.Linked.{IsDefinition}
 use Rattle.merge_meaning.specs.Hosts.{getchar, putchar}
 use Rattle.emit.specs.Emissions.{linkage_of, settled}

@@ -8,7 +8,7 @@ use Rattle.ir_tree.specs.declared.function.Linkage.TheVariants.{External, Intern
 use Rattle.ir_tree.specs.declared.module.GlobalValue.{GlobalValue}
 use Rattle.ir_tree.specs.declared.module.GlobalValue.TheVariants as global
 use Rattle.ir_summary.specs.References.{global_names}
-use Rattle.ir_better.specs.Programs.{symbol_of}
+use Rattle.ir_meaning.specs.Programs.{symbol_of}
 use Rattle.merge_meaning.specs.ByName.{IsInOrder, is_named}
 use Rattle.merge_meaning.specs.Hosts.{getchar, putchar}
 

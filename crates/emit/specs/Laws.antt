@@ -10,7 +10,7 @@ use Rattle.ir_tree.specs.declared.module.Module.{Module}
 use Rattle.ir_print.specs.Modules.{module_text}
 use Rattle.lto_task.specs.Pieces.{IsPieceOf}
 use Rattle.lto_task.specs.declared.piece.Piece.{Piece}
-use Rattle.ir_better.specs.Programs.{defined, shared, symbol_of}
+use Rattle.ir_meaning.specs.Programs.{defined, shared, symbol_of}
 use Rattle.merge_meaning.specs.Lives.{is_export}
 use Rattle.merge_meaning.specs.Linked.{IsClosed, IsDefinition, IsReordering, emission}
 use Rattle.merge_meaning.specs.Hosts.{getchar, putchar}

@@ -13,9 +13,9 @@ use Rattle.ir_tree.specs.declared.operand.Symbol.{Symbol}
 use Rattle.ir_meaning.specs.Execute.{reg_eq}
 use Rattle.ir_tree.specs.Symbols.{symbol_eq}
 use Rattle.ir_meaning.specs.Table.{rule, same}
-use Rattle.ir_better.specs.Facts.{Facts, is_local, is_phi, is_phi_operand, edge_operand}
+use Rattle.ir_meaning.specs.Facts.{Facts, is_local, is_phi, is_phi_operand, edge_operand}
 use Rattle.ir_tree.proofs.Symbols.{symbol_true}
-use Rattle.ir_better.proofs.Rules.Tabled.{table_right}
+use Rattle.ir_meaning.proofs.Rules.Tabled.{table_right}
 use Rattle.fact_sources.specs.Candidates.{first_other, line_candidates, other_than, paired, phi_candidates, phi_source, result_candidate, sole_beside, sole_source, source_beside, takes_only}
 use Rattle.fact_sources.specs.Membership.{is_member}
 use Rattle.fact_sources.specs.Laws.{IsLineSource, IsPhiSource, LineSourcesRight, PhiSourcesRight}

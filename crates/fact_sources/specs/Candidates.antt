@@ -8,7 +8,7 @@ use Rattle.ir_tree.specs.declared.instr.Line.{Line}
 use Rattle.ir_tree.specs.declared.instr.Phi.{Phi}
 use Rattle.ir_tree.specs.declared.operand.Operand.{Operand}
 use Rattle.ir_meaning.specs.Table.{rule, same}
-use Rattle.ir_better.specs.Facts.{Facts, is_local, is_phi_operand}
+use Rattle.ir_meaning.specs.Facts.{Facts, is_local, is_phi_operand}
 use Rattle.fact_sources.specs.Membership.{is_member}
 
 -- ---- phis

@@ -7,7 +7,7 @@ use Rattle.ir_tree.specs.declared.instr.Phi.{Phi}
 use Rattle.ir_tree.specs.declared.operand.Operand.{Operand}
 use Rattle.ir_tree.specs.declared.operand.Operand.TheVariants.{Local}
 use Rattle.ir_meaning.specs.Table.{may_choose}
-use Rattle.ir_better.specs.Facts.{RuleAlways, RuleSometimes, edge_operand, is_local, is_phi_operand}
+use Rattle.ir_meaning.specs.Facts.{RuleAlways, RuleSometimes, edge_operand, is_local, is_phi_operand}
 use Rattle.fact_sources.specs.Askable.{BlocksHaveWidths}
 use Rattle.fact_sources.specs.Candidates.{line_source, phi_source}
 

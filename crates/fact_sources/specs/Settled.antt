@@ -10,7 +10,7 @@ use Rattle.ir_tree.specs.declared.operand.Operand.{Operand}
 use Rattle.ir_tree.specs.declared.operand.Operand.TheVariants.{Number as Constant}
 use Rattle.ir_tree.specs.declared.operand.Reg.TheVariants.{Int}
 use Rattle.ir_meaning.specs.Table.{may_choose, rule}
-use Rattle.ir_better.specs.Facts.{RuleAlways}
+use Rattle.ir_meaning.specs.Facts.{RuleAlways}
 
 -- the width and the number of a constant
 abbrev pub number_in : Option Operand → Option (ℕ × ℕ)

@@ -13,7 +13,7 @@
 //! each block to which no earlier block leads. A block that stands above another, and is another, stands above its
 //! predecessors as well ([`is_above`]), but for the entry.
 //!
-//! Below this crate stand `ir_tree`, `ir_flow`, `lto_sets`, `fold_rules` and `ir_edit`, and `ir_meaning` and `ir_better` for
+//! Below this crate stand `ir_tree`, `ir_flow`, `lto_sets`, `fold_rules` and `ir_edit`, and `ir_meaning` for
 //! words of the definitions. Each function is one walk, and dominators are those of `ir_flow`: each entry of a phi is compared
 //! once, and whether an operand is a phi of the same block is seen by a look at these, where they are few, and else looked up in
 //! a set that is made once for a block.

@@ -1,7 +1,7 @@
 //! The candidates of a function: copies and constants.
 ghost use Rattle.std.specs.Prelude.{◌≡◌, ◌++◌, ℕ, nat_eq, IfOk, OnOk, option_map};
 ghost use Rattle.std.specs.HashSet.{contains};
-ghost use Rattle.ir_better.specs.Facts.{is_local, is_phi};
+ghost use Rattle.ir_meaning.specs.Facts.{is_local, is_phi};
 ghost use Rattle.fold_rules.specs.Folding.{row_of};
 ghost use Rattle.fold_rules.specs.Widths.{HasWidths};
 ghost use Rattle.fact_sources.specs.Askable.{BlocksHaveWidths, LinesHaveWidths};
@@ -80,7 +80,7 @@ struct FewPhis<'a> {
 }
 
 impl<'a> Locals for FewPhis<'a> {
-    ghost use Rattle.ir_better.specs.Facts.{is_phi};
+    ghost use Rattle.ir_meaning.specs.Facts.{is_phi};
 
     ghost members = { λ s x. is_phi x s.phis.now };
 

@@ -3,7 +3,7 @@
 //! [`rule`] gives the operand that may stand for what an instruction gives, by the first row of the table of
 //! `ir_meaning` that fits (`specs/Table.antt` there, one line a row; LLVM's InstSimplify has such a table). The
 //! contract is that it is that row's operand, and none exactly where no row fits. That each row may stand for
-//! what its instruction gives, under some free choice, is the law `table_right` of `ir_better`, of the same
+//! what its instruction gives, under some free choice, is the law `table_right` of `ir_meaning`, of the same
 //! definition.
 //!
 //! Below this crate stand `ir_tree`, `lto_bits` and `ir_meaning`. No call but [`Folded::operand`] takes memory: an

@@ -13,7 +13,7 @@ use Rattle.ir_tree.specs.declared.module.GlobalValue.{GlobalValue}
 use Rattle.ir_tree.specs.declared.module.GlobalValue.TheVariants as global
 use Rattle.ir_tree.specs.declared.operand.Symbol.{Symbol}
 use Rattle.ir_summary.specs.References.{global_names}
-use Rattle.ir_better.specs.Programs.{symbol_of}
+use Rattle.ir_meaning.specs.Programs.{symbol_of}
 use Rattle.lto_task.specs.Declarations.{declaration_of}
 use Rattle.lto_task.specs.Pieces.{NamesRise}
 use Rattle.merge_meaning.specs.Hosts.{getchar, putchar}

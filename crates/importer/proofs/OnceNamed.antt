@@ -17,7 +17,7 @@ use Rattle.ir_tree.specs.Formed.{Distinct}
 use Rattle.ir_tree.specs.Wholes.{symbols}
 use Rattle.ir_tree.specs.declared.module.GlobalValue.{GlobalValue}
 use Rattle.ir_tree.specs.declared.operand.Symbol.{Symbol}
-use Rattle.ir_better.specs.Programs.{symbol_of}
+use Rattle.ir_meaning.specs.Programs.{symbol_of}
 use Rattle.lto_task.specs.Pieces.{NamesRise}
 use Rattle.merge_meaning.proofs.Looked.{same_symbol, symbol_stands}
 use Rattle.merge_meaning.proofs.Once.{mapped}

@@ -1,11 +1,11 @@
 //! Global values by their names.
 ghost use Rattle.std.specs.Prelude.{◌≡◌, ◌++◌, ℕ, List, IfOk, OnOk, Some, if◌then◌else◌};
 ghost use Rattle.std.specs.Str.{bytes_eq};
-ghost use Rattle.ir_better.specs.Programs.{symbol_of};
+ghost use Rattle.ir_meaning.specs.Programs.{symbol_of};
 ghost use Rattle.importer.specs.Brought.{joined, value_named};
 ghost use Rattle.importer.specs.Tables.{value_in, values};
 
-use ir_better::symbol_of;
+use ir_meaning::symbol_of;
 use ir_tree::{GlobalValue, Rows};
 use std::alloc::{AllocError, Global};
 use std::collections::HashMap;

@@ -14,7 +14,7 @@ use crate::finals::push_names;
 use crate::names::{borrowed, copies, set_of, sort_names};
 use crate::setting::{Setting, list_at, part_at};
 use crate::table::{push_all, table_of};
-use ir_better::symbol_of;
+use ir_meaning::symbol_of;
 use ir_tree::{GlobalValue, Rows, Symbol, Text};
 use lto_task::Task;
 use std::alloc::{AllocError, Global};

@@ -6,8 +6,8 @@ use Rattle.std.proofs.lemmas.Option.{slice_get_within}
 use Rattle.ir_tree.specs.Flow.{AtEnds, Available, IsJustified, Justified, availability, defined_in, definitions, edges, entry_row, holds, leading_to, locals, parameters, room, targets}
 use Rattle.ir_tree.specs.declared.block.Block.{Block}
 use Rattle.ir_tree.specs.declared.function.Function.{Function}
-use Rattle.ir_better.specs.Counted.{times}
-use Rattle.ir_better.proofs.Counting.{edges_from, here, later, out_to}
+use Rattle.ir_meaning.specs.Counted.{times}
+use Rattle.ir_meaning.proofs.Counting.{edges_from, here, later, out_to}
 use Rattle.inline_site.proofs.Numbered.{below, in_holds}
 
 -- the local comes to the start of each block of the set: to the entry as a parameter, and to another from the end of each predecessor

@@ -13,8 +13,8 @@ use Rattle.ir_tree.specs.declared.instr.Line.{Line}
 use Rattle.ir_tree.specs.declared.instr.Phi.{Phi}
 use Rattle.ir_tree.specs.declared.operand.Operand.{Operand}
 use Rattle.ir_tree.specs.Edited.{line_edited, phi_edited}
-use Rattle.ir_better.specs.Counted.{times}
-use Rattle.ir_better.proofs.Counting.{among_times}
+use Rattle.ir_meaning.specs.Counted.{times}
+use Rattle.ir_meaning.proofs.Counting.{among_times}
 use Rattle.inline_site.specs.Copies.{first_free}
 use Rattle.inline_site.specs.Inlined.{entry_of}
 use Rattle.inline_site.proofs.Carried.{Carries, available_by, carried_of}

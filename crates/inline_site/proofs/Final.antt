@@ -2,7 +2,7 @@
 use Rattle.std.proofs.Common.{◌≡◌, ℕ, ◌+◌, ◌-◌, ◌<◌, ◌≤◌, ◌⊎◌, inl, inr, nat_lt, Bool, true, false, refl, sym, ◌∙◌, ap, arith, if◌then◌else◌}
 use Rattle.std.proofs.lemmas.Bool.Decides.{nat_tests}
 use Rattle.ir_tree.specs.declared.function.Function.{Function}
-use Rattle.ir_better.specs.Renumber.{IsOneToOne}
+use Rattle.ir_meaning.specs.Renumber.{IsOneToOne}
 use Rattle.inline_site.specs.Copies.{copied_number}
 use Rattle.inline_site.proofs.Copied.{copied_apart}
 

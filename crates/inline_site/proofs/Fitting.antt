@@ -25,8 +25,8 @@ use Rattle.ir_tree.specs.declared.operand.Reg.TheVariants.{Int, Ptr}
 use Rattle.ir_tree.specs.declared.rule.Rule.TheVariants.{PhiPlace}
 use Rattle.ir_edit.specs.Numbered.{block_numbers, blocks_numbers, line_numbers, local_number, numbers_of, param_numbers, phi_numbers}
 use Rattle.ir_edit.proofs.Tally.{tally, tally_both, tally_same}
-use Rattle.ir_better.specs.Inline.{BlocksBelow, EdgesBelow, LinesBelow, PhisBelow, below}
-use Rattle.ir_better.specs.Needed.{AllKept, EndReads, IsKept, Reads}
+use Rattle.ir_meaning.specs.Inline.{BlocksBelow, EdgesBelow, LinesBelow, PhisBelow, below}
+use Rattle.ir_meaning.specs.Needed.{AllKept, EndReads, IsKept, Reads}
 use Rattle.inline_site.specs.Copies.{first_free}
 use Rattle.inline_site.proofs.Once.{below_room, blocks_tally, params_are}
 

@@ -13,9 +13,9 @@ use Rattle.ir_tree.specs.declared.operand.Argument.{Argument}
 use Rattle.ir_tree.specs.declared.operand.Operand.{Operand}
 use Rattle.ir_tree.specs.declared.operand.Operand.TheVariants.{Local, Null, Number, Poison, Symbol as Named}
 use Rattle.ir_tree.specs.Edited.{argument_edited}
-use Rattle.ir_better.specs.Inline.{below}
-use Rattle.ir_better.specs.Needed.{AllKept, EndReads, IsKept, Reads}
-use Rattle.ir_better.specs.Renumber.{case_renumbered, end_renumbered, instr_renumbered, line_renumbered, operand_renumbered}
+use Rattle.ir_meaning.specs.Inline.{below}
+use Rattle.ir_meaning.specs.Needed.{AllKept, EndReads, IsKept, Reads}
+use Rattle.ir_meaning.specs.Renumber.{case_renumbered, end_renumbered, instr_renumbered, line_renumbered, operand_renumbered}
 use Rattle.inline_site.proofs.Fitting.{AreBelow, LinesFit, LocalBelow}
 
 is_less : (x n : ℕ) → below n x ≡ true → x < n

@@ -22,7 +22,7 @@ use Rattle.ir_tree.specs.declared.operand.Reg.TheVariants.{Ptr}
 use Rattle.ir_tree.specs.declared.operand.Symbol.{Symbol}
 use Rattle.ir_tree.specs.Edited.{argument_edited, end_edited, incoming_edited, instr_edited, line_edited}
 use Rattle.ir_edit.specs.Substituted.{or_local, replacement}
-use Rattle.ir_better.proofs.Everywhere.{all_front}
+use Rattle.ir_meaning.proofs.Everywhere.{all_front}
 use Rattle.inline_site.specs.Copies.{bound}
 use Rattle.inline_site.specs.Inlined.{block_named, end_leading, result_phis, return_entries}
 use Rattle.inline_site.proofs.EditedItems.{end_reads_edited, reads_edited}

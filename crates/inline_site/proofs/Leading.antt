@@ -14,10 +14,10 @@ use Rattle.ir_tree.specs.declared.function.Function.{Function}
 use Rattle.ir_tree.specs.declared.instr.Line.{Line}
 use Rattle.ir_tree.specs.declared.operand.Operand.{Operand}
 use Rattle.ir_tree.specs.Edited.{block_edited, end_edited}
-use Rattle.ir_better.specs.Counted.{times}
-use Rattle.ir_better.proofs.Counting.{number_at, place_is}
-use Rattle.ir_better.proofs.Entries.{apart, distinct_back}
-use Rattle.ir_better.proofs.Everywhere.{all_among}
+use Rattle.ir_meaning.specs.Counted.{times}
+use Rattle.ir_meaning.proofs.Counting.{number_at, place_is}
+use Rattle.ir_meaning.proofs.Entries.{apart, distinct_back}
+use Rattle.ir_meaning.proofs.Everywhere.{all_among}
 use Rattle.inline_site.specs.Copies.{first_free}
 use Rattle.inline_site.specs.Inlined.{block_named, end_leading, entry_of}
 use Rattle.inline_site.proofs.Copied.{copied_apart}

@@ -25,7 +25,7 @@ use Rattle.ir_tree.specs.Edited.{block_edited, case_edited, end_edited, line_edi
 use Rattle.ir_edit.specs.Numbered.{block_numbers, blocks_numbers, line_numbers, local_number, param_numbers, phi_numbers}
 use Rattle.ir_edit.specs.Substituted.{substituted}
 use Rattle.ir_edit.proofs.Tally.{tally, tally_both, tally_same}
-use Rattle.ir_better.specs.Facts.{InCases, IsTarget}
+use Rattle.ir_meaning.specs.Facts.{InCases, IsTarget}
 use Rattle.inline_site.specs.Copies.{behind_call, copied, copied_number, copied_operand, first_free}
 use Rattle.inline_site.specs.Inlined.{IsInlined, before_call, end_leading, entry_of, inlined, leading_to, named, phi_named, result_given, result_phis, return_entries, return_entry}
 use Rattle.inline_site.specs.Laws.{IsBetter}

@@ -18,9 +18,9 @@ use Rattle.ir_tree.specs.declared.operand.Reg.{Reg}
 use Rattle.ir_tree.specs.declared.rule.Rule.{Rule}
 use Rattle.ir_tree.specs.declared.rule.Rule.TheVariants.{TypeMismatch, NotAvailable, PhiEdges, PhiPlace, EntryBranch, Index, Cast, CaseTwice}
 use Rattle.ir_tree.specs.Edited.{argument_edited, end_edited, phi_edited}
-use Rattle.ir_better.specs.Counted.{times}
-use Rattle.ir_better.proofs.Counting.{numbers_in}
-use Rattle.ir_better.proofs.Entries.{apart, distinct_back}
+use Rattle.ir_meaning.specs.Counted.{times}
+use Rattle.ir_meaning.proofs.Counting.{numbers_in}
+use Rattle.ir_meaning.proofs.Entries.{apart, distinct_back}
 use Rattle.inline_site.specs.Copies.{first_free}
 use Rattle.inline_site.specs.Inlined.{block_named, end_leading, entry_of, result_phis, return_entries}
 use Rattle.inline_site.proofs.CarriedOn.{copy_there, end_there, first_there, inner_end, inner_there, line_there, second_there}

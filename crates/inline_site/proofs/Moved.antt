@@ -19,9 +19,9 @@ use Rattle.ir_tree.specs.Edited.{argument_edited, block_edited, case_edited, end
 use Rattle.ir_edit.specs.Numbered.{later_or, param_numbers}
 use Rattle.ir_edit.specs.Substituted.{or_local, replacement}
 use Rattle.ir_edit.proofs.Tally.{tally, tally_same}
-use Rattle.ir_better.specs.Inline.{Site, argument_of, blocks_moved, below, cases_moved, edges_moved, end_moved, lines_moved, local_moved, moved, or_moved, phis_moved, return_edge, return_edges}
-use Rattle.ir_better.specs.Needed.{AllKept, IsKept}
-use Rattle.ir_better.specs.Renumber.{block_renumbered, case_renumbered, end_renumbered, incoming_renumbered, instr_renumbered, line_renumbered, operand_renumbered, phi_renumbered}
+use Rattle.ir_meaning.specs.Inline.{Site, argument_of, blocks_moved, below, cases_moved, edges_moved, end_moved, lines_moved, local_moved, moved, or_moved, phis_moved, return_edge, return_edges}
+use Rattle.ir_meaning.specs.Needed.{AllKept, IsKept}
+use Rattle.ir_meaning.specs.Renumber.{block_renumbered, case_renumbered, end_renumbered, incoming_renumbered, instr_renumbered, line_renumbered, operand_renumbered, phi_renumbered}
 use Rattle.inline_site.specs.Copies.{bound}
 use Rattle.inline_site.specs.Inlined.{end_leading, leading_to, return_entries, return_entry}
 use Rattle.inline_site.proofs.Fitting.{BlocksFit, LinesFit}

@@ -13,9 +13,9 @@ use Rattle.ir_tree.specs.declared.function.Function.{Function}
 use Rattle.ir_tree.specs.declared.instr.Incoming.{Incoming}
 use Rattle.ir_tree.specs.declared.operand.Operand.{Operand}
 use Rattle.ir_tree.specs.Edited.{incoming_edited}
-use Rattle.ir_better.specs.Counted.{sources, times}
-use Rattle.ir_better.proofs.Counting.{edges_from, number_at, numbers_in, out_to, place_is, times_is}
-use Rattle.ir_better.proofs.Entries.{by_number, entries_of}
+use Rattle.ir_meaning.specs.Counted.{sources, times}
+use Rattle.ir_meaning.proofs.Counting.{edges_from, number_at, numbers_in, out_to, place_is, times_is}
+use Rattle.ir_meaning.proofs.Entries.{by_number, entries_of}
 use Rattle.inline_site.proofs.Elements.{Changed, In, changed}
 use Rattle.inline_site.proofs.Numbered.{holds_in, in_holds}
 

@@ -18,7 +18,7 @@ use Rattle.ir_tree.specs.declared.operand.Reg.{Reg}
 use Rattle.ir_tree.specs.declared.rule.Rule.{Rule}
 use Rattle.ir_tree.specs.declared.rule.Rule.TheVariants.{TypeMismatch, NotAvailable, PhiEdges, PhiPlace, EntryBranch, Index, Cast, CaseTwice}
 use Rattle.ir_tree.specs.Edited.{argument_edited, end_edited, incoming_edited, line_edited}
-use Rattle.ir_better.proofs.Everywhere.{all_back, all_front, all_unmapped}
+use Rattle.ir_meaning.proofs.Everywhere.{all_back, all_front, all_unmapped}
 use Rattle.inline_site.proofs.EditedItems.{IsConstant, cases_formed, end_differs, end_reads_edited, instr_formed, line_casts, line_follows, line_types, no_edges, no_phi, no_phi_reads, no_taken, reads_edited, result_formed, targets_edited}
 
 -- the item is formed and keeps each rule

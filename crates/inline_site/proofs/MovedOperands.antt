@@ -21,7 +21,7 @@ use Rattle.ir_tree.specs.Edited.{argument_edited}
 use Rattle.ir_edit.specs.Numbered.{later_or}
 use Rattle.ir_edit.specs.Substituted.{or_local, replacement}
 use Rattle.ir_edit.proofs.Tally.{tally, tally_both, tally_once}
-use Rattle.ir_better.proofs.Everywhere.{all_front}
+use Rattle.ir_meaning.proofs.Everywhere.{all_front}
 use Rattle.inline_site.specs.Copies.{bound, first_free}
 use Rattle.ir_tree.specs.Types.{argument_types, param_types}
 use Rattle.inline_site.proofs.EditedItems.{IsConstant}

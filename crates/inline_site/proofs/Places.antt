@@ -18,8 +18,8 @@ use Rattle.ir_tree.specs.declared.operand.Operand.{Operand}
 use Rattle.ir_tree.specs.declared.operand.Operand.TheVariants.{Local, Poison}
 use Rattle.ir_tree.specs.declared.operand.Reg.{Reg}
 use Rattle.ir_tree.specs.Edited.{block_edited, end_edited, incoming_edited, line_edited}
-use Rattle.ir_better.proofs.Counting.{place_is}
-use Rattle.ir_better.proofs.Entries.{apart}
+use Rattle.ir_meaning.proofs.Counting.{place_is}
+use Rattle.ir_meaning.proofs.Entries.{apart}
 use Rattle.inline_site.specs.Copies.{behind_call, copied_number, copied_operand, first_free}
 use Rattle.inline_site.specs.Inlined.{block_named, entry_of, leading_to, result_phis, return_entries}
 use Rattle.inline_site.specs.Sites.{IsCallOf, Site}

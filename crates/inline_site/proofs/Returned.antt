@@ -15,9 +15,9 @@ use Rattle.ir_tree.specs.declared.operand.Operand.{Operand}
 use Rattle.ir_tree.specs.declared.operand.Reg.{Reg}
 use Rattle.ir_tree.specs.declared.rule.Rule.TheVariants.{TypeMismatch}
 use Rattle.ir_tree.specs.Edited.{block_edited, end_edited}
-use Rattle.ir_better.specs.Counted.{sources, times}
-use Rattle.ir_better.proofs.Counting.{distinct_rest, here, later, number_at, numbers_in}
-use Rattle.ir_better.proofs.Entries.{apart, distinct_back}
+use Rattle.ir_meaning.specs.Counted.{sources, times}
+use Rattle.ir_meaning.proofs.Counting.{distinct_rest, here, later, number_at, numbers_in}
+use Rattle.ir_meaning.proofs.Entries.{apart, distinct_back}
 use Rattle.inline_site.specs.Copies.{first_free}
 use Rattle.inline_site.specs.Inlined.{block_named, end_leading, return_entries, return_entry}
 use Rattle.inline_site.proofs.Copied.{copied_apart}

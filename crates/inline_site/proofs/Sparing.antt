@@ -13,7 +13,7 @@ use Rattle.ir_tree.specs.declared.instr.Phi.{Phi}
 use Rattle.ir_tree.specs.declared.rule.Rule.TheVariants.{PhiPlace, TypeMismatch}
 use Rattle.ir_edit.specs.Numbered.{block_numbers, blocks_numbers, line_numbers, local_number, numbers_of, param_numbers, phi_numbers}
 use Rattle.ir_edit.proofs.Tally.{tally, tally_both, tally_same}
-use Rattle.ir_better.specs.Inline.{BlockSparing, BlocksSparing, IsNoParameter, LinesSparing, PhisSparing, ReturnsFor, Site}
+use Rattle.ir_meaning.specs.Inline.{BlockSparing, BlocksSparing, IsNoParameter, LinesSparing, PhisSparing, ReturnsFor, Site}
 use Rattle.inline_site.specs.Copies.{first_free}
 use Rattle.inline_site.proofs.Fitting.{all_back, all_front}
 use Rattle.inline_site.proofs.Moved.{no_argument}

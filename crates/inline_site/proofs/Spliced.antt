@@ -25,14 +25,14 @@ use Rattle.ir_tree.specs.Edited.{block_edited}
 use Rattle.ir_edit.specs.Numbered.{blocks_numbers, numbers_of, param_numbers}
 use Rattle.ir_edit.specs.Substituted.{or_local}
 use Rattle.ir_edit.proofs.Tally.{tally, tally_both, tally_same}
-use Rattle.ir_better.specs.Formed.{IsFormed}
-use Rattle.ir_better.specs.Inline as law
-use Rattle.ir_better.specs.Inline.{CanInline, EdgesBelow, below, block_renamed, blocks_moved, blocks_renamed, edges_renamed, first_part, inlined_blocks, join_phis, moved, phis_renamed, second_part}
-use Rattle.ir_better.specs.Needed.{AllKept, Reads}
-use Rattle.ir_better.specs.Renumber.{block_renumbered, incoming_renumbered, operand_renumbered, param_renumbered, phi_renumbered, renumbered}
-use Rattle.ir_better.proofs.Between.InARow.{in_a_row}
-use Rattle.ir_better.proofs.Inlining.Inlined.{inlined_is_better}
-use Rattle.ir_better.proofs.Numbers.Renumbered.{renumbered_better}
+use Rattle.ir_meaning.specs.Formed.{IsFormed}
+use Rattle.ir_meaning.specs.Inline as law
+use Rattle.ir_meaning.specs.Inline.{CanInline, EdgesBelow, below, block_renamed, blocks_moved, blocks_renamed, edges_renamed, first_part, inlined_blocks, join_phis, moved, phis_renamed, second_part}
+use Rattle.ir_meaning.specs.Needed.{AllKept, Reads}
+use Rattle.ir_meaning.specs.Renumber.{block_renumbered, incoming_renumbered, operand_renumbered, param_renumbered, phi_renumbered, renumbered}
+use Rattle.ir_meaning.proofs.Between.InARow.{in_a_row}
+use Rattle.ir_meaning.proofs.Inlining.Inlined.{inlined_is_better}
+use Rattle.ir_meaning.proofs.Numbers.Renumbered.{renumbered_better}
 use Rattle.inline_site.specs.Copies.{behind_call, copied, copied_number, copied_operand, first_free}
 use Rattle.inline_site.specs.Inlined.{before_call, entry_named, entry_of, inlined, leading_to, named, phi_named, result_given, result_phis, return_entries}
 use Rattle.inline_site.specs.Laws.{IsBetter, IsOwn}

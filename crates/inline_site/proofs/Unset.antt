@@ -27,9 +27,9 @@ use Rattle.ir_meaning.specs.declared.value.Value.{Value}
 use Rattle.ir_meaning.specs.declared.value.Value.TheVariants.{Poison}
 use Rattle.ir_tree.specs.Edited.{argument_edited, block_edited, case_edited, end_edited, incoming_edited, instr_edited, line_edited, phi_edited}
 use Rattle.ir_edit.specs.Substituted.{operand_replaced, or_local, replacement}
-use Rattle.ir_better.specs.Facts.{IsTarget}
-use Rattle.ir_better.proofs.Alike.Answering.{act_at_end, act_at_line}
-use Rattle.ir_better.proofs.Facts.Known.{resume_is, target_in}
+use Rattle.ir_meaning.specs.Facts.{IsTarget}
+use Rattle.ir_meaning.proofs.Alike.Answering.{act_at_end, act_at_line}
+use Rattle.ir_meaning.proofs.Facts.Known.{resume_is, target_in}
 
 -- with poison at each use of the local
 abbrev pub lost : ℕ → Reg → Operand → Operand

@@ -13,7 +13,7 @@
 //! inlining changes elsewhere: phi entries that named the block of a call, and uses of results that no return gives
 //! (`specs/Callers.antt`). `arguments_of` tells whether an instruction is a call that may take a body.
 //!
-//! Below this crate stand `ir_tree`, `ir_edit`, whose edits make the copy, and `ir_meaning` and `ir_better` for
+//! Below this crate stand `ir_tree`, `ir_edit`, whose edits make the copy, and `ir_meaning` for
 //! what is proved. Inlining into a `Caller` costs what the callee is long, with one look-up in a table for each use in it,
 //! however long the caller is. The end costs one look-up for each phi entry, and one more copy of the function where a result
 //! is lost. `inline_at` copies the function once.

@@ -15,10 +15,15 @@ ghost use Rattle.ir_bodies.specs.Listed.{kept_in, listed_at};
 ghost use Rattle.ir_bodies.specs.Calls.{same_reg, is_type, marker_refusal, called};
 ghost use Rattle.ir_bodies.specs.CallsAt.{CONVENTIONS, convention_at, conventions_at, written_type_at, further_type_at, types_behind_at, some_types_at, listed_types_at, types_at, argument_behind_at, argument_at, further_argument_at, some_arguments_at, any_arguments_at, type_again_at, argument_of_at, further_of_at, some_of_at, arguments_of_at, arguments_at, called_value_at, marker_at, unmarked_at, unmarked_value_at, callee_at, maybe_types_at, called_at, calling_of_at, calling_at, tail_calling_at};
 
+use ir_heads::{
+    call_attributes_at, end_of_none_at, parameter_attribute_at, parameter_attributes_at,
+};
 use ir_lex::{Head, Token};
 use ir_operands::{Listing, address_at, operand_at, push};
-use ir_heads::{call_attributes_at, end_of_none_at, parameter_attribute_at, parameter_attributes_at};
-use ir_read::{Argument, Instr, Name, Operand, Tokens, attachments_at, expect, operand_means, reg_at, reg_of, result_at, type_refusal};
+use ir_read::{
+    Argument, Instr, Name, Operand, Tokens, attachments_at, expect, operand_means, reg_at, reg_of,
+    result_at, type_refusal,
+};
 use ir_tree::{Reg, Rows};
 use lto_forms::{Fault, FaultKind, ReadError};
 use std::alloc::Global;

@@ -8,9 +8,9 @@ ghost use Rattle.ir_bodies.specs.Blocks.{FURTHER_BLOCKS, INSTRUCTIONS, with_kept
 ghost use Rattle.ir_bodies.specs.BlocksAt.{heading_at, braced_at, defined_at, definition_at};
 
 use crate::blocks::{Blocks, blocks_into};
+use ir_heads::{Kept, Role, definition_attributes_at, head_at};
 use ir_lex::Head;
 use ir_operands::push;
-use ir_heads::{Kept, Role, definition_attributes_at, head_at};
 use ir_read::{Item, Tokens, done, expect};
 use lto_forms::ReadError;
 use std::alloc::Global;

@@ -20,7 +20,7 @@ use Rattle.ir_meaning.specs.Execute.{reg_eq}
 use Rattle.ir_tree.proofs.Symbols.{symbol_self}
 use Rattle.ir_tree.specs.Symbols.{symbol_eq}
 use Rattle.ir_meaning.specs.Table.{same}
-use Rattle.ir_better.specs.Facts.{EdgeFacts, EntryIs, Facts, Has, InCases, IsTarget, behind_lines, behind_local, is_local, is_phi, is_phi_operand, phi_operand, with_fact, without}
+use Rattle.ir_meaning.specs.Facts.{EdgeFacts, EntryIs, Facts, Has, InCases, IsTarget, behind_lines, behind_local, is_local, is_phi, is_phi_operand, phi_operand, with_fact, without}
 use Rattle.ir_facts.specs.Agreement.{SolutionsAgree, marks_of, starting}
 use Rattle.fact_sources.specs.Naming.{is_key}
 use Rattle.ir_facts.specs.Points.{IsFactFlow, entry_holds, held_along, held_behind}

@@ -17,11 +17,11 @@ use Rattle.ir_tree.specs.declared.operand.Operand.TheVariants.{Local, Null, Numb
 use Rattle.ir_tree.specs.Edited.{with_operands}
 use Rattle.ir_meaning.specs.Near.{BetterThan}
 use Rattle.ir_meaning.specs.Program.{Program}
-use Rattle.ir_better.specs.Facts.{BlockRight, BlocksRight, EdgeFacts, EdgesRead, EntryBare, Facts, IsOther, LineRule, LinesRight, PhisRead, RuleFor, behind_local, blocks_replaced, end_replaced, replaced}
-use Rattle.ir_better.specs.Formed.{IsFormed}
-use Rattle.ir_better.specs.Needed.{AllKept, EndReads, IsKept, Reads}
-use Rattle.ir_better.proofs.Alike.Itself.{same_better}
-use Rattle.ir_better.proofs.Facts.Known.{known_better}
+use Rattle.ir_meaning.specs.Facts.{BlockRight, BlocksRight, EdgeFacts, EdgesRead, EntryBare, Facts, IsOther, LineRule, LinesRight, PhisRead, RuleFor, behind_local, blocks_replaced, end_replaced, replaced}
+use Rattle.ir_meaning.specs.Formed.{IsFormed}
+use Rattle.ir_meaning.specs.Needed.{AllKept, EndReads, IsKept, Reads}
+use Rattle.ir_meaning.proofs.Alike.Itself.{same_better}
+use Rattle.ir_meaning.proofs.Facts.Known.{known_better}
 use Rattle.ir_edit.specs.Substituted.{replacement}
 use Rattle.fact_sources.specs.Candidates.{candidates}
 use Rattle.fact_sources.specs.Settled.{IsFirm, IsSettled, LinesFirm}

@@ -11,7 +11,7 @@ use Rattle.ir_tree.specs.declared.block.Terminator.{Terminator}
 use Rattle.ir_tree.specs.declared.block.Terminator.TheVariants.{Branch, Jump, Return, Switch, Unreachable}
 use Rattle.ir_tree.specs.declared.function.Function.{Function}
 use Rattle.ir_meaning.specs.Act.{find_block}
-use Rattle.ir_better.specs.Facts.{InCases, IsTarget}
+use Rattle.ir_meaning.specs.Facts.{InCases, IsTarget}
 use Rattle.ir_facts.proofs.Substituting.{one_place}
 
 -- a block that is found by its number stands at the number's place

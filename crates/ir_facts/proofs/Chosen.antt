@@ -14,7 +14,7 @@ use Rattle.ir_tree.specs.declared.operand.Operand.TheVariants.{Local, Null, Numb
 use Rattle.ir_tree.specs.declared.operand.Reg.{Reg}
 use Rattle.ir_tree.specs.declared.operand.Reg.TheVariants.{Int, Ptr}
 use Rattle.ir_meaning.specs.Table.{comparison_rule, freeze_rule, frozen_number, is_equality, is_poison, may_choose, number_of, rule, same, truth}
-use Rattle.ir_better.proofs.Rules.Tabled.{table_right}
+use Rattle.ir_meaning.proofs.Rules.Tabled.{table_right}
 use Rattle.fact_sources.specs.Settled.{IsFirm, choice_of, frozen_as, number_in, settled_instr}
 use Rattle.ir_facts.proofs.RuleReads.{Of, comparison_of, freeze_of, of_some}
 use Rattle.ir_facts.proofs.RuleTypes.{small_of}

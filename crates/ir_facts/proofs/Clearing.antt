@@ -3,7 +3,7 @@ use Rattle.std.proofs.Common.{◌≡◌, ℕ, suc, Bool, false, ◌||◌, List, 
 use Rattle.std.specs.Prelude.{◌&&◌, not}
 use Rattle.ir_tree.specs.declared.block.Block.{Block}
 use Rattle.ir_tree.specs.declared.instr.Line.{Line}
-use Rattle.ir_better.specs.Facts.{is_phi}
+use Rattle.ir_meaning.specs.Facts.{is_phi}
 use Rattle.fact_sources.specs.Candidates.{block_candidates, phi_candidates}
 use Rattle.fact_sources.specs.Apart.{defined}
 use Rattle.ir_facts.specs.Clear.{all_over, any_among, block_clear, inner_keys, is_over, keys_among, lines_clear, phis_barred, with_given}

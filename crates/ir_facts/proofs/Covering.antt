@@ -24,8 +24,8 @@ use Rattle.ir_tree.specs.declared.operand.Operand.{Operand}
 use Rattle.ir_tree.specs.declared.operand.Operand.TheVariants.{Local, Null, Number as Constant, Poison as PoisonOf, Symbol as Named}
 use Rattle.ir_tree.specs.declared.operand.Reg.TheVariants.{Int, Ptr}
 use Rattle.ir_tree.specs.declared.rule.Rule.TheVariants.{NotAvailable, PhiEdges, PhiPlace}
-use Rattle.ir_better.specs.Facts.{edge_operand}
-use Rattle.ir_better.specs.Needed.{AllKept, EndReads, IsKept, Reads}
+use Rattle.ir_meaning.specs.Facts.{edge_operand}
+use Rattle.ir_meaning.specs.Needed.{AllKept, EndReads, IsKept, Reads}
 use Rattle.ir_facts.proofs.Covers.{BlockCovered, Covers, EdgesCovered, HasEntry, LinesCovered, PhisCovered, PhisEntered, TakenAt, behind, behind_is, closing, opening, with_named}
 
 -- ---- of each element

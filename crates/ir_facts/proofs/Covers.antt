@@ -12,8 +12,8 @@ use Rattle.ir_tree.specs.declared.instr.Incoming.{Incoming}
 use Rattle.ir_tree.specs.declared.instr.Line.{Line}
 use Rattle.ir_tree.specs.declared.instr.Phi.{Phi}
 use Rattle.ir_tree.specs.declared.operand.Operand.{Operand}
-use Rattle.ir_better.specs.Facts.{edge_operand}
-use Rattle.ir_better.specs.Needed.{EndReads, IsKept, Reads}
+use Rattle.ir_meaning.specs.Facts.{edge_operand}
+use Rattle.ir_meaning.specs.Needed.{EndReads, IsKept, Reads}
 
 -- ---- sets along the lines of a block
 

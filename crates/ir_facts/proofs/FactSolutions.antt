@@ -9,7 +9,7 @@ use Rattle.ir_tree.specs.declared.block.Block.{Block}
 use Rattle.ir_tree.specs.declared.function.Function.{Function}
 use Rattle.ir_tree.specs.declared.instr.Phi.{Phi}
 use Rattle.ir_tree.specs.declared.operand.Operand.{Operand}
-use Rattle.ir_better.specs.Facts.{Facts, edge_operand, is_phi, is_phi_operand, phi_operand}
+use Rattle.ir_meaning.specs.Facts.{Facts, edge_operand, is_phi, is_phi_operand, phi_operand}
 use Rattle.ir_flow.specs.Narrowing.{marked}
 use Rattle.ir_flow.proofs.Reaching.{edge-from}
 use Rattle.ir_flow.proofs.Solved.{at_end, at_ends}

@@ -19,8 +19,8 @@ use Rattle.ir_tree.specs.declared.operand.Argument.{Argument}
 use Rattle.ir_tree.specs.declared.operand.Operand.{Operand}
 use Rattle.ir_tree.specs.declared.operand.Operand.TheVariants.{Local, Null, Number as Constant, Poison as PoisonOf, Symbol as Named}
 use Rattle.ir_meaning.specs.Act.{find_block}
-use Rattle.ir_better.specs.Facts.{EdgeFacts, EntryIs, Facts, Has, IsTarget, behind_lines, behind_local, block_replaced, blocks_replaced, edge_operand, edges_replaced, end_replaced, is_local, is_phi, is_phi_operand, lines_replaced, phi_operand, phis_replaced, replaced, replaced_local, with_fact, without}
-use Rattle.ir_better.specs.Needed.{AllKept, EndReads, IsKept, Reads}
+use Rattle.ir_meaning.specs.Facts.{EdgeFacts, EntryIs, Facts, Has, IsTarget, behind_lines, behind_local, block_replaced, blocks_replaced, edge_operand, edges_replaced, end_replaced, is_local, is_phi, is_phi_operand, lines_replaced, phi_operand, phis_replaced, replaced, replaced_local, with_fact, without}
+use Rattle.ir_meaning.specs.Needed.{AllKept, EndReads, IsKept, Reads}
 use Rattle.ir_tree.specs.Edited.{argument_edited, case_edited, edited, end_edited, incoming_edited, instr_edited, line_edited, param_edited, phi_edited, with_operands}
 use Rattle.ir_edit.specs.Substituted.{operand_replaced, or_local}
 use Rattle.ir_flow.proofs.Solved.{at_end}

@@ -8,9 +8,9 @@ use Rattle.ir_tree.specs.declared.function.Function.{Function}
 use Rattle.ir_tree.specs.declared.operand.Operand.{Operand}
 use Rattle.ir_meaning.specs.Near.{BetterThan}
 use Rattle.ir_meaning.specs.Program.{Program}
-use Rattle.ir_better.specs.Formed.{IsFormed}
-use Rattle.ir_better.proofs.Alike.Itself.{same_better}
-use Rattle.ir_better.proofs.Between.InARow.{in_a_row}
+use Rattle.ir_meaning.specs.Formed.{IsFormed}
+use Rattle.ir_meaning.proofs.Alike.Itself.{same_better}
+use Rattle.ir_meaning.proofs.Between.InARow.{in_a_row}
 use Rattle.ir_tree.specs.Edited.{edited}
 use Rattle.ir_edit.specs.Substituted.{operand_replaced, replacement}
 use Rattle.fact_sources.specs.Candidates.{candidates}

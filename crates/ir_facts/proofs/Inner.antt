@@ -6,7 +6,7 @@ use Rattle.ir_tree.specs.Flow.{definitions, holds}
 use Rattle.ir_tree.specs.declared.block.Block.{Block}
 use Rattle.ir_tree.specs.declared.operand.Operand.{Operand}
 use Rattle.ir_tree.specs.declared.operand.Operand.TheVariants.{Local}
-use Rattle.ir_better.specs.Facts.{Facts, Has}
+use Rattle.ir_meaning.specs.Facts.{Facts, Has}
 use Rattle.ir_edit.specs.Numbered.{later_or}
 use Rattle.ir_edit.specs.Substituted.{replacement}
 use Rattle.fact_sources.specs.Apart.{defined, is_listed}

@@ -11,7 +11,7 @@ use Rattle.ir_tree.specs.declared.instr.Instr.{Instr}
 use Rattle.ir_tree.specs.declared.instr.Line.{Line}
 use Rattle.ir_tree.specs.declared.instr.Phi.{Phi}
 use Rattle.ir_tree.specs.declared.operand.Operand.{Operand}
-use Rattle.ir_better.specs.Facts.{Facts, Has}
+use Rattle.ir_meaning.specs.Facts.{Facts, Has}
 use Rattle.ir_edit.specs.Numbered.{later_or}
 use Rattle.ir_edit.specs.Substituted.{replacement}
 use Rattle.ir_edit.proofs.Tally.{tally, tally_both, tally_same}

@@ -3,7 +3,7 @@ use Rattle.std.proofs.Common.{◌≡◌, ℕ, suc, ◌+◌, ◌<◌, Bool, List,
 use Rattle.ir_tree.specs.declared.block.Block.{Block}
 use Rattle.ir_tree.specs.declared.function.Function.{Function}
 use Rattle.ir_tree.specs.declared.operand.Operand.{Operand}
-use Rattle.ir_better.proofs.Names.Moved.{both}
+use Rattle.ir_meaning.proofs.Names.Moved.{both}
 use Rattle.ir_facts.specs.Points.{EachIsFact, FactsAreOne, IsFact, line_points, points_from}
 use Rattle.point_edit.specs.declared.fact.Fact.{Fact}
 

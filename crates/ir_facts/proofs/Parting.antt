@@ -12,7 +12,7 @@ use Rattle.ir_tree.specs.declared.instr.Line.{Line}
 use Rattle.ir_tree.specs.declared.instr.Phi.{Phi}
 use Rattle.ir_tree.specs.declared.operand.Operand.{Operand}
 use Rattle.ir_tree.specs.declared.operand.Operand.TheVariants.{Local, Null, Number as Constant, Poison as PoisonOf, Symbol as Named}
-use Rattle.ir_better.specs.Facts.{Facts, Has}
+use Rattle.ir_meaning.specs.Facts.{Facts, Has}
 use Rattle.ir_edit.specs.Substituted.{replacement, substituted}
 use Rattle.fact_sources.specs.Apart.{IsApart, defined, firm, resting}
 use Rattle.point_edit.specs.AtPoints.{function_at}

@@ -11,7 +11,7 @@ use Rattle.ir_tree.specs.declared.instr.Line.{Line}
 use Rattle.ir_tree.specs.declared.instr.Phi.{Phi}
 use Rattle.ir_tree.specs.declared.operand.Operand.{Operand}
 use Rattle.ir_tree.specs.declared.operand.Operand.TheVariants.{Local, Null, Number as Constant, Poison as PoisonOf, Symbol as Named}
-use Rattle.ir_better.specs.Facts.{is_local, is_phi_operand}
+use Rattle.ir_meaning.specs.Facts.{is_local, is_phi_operand}
 use Rattle.ir_flow.specs.Laws.{Passed}
 use Rattle.ir_flow.proofs.Availability.{available-passed}
 use Rattle.ir_flow.proofs.Reaching.{edge-from}

@@ -4,7 +4,7 @@ use Rattle.ir_tree.specs.declared.function.Function.{Function}
 use Rattle.ir_tree.specs.declared.instr.Line.{Line}
 use Rattle.ir_tree.specs.declared.operand.Operand.{Operand}
 use Rattle.ir_tree.specs.declared.operand.Operand.TheVariants.{Local}
-use Rattle.ir_better.specs.Facts.{Facts, Has}
+use Rattle.ir_meaning.specs.Facts.{Facts, Has}
 use Rattle.ir_tree.specs.Edited.{edited}
 use Rattle.ir_edit.specs.Substituted.{operand_replaced, replacement}
 use Rattle.ir_facts.specs.Agreement.{FactsMakeSteps}

@@ -7,7 +7,7 @@ use Rattle.ir_tree.specs.declared.instr.Instr.TheVariants.{Address, Alloca, Bina
 use Rattle.ir_tree.specs.declared.operand.Argument.{Argument}
 use Rattle.ir_tree.specs.declared.operand.Operand.{Operand}
 use Rattle.ir_tree.specs.declared.operand.Operand.TheVariants.{Local, Null, Number as Constant, Poison as PoisonOf, Symbol as Named}
-use Rattle.ir_better.specs.Needed.{AllKept, EndReads, IsKept, Reads}
+use Rattle.ir_meaning.specs.Needed.{AllKept, EndReads, IsKept, Reads}
 use Rattle.fact_sources.specs.Membership.{is_member}
 use Rattle.fact_sources.specs.Naming.{arguments_name, end_names, instr_names}
 use Rattle.fact_sources.proofs.Neither.{neither}

@@ -16,7 +16,7 @@ use Rattle.ir_tree.specs.declared.instr.Line.{Line}
 use Rattle.ir_tree.specs.declared.instr.Phi.{Phi}
 use Rattle.ir_tree.specs.declared.operand.Operand.{Operand}
 use Rattle.ir_tree.specs.declared.operand.Reg.{Reg}
-use Rattle.ir_better.specs.Facts.{Facts, behind_local, block_replaced, blocks_replaced, end_replaced, function_replaced, lines_replaced, phis_replaced, replaced}
+use Rattle.ir_meaning.specs.Facts.{Facts, behind_local, block_replaced, blocks_replaced, end_replaced, function_replaced, lines_replaced, phis_replaced, replaced}
 use Rattle.ir_tree.specs.Edited.{case_edited, end_edited, line_edited, with_operands}
 
 -- ---- a line or a terminator with its operands changed, in either form

@@ -11,8 +11,8 @@ use Rattle.ir_tree.specs.declared.instr.Line.{Line}
 use Rattle.ir_tree.specs.declared.instr.Phi.{Phi}
 use Rattle.ir_tree.specs.declared.operand.Operand.{Operand}
 use Rattle.ir_tree.specs.declared.operand.Operand.TheVariants.{Local, Null, Number as Constant, Poison as PoisonOf, Symbol as Named}
-use Rattle.ir_better.specs.Facts.{Facts, behind_local, edge_operand, edges_replaced, end_replaced, function_replaced, lines_replaced, phis_replaced, replaced, replaced_local}
-use Rattle.ir_better.specs.Needed.{EndReads, IsKept}
+use Rattle.ir_meaning.specs.Facts.{Facts, behind_local, edge_operand, edges_replaced, end_replaced, function_replaced, lines_replaced, phis_replaced, replaced, replaced_local}
+use Rattle.ir_meaning.specs.Needed.{EndReads, IsKept}
 use Rattle.ir_facts.proofs.Covers.{BlockCovered, Covers, EdgesCovered, HasEntry, LinesCovered, PhisCovered, PhisEntered, TakenAt, closing, opening, with_named}
 use Rattle.ir_facts.proofs.Holding.{Known, known_one}
 use Rattle.ir_facts.proofs.Replaced.{all_still, availability_still, block_then, block_there, block_was, definitions_still, edges_still, end_is, phis_still}

@@ -22,7 +22,7 @@ use Rattle.ir_tree.specs.declared.operand.Operand.TheVariants.{Local, Null, Numb
 use Rattle.ir_tree.specs.declared.operand.Reg.{Reg}
 use Rattle.ir_tree.specs.declared.rule.Rule.{Rule}
 use Rattle.ir_tree.specs.declared.rule.Rule.TheVariants.{TypeMismatch, NotAvailable, PhiEdges, PhiPlace, EntryBranch, Index, Cast, CaseTwice}
-use Rattle.ir_better.specs.Facts.{Facts, behind_local, blocks_replaced, edges_replaced, function_replaced, lines_replaced, phis_replaced, replaced, replaced_local}
+use Rattle.ir_meaning.specs.Facts.{Facts, behind_local, blocks_replaced, edges_replaced, function_replaced, lines_replaced, phis_replaced, replaced, replaced_local}
 use Rattle.ir_tree.specs.Edited.{edited}
 use Rattle.ir_edit.specs.Substituted.{replacement}
 use Rattle.fact_sources.specs.Candidates.{candidates}

@@ -20,16 +20,16 @@ use Rattle.ir_meaning.specs.Program.{Program, variables, State}
 use Rattle.ir_meaning.specs.Relate.{Pairing, Point, Fixes, Kept, Related, AllAgree, ArgumentsAgree}
 use Rattle.ir_meaning.specs.declared.value.Value.{Value}
 use Rattle.ir_meaning.specs.declared.value.Value.TheVariants.{Number}
-use Rattle.ir_better.specs.Facts.{GivesFor, VariablesLive}
-use Rattle.ir_better.specs.Formed.{IsFormed}
-use Rattle.ir_better.proofs.Alike.Answering.{near_by, alone, answered_effects, answered_return, answered_go, answered_fails, breaks_at_once, bind_agrees, phis_agree, ExitsAgree, exit_agrees, names_of, act_at_line, act_at_end}
-use Rattle.ir_better.proofs.Alike.Effects.{EffectsAlike, answer_later, locals_later, slots_later, evaluate_agrees, reads_agree, execute_alike}
-use Rattle.ir_better.proofs.Alike.Itself.{every, reads_all, phis_all, end_all, slots_more}
-use Rattle.ir_better.proofs.Alike.Keeping.{kept_refl, kept_trans, kept_fixes, SlotsPaired, kill_kept}
-use Rattle.ir_better.proofs.Alike.Values.{LocalsAgree, Names, if_agrees}
-use Rattle.ir_better.proofs.Facts.Standing.{stands_agree}
-use Rattle.ir_better.proofs.Facts.Known.{resume_is, variables_live}
-use Rattle.ir_better.proofs.Rules.Tabled.{table_right}
+use Rattle.ir_meaning.specs.Facts.{GivesFor, VariablesLive}
+use Rattle.ir_meaning.specs.Formed.{IsFormed}
+use Rattle.ir_meaning.proofs.Alike.Answering.{near_by, alone, answered_effects, answered_return, answered_go, answered_fails, breaks_at_once, bind_agrees, phis_agree, ExitsAgree, exit_agrees, names_of, act_at_line, act_at_end}
+use Rattle.ir_meaning.proofs.Alike.Effects.{EffectsAlike, answer_later, locals_later, slots_later, evaluate_agrees, reads_agree, execute_alike}
+use Rattle.ir_meaning.proofs.Alike.Itself.{every, reads_all, phis_all, end_all, slots_more}
+use Rattle.ir_meaning.proofs.Alike.Keeping.{kept_refl, kept_trans, kept_fixes, SlotsPaired, kill_kept}
+use Rattle.ir_meaning.proofs.Alike.Values.{LocalsAgree, Names, if_agrees}
+use Rattle.ir_meaning.proofs.Facts.Standing.{stands_agree}
+use Rattle.ir_meaning.proofs.Facts.Known.{resume_is, variables_live}
+use Rattle.ir_meaning.proofs.Rules.Tabled.{table_right}
 use Rattle.fact_sources.specs.Settled.{settled, settled_block, settled_instr, settled_line}
 use Rattle.ir_facts.proofs.Chosen.{settled_by}
 

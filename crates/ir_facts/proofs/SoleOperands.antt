@@ -12,7 +12,7 @@ use Rattle.ir_tree.specs.declared.operand.Reg.TheVariants.{Int, Ptr}
 use Rattle.ir_meaning.specs.Execute.{reg_eq}
 use Rattle.ir_tree.specs.Symbols.{symbol_eq}
 use Rattle.ir_meaning.specs.Table.{same}
-use Rattle.ir_better.specs.Facts.{is_local, is_phi_operand}
+use Rattle.ir_meaning.specs.Facts.{is_local, is_phi_operand}
 use Rattle.ir_tree.proofs.Symbols.{symbol_same}
 use Rattle.fact_sources.specs.Candidates.{first_other, phi_source, sole_source, takes_only}
 use Rattle.fact_sources.specs.Laws.{IsSoleOperand, PhiSourcesAreSole}

@@ -5,7 +5,7 @@ use Rattle.ir_tree.specs.declared.block.Block.{Block}
 use Rattle.ir_tree.specs.declared.function.Function.{Function}
 use Rattle.ir_tree.specs.declared.operand.Operand.{Operand}
 use Rattle.ir_meaning.specs.Act.{find_block}
-use Rattle.ir_better.specs.Facts.{Facts}
+use Rattle.ir_meaning.specs.Facts.{Facts}
 use Rattle.ir_edit.specs.Substituted.{replacement}
 use Rattle.fact_sources.specs.Candidates.{candidates}
 use Rattle.ir_facts.specs.Steps.{StepsAreSound, end_of, ends_of}

@@ -7,7 +7,7 @@ use Rattle.ir_tree.specs.declared.function.Function.{Function}
 use Rattle.ir_tree.specs.declared.instr.Line.{Line}
 use Rattle.ir_tree.specs.declared.instr.Phi.{Phi}
 use Rattle.ir_tree.specs.declared.operand.Operand.{Operand}
-use Rattle.ir_better.specs.Facts.{Facts, behind_local, block_replaced, blocks_replaced, function_replaced, lines_replaced, phis_replaced}
+use Rattle.ir_meaning.specs.Facts.{Facts, behind_local, block_replaced, blocks_replaced, function_replaced, lines_replaced, phis_replaced}
 use Rattle.ir_edit.specs.Numbered.{line_numbers, local_number, phi_numbers}
 use Rattle.ir_flow.specs.OfFunction.{IsReach}
 use Rattle.fact_sources.specs.Apart.{IsApart, given_apart, given_where, is_listed}

@@ -12,8 +12,8 @@ use Rattle.ir_tree.specs.declared.instr.Instr.{Instr}
 use Rattle.ir_tree.specs.declared.instr.Line.{Line}
 use Rattle.ir_tree.specs.declared.instr.Phi.{Phi}
 use Rattle.ir_tree.specs.declared.operand.Operand.{Operand}
-use Rattle.ir_better.specs.Facts.{is_phi}
-use Rattle.ir_better.specs.Needed.{IsKept, Reads}
+use Rattle.ir_meaning.specs.Facts.{is_phi}
+use Rattle.ir_meaning.specs.Needed.{IsKept, Reads}
 use Rattle.ir_flow.proofs.Solved.{at_end, at_ends}
 use Rattle.fact_sources.specs.Candidates.{phi_candidates}
 use Rattle.fact_sources.specs.Apart.{defined, is_listed}

@@ -12,7 +12,7 @@ use Rattle.ir_tree.specs.declared.instr.Phi.{Phi}
 use Rattle.ir_tree.specs.declared.operand.Argument.{Argument}
 use Rattle.ir_tree.specs.declared.operand.Operand.{Operand}
 use Rattle.ir_tree.specs.declared.operand.Operand.TheVariants.{Local, Null, Number as Constant, Poison as PoisonOf, Symbol as Named}
-use Rattle.ir_better.specs.Facts.{Facts}
+use Rattle.ir_meaning.specs.Facts.{Facts}
 use Rattle.ir_tree.specs.Edited.{argument_edited, edited, end_edited, incoming_edited, instr_edited, line_edited, phi_edited}
 use Rattle.ir_edit.specs.Numbered.{later_or}
 use Rattle.ir_edit.specs.Substituted.{operand_replaced, or_local, replacement}

@@ -9,7 +9,7 @@ use Rattle.ir_tree.specs.declared.instr.Line.{Line}
 use Rattle.ir_tree.specs.declared.instr.Phi.{Phi}
 use Rattle.ir_tree.specs.declared.operand.Operand.{Operand}
 use Rattle.ir_tree.specs.declared.operand.Operand.TheVariants.{Local, Null, Number as Constant, Poison as PoisonOf, Symbol as Named}
-use Rattle.ir_better.specs.Facts.{Facts, behind_local, block_replaced, blocks_replaced, edges_replaced, lines_replaced, phis_replaced, replaced}
+use Rattle.ir_meaning.specs.Facts.{Facts, behind_local, block_replaced, blocks_replaced, edges_replaced, lines_replaced, phis_replaced, replaced}
 use Rattle.fact_sources.specs.Membership.{is_member}
 use Rattle.fact_sources.specs.Naming.{block_names, blocks_name, end_names, entries_name, instr_names, lines_name, phis_name}
 use Rattle.ir_facts.specs.Steps.{IsSolution, IsStep, candidate_of, ends_of}

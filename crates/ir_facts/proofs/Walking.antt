@@ -7,7 +7,7 @@ use Rattle.ir_tree.specs.declared.block.Block.{Block}
 use Rattle.ir_tree.specs.declared.instr.Line.{Line}
 use Rattle.ir_tree.specs.declared.instr.Phi.{Phi}
 use Rattle.ir_tree.specs.declared.operand.Operand.{Operand}
-use Rattle.ir_better.specs.Facts.{Facts}
+use Rattle.ir_meaning.specs.Facts.{Facts}
 use Rattle.fact_sources.specs.Membership.{is_member}
 use Rattle.ir_facts.specs.Clear.{all_inner, block_clear, blocks_clear, inner_keys, keys_among}
 use Rattle.ir_facts.specs.FactFlow.{earlier, flow_points, opened, phi_in, phi_of}

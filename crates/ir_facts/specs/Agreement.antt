@@ -5,7 +5,7 @@ use Rattle.ir_tree.specs.Rules.{Sound}
 use Rattle.ir_tree.specs.declared.block.Block.{Block}
 use Rattle.ir_tree.specs.declared.function.Function.{Function}
 use Rattle.ir_tree.specs.declared.operand.Operand.{Operand}
-use Rattle.ir_better.specs.Facts.{Facts, Has}
+use Rattle.ir_meaning.specs.Facts.{Facts, Has}
 use Rattle.point_edit.specs.AtPoints.{function_at}
 use Rattle.fact_sources.specs.Naming.{is_key}
 use Rattle.ir_facts.specs.Points.{AreFacts, IsFactFlow}

@@ -9,7 +9,7 @@ use Rattle.ir_tree.specs.declared.instr.Incoming.{Incoming}
 use Rattle.ir_tree.specs.declared.instr.Line.{Line}
 use Rattle.ir_tree.specs.declared.instr.Phi.{Phi}
 use Rattle.ir_tree.specs.declared.operand.Operand.{Operand}
-use Rattle.ir_better.specs.Facts.{Facts, is_phi}
+use Rattle.ir_meaning.specs.Facts.{Facts, is_phi}
 use Rattle.fact_sources.specs.Places.{AreNumbered, ArePlaced}
 use Rattle.fact_sources.specs.Apart.{defined, is_listed}
 use Rattle.fact_sources.specs.Candidates.{block_candidates, phi_candidates}

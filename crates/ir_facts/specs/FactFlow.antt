@@ -6,7 +6,7 @@ use Rattle.ir_tree.specs.declared.block.Block.{Block}
 use Rattle.ir_tree.specs.declared.function.Function.{Function}
 use Rattle.ir_tree.specs.declared.instr.Phi.{Phi}
 use Rattle.ir_tree.specs.declared.operand.Operand.{Operand}
-use Rattle.ir_better.specs.Facts.{edge_operand, is_phi, is_phi_operand}
+use Rattle.ir_meaning.specs.Facts.{edge_operand, is_phi, is_phi_operand}
 use Rattle.ir_facts.specs.Points.{entry_holds, held_along, line_points}
 
 -- the phi that gives a local its value

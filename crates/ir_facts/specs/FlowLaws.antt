@@ -8,7 +8,7 @@ use Rattle.ir_tree.specs.declared.instr.Line.{Line}
 use Rattle.ir_tree.specs.declared.instr.Phi.{Phi}
 use Rattle.ir_tree.specs.declared.operand.Operand.{Operand}
 use Rattle.ir_meaning.specs.Table.{same}
-use Rattle.ir_better.specs.Facts.{is_local, is_phi, is_phi_operand}
+use Rattle.ir_meaning.specs.Facts.{is_local, is_phi, is_phi_operand}
 use Rattle.ir_facts.specs.FactFlow.{fact_flow, members_out, opened, opened_at, phi_of, taken_from}
 use Rattle.ir_facts.specs.Points.{entry_holds, held_along, held_behind}
 

@@ -8,7 +8,7 @@ use Rattle.ir_tree.specs.declared.function.Function.{Function}
 use Rattle.ir_tree.specs.declared.instr.Line.{Line}
 use Rattle.ir_tree.specs.declared.operand.Operand.{Operand}
 use Rattle.ir_meaning.specs.Table.{same}
-use Rattle.ir_better.specs.Facts.{is_local, is_phi, is_phi_operand, phi_operand}
+use Rattle.ir_meaning.specs.Facts.{is_local, is_phi, is_phi_operand, phi_operand}
 use Rattle.fact_sources.specs.Candidates.{candidates}
 use Rattle.point_edit.specs.declared.fact.Fact.{Fact}
 

@@ -8,8 +8,8 @@ use Rattle.ir_tree.specs.Rules.{Sound}
 use Rattle.ir_meaning.specs.Act.{find_block}
 use Rattle.ir_meaning.specs.Near.{BetterThan}
 use Rattle.ir_meaning.specs.Program.{Program}
-use Rattle.ir_better.specs.Facts.{EdgeFacts, Facts, Has, IsTarget, behind_lines, function_replaced, is_phi_operand}
-use Rattle.ir_better.specs.Formed.{IsFormed}
+use Rattle.ir_meaning.specs.Facts.{EdgeFacts, Facts, Has, IsTarget, behind_lines, function_replaced, is_phi_operand}
+use Rattle.ir_meaning.specs.Formed.{IsFormed}
 use Rattle.ir_edit.specs.Substituted.{replacement, substituted}
 use Rattle.fact_sources.specs.Candidates.{candidates}
 use Rattle.fact_sources.specs.Settled.{IsSettled, settled}

@@ -3,7 +3,7 @@ ghost use Rattle.std.specs.Prelude.{◌≡◌, ◌&&◌, ◌||◌, ℕ, true, na
 ghost use Rattle.std.specs.BTreeMap.{get};
 ghost use Rattle.std.specs.HashSet.{contains};
 ghost use Rattle.std.specs.Ordering.{nat_cmp};
-ghost use Rattle.ir_better.specs.Facts.{is_phi};
+ghost use Rattle.ir_meaning.specs.Facts.{is_phi};
 ghost use Rattle.fact_sources.specs.Askable.{BlocksHaveWidths};
 ghost use Rattle.fact_sources.specs.Candidates.{phi_candidates};
 ghost use Rattle.ir_facts.specs.Clear.{IsClear, any_among, block_clear, blocks_clear, entries_barred, is_taken, lines_clear, phis_barred, with_given};

@@ -1,7 +1,7 @@
 //! The equations of one fact, from block to block.
 ghost use Rattle.std.specs.Prelude.{◌≡◌, ◌<◌, ℕ, false, length, option_map, slice_set};
 ghost use Rattle.lto_sets.specs.Sets.{contains};
-ghost use Rattle.ir_better.specs.Facts.{edge_operand, is_phi_operand};
+ghost use Rattle.ir_meaning.specs.Facts.{edge_operand, is_phi_operand};
 ghost use Rattle.ir_flow.specs.OfFunction.{IsGraphOf};
 ghost use Rattle.ir_facts.specs.FactFlow.{opened, phi_in, phi_of, taken_from};
 ghost use Rattle.ir_facts.specs.Points.{entry_holds, held_along, held_behind};

@@ -17,7 +17,7 @@
 //! better ([`steps_are_better`]), and the two definitions of where facts hold agree ([`facts_at_points_agree`]).
 //!
 //! Below this crate stand `fact_sources`, `point_edit`, `ir_tree`, `ir_flow`, `lto_sets`, `ir_edit`, `fold_rules`, and
-//! `ir_meaning` and `ir_better` for what is proved. A round goes through the function a few times, and looks each use up in one
+//! `ir_meaning` for what is proved. A round goes through the function a few times, and looks each use up in one
 //! table (`Substitution` of `fact_sources`); rounds end behind one that changes nothing. Where no unreached block gives a local a
 //! value, blocks are copied once for all rounds, and a round makes anew only what has a use that is replaced; else each round
 //! copies the function. `facts` solves the equations of each fact by itself, and so does a round where blocks aren't clear.

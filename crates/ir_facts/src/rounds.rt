@@ -4,7 +4,7 @@ ghost use Rattle.std.specs.HashSet.{contains};
 ghost use Rattle.ir_tree.specs.Rules.{Sound};
 ghost use Rattle.ir_meaning.specs.Near.{BetterThan};
 ghost use Rattle.ir_meaning.specs.Program.{Program};
-ghost use Rattle.ir_better.specs.Formed.{IsFormed};
+ghost use Rattle.ir_meaning.specs.Formed.{IsFormed};
 ghost use Rattle.fact_sources.specs.Apart.{IsApart, resting};
 ghost use Rattle.fact_sources.specs.Substitutions.{IsOf};
 ghost use Rattle.fact_sources.specs.Candidates.{candidates};

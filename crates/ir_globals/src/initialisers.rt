@@ -17,7 +17,10 @@ use crate::constants::constant_at;
 use crate::pairs::beside;
 use ir_lex::Head;
 use ir_operands::{brace_behind_angle_at, memory_shape_at};
-use ir_read::{Init, InitHead, InitPart, Name, Shape, ShapeNode, Tokens, Typed, done, expect, memory_refusal, refusal};
+use ir_read::{
+    Init, InitHead, InitPart, Name, Shape, ShapeNode, Tokens, Typed, done, expect, memory_refusal,
+    refusal,
+};
 use ir_tree::{Reg, Rows};
 use lto_forms::{Fault, FaultKind, ReadError};
 use std::alloc::{AllocFailed, Global};

@@ -5,8 +5,8 @@ ghost use Rattle.ir_operands.specs.Adding.{pushed_at};
 ghost use Rattle.ir_heads.specs.AttributesAt.{attribute_group_at};
 ghost use Rattle.ir_heads.specs.TargetsAt.{layout_line_at, triple_line_at};
 
-use ir_operands::push;
 use ir_heads::{attribute_group_at, layout_line_at, triple_line_at};
+use ir_operands::push;
 use ir_read::{Item, Tokens};
 use lto_forms::ReadError;
 use std::alloc::Global;

@@ -14,10 +14,13 @@ ghost use Rattle.ir_globals.specs.Variables.{KINDS, NAMES, is_constant, is_decla
 ghost use Rattle.ir_globals.specs.VariablesAt.{variable_name_at, linkage_at, qualifiers_at, linked_at, value_at, comdat_name_at, in_comdat_at, aligned_at, marked_at, further_at, headed_at, tail_at, variable_line_at};
 
 use crate::initialisers::{initialiser_at, scalar_of, shape_at};
+use ir_heads::{comes_qualifier, linkage_by, name_refusal, qualifier_word_at, with_linkage};
 use ir_lex::{Head, Token};
 use ir_operands::push;
-use ir_heads::{comes_qualifier, linkage_by, name_refusal, qualifier_word_at, with_linkage};
-use ir_read::{Init, Item, Name, Tokens, Variable, alignment_at, attached_at, done, expect, global_named, refusal};
+use ir_read::{
+    Init, Item, Name, Tokens, Variable, alignment_at, attached_at, done, expect, global_named,
+    refusal,
+};
 use ir_tree::{Linkage, Reg};
 use lto_forms::{Fault, FaultKind, ReadError};
 use std::alloc::Global;

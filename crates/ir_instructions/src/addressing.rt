@@ -17,7 +17,10 @@ ghost use Rattle.ir_read.specs.Shapes.{parts_of};
 use crate::instructions::{align_at, aligned_at, pointed_at};
 use ir_lex::{Head, Token};
 use ir_operands::{Listing, Measured, counted, memory_shape_at, operand_at, push, stepping_at};
-use ir_read::{Argument, Instr, Shape, ShapeNode, Tokens, Typed, attached_at, expect, integer_at, refusal, reg_at};
+use ir_read::{
+    Argument, Instr, Shape, ShapeNode, Tokens, Typed, attached_at, expect, integer_at, refusal,
+    reg_at,
+};
 use ir_tree::Rows;
 use lto_forms::{Fault, FaultKind, ReadError};
 use std::alloc::Global;

@@ -14,7 +14,10 @@ ghost use Rattle.ir_instructions.specs.InstructionsAt.{arm_at, pointed_at, secon
 
 use ir_lex::{Head, Token};
 use ir_operands::{Listing, operand_at, pointer_at};
-use ir_read::{Argument, Instr, Operand, Tokens, alignment_at, attached_at, attachments_at, bit_at, expect, integer_at, maybe_at, refusal, reg_at, scalar_at};
+use ir_read::{
+    Argument, Instr, Operand, Tokens, alignment_at, attached_at, attachments_at, bit_at, expect,
+    integer_at, maybe_at, refusal, reg_at, scalar_at,
+};
 use ir_tree::{BinaryOp, CastOp, Flags, Predicate, Reg};
 use lto_forms::{Fault, FaultKind, ReadError};
 use std::alloc::Global;

@@ -11,7 +11,10 @@ ghost use Rattle.ir_instructions.specs.TerminatorsAt.{branch_at, returning_at, t
 
 use ir_lex::{Head, Token};
 use ir_operands::operand_at;
-use ir_read::{Argument, Case, Name, Terminator, Tokens, attachments_at, bit_at, done, expect, integer_at, literal, local_at, refusal, reg_at, result_at, type_refusal};
+use ir_read::{
+    Argument, Case, Name, Terminator, Tokens, attachments_at, bit_at, done, expect, integer_at,
+    literal, local_at, refusal, reg_at, result_at, type_refusal,
+};
 use ir_tree::{Reg, Rows};
 use lto_forms::{Fault, FaultKind, ReadError};
 use std::alloc::Global;

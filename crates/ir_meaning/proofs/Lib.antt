@@ -1,1 +1,22 @@
 pub mod WordsAgreeing
+pub mod Runs
+pub mod Between
+pub mod Alike
+pub mod Unneeded
+pub mod Inlining
+pub mod Facts
+pub mod Rules
+pub mod Slots
+pub mod Blocks
+pub mod Names
+pub mod Numbers
+pub mod Counting
+pub mod Entries
+pub mod Everywhere
+pub mod Exits
+pub mod Counted
+pub mod Numbered
+pub mod Inside
+pub mod Sized
+mod Parts
+pub mod Verified

@@ -17,7 +17,9 @@ ghost use Rattle.ir_read.specs.Shapes.{array, parts_of, structure};
 
 use crate::extents::{Align, Extent, Room};
 use ir_lex::{Head, Token};
-use ir_read::{Shape, Tokens, Typed, decimal, expect, literal, memory_refusal, named, refusal, width};
+use ir_read::{
+    Shape, Tokens, Typed, decimal, expect, literal, memory_refusal, named, refusal, width,
+};
 use lto_forms::{Fault, FaultKind, ReadError};
 use std::alloc::Global;
 

@@ -17,7 +17,10 @@ ghost use Rattle.ir_operands.specs.ValuesAt.{address_at, all_openings_at, closin
 use crate::adding::push;
 use crate::shapes::memory_shape_at;
 use ir_lex::{Head, Token};
-use ir_read::{Address, Index, Level, Name, Operand, Steps, Tokens, Typed, done, expect, global_named, integer_at, literal, refusal, simple_at, type_refusal};
+use ir_read::{
+    Address, Index, Level, Name, Operand, Steps, Tokens, Typed, done, expect, global_named,
+    integer_at, literal, refusal, simple_at, type_refusal,
+};
 use ir_tree::{Reg, Rows};
 use lto_forms::{Fault, FaultKind, ReadError};
 use std::alloc::Global;

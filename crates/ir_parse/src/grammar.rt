@@ -9,8 +9,8 @@ ghost use Rattle.ir_parse.specs.Kinds.{refused_kind, grammar_fault};
 
 use crate::fault::{FaultKind, ReadError, ReadFault};
 use crate::items::items_into;
-use ir_lex::{Head, Lexed, Token};
 use ir_heads::name_refusal;
+use ir_lex::{Head, Lexed, Token};
 use ir_read::{Item, Tokens};
 use ir_tree::Text;
 use lto_forms::{Fault as Refusal, FaultKind as RefusalKind, ReadError as GrammarError};

@@ -19,10 +19,15 @@ ghost use Rattle.ir_parse.specs.Putting.{behind_at};
 use ir_globals::{
     attribute_group_into, layout_line_into, triple_line_into, type_line_into, variable_line_into,
 };
+use ir_heads::{
+    Role, comdat_line_at, head_at, head_attribute_at, is_attribute_word, source_line_at,
+};
 use ir_lex::Head;
 use ir_operands::push;
-use ir_heads::{Role, comdat_line_at, head_at, head_attribute_at, is_attribute_word, source_line_at};
-use ir_read::{Before, Item, Position, Tokens, attached_at, expect, metadata_behind_at, metadata_line_at, node_yet_at};
+use ir_read::{
+    Before, Item, Position, Tokens, attached_at, expect, metadata_behind_at, metadata_line_at,
+    node_yet_at,
+};
 use lto_forms::{Fault, FaultKind, ReadError};
 use std::alloc::Global;
 

@@ -13,10 +13,10 @@ use Rattle.ir_tree.specs.declared.module.GlobalValue.{GlobalValue}
 use Rattle.ir_tree.specs.declared.module.GlobalValue.TheVariants as global
 use Rattle.ir_tree.specs.declared.operand.Reg.{Reg}
 use Rattle.ir_meaning.specs.Program.{Program}
-use Rattle.ir_better.specs.Programs.{program_of, regs_of}
-use Rattle.ir_better.proofs.Alike.Itself.{same_better}
-use Rattle.ir_better.proofs.Between.LargerBounds.{wider}
-use Rattle.ir_better.proofs.Numbered.{programs_formed}
+use Rattle.ir_meaning.specs.Programs.{program_of, regs_of}
+use Rattle.ir_meaning.proofs.Alike.Itself.{same_better}
+use Rattle.ir_meaning.proofs.Between.LargerBounds.{wider}
+use Rattle.ir_meaning.proofs.Numbered.{programs_formed}
 use Rattle.merge_meaning.specs.Linked.{Improves, has_body}
 use Rattle.back_end.specs.Inlinable.{AreSound, HasBodies, has_blocks}
 use Rattle.back_end.specs.Laws.{HasInterfaceOf, MadeHasInterface, MadeIsBetter}

@@ -9,9 +9,9 @@ use Rattle.ir_tree.specs.declared.module.Module.{Module}
 use Rattle.ir_tree.specs.declared.operand.Symbol.{Symbol}
 use Rattle.ir_meaning.specs.Memory.{Memory}
 use Rattle.ir_meaning.specs.Refine.{RefinesUnder}
-use Rattle.ir_better.specs.Rename.{then_names}
-use Rattle.ir_better.proofs.Runs.Transitive.{chained_under}
-use Rattle.ir_better.specs.Programs.{program_of}
+use Rattle.ir_meaning.specs.Rename.{then_names}
+use Rattle.ir_meaning.proofs.Runs.Transitive.{chained_under}
+use Rattle.ir_meaning.specs.Programs.{program_of}
 use Rattle.combined_index.specs.Combined.{Combined}
 use Rattle.promote_rename.specs.Finals.{NoneTaken, final_names}
 use Rattle.merge_meaning.specs.Laws.{AllWhole}

@@ -8,7 +8,7 @@ use Rattle.ir_tree.specs.declared.module.Module.{Module}
 use Rattle.ir_tree.specs.declared.operand.Symbol.{Symbol}
 use Rattle.ir_summary.specs.Summaries.{summaries}
 use Rattle.symbol_resolve.specs.Resolved.{symbols}
-use Rattle.ir_better.specs.Programs.{shared}
+use Rattle.ir_meaning.specs.Programs.{shared}
 use Rattle.combined_index.specs.Combined.{Combined, prevailing_of}
 use Rattle.combined_index.specs.Entries as entries
 use Rattle.combined_index.specs.Indexed.{named, symbol_at}

@@ -11,7 +11,7 @@ use Rattle.ir_tree.specs.declared.function.Variable.{Variable}
 use Rattle.ir_tree.specs.declared.module.GlobalValue.{GlobalValue}
 use Rattle.ir_tree.specs.declared.module.GlobalValue.TheVariants as global
 use Rattle.ir_tree.specs.declared.operand.Symbol.{Symbol}
-use Rattle.ir_better.specs.Programs.{body_of}
+use Rattle.ir_meaning.specs.Programs.{body_of}
 use Rattle.merge_meaning.specs.Linked.{IsDefinition}
 use Rattle.back_end.specs.Inlinable.{AreSound, has_blocks}
 use Rattle.back_end.specs.Laws.{AreKnown, HasInterfaceOf, MadeHasInterface, MadeIsKnown, MadeIsSound}

@@ -24,8 +24,8 @@ use Rattle.ir_tree.specs.declared.operand.Reg.TheVariants.{Int, Ptr}
 use Rattle.ir_tree.specs.declared.operand.Symbol.{Symbol}
 use Rattle.ir_tree.specs.Edited.{argument_edited, with_operands}
 use Rattle.ir_meaning.specs.Refine.{Naming}
-use Rattle.ir_better.specs.Rename.{ArgumentsName, BlocksName, EdgesName, EndNames, InstrNames, LinesName, OperandNames, PhisName, block_under, edge_under, end_under, line_under, operand_under, phi_under}
-use Rattle.ir_better.specs.Programs.{Body, Definition, Storage, body_of, defined, storage_of}
+use Rattle.ir_meaning.specs.Rename.{ArgumentsName, BlocksName, EdgesName, EndNames, InstrNames, LinesName, OperandNames, PhisName, block_under, edge_under, end_under, line_under, operand_under, phi_under}
+use Rattle.ir_meaning.specs.Programs.{Body, Definition, Storage, body_of, defined, storage_of}
 use Rattle.merge_meaning.specs.Globals.{InitialNames, InitialsName, function_under, global_under, initial_under, initials_under}
 use Rattle.merge_meaning.specs.Linked.{DefinitionNames}
 use Rattle.merge_meaning.proofs.Looked.{some_is}

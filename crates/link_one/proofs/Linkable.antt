@@ -6,7 +6,7 @@ use Rattle.ir_tree.specs.Wholes.{GlobalFormed, GlobalKnown, GlobalSound, IsVerif
 use Rattle.ir_tree.specs.declared.module.GlobalValue.{GlobalValue}
 use Rattle.ir_tree.specs.declared.module.Module.{Module}
 use Rattle.ir_tree.specs.declared.operand.Symbol.{Symbol}
-use Rattle.ir_better.specs.Programs.{program_of}
+use Rattle.ir_meaning.specs.Programs.{program_of}
 use Rattle.merge_meaning.specs.Laws.{AllWhole, LiveByModule, PartsAreSound, PartsDefine}
 use Rattle.merge_meaning.specs.Linked.{Improves, IsDefinition}
 use Rattle.merge_meaning.specs.Lives.{live_globals, live_outside, parts}

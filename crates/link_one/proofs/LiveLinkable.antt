@@ -13,7 +13,7 @@ use Rattle.ir_tree.specs.declared.module.Module.{Module}
 use Rattle.ir_tree.specs.declared.operand.Symbol.{Symbol}
 use Rattle.ir_tree.proofs.Symbols.{symbol_true}
 use Rattle.ir_meaning.specs.Refine.{Naming}
-use Rattle.ir_better.specs.Programs.{Body, Definition, Storage, defined, definition_of, is_declared, shared, symbol_of}
+use Rattle.ir_meaning.specs.Programs.{Body, Definition, Storage, defined, definition_of, is_declared, shared, symbol_of}
 use Rattle.combined_index.specs.Combined.{Combined}
 use Rattle.combined_index.specs.declared.definition.Definition.{Definition as Listed}
 use Rattle.liveness.proofs.Sources.{any_one}

@@ -11,10 +11,10 @@ use Rattle.ir_tree.specs.declared.module.Module.{Module}
 use Rattle.ir_tree.specs.declared.operand.Symbol.{Symbol}
 use Rattle.ir_tree.proofs.Symbols.{symbol_true}
 use Rattle.ir_meaning.specs.Program.{Program}
-use Rattle.ir_better.specs.Formed.{IsFormed}
-use Rattle.ir_better.proofs.Alike.Itself.{same_better}
-use Rattle.ir_better.specs.Programs.{shared}
-use Rattle.ir_better.proofs.Numbered.{programs_formed}
+use Rattle.ir_meaning.specs.Formed.{IsFormed}
+use Rattle.ir_meaning.proofs.Alike.Itself.{same_better}
+use Rattle.ir_meaning.specs.Programs.{shared}
+use Rattle.ir_meaning.proofs.Numbered.{programs_formed}
 use Rattle.combined_index.specs.Combined.{Combined, is_plain, number_of, prevailing_of}
 use Rattle.combined_index.specs.declared.definition.Definition.{Definition as Listed}
 use Rattle.liveness.specs.Reach.{starts}

@@ -18,7 +18,7 @@ use Rattle.symbol_resolve.specs.Prevailing.{prevailing}
 use Rattle.symbol_resolve.specs.Resolved.{symbols}
 use Rattle.symbol_resolve.specs.declared.mention.Standing.{Standing}
 use Rattle.ir_meaning.specs.Frame.{AHost, GetChar, Missing, PutChar}
-use Rattle.ir_better.specs.Programs.{Body, Definition, Storage, definition_of, host_of, kind_of, shared, signature_of, symbol_of, undefined_kind}
+use Rattle.ir_meaning.specs.Programs.{Body, Definition, Storage, definition_of, host_of, kind_of, shared, signature_of, symbol_of, undefined_kind}
 use Rattle.lto_sets.specs.Sets.{contains as is_member}
 use Rattle.combined_index.specs.Combined.{Combined, prevailing_of}
 use Rattle.combined_index.specs.Entries.{Entry}

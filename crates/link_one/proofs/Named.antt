@@ -14,7 +14,7 @@ use Rattle.ir_tree.specs.declared.operand.Operand.TheVariants.{Local, Number as 
 use Rattle.ir_tree.specs.declared.operand.Symbol.{Symbol}
 use Rattle.ir_summary.specs.References.{all_named, global_names, named}
 use Rattle.ir_meaning.specs.Refine.{Naming}
-use Rattle.ir_better.specs.Rename.{argument_under, operand_under}
+use Rattle.ir_meaning.specs.Rename.{argument_under, operand_under}
 use Rattle.merge_meaning.specs.Globals.{function_under, global_under, variable_under}
 use Rattle.merge_meaning.proofs.Sounds.{init_same, item_under, items_same, operands_same}
 use Rattle.merge_meaning.proofs.Standing.{alone, in_map, joined_from, map_from, nothing}

@@ -16,7 +16,7 @@ use Rattle.ir_tree.specs.declared.module.GlobalValue.TheVariants as global
 use Rattle.ir_tree.specs.declared.module.Module.{Module}
 use Rattle.ir_tree.specs.declared.operand.Symbol.{Symbol}
 use Rattle.ir_summary.specs.References.{global_names}
-use Rattle.ir_better.specs.Programs.{shared, symbol_of}
+use Rattle.ir_meaning.specs.Programs.{shared, symbol_of}
 use Rattle.combined_index.specs.Combined.{prevailing_of}
 use Rattle.combined_index.specs.Entries.{is_module}
 use Rattle.combined_index.specs.Indexed.{symbol_at}

@@ -15,7 +15,7 @@ use Rattle.ir_tree.specs.Initials.{Initial}
 use Rattle.ir_tree.specs.Symbols.{symbol_eq}
 use Rattle.ir_tree.proofs.Symbols.{symbol_same as symbols_same, symbol_true}
 use Rattle.ir_summary.specs.References.{global_names}
-use Rattle.ir_better.specs.Programs.{Definition, shared, symbol_of}
+use Rattle.ir_meaning.specs.Programs.{Definition, shared, symbol_of}
 use Rattle.symbol_resolve.specs.Mentions.{function_standing, mentions, variable_standing}
 use Rattle.symbol_resolve.specs.Prevailing.{prevailing}
 use Rattle.combined_index.specs.Combined.{Combined}

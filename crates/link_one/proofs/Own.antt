@@ -14,7 +14,7 @@ use Rattle.ir_tree.specs.declared.operand.Symbol.{Symbol}
 use Rattle.ir_meaning.specs.Frame.{AFunction}
 use Rattle.ir_tree.specs.Symbols.{symbol_eq}
 use Rattle.ir_tree.proofs.Symbols.{symbol_same, symbol_true}
-use Rattle.ir_better.specs.Programs.{Body, Definition, behind, body_of, code_of, defined, defined_blocks, definition_from, definition_of, is_declared, kind_of, or_else, program_of, regs_of, symbol_of}
+use Rattle.ir_meaning.specs.Programs.{Body, Definition, behind, body_of, code_of, defined, defined_blocks, definition_from, definition_of, is_declared, kind_of, or_else, program_of, regs_of, symbol_of}
 use Rattle.std.specs.Prelude.{◌&&◌, not, nat_le}
 use Rattle.std.proofs.lemmas.Bool.{and_parts}
 use Rattle.ir_tree.specs.Linkages.{defines, is_replaceable}

@@ -3,7 +3,7 @@ use Rattle.std.proofs.Common.{◌≡◌, ◌∙◌, not, ℕ, Bor, Bool, true, f
 use Rattle.std.proofs.lemmas.List.{map-append}
 use Rattle.ir_tree.specs.Linkages.{is_local}
 use Rattle.ir_tree.specs.declared.module.GlobalValue.{GlobalValue}
-use Rattle.ir_better.specs.Programs.{symbol_of}
+use Rattle.ir_meaning.specs.Programs.{symbol_of}
 use Rattle.importer.specs.Tables.{values}
 use Rattle.importer.proofs.Gathering.{Joins}
 use Rattle.link_one.specs.Units.{linkage_in, shown}

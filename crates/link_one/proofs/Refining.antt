@@ -11,7 +11,7 @@ use Rattle.ir_tree.specs.declared.module.GlobalValue.TheVariants as global
 use Rattle.ir_tree.specs.declared.module.Module.{Module}
 use Rattle.ir_tree.specs.declared.operand.Symbol.{Symbol}
 use Rattle.ir_meaning.specs.Refine.{RefinesUnder}
-use Rattle.ir_better.specs.Programs.{Definition, behind, defined, defined_init, definition_from, or_else, program_of, shared, storage_of, symbol_of}
+use Rattle.ir_meaning.specs.Programs.{Definition, behind, defined, defined_init, definition_from, or_else, program_of, shared, storage_of, symbol_of}
 use Rattle.merge_meaning.specs.Laws.{OutsideIsDeclared}
 use Rattle.merge_meaning.specs.Linked.{IsDefinition}
 use Rattle.merge_meaning.specs.Lives.{is_export}

@@ -15,7 +15,7 @@ use Rattle.ir_tree.specs.Linkages.{defines, is_replaceable}
 use Rattle.ir_tree.specs.declared.function.Function.{Function}
 use Rattle.ir_tree.specs.declared.module.GlobalValue.{GlobalValue}
 use Rattle.ir_tree.specs.declared.module.GlobalValue.TheVariants as global
-use Rattle.ir_better.specs.Programs.{symbol_of}
+use Rattle.ir_meaning.specs.Programs.{symbol_of}
 use Rattle.merge_meaning.specs.ByName.{IsInOrder, name_cmp}
 use Rattle.merge_meaning.specs.Hosts.{host}
 use Rattle.back_end.specs.Inlinable.{bodies_of, calls, count, may_inline, offered, or_else}

@@ -14,7 +14,7 @@ use Rattle.ir_tree.specs.Formed.{Distinct}
 use Rattle.ir_tree.specs.Wholes.{GlobalFormed, IsVerified}
 use Rattle.ir_tree.specs.declared.module.GlobalValue.{GlobalValue}
 use Rattle.ir_tree.specs.declared.module.Module.{Module}
-use Rattle.ir_better.specs.Programs.{symbol_of}
+use Rattle.ir_meaning.specs.Programs.{symbol_of}
 use Rattle.combined_index.specs.Combined.{Combined}
 use Rattle.combined_index.specs.Indexed.{symbol_at}
 use Rattle.liveness.proofs.Sources.{find_one}

@@ -16,7 +16,7 @@ use Rattle.ir_tree.specs.declared.function.Variable.{Variable}
 use Rattle.ir_tree.specs.declared.module.GlobalValue.{GlobalValue}
 use Rattle.ir_tree.specs.declared.module.GlobalValue.TheVariants as global
 use Rattle.ir_tree.specs.declared.operand.Symbol.{Symbol}
-use Rattle.ir_better.specs.Programs.{body_of, storage_of, symbol_of}
+use Rattle.ir_meaning.specs.Programs.{body_of, storage_of, symbol_of}
 use Rattle.merge_meaning.specs.Linked.{IsDefinition}
 use Rattle.merge_meaning.specs.Hosts.{getchar, putchar}
 use Rattle.merge_meaning.proofs.Looked.{same_symbol}

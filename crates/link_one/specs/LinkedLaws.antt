@@ -4,7 +4,7 @@ use Rattle.ir_tree.specs.Wholes.{IsVerified}
 use Rattle.ir_tree.specs.declared.module.Module.{Module}
 use Rattle.ir_print.specs.Modules.{module_text}
 use Rattle.ir_meaning.specs.Refine.{RefinesUnder}
-use Rattle.ir_better.specs.Programs.{program_of}
+use Rattle.ir_meaning.specs.Programs.{program_of}
 use Rattle.merge_meaning.specs.Lives.{is_export, parts}
 use Rattle.merge_meaning.specs.Merged.{merged}
 use Rattle.lto_fault.specs.declared.refusal.Refusal.{Refusal}

@@ -4,7 +4,7 @@ use Rattle.std.specs.List.{AllZip}
 use Rattle.ir_tree.specs.declared.module.Module.{Module}
 use Rattle.ir_meaning.specs.Refine.{RefinesUnder}
 use Rattle.ir_print.specs.Modules.{module_text}
-use Rattle.ir_better.specs.Programs.{program_of}
+use Rattle.ir_meaning.specs.Programs.{program_of}
 use Rattle.merge_meaning.specs.Lives.{is_export}
 use Rattle.merge_meaning.specs.Merged.{merged}
 use Rattle.promote_rename.specs.Suffixes.{suffix_of}

@@ -5,8 +5,8 @@ use Rattle.ir_tree.specs.declared.module.GlobalValue.{GlobalValue}
 use Rattle.ir_tree.specs.declared.module.Module.{Module}
 use Rattle.ir_tree.specs.declared.operand.Symbol.{Symbol}
 use Rattle.ir_meaning.specs.Refine.{RefinesUnder}
-use Rattle.ir_better.specs.Rename.{then_names}
-use Rattle.ir_better.specs.Programs.{definition_of, program_of, shared}
+use Rattle.ir_meaning.specs.Rename.{then_names}
+use Rattle.ir_meaning.specs.Programs.{definition_of, program_of, shared}
 use Rattle.combined_index.specs.Combined.{Combined, prevailing_of}
 use Rattle.liveness.specs.Liveness.{refs}
 use Rattle.promote_rename.specs.Finals.{NoneTaken, final_names}

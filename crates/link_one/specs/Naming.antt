@@ -4,7 +4,7 @@ use Rattle.ir_tree.specs.declared.module.GlobalValue.{GlobalValue}
 use Rattle.ir_tree.specs.declared.module.Module.{Module}
 use Rattle.ir_tree.specs.declared.operand.Symbol.{Symbol}
 use Rattle.ir_meaning.specs.Refine.{Naming}
-use Rattle.ir_better.specs.Rename.{then_names}
+use Rattle.ir_meaning.specs.Rename.{then_names}
 use Rattle.merge_meaning.specs.Linked.{back_names}
 use Rattle.merge_meaning.specs.Lives.{live_names, live_outside}
 use Rattle.emit.specs.Laws.{keeps_symbol}

@@ -3,7 +3,7 @@ ghost use Rattle.std.specs.Prelude.{◌≡◌, ◌++◌, ◌∷◌, [], OnOk};
 ghost use Rattle.importer.specs.Tables.{values};
 ghost use Rattle.link_one.specs.Units.{linkage_in, shown};
 
-use ir_better::symbol_of;
+use ir_meaning::symbol_of;
 use ir_tree::{GlobalValue, Linkage, Rows, Text};
 use std::alloc::{AllocError, Global};
 

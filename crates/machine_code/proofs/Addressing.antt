@@ -17,7 +17,7 @@ use Rattle.ir_machine.specs.declared.memory.Memory.{Memory}
 use Rattle.ir_machine.specs.declared.scalar.Base.{Base}
 use Rattle.ir_machine.specs.declared.scalar.Base.TheVariants.{Block, Function}
 use Rattle.ir_machine.specs.declared.scalar.Scalar.{Scalar}
-use Rattle.ir_better.specs.Programs.{Definition, definition_of, kind_of, signature_of, symbol_of}
+use Rattle.ir_meaning.specs.Programs.{Definition, definition_of, kind_of, signature_of, symbol_of}
 use Rattle.machine_code.specs.MemoryAddresses.{HasAddresses, IsFrom, address_at, base_in}
 use Rattle.machine_code.specs.Openings.{HoldsVariables}
 use Rattle.machine_code.specs.Tables.{IsBased, IsTable, base_of, bytes_of, kind_at, number_at}

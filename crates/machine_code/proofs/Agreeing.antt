@@ -6,7 +6,7 @@ use Rattle.ir_tree.specs.declared.operand.Operand.TheVariants as operand
 use Rattle.ir_tree.specs.declared.operand.Symbol.{Symbol}
 use Rattle.ir_meaning.specs.Frame.{Signature, value_of}
 use Rattle.ir_meaning.specs.declared.value.Value.{Value}
-use Rattle.ir_better.specs.Programs.{opening_from}
+use Rattle.ir_meaning.specs.Programs.{opening_from}
 use Rattle.machine_code.specs.MemoryAddresses.{HasAddresses, value_in}
 use Rattle.machine_code.specs.declared.bases.Bases.{Bases}
 

@@ -21,9 +21,9 @@ use Rattle.ir_machine.specs.declared.block.Block.{Block}
 use Rattle.ir_machine.specs.declared.memory.Memory.{Memory}
 use Rattle.ir_machine.specs.declared.scalar.Base.{Base}
 use Rattle.ir_machine.specs.declared.scalar.Pointer.{Pointer}
-use Rattle.ir_better.specs.Programs.{Body, Definition, Storage, behind, block_of, defined, opening_from, program_of, signature_of, storage_in, storage_of}
-use Rattle.ir_better.proofs.Numbered.{storage_same}
-use Rattle.ir_better.specs.Runnable.{AreRunnable, IsRunnableGlobal}
+use Rattle.ir_meaning.specs.Programs.{Body, Definition, Storage, behind, block_of, defined, opening_from, program_of, signature_of, storage_in, storage_of}
+use Rattle.ir_meaning.proofs.Numbered.{storage_same}
+use Rattle.ir_meaning.specs.Runnable.{AreRunnable, IsRunnableGlobal}
 use Rattle.machine_code.specs.MemoryAddresses.{IsBaseIn, value_in}
 use Rattle.machine_code.specs.Openings.{HoldsVariables, IsGlobalSound, IsOpening}
 use Rattle.machine_code.specs.Tables.{IsGlobalLaidOut, IsTable, bytes_of, number_at}

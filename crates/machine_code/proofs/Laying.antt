@@ -10,7 +10,7 @@ use Rattle.ir_tree.specs.declared.operand.Operand.{Operand}
 use Rattle.ir_tree.proofs.Layouts.{align_least, ends_least, rounded_least, size_ends}
 use Rattle.ir_meaning.specs.declared.value.Byte.{Byte}
 use Rattle.ir_meaning.specs.declared.value.Value.{Value}
-use Rattle.ir_better.specs.Constants.{element_bytes, initial_bytes, member_bytes, zero_bytes}
+use Rattle.ir_meaning.specs.Constants.{element_bytes, initial_bytes, member_bytes, zero_bytes}
 use Rattle.machine_code.specs.Images.{Admits, TakesAll, head_bytes, opened_by, parts_bytes}
 use Rattle.machine_code.specs.declared.open.Open.{Open}
 use Rattle.machine_code.specs.declared.open.Open.TheVariants.{Elements, Members}

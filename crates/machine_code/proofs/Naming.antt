@@ -10,7 +10,7 @@ use Rattle.ir_tree.specs.Symbols.{symbol_eq}
 use Rattle.ir_tree.proofs.Symbols.{symbol_same, symbol_true}
 use Rattle.ir_machine.specs.Meant.{symbol_at, symbol_or_none}
 use Rattle.ir_machine.specs.Names.{AreDistinct}
-use Rattle.ir_better.specs.Programs.{Definition, behind, code_of, defined, definition_from, definition_of, is_declared, kind_of, or_else, program_of, signature_of, symbol_of}
+use Rattle.ir_meaning.specs.Programs.{Definition, behind, code_of, defined, definition_from, definition_of, is_declared, kind_of, or_else, program_of, signature_of, symbol_of}
 use Rattle.machine_code.specs.Tables.{kind_at, number_at}
 use Rattle.machine_code.proofs.Lists.{there}
 

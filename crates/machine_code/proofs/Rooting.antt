@@ -17,7 +17,7 @@ use Rattle.ir_machine.specs.declared.scalar.Base.TheVariants as base
 use Rattle.ir_interp.specs.Calls.{IsKind}
 use Rattle.ir_interp.specs.declared.callee.Entity.{Entity}
 use Rattle.ir_interp.specs.declared.callee.Entity.TheVariants as entity
-use Rattle.ir_better.specs.Programs.{body_of, defined_blocks, kind_of, regs_of, shared, symbol_of}
+use Rattle.ir_meaning.specs.Programs.{body_of, defined_blocks, kind_of, regs_of, shared, symbol_of}
 use Rattle.ir_interp.specs.Code.{function_in, locals_of}
 use Rattle.ir_interp.specs.Steps.{CanBegin}
 use Rattle.ir_interp.specs.declared.code.Function.{Function}

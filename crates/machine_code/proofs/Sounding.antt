@@ -18,7 +18,7 @@ use Rattle.ir_tree.specs.declared.operand.Reg.{Reg}
 use Rattle.ir_tree.specs.declared.operand.Reg.TheVariants.{Int, Ptr}
 use Rattle.ir_machine.specs.Marks.{HasWidth}
 use Rattle.ir_interp.specs.Tasks.{IsSoundCast}
-use Rattle.ir_better.specs.Runnable.{IsRunnableBlock, IsRunnableFunction, IsRunnableInstr}
+use Rattle.ir_meaning.specs.Runnable.{IsRunnableBlock, IsRunnableFunction, IsRunnableInstr}
 use Rattle.machine_code.specs.Blocks.{HasSoundInstrs, IsSoundBlock}
 use Rattle.machine_code.specs.Tasks.{IsSoundInstr}
 

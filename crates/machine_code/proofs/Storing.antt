@@ -18,9 +18,9 @@ use Rattle.ir_machine.specs.Blocks.{block_meant}
 use Rattle.ir_machine.specs.Bytes.{bytes_len, bytes_meant}
 use Rattle.ir_machine.specs.declared.block.Block.{Block}
 use Rattle.ir_machine.specs.declared.bytes.Bytes.{Bytes}
-use Rattle.ir_better.specs.Constants.{initial_bytes}
-use Rattle.ir_better.specs.Programs.{Body, Definition, Storage, behind, body_of, defined, defined_blocks, defined_init, kind_of, opening_from, storage_in, storage_of, symbol_of}
-use Rattle.ir_better.proofs.Numbered.{no_variable, storage_same}
+use Rattle.ir_meaning.specs.Constants.{initial_bytes}
+use Rattle.ir_meaning.specs.Programs.{Body, Definition, Storage, behind, body_of, defined, defined_blocks, defined_init, kind_of, opening_from, storage_in, storage_of, symbol_of}
+use Rattle.ir_meaning.proofs.Numbered.{no_variable, storage_same}
 use Rattle.machine_code.specs.MemoryAddresses.{HoldsFrom, value_in}
 use Rattle.machine_code.specs.Openings.{IsAdded, IsVariableBlock}
 use Rattle.machine_code.specs.Tables.{kind_at, number_at}

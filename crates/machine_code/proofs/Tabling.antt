@@ -7,7 +7,7 @@ use Rattle.ir_tree.specs.Wholes.{symbols}
 use Rattle.ir_tree.specs.declared.module.GlobalValue.{GlobalValue}
 use Rattle.ir_tree.specs.declared.operand.Symbol.{Symbol}
 use Rattle.ir_machine.specs.declared.scalar.Base.{Base}
-use Rattle.ir_better.specs.Programs.{Body, Definition, Storage, behind, defined, symbol_of}
+use Rattle.ir_meaning.specs.Programs.{Body, Definition, Storage, behind, defined, symbol_of}
 use Rattle.machine_code.specs.MemoryAddresses.{base_in}
 use Rattle.machine_code.specs.Tables.{IsBased, IsTable, base_at, noted, number_at}
 use Rattle.machine_code.specs.declared.bases.Bases.{Bases}

@@ -19,9 +19,9 @@ use Rattle.ir_machine.specs.declared.memory.Memory.{Memory}
 use Rattle.ir_machine.specs.declared.scalar.Base.{Base}
 use Rattle.ir_interp.specs.Locals.{IsValid}
 use Rattle.ir_interp.specs.Calls.{AreKinds, IsKind}
-use Rattle.ir_better.specs.Programs.{body_of, code_of, defined, defined_blocks, defined_init, kind_of, program_of, regs_of, signature_of, storage_of}
-use Rattle.ir_better.specs.Runnable.{AreRunnable, IsRunnableGlobal}
-use Rattle.ir_better.proofs.Counted.{own_blocks}
+use Rattle.ir_meaning.specs.Programs.{body_of, code_of, defined, defined_blocks, defined_init, kind_of, program_of, regs_of, signature_of, storage_of}
+use Rattle.ir_meaning.specs.Runnable.{AreRunnable, IsRunnableGlobal}
+use Rattle.ir_meaning.proofs.Counted.{own_blocks}
 use Rattle.ir_interp.specs.Code.{IsBody, IsCode, IsFunction, IsRunnable, Knows, block_in, block_of, counted_before, function_in, function_of}
 use Rattle.ir_interp.specs.declared.code.Block.{Block}
 use Rattle.ir_interp.specs.declared.code.Code.{Code}

@@ -21,15 +21,15 @@ use Rattle.ir_meaning.specs.declared.value.Byte.{Byte}
 use Rattle.ir_meaning.specs.declared.value.Byte.TheVariants.{Plain}
 use Rattle.ir_meaning.specs.declared.value.Value.{Value}
 use Rattle.ir_meaning.specs.declared.value.Value.TheVariants.{Number}
-use Rattle.ir_better.proofs.Slots.Contents.{stored_length}
+use Rattle.ir_meaning.proofs.Slots.Contents.{stored_length}
 use Rattle.ir_machine.specs.Bytes.{bytes_len, bytes_meant}
 use Rattle.ir_machine.specs.Meant.{meant}
 use Rattle.ir_machine.specs.Origins.{Holds, HoldsNone, HoldsNoMore}
 use Rattle.ir_machine.specs.declared.bytes.Bytes.{Bytes}
 use Rattle.ir_machine.specs.declared.scalar.Scalar.{Scalar}
 use Rattle.ir_machine.specs.declared.scalar.Scalar.TheVariants as scalar
-use Rattle.ir_better.specs.Constants.{initial_bytes, scalar_bytes, zero_bytes}
-use Rattle.ir_better.proofs.Sized.{initial_size}
+use Rattle.ir_meaning.specs.Constants.{initial_bytes, scalar_bytes, zero_bytes}
+use Rattle.ir_meaning.proofs.Sized.{initial_size}
 use Rattle.machine_code.specs.MemoryAddresses.{HoldsFrom, IsBaseIn, IsFrom, KeepsFrom, value_in}
 use Rattle.machine_code.specs.Images.{IsWritten, TakesAll, Wrote, head_bytes, open_behind, opened_by, padding, part_bytes, parts_bytes}
 use Rattle.machine_code.specs.declared.bases.Bases.{Bases}

@@ -13,7 +13,7 @@ use Rattle.ir_meaning.specs.declared.value.Byte.{Byte}
 use Rattle.ir_meaning.specs.declared.value.Byte.TheVariants.{Plain}
 use Rattle.ir_meaning.specs.declared.value.Value.{Value}
 use Rattle.ir_machine.specs.Bytes.{bytes_len, bytes_meant}
-use Rattle.ir_better.specs.Constants.{scalar_bytes, zero_bytes}
+use Rattle.ir_meaning.specs.Constants.{scalar_bytes, zero_bytes}
 use Rattle.machine_code.specs.declared.image.Image.{Image}
 use Rattle.machine_code.specs.declared.open.Open.{Open}
 use Rattle.machine_code.specs.declared.open.Open.TheVariants.{Elements, Members}

@@ -6,7 +6,7 @@ use Rattle.ir_tree.specs.declared.module.GlobalValue.{GlobalValue}
 use Rattle.ir_meaning.specs.Memory.{Memory as MeantMemory}
 use Rattle.ir_machine.specs.Names.{AreDistinct}
 use Rattle.ir_machine.specs.declared.memory.Memory.{Memory}
-use Rattle.ir_better.specs.Programs.{program_of}
+use Rattle.ir_meaning.specs.Programs.{program_of}
 use Rattle.ir_interp.specs.Code.{IsCode, IsRunnable, Knows}
 use Rattle.ir_interp.specs.declared.code.Code.{Code}
 use Rattle.machine_code.specs.Openings.{HoldsVariables}

@@ -15,7 +15,7 @@ use Rattle.ir_machine.specs.Memories.{IsHandle}
 use Rattle.ir_machine.specs.declared.block.Block.{Block}
 use Rattle.ir_machine.specs.declared.memory.Memory.{Memory}
 use Rattle.ir_interp.specs.Locals.{IsMemory}
-use Rattle.ir_better.specs.Programs.{Body, Definition, Storage, block_of, program_of}
+use Rattle.ir_meaning.specs.Programs.{Body, Definition, Storage, block_of, program_of}
 use Rattle.machine_code.specs.MemoryAddresses.{HoldsFrom, value_in}
 use Rattle.machine_code.specs.Tables.{bytes_of, kind_at, number_at}
 use Rattle.machine_code.specs.declared.bases.Bases.{Bases}

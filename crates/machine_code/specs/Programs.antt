@@ -8,7 +8,7 @@ use Rattle.ir_meaning.specs.Frame.{AHost, Kind, Missing}
 use Rattle.ir_interp.specs.Calls.{IsKind, host_meant}
 use Rattle.ir_interp.specs.declared.callee.Entity.{Entity}
 use Rattle.ir_interp.specs.declared.host.Host.{Host}
-use Rattle.ir_better.specs.Programs.{defined_blocks}
+use Rattle.ir_meaning.specs.Programs.{defined_blocks}
 use Rattle.ir_interp.specs.declared.code.Function.{Function as CodeFunction}
 use Rattle.machine_code.specs.Tables.{kind_at}
 use Rattle.machine_code.specs.Blocks.{HasSoundInstrs, IsFunctionFor}

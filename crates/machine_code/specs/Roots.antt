@@ -10,7 +10,7 @@ use Rattle.ir_machine.specs.declared.scalar.Base.{Base}
 use Rattle.ir_machine.specs.declared.scalar.Base.TheVariants.{Block, Function, Null}
 use Rattle.ir_interp.specs.declared.callee.Entity.{Entity}
 use Rattle.ir_interp.specs.declared.callee.Entity.TheVariants as entity
-use Rattle.ir_better.specs.Programs.{defined_blocks, regs_of, shared}
+use Rattle.ir_meaning.specs.Programs.{defined_blocks, regs_of, shared}
 
 -- the function at an index goes by this name, which modules share, is defined, and takes integers of these types
 pub record IsRoot (gs : List GlobalValue) (name : List ℕ) (i : ℕ) (types : List Reg) : Type 0 where

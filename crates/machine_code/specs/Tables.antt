@@ -8,7 +8,7 @@ use Rattle.ir_tree.specs.declared.operand.Symbol.{Symbol}
 use Rattle.ir_meaning.specs.Frame.{AFunction, AHost, AVariable, Kind, Missing}
 use Rattle.ir_machine.specs.declared.scalar.Base.{Base}
 use Rattle.ir_machine.specs.declared.scalar.Base.TheVariants.{Block, Function}
-use Rattle.ir_better.specs.Programs.{behind, defined, kind_of, symbol_of}
+use Rattle.ir_meaning.specs.Programs.{behind, defined, kind_of, symbol_of}
 use Rattle.machine_code.specs.MemoryAddresses.{base_in}
 use Rattle.machine_code.specs.declared.bases.Bases.{Bases}
 

@@ -3,13 +3,13 @@ ghost use Rattle.std.specs.Prelude.{◌≡◌, ℕ, ◌<◌, All, IfOk, OnOk};
 ghost use Rattle.ir_tree.specs.Formed.{Distinct};
 ghost use Rattle.ir_tree.specs.Wholes.{symbols};
 ghost use Rattle.ir_tree.specs.declared.operand.Symbol.{Symbol};
-ghost use Rattle.ir_better.specs.Programs.{behind, defined, undefined_kind};
+ghost use Rattle.ir_meaning.specs.Programs.{behind, defined, undefined_kind};
 ghost use Rattle.machine_code.specs.MemoryAddresses.{IsFrom, address_at, base_in, constant_in, key_symbol};
 ghost use Rattle.machine_code.specs.Tables.{IsGlobalLaidOut, IsTable, base_at, base_of, is_outside, noted};
 
 use crate::key::Key;
-use ir_better::{defined_blocks, defined_init, symbol_of};
 use ir_machine::{Base, Handle, Pointer, Scalar};
+use ir_meaning::{defined_blocks, defined_init, symbol_of};
 use ir_tree::{GlobalValue, Operand, Symbol, size_of};
 use std::alloc::{AllocError, Global};
 use std::collections::HashMap;

@@ -1,15 +1,15 @@
 //! The code of global values.
 ghost use Rattle.std.specs.Prelude.{All, IfOk};
 ghost use Rattle.std.specs.List.{AllZip};
-ghost use Rattle.ir_better.specs.Runnable.{AreRunnable};
+ghost use Rattle.ir_meaning.specs.Runnable.{AreRunnable};
 ghost use Rattle.machine_code.specs.Lowered.{IsLowered, IsMadeOf};
 ghost use Rattle.machine_code.specs.Programs.{IsBodyFor, IsSoundGlobal};
 
 use crate::addresses::Addresses;
 use crate::bases::Bases;
 use crate::symbol::entities;
-use ir_better::defined_blocks;
 use ir_interp::{Code, Function};
+use ir_meaning::defined_blocks;
 use ir_tree::GlobalValue;
 use std::alloc::{AllocError, Global};
 

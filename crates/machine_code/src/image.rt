@@ -10,7 +10,7 @@ ghost use Rattle.ir_meaning.specs.declared.value.Byte.TheVariants.{Plain};
 ghost use Rattle.ir_machine.specs.Bytes.{bytes_len, bytes_meant};
 ghost use Rattle.ir_machine.specs.Marks.{HasWidth};
 ghost use Rattle.ir_machine.specs.Meant.{meant};
-ghost use Rattle.ir_better.specs.Constants.{initial_bytes, scalar_bytes, zero_bytes};
+ghost use Rattle.ir_meaning.specs.Constants.{initial_bytes, scalar_bytes, zero_bytes};
 ghost use Rattle.machine_code.specs.MemoryAddresses.{HoldsFrom, IsFrom, KeepsFrom, value_in};
 ghost use Rattle.machine_code.specs.Images.{Takes, Wrote, head_bytes, open_behind, opened_by, part_bytes};
 ghost use Rattle.machine_code.specs.declared.bases.Bases.{Bases as Table};

@@ -8,7 +8,7 @@
 //! the memory: a block for each variable that is defined, in the order of the global values, with the bytes of its initialiser,
 //! which is written from the front into zeros, part by part of its flat form; so it may nest as deep as its text does.
 //!
-//! Below this crate stand `ir_tree`, `ir_meaning`, `ir_better`, `ir_machine` and `ir_interp`. Its
+//! Below this crate stand `ir_tree`, `ir_meaning`, `ir_machine` and `ir_interp`. Its
 //! promise: the code is the program's that the global values mean (`IsLowered`), its lines can run, the table has for each symbol
 //! its address (`IsTable`), the memory stands for the one that the program begins with (`IsOpening`), and what is known before the
 //! run is valid over each memory that has the program's variables at the positions of their numbers (`IsMadeOf`). Nothing is

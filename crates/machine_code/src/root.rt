@@ -3,7 +3,7 @@ ghost use Rattle.std.specs.Prelude.{◌≡◌, ℕ, List, None, IfSome, length, 
 ghost use Rattle.ir_tree.specs.declared.module.GlobalValue.{GlobalValue};
 ghost use Rattle.ir_tree.specs.declared.operand.Reg.{Reg};
 ghost use Rattle.ir_interp.specs.Steps.{CanBegin};
-ghost use Rattle.ir_better.specs.Programs.{shared};
+ghost use Rattle.ir_meaning.specs.Programs.{shared};
 ghost use Rattle.machine_code.specs.Addresses.{base_in};
 ghost use Rattle.machine_code.specs.Lowered.{IsMadeOf};
 ghost use Rattle.machine_code.specs.Roots.{IsRoot, are_integers, index_in, integers_of, only_integers};

@@ -2,15 +2,15 @@
 ghost use Rattle.std.specs.Prelude.{length, IfOk, OnOk};
 ghost use Rattle.ir_tree.specs.Fits.{Fits};
 ghost use Rattle.ir_tree.specs.Layout.{IsLaidOut};
-ghost use Rattle.ir_better.specs.Programs.{defined};
-ghost use Rattle.ir_better.specs.Runnable.{AreRunnable};
+ghost use Rattle.ir_meaning.specs.Programs.{defined};
+ghost use Rattle.ir_meaning.specs.Runnable.{AreRunnable};
 ghost use Rattle.machine_code.specs.Openings.{IsAdded, IsGlobalSound, IsOpening, IsVariableBlock};
 ghost use Rattle.machine_code.specs.Tables.{IsTable};
 
 use crate::bases::Bases;
 use crate::image::bytes_of;
-use ir_better::defined_init;
 use ir_machine::{Block, Memory};
+use ir_meaning::defined_init;
 use ir_tree::{GlobalValue, Init, Variable};
 use std::alloc::{AllocError, Global};
 

@@ -2,11 +2,11 @@
 ghost use Rattle.std.specs.Prelude.{◌≡◌, IfOk};
 ghost use Rattle.std.specs.List.{AllZip};
 ghost use Rattle.ir_interp.specs.Calls.{IsKind};
-ghost use Rattle.ir_better.specs.Programs.{regs_of, undefined_kind};
+ghost use Rattle.ir_meaning.specs.Programs.{regs_of, undefined_kind};
 ghost use Rattle.machine_code.specs.Programs.{IsEntityFor, host_kind};
 
-use ir_better::{defined_blocks, defined_init};
 use ir_interp::{Entity, Host};
+use ir_meaning::{defined_blocks, defined_init};
 use ir_tree::{GlobalValue, Param, Reg, Symbol};
 use std::alloc::{AllocError, Global};
 

@@ -9,7 +9,7 @@ use Rattle.ir_tree.specs.Wholes.{GlobalFormed, GlobalSound}
 use Rattle.ir_tree.specs.declared.module.GlobalValue.{GlobalValue}
 use Rattle.ir_tree.specs.declared.module.Module.{Module}
 use Rattle.ir_tree.specs.declared.operand.Symbol.{Symbol}
-use Rattle.ir_better.specs.Programs.{is_declared, shared, symbol_of}
+use Rattle.ir_meaning.specs.Programs.{is_declared, shared, symbol_of}
 use Rattle.merge_meaning.specs.Globals.{global_under, named_by}
 use Rattle.merge_meaning.specs.Laws.{LiveByModule, OutsideIsDeclared, PartsAreSound, PartsDefine}
 use Rattle.merge_meaning.specs.Linked.{IsDefinition, emission}

@@ -16,7 +16,7 @@ use Rattle.ir_tree.specs.declared.operand.Operand.{Operand}
 use Rattle.ir_tree.specs.declared.operand.Operand.TheVariants.{Local, Null, Number as Constant, Poison as PoisonOf, Symbol as Named}
 use Rattle.ir_tree.specs.declared.operand.Symbol.{Symbol}
 use Rattle.ir_tree.specs.Edited.{argument_edited, incoming_edited, with_operands}
-use Rattle.ir_better.specs.Rename.{block_under, edge_under, end_under, line_under, operand_under, phi_under}
+use Rattle.ir_meaning.specs.Rename.{block_under, edge_under, end_under, line_under, operand_under, phi_under}
 use Rattle.merge_meaning.specs.Globals.{global_under, initial_under, initials_under, named_by}
 
 -- ---- operands changed twice

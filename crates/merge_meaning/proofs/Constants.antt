@@ -15,9 +15,9 @@ use Rattle.ir_meaning.specs.declared.value.Byte.{Byte}
 use Rattle.ir_meaning.specs.declared.value.Byte.TheVariants.{Plain, Spoilt}
 use Rattle.ir_meaning.specs.declared.value.Value.{Value}
 use Rattle.ir_meaning.specs.declared.value.Value.TheVariants.{Number, Pointer, Poison}
-use Rattle.ir_better.specs.Rename.{ByteReaches, BytesReach, IsThere, OperandNames, byte_under, bytes_under, operand_under}
-use Rattle.ir_better.proofs.Names.Moved.{stored_under, value_under}
-use Rattle.ir_better.specs.Constants.{element_bytes, initial_bytes, member_bytes, scalar_bytes, zero_bytes}
+use Rattle.ir_meaning.specs.Rename.{ByteReaches, BytesReach, IsThere, OperandNames, byte_under, bytes_under, operand_under}
+use Rattle.ir_meaning.proofs.Names.Moved.{stored_under, value_under}
+use Rattle.ir_meaning.specs.Constants.{element_bytes, initial_bytes, member_bytes, scalar_bytes, zero_bytes}
 use Rattle.merge_meaning.specs.Globals.{InitialNames, InitialsName, initial_under, initials_under}
 
 -- ---- under other names

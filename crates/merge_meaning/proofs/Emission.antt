@@ -12,10 +12,10 @@ use Rattle.ir_tree.specs.declared.module.GlobalValue.TheVariants as global
 use Rattle.ir_tree.specs.declared.operand.Symbol.{Symbol}
 use Rattle.ir_meaning.specs.Refine.{Naming}
 use Rattle.ir_tree.specs.Symbols.{symbol_eq}
-use Rattle.ir_better.specs.Rename.{block_under}
-use Rattle.ir_better.proofs.Names.Moved.{both}
+use Rattle.ir_meaning.specs.Rename.{block_under}
+use Rattle.ir_meaning.proofs.Names.Moved.{both}
 use Rattle.ir_tree.proofs.Symbols.{symbol_same, symbol_true}
-use Rattle.ir_better.specs.Programs.{Body, Definition, Storage, behind, body_of, defined, definition_from, is_declared, or_else, storage_of, symbol_of}
+use Rattle.ir_meaning.specs.Programs.{Body, Definition, Storage, behind, body_of, defined, definition_from, is_declared, or_else, storage_of, symbol_of}
 use Rattle.merge_meaning.specs.Globals.{function_under, global_under, initial_under, named_by, variable_under}
 use Rattle.merge_meaning.specs.Laws.{EmissionIsEmitted}
 use Rattle.merge_meaning.specs.Linked.{AreFinal, IsUnder, emission}

@@ -19,16 +19,16 @@ use Rattle.ir_meaning.specs.Program.{variables}
 use Rattle.ir_meaning.specs.Refine.{Naming, RefinesUnder, own_names}
 use Rattle.ir_tree.specs.Symbols.{symbol_eq}
 use Rattle.ir_meaning.specs.declared.value.Value.{Value}
-use Rattle.ir_better.specs.Rename.{BlocksName, BytesReach, CodeUnder, IsEmitted, IsKeptOf, IsThere, OperandNames, bytes_under, cells_under, kind_under, operand_under}
-use Rattle.ir_better.proofs.Names.Emitted.{emitted_kept, finals}
-use Rattle.ir_better.proofs.Names.Linked.{linked_all}
-use Rattle.ir_better.proofs.Names.Moved.{cell_variable, value_under}
+use Rattle.ir_meaning.specs.Rename.{BlocksName, BytesReach, CodeUnder, IsEmitted, IsKeptOf, IsThere, OperandNames, bytes_under, cells_under, kind_under, operand_under}
+use Rattle.ir_meaning.proofs.Names.Emitted.{emitted_kept, finals}
+use Rattle.ir_meaning.proofs.Names.Linked.{linked_all}
+use Rattle.ir_meaning.proofs.Names.Moved.{cell_variable, value_under}
 use Rattle.ir_tree.proofs.Symbols.{symbol_same, symbol_true}
-use Rattle.ir_better.proofs.Runs.Transitive.{under_trans}
-use Rattle.ir_better.specs.Constants.{initial_bytes}
-use Rattle.ir_better.specs.Programs.{Body, Definition, Storage, block_of, code_of, definition_of, is_declared, kind_of, program_of, regs_of, signature_of, undefined_kind}
-use Rattle.ir_better.proofs.Inside.{programs_inside}
-use Rattle.ir_better.proofs.Numbered.{no_variable}
+use Rattle.ir_meaning.proofs.Runs.Transitive.{under_trans}
+use Rattle.ir_meaning.specs.Constants.{initial_bytes}
+use Rattle.ir_meaning.specs.Programs.{Body, Definition, Storage, block_of, code_of, definition_of, is_declared, kind_of, program_of, regs_of, signature_of, undefined_kind}
+use Rattle.ir_meaning.proofs.Inside.{programs_inside}
+use Rattle.ir_meaning.proofs.Numbered.{no_variable}
 use Rattle.merge_meaning.specs.Globals.{InitialNames, initial_under, named_by}
 use Rattle.merge_meaning.specs.Laws.{EmittedRefines, FinalNamesLeadBack, LinkedRefinesMerged}
 use Rattle.merge_meaning.specs.Linked.{AreEmitted, DefinitionNames, Improves, IsUnder, back_among, back_names, back_of, number_in, number_of, symbol_at, variable_symbols}

@@ -12,7 +12,7 @@ use Rattle.ir_meaning.specs.Memory.{Memory}
 use Rattle.ir_tree.specs.Symbols.{symbol_eq}
 use Rattle.ir_meaning.specs.declared.value.Value.{Value}
 use Rattle.ir_tree.proofs.Symbols.{symbol_same}
-use Rattle.ir_better.specs.Programs.{Body, Definition, Storage, behind, code_of, defined, definition_from, definition_of, is_declared, kind_of, opening_from, or_else, program_of, shared, signature_of, storage_in, symbol_of, undefined_kind}
+use Rattle.ir_meaning.specs.Programs.{Body, Definition, Storage, behind, code_of, defined, definition_from, definition_of, is_declared, kind_of, opening_from, or_else, program_of, shared, signature_of, storage_in, symbol_of, undefined_kind}
 use Rattle.merge_meaning.specs.Merged.{declaration, with_host, with_hosts}
 use Rattle.merge_meaning.proofs.Looked.{same_symbol, some_is}
 use Rattle.merge_meaning.proofs.Names.{clash}

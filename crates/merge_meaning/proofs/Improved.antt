@@ -17,7 +17,7 @@ use Rattle.ir_meaning.specs.Near.{Replaces}
 use Rattle.ir_meaning.specs.Program.{Program}
 use Rattle.ir_tree.specs.Symbols.{symbol_eq}
 use Rattle.ir_meaning.specs.declared.value.Value.{Value}
-use Rattle.ir_better.specs.Programs.{Body, Definition, Storage, behind, body_of, code_of, defined, defined_blocks, defined_init, definition_from, definition_of, is_declared, kind_of, opening_from, or_else, program_of, signature_of, storage_in, storage_of, symbol_of}
+use Rattle.ir_meaning.specs.Programs.{Body, Definition, Storage, behind, body_of, code_of, defined, defined_blocks, defined_init, definition_from, definition_of, is_declared, kind_of, opening_from, or_else, program_of, signature_of, storage_in, storage_of, symbol_of}
 use Rattle.merge_meaning.specs.Laws.{ImprovedIsBetter, ImprovedIsOnce}
 use Rattle.merge_meaning.specs.Linked.{Improves, StandsFor, has_body}
 use Rattle.merge_meaning.proofs.Looked as looked

@@ -14,7 +14,7 @@ use Rattle.ir_tree.specs.declared.instr.Line.{Line}
 use Rattle.ir_tree.specs.declared.operand.Symbol.{Symbol}
 use Rattle.ir_tree.specs.Edited.{block_edited, case_edited, edited, end_edited, line_edited, param_edited, with_operands}
 use Rattle.ir_meaning.specs.Refine.{Naming}
-use Rattle.ir_better.specs.Rename.{block_under, end_under, line_under, operand_under}
+use Rattle.ir_meaning.specs.Rename.{block_under, end_under, line_under, operand_under}
 use Rattle.merge_meaning.specs.Globals.{function_under, initial_under, initials_under}
 use Rattle.merge_meaning.specs.Kept.{head_under, part_under}
 

@@ -18,7 +18,7 @@ use Rattle.ir_meaning.specs.Memory.{Memory}
 use Rattle.ir_tree.specs.Symbols.{symbol_eq}
 use Rattle.ir_meaning.specs.declared.value.Value.{Value}
 use Rattle.ir_tree.proofs.Symbols.{symbol_same, symbol_true}
-use Rattle.ir_better.specs.Programs.{Body, Definition, Storage, behind, block_of, body_of, code_of, defined, defined_blocks, defined_init, definition_from, definition_of, is_declared, kind_of, opening_from, or_else, program_of, signature_of, storage_in, storage_of, symbol_of, undefined_kind}
+use Rattle.ir_meaning.specs.Programs.{Body, Definition, Storage, behind, block_of, body_of, code_of, defined, defined_blocks, defined_init, definition_from, definition_of, is_declared, kind_of, opening_from, or_else, program_of, signature_of, storage_in, storage_of, symbol_of, undefined_kind}
 use Rattle.merge_meaning.specs.Linked.{stored_symbol, symbol_at, variable_symbols}
 
 pub some_is : {X : Type 0} (a b : X) → ◌≡◌ {A = Option X} (Some a) (Some b) → a ≡ b

@@ -21,8 +21,8 @@ use Rattle.ir_meaning.specs.Refine.{Naming, own_names}
 use Rattle.ir_meaning.specs.declared.value.Base.TheVariants.{Cell, Code, Nowhere}
 use Rattle.ir_meaning.specs.declared.value.Byte.{Byte}
 use Rattle.ir_meaning.specs.declared.value.Byte.TheVariants.{Fragment, Plain, Spoilt, Unset}
-use Rattle.ir_better.specs.Rename.{CodeUnder, block_under, byte_under, bytes_under, cell_under, cells_under, edge_under, end_under, kind_under, line_under, operand_under, phi_under}
-use Rattle.ir_better.proofs.Names.Moved.{cell_slot, cell_variable}
+use Rattle.ir_meaning.specs.Rename.{CodeUnder, block_under, byte_under, bytes_under, cell_under, cells_under, edge_under, end_under, kind_under, line_under, operand_under, phi_under}
+use Rattle.ir_meaning.proofs.Names.Moved.{cell_slot, cell_variable}
 
 -- ---- code under names that stay
 

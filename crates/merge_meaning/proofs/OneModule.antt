@@ -16,8 +16,8 @@ use Rattle.ir_tree.specs.declared.operand.Symbol.{Symbol}
 use Rattle.ir_meaning.specs.Refine.{Naming}
 use Rattle.ir_tree.specs.Symbols.{symbol_eq}
 use Rattle.ir_meaning.specs.declared.value.Value.{Value}
-use Rattle.ir_better.specs.Rename.{block_under}
-use Rattle.ir_better.specs.Programs.{Definition, behind, body_of, defined, definition_from, opening_from, or_else, program_of, storage_in, storage_of, symbol_of}
+use Rattle.ir_meaning.specs.Rename.{block_under}
+use Rattle.ir_meaning.specs.Programs.{Definition, behind, body_of, defined, definition_from, opening_from, or_else, program_of, storage_in, storage_of, symbol_of}
 use Rattle.symbol_resolve.specs.Mentions.{Mention, function_standing, is_strong, is_weak, mention, mentioned, mentions, modules_with, standing_of as standing_with, variable_standing}
 use Rattle.symbol_resolve.specs.Prevailing.{first, or_else as either, prevailing}
 use Rattle.symbol_resolve.specs.declared.mention.Kind.{Kind}

@@ -9,7 +9,7 @@ use Rattle.ir_tree.specs.declared.function.Linkage.{Linkage}
 use Rattle.ir_tree.specs.declared.function.Linkage.TheVariants as linkage
 use Rattle.ir_tree.specs.declared.module.GlobalValue.{GlobalValue}
 use Rattle.ir_tree.specs.declared.operand.Symbol.{Symbol}
-use Rattle.ir_better.specs.Programs.{symbol_of}
+use Rattle.ir_meaning.specs.Programs.{symbol_of}
 use Rattle.symbol_resolve.specs.Mentions.{standing_of as standing_with}
 use Rattle.merge_meaning.specs.Kept.{is_kept}
 use Rattle.merge_meaning.specs.Merged.{is_own, standing_of, symbol_by, symbol_in}

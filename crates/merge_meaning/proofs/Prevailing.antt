@@ -17,9 +17,9 @@ use Rattle.ir_tree.specs.declared.module.Module.{Module}
 use Rattle.ir_tree.specs.declared.operand.Symbol.{Symbol}
 use Rattle.ir_meaning.specs.Refine.{Naming}
 use Rattle.ir_tree.specs.Symbols.{symbol_eq}
-use Rattle.ir_better.specs.Rename.{block_under}
+use Rattle.ir_meaning.specs.Rename.{block_under}
 use Rattle.ir_tree.proofs.Symbols.{symbol_same, symbol_true}
-use Rattle.ir_better.specs.Programs.{Body, Definition, Storage, behind, body_of, defined, definition_from, storage_of, symbol_of}
+use Rattle.ir_meaning.specs.Programs.{Body, Definition, Storage, behind, body_of, defined, definition_from, storage_of, symbol_of}
 use Rattle.symbol_resolve.specs.Mentions.{function_standing, mentions, standing_of as standing_with, variable_standing}
 use Rattle.symbol_resolve.specs.Prevailing.{prevailing}
 use Rattle.symbol_resolve.specs.declared.mention.Standing.{Standing}

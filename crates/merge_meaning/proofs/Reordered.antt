@@ -10,7 +10,7 @@ use Rattle.ir_tree.specs.declared.module.GlobalValue.{GlobalValue}
 use Rattle.ir_tree.specs.declared.module.GlobalValue.TheVariants as global
 use Rattle.ir_tree.specs.declared.operand.Symbol.{Symbol}
 use Rattle.ir_meaning.specs.Refine.{Naming}
-use Rattle.ir_better.specs.Programs.{Body, Definition, Storage, body_of, defined, defined_blocks, defined_init, definition_of, storage_of, symbol_of}
+use Rattle.ir_meaning.specs.Programs.{Body, Definition, Storage, body_of, defined, defined_blocks, defined_init, definition_of, storage_of, symbol_of}
 use Rattle.merge_meaning.specs.Globals.{named_by}
 use Rattle.merge_meaning.specs.Laws.{EmittedInAnyOrder}
 use Rattle.merge_meaning.specs.Linked.{IsDefinition, IsLike, IsReordering, IsUnder}

@@ -25,9 +25,9 @@ use Rattle.ir_tree.specs.declared.operand.Operand.TheVariants as operand
 use Rattle.ir_tree.specs.declared.operand.Reg.TheVariants.{Int, Ptr}
 use Rattle.ir_tree.specs.Edited.{argument_edited, with_operands}
 use Rattle.ir_meaning.specs.Refine.{Naming}
-use Rattle.ir_better.specs.Rename.{block_under, line_under, operand_under}
-use Rattle.ir_better.specs.Runnable.{AreRunnable, IsRunnableBlock, IsRunnableFunction, IsRunnableGlobal, IsRunnableInstr}
-use Rattle.ir_better.proofs.Verified.{runnable_globals}
+use Rattle.ir_meaning.specs.Rename.{block_under, line_under, operand_under}
+use Rattle.ir_meaning.specs.Runnable.{AreRunnable, IsRunnableBlock, IsRunnableFunction, IsRunnableGlobal, IsRunnableInstr}
+use Rattle.ir_meaning.proofs.Verified.{runnable_globals}
 use Rattle.merge_meaning.specs.Globals.{function_under, global_under, initial_under, initials_under, named_by}
 use Rattle.merge_meaning.specs.Laws.{AllWhole, MergedIsRunnable}
 use Rattle.merge_meaning.specs.Merged.{declaration, merged_from, merged_globals, symbol_in}

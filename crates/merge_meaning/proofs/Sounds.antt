@@ -33,7 +33,7 @@ use Rattle.ir_tree.specs.declared.rule.Rule.{Rule}
 use Rattle.ir_tree.specs.declared.rule.Rule.TheVariants.{TypeMismatch, NotAvailable, PhiEdges, PhiPlace, EntryBranch, Index, Cast, CaseTwice}
 use Rattle.ir_tree.specs.Edited.{argument_edited, with_operands}
 use Rattle.ir_meaning.specs.Refine.{Naming}
-use Rattle.ir_better.specs.Rename.{argument_under, block_under, edge_under, end_under, line_under, operand_under, phi_under}
+use Rattle.ir_meaning.specs.Rename.{argument_under, block_under, edge_under, end_under, line_under, operand_under, phi_under}
 use Rattle.merge_meaning.specs.Globals.{function_under, initial_under, initials_under, named_by, variable_under}
 use Rattle.merge_meaning.specs.Laws.{NamesKeepForms, NamesKeepSoundness}
 use Rattle.merge_meaning.proofs.Once.{mapped}

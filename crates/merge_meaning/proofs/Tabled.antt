@@ -3,7 +3,7 @@ use Rattle.std.proofs.Common.{◌≡◌, ◌∙◌, ◌<◌, ◌+◌, ◌&&◌, 
 use Rattle.ir_tree.specs.declared.module.GlobalValue.{GlobalValue}
 use Rattle.ir_tree.specs.declared.module.Module.{Module}
 use Rattle.ir_tree.specs.declared.operand.Symbol.{Symbol}
-use Rattle.ir_better.specs.Programs.{symbol_of}
+use Rattle.ir_meaning.specs.Programs.{symbol_of}
 use Rattle.symbol_resolve.specs.Resolved.{Symbols, module_of, symbols}
 use Rattle.merge_meaning.specs.Given.{given_each, given_in, given_one, gives, merged_in, parts_in, prevails_in}
 use Rattle.merge_meaning.specs.Globals.{global_under, named_by}

@@ -12,10 +12,10 @@ use Rattle.ir_meaning.specs.Run.{Ending, Failed, Ran, Returned, Running, run, st
 use Rattle.ir_meaning.specs.declared.value.Base.TheVariants.{Cell, Code, Nowhere}
 use Rattle.ir_meaning.specs.declared.value.Value.{Value}
 use Rattle.ir_meaning.specs.declared.value.Value.TheVariants.{Number, Pointer, Poison}
-use Rattle.ir_better.specs.Rename.{BlocksName, BytesName, CodeUnder, IsKeptOf, IsRenamed, cell_under}
-use Rattle.ir_better.proofs.Names.Kept.{filled_right}
-use Rattle.ir_better.proofs.Names.Moved.{cell_slot, cell_variable, value_under}
-use Rattle.ir_better.proofs.Names.Renamed.{EndingUnder, RanUnder, maybe_value, ran_from}
+use Rattle.ir_meaning.specs.Rename.{BlocksName, BytesName, CodeUnder, IsKeptOf, IsRenamed, cell_under}
+use Rattle.ir_meaning.proofs.Names.Kept.{filled_right}
+use Rattle.ir_meaning.proofs.Names.Moved.{cell_slot, cell_variable, value_under}
+use Rattle.ir_meaning.proofs.Names.Renamed.{EndingUnder, RanUnder, maybe_value, ran_from}
 use Rattle.merge_meaning.proofs.Names.{code_stays, kind_stays, maybe_stays}
 
 -- the program without the symbols that are not kept; memory stays

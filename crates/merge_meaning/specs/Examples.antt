@@ -21,7 +21,7 @@ use Rattle.ir_meaning.specs.Program.{Program}
 use Rattle.ir_meaning.specs.Run.{Ending, Returned, start}
 use Rattle.ir_tree.specs.Symbols.{symbol_eq}
 use Rattle.ir_meaning.specs.declared.value.Value.TheVariants.{Number}
-use Rattle.ir_better.specs.Programs.{program_of, shared}
+use Rattle.ir_meaning.specs.Programs.{program_of, shared}
 use Rattle.merge_meaning.specs.Linked.{emission}
 use Rattle.merge_meaning.specs.Merged.{local_to, merged, merged_globals}
 

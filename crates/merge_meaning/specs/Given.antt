@@ -2,7 +2,7 @@
 use Rattle.std.specs.Prelude.{ℕ, suc, Bool, if◌then◌else◌, List, [], ◌∷◌, ◌++◌, map, filter, Option, Some, None}
 use Rattle.ir_tree.specs.declared.module.GlobalValue.{GlobalValue}
 use Rattle.ir_tree.specs.declared.module.Module.{Module}
-use Rattle.ir_better.specs.Programs.{symbol_of}
+use Rattle.ir_meaning.specs.Programs.{symbol_of}
 use Rattle.symbol_resolve.specs.Resolved.{Symbols, module_of}
 use Rattle.merge_meaning.specs.Globals.{global_under, named_by}
 use Rattle.merge_meaning.specs.Merged.{prevails_as, standing_of, symbol_in}

@@ -7,7 +7,7 @@ use Rattle.ir_tree.specs.declared.module.GlobalValue.{GlobalValue}
 use Rattle.ir_tree.specs.declared.module.GlobalValue.TheVariants as global
 use Rattle.ir_tree.specs.declared.operand.Symbol.{Symbol}
 use Rattle.ir_meaning.specs.Refine.{Naming}
-use Rattle.ir_better.specs.Rename.{OperandNames, block_under, operand_under}
+use Rattle.ir_meaning.specs.Rename.{OperandNames, block_under, operand_under}
 
 -- these names for symbols; no tree speaks of the numbers of variables
 abbrev pub named_by : (Symbol → Symbol) → Naming

@@ -5,7 +5,7 @@ use Rattle.ir_tree.specs.declared.function.Param.{Param}
 use Rattle.ir_tree.specs.declared.module.GlobalValue.{GlobalValue}
 use Rattle.ir_tree.specs.declared.module.GlobalValue.TheVariants as global
 use Rattle.ir_tree.specs.declared.operand.Reg.TheVariants.{Int}
-use Rattle.ir_better.specs.Programs.{shared}
+use Rattle.ir_meaning.specs.Programs.{shared}
 
 abbrev pub host : List ℕ → List Param → GlobalValue
 host name params = global.Function (record {

@@ -8,7 +8,7 @@ use Rattle.ir_tree.specs.declared.init_node.InitHead.TheVariants.{Array, Bytes, 
 use Rattle.ir_tree.specs.declared.init_node.InitPart.{InitPart}
 use Rattle.ir_tree.specs.declared.init_node.InitPart.TheVariants.{End, Typed}
 use Rattle.ir_meaning.specs.Refine.{Naming}
-use Rattle.ir_better.specs.Rename.{operand_under}
+use Rattle.ir_meaning.specs.Rename.{operand_under}
 
 -- ---- a module's own names
 

@@ -9,8 +9,8 @@ use Rattle.ir_tree.specs.declared.operand.Symbol.{Symbol}
 use Rattle.ir_meaning.specs.Near.{IsBetter}
 use Rattle.ir_meaning.specs.Program.{Program}
 use Rattle.ir_meaning.specs.Refine.{RefinesUnder}
-use Rattle.ir_better.specs.Programs.{Definition, defined, definition_of, program_of, symbol_of}
-use Rattle.ir_better.specs.Runnable.{AreRunnable}
+use Rattle.ir_meaning.specs.Programs.{Definition, defined, definition_of, program_of, symbol_of}
+use Rattle.ir_meaning.specs.Runnable.{AreRunnable}
 use Rattle.symbol_resolve.specs.Mentions.{mentions}
 use Rattle.symbol_resolve.specs.Prevailing.{prevailing}
 use Rattle.symbol_resolve.specs.Resolved.{module_of, symbols}

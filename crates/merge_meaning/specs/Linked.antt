@@ -14,8 +14,8 @@ use Rattle.ir_meaning.specs.Near.{BetterThan}
 use Rattle.ir_meaning.specs.Program.{Program, variables}
 use Rattle.ir_meaning.specs.Refine.{Naming}
 use Rattle.ir_tree.specs.Symbols.{symbol_eq}
-use Rattle.ir_better.specs.Rename.{BlocksName, block_under}
-use Rattle.ir_better.specs.Programs.{Body, Definition, Storage, defined, defined_blocks, definition_of, is_declared, program_of, regs_of, signature_of, symbol_of}
+use Rattle.ir_meaning.specs.Rename.{BlocksName, block_under}
+use Rattle.ir_meaning.specs.Programs.{Body, Definition, Storage, defined, defined_blocks, definition_of, is_declared, program_of, regs_of, signature_of, symbol_of}
 use Rattle.merge_meaning.specs.Globals.{InitialNames, global_under, initial_under, named_by}
 
 -- ---- better functions

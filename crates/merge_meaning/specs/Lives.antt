@@ -7,7 +7,7 @@ use Rattle.ir_tree.specs.declared.module.GlobalValue.{GlobalValue}
 use Rattle.ir_tree.specs.declared.module.Module.{Module}
 use Rattle.ir_tree.specs.declared.operand.Symbol.{Symbol}
 use Rattle.ir_meaning.specs.Refine.{Naming}
-use Rattle.ir_better.specs.Programs.{is_declared, shared, symbol_of}
+use Rattle.ir_meaning.specs.Programs.{is_declared, shared, symbol_of}
 use Rattle.promote_rename.specs.Finals.{final_name}
 use Rattle.merge_meaning.specs.Globals.{global_under, named_by}
 use Rattle.merge_meaning.specs.Linked.{back_names, emission}

@@ -11,7 +11,7 @@ use Rattle.ir_tree.specs.declared.module.Module.{Module}
 use Rattle.ir_tree.specs.declared.operand.Reg.TheVariants.{Int}
 use Rattle.ir_tree.specs.declared.operand.Symbol.{Symbol}
 use Rattle.ir_meaning.specs.Program.{Program}
-use Rattle.ir_better.specs.Programs.{is_declared, program_of, shared, symbol_of}
+use Rattle.ir_meaning.specs.Programs.{is_declared, program_of, shared, symbol_of}
 use Rattle.symbol_resolve.specs.Mentions.{function_standing, mentions, variable_standing}
 use Rattle.symbol_resolve.specs.Prevailing.{prevailing}
 use Rattle.symbol_resolve.specs.declared.mention.Standing.{Standing}

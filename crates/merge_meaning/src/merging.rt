@@ -2,14 +2,14 @@
 ghost use Rattle.std.specs.Prelude.{◌≡◌, All, IfOk, OnOk};
 ghost use Rattle.ir_tree.specs.Wholes.{IsVerified};
 ghost use Rattle.ir_tree.specs.Symbols.{symbol_eq};
-ghost use Rattle.ir_better.specs.Programs.{is_declared, shared};
-ghost use Rattle.ir_better.specs.Runnable.{AreRunnable};
+ghost use Rattle.ir_meaning.specs.Programs.{is_declared, shared};
+ghost use Rattle.ir_meaning.specs.Runnable.{AreRunnable};
 ghost use Rattle.symbol_resolve.specs.Resolved.{symbols};
 ghost use Rattle.merge_meaning.specs.Given.{merged_in};
 ghost use Rattle.merge_meaning.specs.Merged.{declaration, merged_globals, with_host};
 
 use crate::giving::give;
-use ir_better::symbol_of;
+use ir_meaning::symbol_of;
 use ir_tree::{Function, GlobalValue, Linkage, Reg, Rows, Symbol, Text, Verified};
 use std::alloc::{AllocError, Global};
 use symbol_resolve::Resolution;

@@ -1,7 +1,7 @@
 //! What names stand for in a module (LangRef, "Linkage Types": `private` and `internal`).
 ghost use Rattle.std.specs.Prelude.{◌≡◌, ℕ, List, IfOk, is_none, true};
-ghost use Rattle.ir_better.specs.Rename.{operand_under};
-ghost use Rattle.ir_better.specs.Programs.{symbol_of};
+ghost use Rattle.ir_meaning.specs.Rename.{operand_under};
+ghost use Rattle.ir_meaning.specs.Programs.{symbol_of};
 ghost use Rattle.symbol_resolve.specs.Mentions as mentions;
 ghost use Rattle.merge_meaning.specs.Kept.{is_kept};
 ghost use Rattle.merge_meaning.specs.Merged.{is_own, prevails_as, standing_of};
@@ -9,8 +9,8 @@ ghost use Rattle.merge_meaning.specs.Scopes.{given_where, names_by, symbol_for};
 
 use crate::lives::{Key, Link};
 use indexmap::IndexSet;
-use ir_better::symbol_of;
 use ir_edit::Edit;
+use ir_meaning::symbol_of;
 use ir_tree::{Duplicate, GlobalValue, Linkage, Operand, Symbol};
 use promote_rename::suffix_at;
 use std::alloc::{AllocError, Global};

@@ -9,7 +9,7 @@ use Rattle.ir_tree.specs.declared.instr.Incoming.{Incoming}
 use Rattle.ir_tree.specs.declared.instr.Line.{Line}
 use Rattle.ir_tree.specs.declared.instr.Phi.{Phi}
 use Rattle.ir_tree.specs.declared.operand.Operand.{Operand}
-use Rattle.ir_better.specs.Facts.{is_local}
+use Rattle.ir_meaning.specs.Facts.{is_local}
 use Rattle.ir_tree.specs.Edited.{argument_edited, instr_edited}
 use Rattle.ir_edit.specs.Numbered.{later_or}
 use Rattle.point_edit.specs.declared.fact.Fact.{Fact}

@@ -3,7 +3,7 @@ ghost use Rattle.std.specs.Prelude.{◌≡◌, ◌+◌, ℕ, suc, IfOk, length};
 ghost use Rattle.std.specs.BTreeMap as tree;
 ghost use Rattle.std.specs.Ordering.{nat_cmp};
 ghost use Rattle.lto_sets.specs.Sets.{contains};
-ghost use Rattle.ir_better.specs.Facts.{is_local};
+ghost use Rattle.ir_meaning.specs.Facts.{is_local};
 ghost use Rattle.point_edit.specs.AtPoints.{block_at, blocks_at, edges_at, end_at, function_at, last_point, lines_at, phis_at, standing, standing_behind};
 
 use crate::fact::Fact;

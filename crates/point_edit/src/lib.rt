@@ -4,7 +4,7 @@
 //! walk: the definition is `specs/AtPoints.antt`, and the contract is equality with it. Whether the facts hold is not
 //! asked here: `ir_facts` finds them. Each instruction and terminator is edited by the calls of `ir_edit`.
 //!
-//! Below this crate stand `ir_tree`, `lto_sets` and `ir_edit`, and `ir_better` for words of the definitions. A use is looked
+//! Below this crate stand `ir_tree`, `lto_sets` and `ir_edit`, and `ir_meaning` for words of the definitions. A use is looked
 //! up in each fact.
 #![tactic(auto)]
 

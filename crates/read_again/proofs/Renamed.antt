@@ -23,7 +23,7 @@ use Rattle.ir_tree.specs.declared.operand.Operand.{Operand}
 use Rattle.ir_tree.specs.declared.operand.Operand.TheVariants as operand
 use Rattle.ir_tree.specs.Edited.{with_operands}
 use Rattle.ir_meaning.specs.Refine.{Naming}
-use Rattle.ir_better.specs.Rename.{argument_under, block_under, edge_under, line_under, operand_under, phi_under}
+use Rattle.ir_meaning.specs.Rename.{argument_under, block_under, edge_under, line_under, operand_under, phi_under}
 use Rattle.merge_meaning.specs.Globals.{function_under, global_under, initial_under, initials_under, named_by, variable_under}
 use Rattle.merge_meaning.proofs.Sounds.{init_same, item_under, items_same, operands_same}
 use Rattle.read_again.specs.Bodies.{instructions, phi_as_line, stated}

@@ -18,8 +18,8 @@ use Rattle.ir_meaning.specs.Run.{start, start_of}
 use Rattle.ir_tree.specs.Symbols.{symbol_eq}
 use Rattle.ir_meaning.specs.declared.value.Value.{Value}
 use Rattle.ir_meaning.specs.declared.value.Value.TheVariants.{Number}
-use Rattle.ir_better.specs.Programs.{Body, Definition, Storage, behind, body_of, code_of, defined, defined_blocks, defined_init, definition_from, or_else, program_of, regs_of, shared, storage_of, symbol_of}
-use Rattle.ir_better.specs.Runnable.{AreRunnable, IsRunnableFunction, IsRunnableGlobal}
+use Rattle.ir_meaning.specs.Programs.{Body, Definition, Storage, behind, body_of, code_of, defined, defined_blocks, defined_init, definition_from, or_else, program_of, regs_of, shared, storage_of, symbol_of}
+use Rattle.ir_meaning.specs.Runnable.{AreRunnable, IsRunnableFunction, IsRunnableGlobal}
 use Rattle.lto_words.specs.declared.list.Decimal.{Decimal}
 use Rattle.machine_code.proofs.Rooting.{long_types}
 use Rattle.machine_code.specs.Roots as lowered

@@ -9,7 +9,7 @@ use Rattle.ir_tree.specs.declared.operand.Reg.{Reg}
 use Rattle.ir_meaning.specs.Program.{State}
 use Rattle.ir_meaning.specs.Run.{start}
 use Rattle.ir_machine.specs.Meant.{symbol_at}
-use Rattle.ir_better.specs.Programs.{program_of, shared}
+use Rattle.ir_meaning.specs.Programs.{program_of, shared}
 use Rattle.lto_words.specs.declared.list.Decimal.{Decimal}
 use Rattle.ir_interp.specs.Steps.{numbers_meant}
 use Rattle.run_program.specs.Starting.{beginning, result_of, root_of}

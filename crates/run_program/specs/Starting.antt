@@ -8,7 +8,7 @@ use Rattle.ir_read.specs.Literals.{negated, unsigned}
 use Rattle.ir_meaning.specs.Program.{Program, State}
 use Rattle.ir_meaning.specs.Run.{start}
 use Rattle.ir_meaning.specs.declared.value.Value.TheVariants.{Number}
-use Rattle.ir_better.specs.Programs.{shared}
+use Rattle.ir_meaning.specs.Programs.{shared}
 use Rattle.lto_words.specs.declared.list.Decimal.{Decimal}
 
 -- ---- arguments

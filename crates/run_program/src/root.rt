@@ -1,6 +1,6 @@
 //! Where a run begins: the root, its arguments, and the type of what it gives.
 ghost use Rattle.std.specs.Prelude.{◌≡◌, All, IfOk, IfSome, None, length, option_copied, slice_get};
-ghost use Rattle.ir_better.specs.Runnable.{AreRunnable};
+ghost use Rattle.ir_meaning.specs.Runnable.{AreRunnable};
 ghost use Rattle.machine_code.specs.Lowered.{IsMadeOf};
 ghost use Rattle.ir_interp.specs.Steps.{CanBegin};
 ghost use Rattle.run_program.specs.Arguments.{IsGiven, IsTyped};

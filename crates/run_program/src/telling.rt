@@ -14,10 +14,9 @@ ghost use Rattle.run_program.specs.Files.{file_at, file_in, home_in};
 ghost use Rattle.run_program.specs.Said.{IsTold, answer_said, bits_said, failure_refusal, told_cause, typed_said};
 
 use crate::literals::number_said;
-use ir_better::symbol_of;
 use ir_interp::Place;
 use ir_machine::Scalar;
-use ir_meaning::{Cause, Value, bits_of};
+use ir_meaning::{Cause, Value, bits_of, symbol_of};
 use ir_tree::{GlobalValue, Reg, Text};
 use lto_fault::{Refusal, Returned};
 use lto_words::FileName;

@@ -9,12 +9,12 @@ use Rattle.ir_meaning.specs.Act.{Leads', exit_of, find_block, phis_bound}
 use Rattle.ir_meaning.specs.Frame.{Locals, Signature, value_of}
 use Rattle.ir_meaning.specs.Near.{BetterThan}
 use Rattle.ir_meaning.specs.Program.{Program}
-use Rattle.ir_better.specs.Formed.{IsFormed}
-use Rattle.ir_better.specs.Reshape.{IsShape, IsStuck, LeavesAlike, Spot, spot_of}
-use Rattle.ir_better.proofs.Blocks.Reshaped.{shape_better}
-use Rattle.ir_better.specs.Counted.{times}
-use Rattle.ir_better.proofs.Counting.{among_times, edges_from, out_to}
-use Rattle.ir_better.proofs.Exits.{exit_among, number_found}
+use Rattle.ir_meaning.specs.Formed.{IsFormed}
+use Rattle.ir_meaning.specs.Reshape.{IsShape, IsStuck, LeavesAlike, Spot, spot_of}
+use Rattle.ir_meaning.proofs.Blocks.Reshaped.{shape_better}
+use Rattle.ir_meaning.specs.Counted.{times}
+use Rattle.ir_meaning.proofs.Counting.{among_times, edges_from, out_to}
+use Rattle.ir_meaning.proofs.Exits.{exit_among, number_found}
 use Rattle.slot_promote.proofs.Reached.{next_reached, reached}
 
 -- the first block of a number stands at the number's place

@@ -18,8 +18,8 @@ use Rattle.ir_tree.specs.declared.operand.Operand.TheVariants.{Local, Number, Nu
 use Rattle.ir_tree.specs.declared.operand.Reg.{Reg}
 use Rattle.ir_tree.specs.declared.operand.Reg.TheVariants.{Ptr}
 use Rattle.ir_tree.specs.declared.rule.Rule.TheVariants.{TypeMismatch, NotAvailable}
-use Rattle.ir_better.specs.Needed.{IsKept}
-use Rattle.ir_better.specs.Promote.{Current, Fetches, Makes, Other, Use, Writes, behind, put}
+use Rattle.ir_meaning.specs.Needed.{IsKept}
+use Rattle.ir_meaning.specs.Promote.{Current, Fetches, Makes, Other, Use, Writes, behind, put}
 use Rattle.ir_edit.proofs.Tally.{tally, tally_both, tally_once}
 use Rattle.slot_promote.specs.Promoted.{End, end_at, first_at, new_phis, next_number, phis_from, promoted_with}
 use Rattle.slot_promote.specs.Values.{at_start, behind_line, behind_lines, goes, is_there, placed, rank_of, reg_of, regs, use_of, value_at_start, without_slots}

@@ -7,10 +7,10 @@ use Rattle.ir_tree.specs.Formed.{Distinct}
 use Rattle.ir_tree.specs.declared.block.Block.{Block}
 use Rattle.ir_tree.specs.declared.function.Function.{Function}
 use Rattle.ir_tree.specs.declared.instr.Phi.{Phi}
-use Rattle.ir_better.specs.Facts.{edge_operand, is_phi, phi_operand}
-use Rattle.ir_better.specs.Promote.{AreNew}
+use Rattle.ir_meaning.specs.Facts.{edge_operand, is_phi, phi_operand}
+use Rattle.ir_meaning.specs.Promote.{AreNew}
 use Rattle.ir_flow.proofs.Reaching.{edge-from}
-use Rattle.ir_better.proofs.Counting.{numbers_in, place_is}
+use Rattle.ir_meaning.proofs.Counting.{numbers_in, place_is}
 use Rattle.slot_promote.specs.Promoted.{End, end_at, end_with, entries_of, first_at, first_phi, free, new_phis, phis_from, takes}
 use Rattle.slot_promote.specs.Values.{placed}
 use Rattle.slot_promote.specs.declared.slots.Slot.{Slot}

@@ -10,7 +10,7 @@ use Rattle.ir_tree.specs.declared.operand.Operand.TheVariants.{Local}
 use Rattle.ir_tree.specs.declared.operand.Reg.{Reg}
 use Rattle.ir_tree.specs.declared.operand.Reg.TheVariants.{Int, Ptr}
 use Rattle.ir_meaning.specs.Execute.{reg_eq}
-use Rattle.ir_better.proofs.Everywhere.{all_back, all_front}
+use Rattle.ir_meaning.proofs.Everywhere.{all_back, all_front}
 use Rattle.slot_promote.specs.Slots.{is_access, is_accessed_as}
 use Rattle.slot_promote.specs.Uses.{block_uses, end_uses, instr_uses, line_uses, operand_uses, phi_uses, uses}
 use Rattle.slot_promote.specs.declared.uses.Use.{Use}

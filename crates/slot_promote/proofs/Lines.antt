@@ -5,7 +5,7 @@ use Rattle.std.proofs.lemmas.Bool.{eqb-true, or_cases, or_left, or_right}
 use Rattle.ir_tree.specs.Flow.{holds, results}
 use Rattle.ir_tree.specs.declared.instr.Line.{Line}
 use Rattle.ir_tree.specs.declared.instr.Phi.{Phi}
-use Rattle.ir_better.specs.Promote.{Current}
+use Rattle.ir_meaning.specs.Promote.{Current}
 use Rattle.ir_edit.proofs.Tally.{tally}
 use Rattle.slot_promote.specs.Values.{behind_line, behind_lines, goes, instr_with, is_there, without_slots}
 use Rattle.slot_promote.specs.declared.slots.Place.{Place}

@@ -16,7 +16,7 @@ use Rattle.ir_tree.specs.declared.operand.Operand.TheVariants.{Local, Poison}
 use Rattle.ir_tree.specs.declared.operand.Reg.{Reg}
 use Rattle.ir_flow.specs.Graph.{row}
 use Rattle.ir_flow.specs.OfFunction.{IsGraphOf}
-use Rattle.ir_better.specs.Promote.{Current, Makes, Other, Writes, behind, changed}
+use Rattle.ir_meaning.specs.Promote.{Current, Makes, Other, Writes, behind, changed}
 use Rattle.slot_promote.specs.Promoted.{End, block_with, blocks_with, end_with, ends_with, entries_of, entry_of, first_phi, free, next_number, phis_from, promoted_function, takes}
 use Rattle.slot_promote.specs.Slots.{is_accessed_as, promotable, promoted_slots}
 use Rattle.slot_promote.specs.Tables.{end_view, ends_in, first_in, viewed}

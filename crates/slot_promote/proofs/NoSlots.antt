@@ -8,7 +8,7 @@ use Rattle.ir_tree.specs.declared.instr.Instr.TheVariants.{Address, Alloca, Bina
 use Rattle.ir_tree.specs.declared.instr.Line.{Line}
 use Rattle.ir_tree.specs.declared.operand.Operand.{Operand}
 use Rattle.ir_tree.specs.declared.operand.Operand.TheVariants.{Local, Null, Number, Poison, Symbol}
-use Rattle.ir_better.specs.Promote.{Current}
+use Rattle.ir_meaning.specs.Promote.{Current}
 use Rattle.slot_promote.specs.Promoted.{End, blocks_with, end_at, first_at, new_phis, next_number, promoted_function, promoted_with}
 use Rattle.slot_promote.specs.Slots.{promoted_slots}
 use Rattle.slot_promote.specs.Values.{at_start, behind_line, goes, instr_with, is_slot, load_with, local_goes, without_slots}

@@ -6,7 +6,7 @@ use Rattle.ir_tree.specs.Flow.{AtEnds, Available, AvailableAt, IsJustified, Just
 use Rattle.ir_tree.specs.declared.block.Block.{Block}
 use Rattle.ir_tree.specs.declared.function.Function.{Function}
 use Rattle.ir_tree.specs.declared.instr.Line.{Line}
-use Rattle.ir_better.specs.Promote.{Current}
+use Rattle.ir_meaning.specs.Promote.{Current}
 use Rattle.slot_promote.specs.Promoted.{first_at, promoted_with}
 use Rattle.slot_promote.specs.Values.{at_start, behind_lines, is_there, placed, without_slots}
 use Rattle.slot_promote.specs.declared.slots.Slot.{Slot}

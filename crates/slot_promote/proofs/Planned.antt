@@ -19,19 +19,19 @@ use Rattle.ir_tree.specs.declared.rule.Rule.TheVariants.{EntryBranch}
 use Rattle.ir_meaning.specs.Act.{find_block}
 use Rattle.ir_meaning.specs.Near.{BetterThan}
 use Rattle.ir_meaning.specs.Program.{Program}
-use Rattle.ir_better.specs.Facts.{InCases, IsTarget, edge_operand, is_phi, phi_operand}
-use Rattle.ir_better.specs.Formed.{IsFormed}
-use Rattle.ir_better.specs.Promote.{AreNew, BlockRight, BlocksRight, Current, LinesRight, ParamsFree, PlanRight, behind_all, block_promoted, blocks_promoted, lines_promoted, promoted, put}
-use Rattle.ir_better.proofs.Alike.Itself.{same_better}
-use Rattle.ir_better.proofs.Between.InARow.{in_a_row}
-use Rattle.ir_better.proofs.Between.LargerBounds.{wider}
-use Rattle.ir_better.proofs.Slots.Promoted.{promoted_is_better}
+use Rattle.ir_meaning.specs.Facts.{InCases, IsTarget, edge_operand, is_phi, phi_operand}
+use Rattle.ir_meaning.specs.Formed.{IsFormed}
+use Rattle.ir_meaning.specs.Promote.{AreNew, BlockRight, BlocksRight, Current, LinesRight, ParamsFree, PlanRight, behind_all, block_promoted, blocks_promoted, lines_promoted, promoted, put}
+use Rattle.ir_meaning.proofs.Alike.Itself.{same_better}
+use Rattle.ir_meaning.proofs.Between.InARow.{in_a_row}
+use Rattle.ir_meaning.proofs.Between.LargerBounds.{wider}
+use Rattle.ir_meaning.proofs.Slots.Promoted.{promoted_is_better}
 use Rattle.ir_edit.proofs.Tally.{tally, tally_same}
-use Rattle.ir_better.specs.Counted.{times}
-use Rattle.ir_better.proofs.Counting.{among_times, edges_from, here, later, numbers_in, out_to, place_is}
-use Rattle.ir_better.proofs.Entries.{apart}
-use Rattle.ir_better.proofs.Everywhere.{all_among}
-use Rattle.ir_better.proofs.Exits.{number_found}
+use Rattle.ir_meaning.specs.Counted.{times}
+use Rattle.ir_meaning.proofs.Counting.{among_times, edges_from, here, later, numbers_in, out_to, place_is}
+use Rattle.ir_meaning.proofs.Entries.{apart}
+use Rattle.ir_meaning.proofs.Everywhere.{all_among}
+use Rattle.ir_meaning.proofs.Exits.{number_found}
 use Rattle.slot_promote.specs.Laws.{PromotedIsBetter, longest}
 use Rattle.slot_promote.specs.Promoted.{block_with, blocks_with, end_at, end_with, entries_of, first_at, free, new_phis, next_number, phis_from, promoted_with}
 use Rattle.slot_promote.specs.Slots.{promoted_slots}

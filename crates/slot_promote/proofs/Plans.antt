@@ -24,13 +24,13 @@ use Rattle.ir_tree.specs.declared.operand.Operand.TheVariants.{Local, Number, Nu
 use Rattle.ir_tree.specs.declared.operand.Reg.{Reg}
 use Rattle.ir_tree.specs.declared.operand.Reg.TheVariants.{Int, Ptr}
 use Rattle.ir_tree.specs.declared.rule.Rule.TheVariants.{NotAvailable, PhiPlace}
-use Rattle.ir_better.specs.Facts.{is_local}
-use Rattle.ir_better.specs.Needed.{AllKept, EdgesKept, EndReads, IsKept, PhisKept, Reads}
-use Rattle.ir_better.specs.Promote.{Current, Fetches, LineRight, LinesRight, LocalFree, Makes, Other, Plan, Use, Writes, behind, behind_all, changed}
+use Rattle.ir_meaning.specs.Facts.{is_local}
+use Rattle.ir_meaning.specs.Needed.{AllKept, EdgesKept, EndReads, IsKept, PhisKept, Reads}
+use Rattle.ir_meaning.specs.Promote.{Current, Fetches, LineRight, LinesRight, LocalFree, Makes, Other, Plan, Use, Writes, behind, behind_all, changed}
 use Rattle.ir_tree.specs.Layout.{size as size_of}
 use Rattle.ir_meaning.specs.Bytes.{reg_size}
-use Rattle.ir_better.specs.Rules.{IsStorable}
-use Rattle.ir_better.proofs.Everywhere.{all_front}
+use Rattle.ir_meaning.specs.Rules.{IsStorable}
+use Rattle.ir_meaning.proofs.Everywhere.{all_front}
 use Rattle.ir_edit.proofs.Tally.{tally, tally_both}
 use Rattle.slot_promote.specs.Laws.{longest}
 use Rattle.slot_promote.specs.Promoted.{end_at, first_at, new_phis}

@@ -24,8 +24,8 @@ use Rattle.ir_tree.specs.declared.operand.Reg.{Reg}
 use Rattle.ir_tree.specs.declared.operand.Reg.TheVariants.{Int, Ptr}
 use Rattle.ir_tree.specs.declared.rule.Rule.{Rule}
 use Rattle.ir_tree.specs.declared.rule.Rule.TheVariants.{TypeMismatch, NotAvailable, PhiEdges, PhiPlace, EntryBranch, Index, Cast, CaseTwice}
-use Rattle.ir_better.specs.Needed.{AllKept, EdgesKept, EndReads, IsKept, Reads}
-use Rattle.ir_better.specs.Promote.{Current, Fetches, Makes, Other, Use, Writes, chosen_value, put}
+use Rattle.ir_meaning.specs.Needed.{AllKept, EdgesKept, EndReads, IsKept, Reads}
+use Rattle.ir_meaning.specs.Promote.{Current, Fetches, Makes, Other, Use, Writes, chosen_value, put}
 use Rattle.slot_promote.specs.Laws.{PromotedIsSound}
 use Rattle.slot_promote.specs.Promoted.{End, end_at, end_with, entries_of, entry_of, first_at, free, new_phis, next_number, phis_from, promoted_with, takes}
 use Rattle.slot_promote.specs.Slots.{is_accessed_as, promoted_slots, scalar}
@@ -40,11 +40,11 @@ use Rattle.slot_promote.proofs.Paths.{found_new, moved}
 use Rattle.slot_promote.proofs.Plans.{LineFits, fits_at, kept_end, kept_entries, line_fact, made_here, made_slot, plan, slot_accessed, slot_stored}
 use Rattle.slot_promote.proofs.Shapes.{edges_stay, numbers_stay, place_stays, promoted_at, promoted_from, put_is}
 use Rattle.slot_promote.proofs.Slotted.{AreRight, Gives, Made, are_right, scalar_reg}
-use Rattle.ir_better.proofs.Everywhere.{all_front}
-use Rattle.ir_better.proofs.Counting.{numbers_in, place_is, times_is}
-use Rattle.ir_better.specs.Counted.{times}
+use Rattle.ir_meaning.proofs.Everywhere.{all_front}
+use Rattle.ir_meaning.proofs.Counting.{numbers_in, place_is, times_is}
+use Rattle.ir_meaning.specs.Counted.{times}
 use Rattle.std.proofs.lemmas.List.Recursion.{is_count_by}
-use Rattle.ir_better.proofs.Entries.{apart}
+use Rattle.ir_meaning.proofs.Entries.{apart}
 use Rattle.ir_flow.proofs.Reaching.{edge-from}
 
 abbrev Kept : (ℕ → Bool) → List Argument → Type 0

@@ -11,7 +11,7 @@ use Rattle.ir_tree.specs.declared.instr.Instr.TheVariants as kind
 use Rattle.ir_tree.specs.declared.instr.Line.{Line}
 use Rattle.ir_tree.specs.declared.operand.Operand.{Operand}
 use Rattle.ir_tree.specs.declared.operand.Operand.TheVariants.{Local, Number, Null, Poison, Symbol as Named}
-use Rattle.ir_better.specs.Promote.{Current, Fetches, Makes, Other, Use, Writes, chosen_value, put}
+use Rattle.ir_meaning.specs.Promote.{Current, Fetches, Makes, Other, Use, Writes, chosen_value, put}
 use Rattle.slot_promote.specs.Promoted.{block_with, blocks_with, end_at, first_at, promoted_with}
 use Rattle.slot_promote.specs.Values.{fetches, goes, instr_with, is_slot, is_there, load_with, local_goes, makes, placed, reg_of, regs, use_of, writes}
 use Rattle.slot_promote.specs.declared.slots.Place.{Place}

@@ -15,7 +15,7 @@ use Rattle.ir_tree.specs.declared.instr.Line.{Line}
 use Rattle.ir_tree.specs.declared.operand.Reg.{Reg}
 use Rattle.ir_tree.specs.declared.operand.Reg.TheVariants.{Int, Ptr}
 use Rattle.ir_meaning.specs.Bytes.{reg_size}
-use Rattle.ir_better.specs.Rules.{IsStorable}
+use Rattle.ir_meaning.specs.Rules.{IsStorable}
 use Rattle.ir_edit.proofs.Tally.{tally, tally_both, tally_same}
 use Rattle.slot_promote.specs.Slots.{is_accessed_as, limited, line_slots, promotable, promoted_slots, scalar, slot_at, slot_made, slots}
 use Rattle.slot_promote.specs.Uses.{uses}

@@ -5,7 +5,7 @@ use Rattle.ir_tree.specs.declared.block.Block.{Block}
 use Rattle.ir_tree.specs.declared.function.Function.{Function}
 use Rattle.ir_meaning.specs.Near.{BetterThan}
 use Rattle.ir_meaning.specs.Program.{Program}
-use Rattle.ir_better.specs.Formed.{IsFormed}
+use Rattle.ir_meaning.specs.Formed.{IsFormed}
 use Rattle.slot_promote.specs.Promoted.{promoted_function}
 
 -- how many instructions the longest of these blocks has, without its phis and its terminator

@@ -7,7 +7,7 @@ use Rattle.ir_tree.specs.declared.function.Function.{Function}
 use Rattle.ir_tree.specs.declared.instr.Incoming.{Incoming}
 use Rattle.ir_tree.specs.declared.instr.Phi.{Phi}
 use Rattle.ir_tree.specs.declared.operand.Operand.TheVariants.{Null}
-use Rattle.ir_better.specs.Promote.{Current}
+use Rattle.ir_meaning.specs.Promote.{Current}
 use Rattle.slot_promote.specs.Slots.{promoted_slots}
 use Rattle.slot_promote.specs.Values.{at_start, behind_lines, placed, without_slots}
 use Rattle.slot_promote.specs.declared.slots.Place.{Place}

@@ -4,7 +4,7 @@ use Rattle.std.specs.HashMap as hash
 use Rattle.ir_tree.specs.declared.operand.Operand.{Operand}
 use Rattle.ir_tree.specs.declared.operand.Operand.TheVariants.{Null}
 use Rattle.ir_tree.specs.declared.operand.Reg.{Reg}
-use Rattle.ir_better.specs.Promote.{Current}
+use Rattle.ir_meaning.specs.Promote.{Current}
 use Rattle.slot_promote.specs.Promoted.{End}
 use Rattle.slot_promote.specs.Slots.{is_access}
 use Rattle.slot_promote.specs.Values.{value_at_start}

@@ -7,7 +7,7 @@ use Rattle.ir_tree.specs.declared.operand.Operand.{Operand}
 use Rattle.ir_tree.specs.declared.operand.Operand.TheVariants.{Local, Poison}
 use Rattle.ir_tree.specs.declared.operand.Reg.{Reg}
 use Rattle.ir_tree.specs.declared.operand.Reg.TheVariants.{Ptr}
-use Rattle.ir_better.specs.Promote.{Current, Fetches, Makes, Other, Use, Writes, behind, chosen_value}
+use Rattle.ir_meaning.specs.Promote.{Current, Fetches, Makes, Other, Use, Writes, behind, chosen_value}
 use Rattle.slot_promote.specs.declared.slots.Place.{Place}
 use Rattle.slot_promote.specs.declared.slots.Slot.{Slot}
 

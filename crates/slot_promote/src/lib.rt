@@ -10,7 +10,7 @@
 //! The pass is a definition (`specs/Slots.antt`, `specs/Values.antt`, `specs/Promoted.antt`), and the call gives
 //! exactly it. Of a sound function the result is better in every program, and sound.
 //!
-//! Below this crate stand `ir_tree`, `ir_flow` over `lto_sets` for predecessor edges, and `ir_meaning`, `ir_better`,
+//! Below this crate stand `ir_tree`, `ir_flow` over `lto_sets` for predecessor edges, and `ir_meaning` and
 //! `ir_edit` for what is proved. Time is linear in the function's uses and in what is made: slots that
 //! are promoted times predecessor edges; a slot's value costs one look-up in a table of what its block stores.
 #![tactic(auto)]

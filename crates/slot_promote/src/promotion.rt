@@ -5,7 +5,7 @@ ghost use Rattle.ir_tree.specs.Rules.{Sound};
 ghost use Rattle.ir_flow.specs.Graph.{row};
 ghost use Rattle.ir_meaning.specs.Near.{BetterThan};
 ghost use Rattle.ir_meaning.specs.Program.{Program};
-ghost use Rattle.ir_better.specs.Formed.{IsFormed};
+ghost use Rattle.ir_meaning.specs.Formed.{IsFormed};
 ghost use Rattle.slot_promote.specs.Laws.{longest};
 ghost use Rattle.slot_promote.specs.Promoted.{block_with, blocks_with, end_with, ends_with, first_phi, promoted_function};
 ghost use Rattle.slot_promote.specs.Slots.{promoted_slots};

@@ -1,7 +1,7 @@
 //! The values of slots along a block.
 ghost use Rattle.std.specs.Prelude.{◌≡◌, ℕ, ◌+◌, ◌++◌, ◌∷◌, if◌then◌else◌, List, Option, IfOk, OnOk};
 ghost use Rattle.ir_tree.specs.declared.instr.Line.{Line};
-ghost use Rattle.ir_better.specs.Promote.{behind, changed, chosen_value};
+ghost use Rattle.ir_meaning.specs.Promote.{behind, changed, chosen_value};
 ghost use Rattle.slot_promote.specs.Tables.{current, place_in};
 ghost use Rattle.slot_promote.specs.Values.{behind_line, behind_lines, goes, instr_with, is_slot, load_with, local_goes, makes, reg_of, regs, value_at_start, without_slots, writes};
 ghost use Rattle.slot_promote.specs.declared.slots.Place.{Place};

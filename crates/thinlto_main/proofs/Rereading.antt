@@ -4,7 +4,7 @@ use Rattle.std.specs.List.{AllByRecursion as Each, AllZip}
 use Rattle.std.specs.Prelude.{◌&&◌, filter}
 use Rattle.std.proofs.lemmas.List.Elements.{All-head, All-tail}
 use Rattle.ir_parse.specs.Reading.{Reads}
-use Rattle.ir_better.specs.Programs.{symbol_of}
+use Rattle.ir_meaning.specs.Programs.{symbol_of}
 use Rattle.ir_tree.specs.Names.{AllBytes}
 use Rattle.ir_tree.specs.Wholes.{GlobalSound, IsVerified}
 use Rattle.ir_tree.specs.declared.function.Function.{Function}

@@ -1,4 +1,4 @@
-use Rattle.ir_better.proofs.Entries.{apart}
+use Rattle.ir_meaning.proofs.Entries.{apart}
 use Rattle.back_end.proofs.passes.turn_from_merge.Goals as goal
 
 pub returns : goal.returns

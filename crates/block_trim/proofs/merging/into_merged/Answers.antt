@@ -2,7 +2,7 @@ use Rattle.std.proofs.Common.{◌∙◌, sym, ap, nat_eq}
 use Rattle.std.specs.HashSet.{contains}
 use Rattle.block_trim.specs.Unjoined.{all_stay}
 use Rattle.block_trim.proofs.NoneTakes.{none_takes}
-use Rattle.ir_better.proofs.Entries.{apart}
+use Rattle.ir_meaning.proofs.Entries.{apart}
 use Rattle.block_trim.proofs.JoinedSound.{is_sound}
 use Rattle.block_trim.proofs.merging.into_merged.Goals as goal
 

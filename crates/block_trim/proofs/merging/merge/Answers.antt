@@ -1,4 +1,4 @@
-use Rattle.ir_better.proofs.Entries.{apart}
+use Rattle.ir_meaning.proofs.Entries.{apart}
 use Rattle.block_trim.proofs.Better.{is_better}
 use Rattle.block_trim.proofs.JoinedSound.{is_sound}
 use Rattle.block_trim.proofs.merging.merge.Goals as goal

@@ -1,5 +1,5 @@
 use Rattle.std.proofs.Common.{◌≡◌, ◌++◌, ℕ, drop}
-use Rattle.ir_better.specs.Counted.{sources, times}
+use Rattle.ir_meaning.specs.Counted.{sources, times}
 use Rattle.branch_simplify.specs.Simplified.{entries_left}
 use Rattle.branch_simplify.specs.Tables.{count_of}
 use Rattle.branch_simplify.proofs.entries.entries_left.Given as goal

@@ -1,5 +1,5 @@
 use Rattle.std.proofs.Common.{◌≡◌, ◌++◌, drop}
-use Rattle.ir_better.specs.Counted.{sources}
+use Rattle.ir_meaning.specs.Counted.{sources}
 use Rattle.branch_simplify.proofs.entries.sources.Given as goal
 
 abbrev pub invariant-loop-entry : goal.invariant-loop-entry

@@ -1,6 +1,6 @@
 use Rattle.std.proofs.Common.{◌≡◌, ◌++◌, drop, nat_eq}
 use Rattle.std.specs.HashSet.{contains}
-use Rattle.ir_better.specs.Needed.{needed_blocks}
+use Rattle.ir_meaning.specs.Needed.{needed_blocks}
 use Rattle.dead_code.proofs.sweep.blocks.Given as goal
 
 abbrev pub invariant-loop-old : goal.invariant-loop-old

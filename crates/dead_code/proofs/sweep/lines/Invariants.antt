@@ -1,6 +1,6 @@
 use Rattle.std.proofs.Common.{◌≡◌, ◌++◌, drop, nat_eq}
 use Rattle.std.specs.HashSet.{contains}
-use Rattle.ir_better.specs.Needed.{needed_lines}
+use Rattle.ir_meaning.specs.Needed.{needed_lines}
 use Rattle.dead_code.proofs.sweep.lines.Given as goal
 
 abbrev pub invariant-loop-line : goal.invariant-loop-line

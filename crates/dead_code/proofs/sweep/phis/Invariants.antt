@@ -1,6 +1,6 @@
 use Rattle.std.proofs.Common.{◌≡◌, ◌++◌, drop, nat_eq}
 use Rattle.std.specs.HashSet.{contains}
-use Rattle.ir_better.specs.Needed.{needed_phis}
+use Rattle.ir_meaning.specs.Needed.{needed_phis}
 use Rattle.dead_code.proofs.sweep.phis.Given as goal
 
 abbrev pub invariant-loop-phi : goal.invariant-loop-phi

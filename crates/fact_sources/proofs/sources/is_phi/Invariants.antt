@@ -1,5 +1,5 @@
 use Rattle.std.proofs.Common.{◌≡◌, drop}
-use Rattle.ir_better.specs.Facts.{is_phi}
+use Rattle.ir_meaning.specs.Facts.{is_phi}
 use Rattle.fact_sources.proofs.sources.is_phi.Given as goal
 
 abbrev pub invariant-loop-phi : goal.invariant-loop-phi

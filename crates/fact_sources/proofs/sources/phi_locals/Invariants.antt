@@ -1,6 +1,6 @@
 use Rattle.std.proofs.Common.{◌≡◌, ℕ, ◌||◌, drop, nat_eq}
 use Rattle.std.specs.HashSet.{contains}
-use Rattle.ir_better.specs.Facts.{is_phi}
+use Rattle.ir_meaning.specs.Facts.{is_phi}
 use Rattle.fact_sources.proofs.sources.phi_locals.Given as goal
 
 abbrev pub invariant-loop-phi : goal.invariant-loop-phi

@@ -1,6 +1,6 @@
 use Rattle.std.proofs.Common.{nat_eq, ◌∙◌, ap}
 use Rattle.std.specs.HashSet.{contains}
-use Rattle.ir_better.specs.Facts.{is_phi}
+use Rattle.ir_meaning.specs.Facts.{is_phi}
 use Rattle.ir_facts.specs.Clear.{lines_clear}
 use Rattle.ir_facts.specs.Scopes.{bars}
 use Rattle.ir_facts.proofs.clear.are_clear.Goals as goal

@@ -1,5 +1,5 @@
 use Rattle.std.proofs.Common.{◌≡◌, drop}
-use Rattle.ir_better.specs.Facts.{edge_operand}
+use Rattle.ir_meaning.specs.Facts.{edge_operand}
 use Rattle.ir_facts.proofs.flow.edge_operand.Given as goal
 
 abbrev pub invariant-loop-entry : goal.invariant-loop-entry

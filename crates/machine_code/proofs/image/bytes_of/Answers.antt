@@ -1,7 +1,7 @@
 use Rattle.std.proofs.Common.{◌+◌, ℕ, List, [], drop, refl, ap, subst, ◌∙◌, arith}
 use Rattle.std.proofs.lemmas.List.{drop_all}
 use Rattle.ir_tree.specs.declared.init_node.InitPart.{InitPart}
-use Rattle.ir_better.specs.Constants.{zero_bytes}
+use Rattle.ir_meaning.specs.Constants.{zero_bytes}
 use Rattle.machine_code.specs.MemoryAddresses.{value_in}
 use Rattle.machine_code.proofs.Writing.{IsUnder, all_under, begun_under, head_room, part_room, part_under, under_next}
 use Rattle.machine_code.proofs.image.bytes_of.Goals as goal

@@ -1,6 +1,6 @@
 use Rattle.std.proofs.Common.{◌∙◌, refl}
 use Rattle.ir_tree.specs.declared.function.Param.{Param}
-use Rattle.ir_better.specs.Programs.{regs_of}
+use Rattle.ir_meaning.specs.Programs.{regs_of}
 use Rattle.machine_code.proofs.Rows.{row_more}
 use Rattle.machine_code.proofs.symbol.param_regs.Goals as goal
 

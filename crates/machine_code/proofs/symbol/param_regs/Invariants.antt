@@ -1,5 +1,5 @@
 use Rattle.std.proofs.Common.{◌≡◌, ◌++◌, drop}
-use Rattle.ir_better.specs.Programs.{regs_of}
+use Rattle.ir_meaning.specs.Programs.{regs_of}
 use Rattle.machine_code.proofs.symbol.param_regs.Given as goal
 
 abbrev pub invariant-loop-param : goal.invariant-loop-param

@@ -1,6 +1,6 @@
 use Rattle.std.proofs.Common.{◌≡◌, ◌∙◌, ap, codes, sym, subst, List}
 use Rattle.ir_tree.specs.declared.module.GlobalValue.{GlobalValue}
-use Rattle.ir_better.specs.Runnable.{AreRunnable}
+use Rattle.ir_meaning.specs.Runnable.{AreRunnable}
 use Rattle.merge_meaning.specs.Given.{merged_in}
 use Rattle.merge_meaning.specs.Merged.{merged_globals, with_host}
 use Rattle.merge_meaning.proofs.Tabled.{merged_kept}

@@ -1,6 +1,6 @@
 use Rattle.std.proofs.Common.{◌∙◌, ap, arith, sym, is_none}
 use Rattle.ir_tree.specs.declared.module.GlobalValue.{GlobalValue}
-use Rattle.ir_better.specs.Programs.{symbol_of}
+use Rattle.ir_meaning.specs.Programs.{symbol_of}
 use Rattle.merge_meaning.specs.Merged.{standing_of}
 use Rattle.merge_meaning.proofs.Own.{not_own, own_more}
 use Rattle.merge_meaning.proofs.scope.own_names.Goals as goal

@@ -1,7 +1,7 @@
 use Rattle.std.proofs.Common.{◌≡◌, ◌∙◌, List, IfOk, refl, inl, subst, sym}
 use Rattle.ir_tree.specs.declared.module.GlobalValue.{GlobalValue}
-use Rattle.ir_better.specs.Programs.{program_of}
-use Rattle.ir_better.specs.Runnable.{AreRunnable}
+use Rattle.ir_meaning.specs.Programs.{program_of}
+use Rattle.ir_meaning.specs.Runnable.{AreRunnable}
 use Rattle.merge_meaning.specs.Merged.{merged_globals}
 use Rattle.run_program.specs.Files.{file_in}
 use Rattle.symbol_resolve.specs.Resolved.{Symbols}

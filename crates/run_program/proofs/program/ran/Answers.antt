@@ -1,6 +1,6 @@
 use Rattle.std.proofs.Common.{ℕ, List, length, refl, sym, subst, inl}
 use Rattle.ir_tree.specs.Wholes.{symbols}
-use Rattle.ir_better.specs.Programs.{program_of}
+use Rattle.ir_meaning.specs.Programs.{program_of}
 use Rattle.ir_interp.specs.Code.{IsRunnable}
 use Rattle.ir_interp.specs.Steps.{CanBegin, HasBegun}
 use Rattle.ir_interp.specs.declared.code.Code.{Code}

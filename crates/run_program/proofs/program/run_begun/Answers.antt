@@ -3,7 +3,7 @@ use Rattle.ir_tree.specs.Wholes.{symbols}
 use Rattle.ir_machine.specs.Meant.{symbol_at}
 use Rattle.ir_meaning.specs.Program.{State}
 use Rattle.ir_meaning.specs.Run.{start}
-use Rattle.ir_better.specs.Programs.{program_of}
+use Rattle.ir_meaning.specs.Programs.{program_of}
 use Rattle.lto_fault.specs.declared.refusal.Refusal.{Refusal}
 use Rattle.ir_interp.specs.Steps.{numbers_meant}
 use Rattle.run_program.specs.Files.{file_in}

@@ -1,5 +1,5 @@
 use Rattle.std.proofs.Common.{Option, IfSome, length, refl, inl, subst}
-use Rattle.ir_better.specs.Programs.{program_of}
+use Rattle.ir_meaning.specs.Programs.{program_of}
 use Rattle.ir_interp.specs.Steps.{CanBegin}
 use Rattle.run_program.specs.Arguments.{IsGiven}
 use Rattle.run_program.specs.Files.{file_in}

@@ -1,6 +1,6 @@
 use Rattle.std.proofs.Common.{◌≡◌, ◌∙◌, ℕ, List, ap}
 use Rattle.ir_tree.specs.declared.instr.Line.{Line}
-use Rattle.ir_better.specs.Promote.{Current}
+use Rattle.ir_meaning.specs.Promote.{Current}
 use Rattle.slot_promote.specs.Tables.{current, place_in}
 use Rattle.slot_promote.specs.Values.{at_start, behind_lines}
 use Rattle.slot_promote.proofs.promotion.block_end.Goals as goal

@@ -1,6 +1,6 @@
 use Rattle.std.proofs.Common.{◌∙◌, List, ap}
 use Rattle.ir_tree.specs.declared.instr.Line.{Line}
-use Rattle.ir_better.specs.Promote.{Current}
+use Rattle.ir_meaning.specs.Promote.{Current}
 use Rattle.slot_promote.specs.Tables.{place_in}
 use Rattle.slot_promote.specs.Values.{at_start, without_slots}
 use Rattle.slot_promote.proofs.promotion.lines.Goals as goal

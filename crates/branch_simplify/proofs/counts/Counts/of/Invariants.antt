@@ -1,5 +1,5 @@
 use Rattle.std.proofs.Common.{◌≡◌, ◌+◌, ℕ, drop}
-use Rattle.ir_better.specs.Counted.{times}
+use Rattle.ir_meaning.specs.Counted.{times}
 use Rattle.branch_simplify.specs.Tables.{count_of}
 use Rattle.branch_simplify.proofs.counts.Counts.of.Given as goal
 

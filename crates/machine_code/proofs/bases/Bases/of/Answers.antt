@@ -3,7 +3,7 @@ use Rattle.std.specs.Map.{lookup}
 use Rattle.ir_tree.specs.Symbols.{symbol_eq}
 use Rattle.ir_tree.specs.declared.operand.Symbol.{Symbol}
 use Rattle.ir_machine.specs.declared.scalar.Base.{Base}
-use Rattle.ir_better.specs.Programs.{behind, defined}
+use Rattle.ir_meaning.specs.Programs.{behind, defined}
 use Rattle.machine_code.specs.MemoryAddresses.{base_in, key_symbol}
 use Rattle.machine_code.specs.Tables.{base_at, noted, number_at}
 use Rattle.machine_code.specs.declared.key.Key.{Key}

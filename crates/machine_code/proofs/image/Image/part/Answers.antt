@@ -1,6 +1,6 @@
 use Rattle.std.proofs.Common.{ℕ, List, reverse, refl, subst, ◌∙◌}
 use Rattle.ir_tree.specs.declared.operand.Symbol.{Symbol}
-use Rattle.ir_better.specs.Constants.{zero_bytes}
+use Rattle.ir_meaning.specs.Constants.{zero_bytes}
 use Rattle.machine_code.specs.MemoryAddresses.{value_in}
 use Rattle.machine_code.specs.Images.{Wrote, head_bytes, padding}
 use Rattle.machine_code.specs.declared.image.Image.{Image}

@@ -1,7 +1,7 @@
 use Rattle.std.proofs.Common.{◌≡◌, ℕ, Option}
 use Rattle.std.proofs.lemmas.Result.{on_ok_weaker}
 use Rattle.ir_tree.specs.declared.operand.Operand.TheVariants.{Poison}
-use Rattle.ir_better.specs.Promote.{changed}
+use Rattle.ir_meaning.specs.Promote.{changed}
 use Rattle.slot_promote.specs.Tables.{current, place_in}
 use Rattle.slot_promote.specs.declared.slots.Place.{Place}
 use Rattle.slot_promote.proofs.Loops.{made}

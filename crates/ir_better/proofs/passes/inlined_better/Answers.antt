@@ -1,5 +1,0 @@
-use Rattle.ir_better.proofs.Inlining.Inlined.{inlined_is_better}
-use Rattle.ir_better.proofs.passes.inlined_better.Goals as goal
-
-pub returns : goal.returns
-returns c = inlined_is_better

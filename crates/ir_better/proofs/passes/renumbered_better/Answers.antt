@@ -1,5 +1,0 @@
-use Rattle.ir_better.proofs.Numbers.Renumbered as numbers
-use Rattle.ir_better.proofs.passes.renumbered_better.Goals as goal
-
-pub returns : goal.returns
-returns c = numbers.renumbered_better

@@ -1,5 +1,0 @@
-use Rattle.ir_better.proofs.Blocks.Reshaped.{reshaped_is_better}
-use Rattle.ir_better.proofs.passes.reshaped_better.Goals as goal
-
-pub returns : goal.returns
-returns c = reshaped_is_better

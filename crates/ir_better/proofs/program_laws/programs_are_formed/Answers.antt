@@ -1,5 +1,0 @@
-use Rattle.ir_better.proofs.Numbered.{programs_formed}
-use Rattle.ir_better.proofs.program_laws.programs_are_formed.Goals as goal
-
-pub returns : goal.returns
-returns c = programs_formed
