@@ -4,18 +4,31 @@
 /// "Bitwise Binary Operations").
 #[derive(Clone, Copy, Debug, PartialEq, Eq)]
 pub enum BinaryOp {
+    /// The sum.
     Add,
+    /// The difference.
     Sub,
+    /// The product.
     Mul,
+    /// The unsigned quotient.
     Udiv,
+    /// The signed quotient, rounded towards zero.
     Sdiv,
+    /// The unsigned remainder.
     Urem,
+    /// The signed remainder, which has the sign of the dividend.
     Srem,
+    /// Shift left.
     Shl,
+    /// Logical shift right: zeros come in.
     Lshr,
+    /// Arithmetic shift right: copies of the sign bit come in.
     Ashr,
+    /// Bitwise and.
     And,
+    /// Bitwise or.
     Or,
+    /// Bitwise exclusive or.
     Xor,
 }
 
@@ -36,14 +49,24 @@ pub struct Flags {
 /// The condition of an integer comparison (LLVM Language Reference, "`icmp` Instruction").
 #[derive(Clone, Copy, Debug, PartialEq, Eq)]
 pub enum Predicate {
+    /// Equal.
     Eq,
+    /// Not equal.
     Ne,
+    /// Unsigned greater.
     Ugt,
+    /// Unsigned greater or equal.
     Uge,
+    /// Unsigned less.
     Ult,
+    /// Unsigned less or equal.
     Ule,
+    /// Signed greater.
     Sgt,
+    /// Signed greater or equal.
     Sge,
+    /// Signed less.
     Slt,
+    /// Signed less or equal.
     Sle,
 }
