@@ -29,8 +29,8 @@ pub use metadata_behind::{metadata_behind_at, node_yet_at};
 pub use name::Name;
 pub use numerals::{alignment_at, decimal};
 pub use operands::{
-    bit_at, global_named, integer_at, local_at, maybe_at, memory_refusal, named, operand_means,
-    reg_at, reg_of, result_at, scalar_at, simple_at, type_refusal, width,
+    bit_at, global_named, group_named, integer_at, local_at, maybe_at, memory_refusal, named,
+    operand_means, reg_at, reg_of, result_at, scalar_at, simple_at, type_refusal, width,
 };
 pub use places::{Before, Position};
 pub use raw::{
