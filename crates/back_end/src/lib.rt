@@ -1,22 +1,25 @@
 //! The back end: the passes over one function, in their order.
 //!
-//! A sound function first goes three times through the inline walk: the first call that may take a body takes it, and the walk
-//! goes on behind the body, until no call takes one (`inline_site`; `specs/Walk.antt`, [`next_is_behind`]). A body may be
-//! inlined where the function is defined for good, no attribute forbids it, it doesn't call itself, and it is no longer than
-//! the limit (`specs/Inlinable.antt`); a caller has room up to 20,000 phis, instructions and terminators. Bodies are as they
-//! were read, never optimised ones. [`Bodies`] finds them by their functions' names.
+//! A sound function first goes three times through the inline walk: the first call that may take a body takes it, and
+//! the walk goes on behind the body, until no call takes one (`inline_site`; `specs/Walk`, [`next_is_behind`]). A body
+//! may be inlined where the function is defined for good, no attribute forbids it, it doesn't call itself, and it is no
+//! longer than the limit (`specs/Inlinable`); a caller has room up to 20,000 phis, instructions and terminators. Bodies
+//! are as they were read, never optimised ones; [`Bodies`] finds them by their functions' names. Then stack slots
+//! become values (`slot_promote`). Three times follow propagation of copies and constants (`ir_facts`), decided
+//! branches as jumps (`branch_simplify`), trimming of blocks that aren't reached and joining of blocks (`block_trim`),
+//! and dead code elimination (`dead_code`); at the end locals and blocks are numbered in the order of the text
+//! (`ir_edit`). A function that is `optnone` stays as it was. Below stand the passes, and `ir_meaning` for what is
+//! proved.
 //!
-//! The stack slots of the function then become values (`slot_promote`). It goes three times through propagation of copies and
-//! constants (`ir_facts`), decided branches as jumps (`branch_simplify`), trimming of blocks that aren't reached
-//! and joining of blocks (`block_trim`) and dead code elimination (`dead_code`), and its locals and blocks are
-//! numbered in the order of its text (`ir_edit`); one that is `optnone` stays as it was. The order is a definition
-//! (`specs/Made.antt`), and [`compile`] gives a function by it: sound, and better in every program whose own the bodies are, as
-//! all are that are made of a sound one with sound bodies ([`made_is_better`]). What is made has the interface of what it was
-//! made of ([`made_has_interface`]), names no symbol that neither this nor a body names ([`made_is_known`]), and there is one
+//! **Promise.** The order is a definition (`specs/Made`), and [`compile`] gives a function by it: sound, and better in
+//! every program whose own the bodies are ([`made_is_better`]). What is made has the interface of what it was made of
+//! ([`made_has_interface`]), names no symbol that neither this nor a body names ([`made_is_known`]), and there is one
 //! function only that is made of each sound one ([`made_is_one`]).
 //!
-//! Below this crate stand the passes, and `ir_meaning` for what is proved. The cost is that of
-//! the passes; a walk goes over the function once, and costs what the function and the bodies that it takes are long.
+//! **Cost.** That of the passes; a walk goes over the function once, and costs what the function and the bodies that it
+//! takes are long.
+//!
+//! **Not shown.** That the result is faster or shorter; that memory is found.
 #![tactic(auto)]
 
 mod bodies;

@@ -1,15 +1,18 @@
 //! Constant branches: a `br` or a `switch` that leads to one block whatever happens becomes a jump.
 //!
-//! A `br` on `true` or `false` or with equal targets, and a `switch` on a constant or without cases, is decided. With an
-//! edge goes a phi entry of the block that it led to, of those for the edge's block the last one: so phis keep one entry
-//! for each predecessor edge (LLVM Language Reference, "phi Instruction"). What branches on `poison` is kept, unless it
-//! has one target or no cases: to reach it is undefined, which no other block need be.
+//! A `br` on `true` or `false` or with equal targets, and a `switch` on a constant or without cases, is decided. With
+//! an edge goes a phi entry of the block that it led to, of those for the edge's block the last one: so phis keep one
+//! entry for each predecessor edge (LLVM Language Reference, "phi Instruction"). What branches on `poison` is kept,
+//! unless it has one target or no cases: to reach it is undefined, which no other block need be. Below stand `ir_tree`,
+//! `ir_flow`, and `ir_meaning` for what is proved.
 //!
-//! The pass is a definition (`specs/Simplified.antt`), and the call gives exactly it. Of a sound function the result is
-//! better in every program, and sound.
+//! **Promise.** The pass is a definition (`specs/Simplified`), and the call gives exactly it. Of a sound function the
+//! result is better in every program, and sound.
 //!
-//! Below this crate stand `ir_tree`, and `ir_meaning` for what is proved. Time and memory
-//! are linear in the function: lost edges are gathered once by their target, and each phi's entries are counted once.
+//! **Cost.** Time and memory are linear in the function: lost edges are gathered once by their target, and each phi's
+//! entries are counted once.
+//!
+//! **Not shown.** That memory is found.
 #![tactic(auto)]
 
 mod counts;

@@ -1,26 +1,25 @@
 //! Facts about the values of locals, and substitution by them: copy and constant propagation.
 //!
-//! [`candidates`] (of `fact_sources`) gives for each local of a function the operand that may stand for its value, if there is
-//! one. Laws: what the candidate of a phi is, and when there is one ([`phi_sources_are_sole`], [`phi_sources_right`]), and that
-//! the candidate of an instruction may stand for what it gives ([`line_sources_right`]), by the law of the rule table.
+//! [`candidates`] (of `fact_sources`) gives for each local the operand that may stand for its value. [`apply`] puts
+//! candidates in the place of locals, in rounds. In a round an instruction whose operand rests on a free choice first
+//! becomes a freeze of that constant, so that it is one value wherever it stands. The definition (`specs/Steps`) is by
+//! facts at points, the greatest solution of equations over the edges. In a sound function a fact whose operand no
+//! unreached block defines holds wherever its local is used, and so does each where blocks are clear of the others, as
+//! tables of places and dominators tell (`specs/Clear`); else these are looked up at points (`point_edit`). [`facts`]
+//! gives the facts themselves, each with the points where it holds, of any formed function (`specs/Points`). Below
+//! stand `fact_sources`, `point_edit`, `ir_tree`, `ir_flow`, `lto_sets`, `ir_edit`, `fold_rules`, and `ir_meaning` for
+//! what is proved.
 //!
-//! [`apply`] puts candidates in the place of locals, in rounds. In a round an instruction whose operand rests on a free choice
-//! first becomes a freeze of that constant, so that it is one value wherever it stands. The definition (`specs/Steps.antt`) is by
-//! facts at points, the greatest solution of equations over the edges. In a sound function a fact whose operand no unreached
-//! block defines holds wherever its local is used ([`facts_hold_at_uses`]), and so does each where blocks are clear of the others,
-//! as tables of places and dominators tell (`specs/Clear.antt`); else these are looked up at points ([`function_at`] of
-//! `point_edit`). What is made is one function ([`applied_is_one`]), sound, and better in every program
-//! ([`rounds_are_better`]).
+//! **Promise.** What [`apply`] makes is one function ([`applied_is_one`]), sound, and better in every program
+//! ([`rounds_are_better`]). The facts are one list ([`facts_are_one`]), and hold where locals are used
+//! ([`facts_hold_at_uses`]); what any solution makes of a sound function is better ([`steps_are_better`]).
 //!
-//! [`facts`] gives the facts themselves, each with the points where it holds, of any formed function: the greatest solution of
-//! the equations of `specs/Points.antt`, which is one list ([`facts_are_one`]). What any solution makes of a sound function is
-//! better ([`steps_are_better`]), and the two definitions of where facts hold agree ([`facts_at_points_agree`]).
+//! **Cost.** A round goes through the function a few times, and looks each use up in one table; rounds end behind one
+//! that changes nothing. Where no unreached block gives a local a value, blocks are copied once for all rounds, and a
+//! round makes anew only what has a use that is replaced; else each round copies the function. [`facts`] solves the
+//! equations of each fact by itself, and so does a round where blocks aren't clear.
 //!
-//! Below this crate stand `fact_sources`, `point_edit`, `ir_tree`, `ir_flow`, `lto_sets`, `ir_edit`, `fold_rules`, and
-//! `ir_meaning` for what is proved. A round goes through the function a few times, and looks each use up in one
-//! table (`Substitution` of `fact_sources`); rounds end behind one that changes nothing. Where no unreached block gives a local a
-//! value, blocks are copied once for all rounds, and a round makes anew only what has a use that is replaced; else each round
-//! copies the function. `facts` solves the equations of each fact by itself, and so does a round where blocks aren't clear.
+//! **Not shown.** How many rounds there are; that the result is shorter.
 #![tactic(auto)]
 
 mod clear;

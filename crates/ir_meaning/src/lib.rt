@@ -18,6 +18,9 @@
 //! that was verified can be run ([`verified_is_runnable`]).
 //!
 //! **Cost.** No call takes memory, and each takes a constant number of machine instructions.
+//!
+//! **Not shown.** That these definitions are LLVM's, beyond the Reference's text and the programs that run as native
+//! builds do.
 #![tactic(auto)]
 
 mod defined;

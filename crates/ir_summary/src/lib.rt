@@ -1,13 +1,16 @@
 //! Summaries of the definitions of a module: all that the decisions of a link look at.
 //!
-//! A link decides liveness, imports and names by summaries alone and never opens a body for it
-//! (Johnson, Amini and Li, "ThinLTO: Scalable and Incremental LTO", 2017). The summary of a function
-//! says how long it is, whom it calls directly and what it refers to; that of a variable what its
-//! initialiser refers to. Contracts say that summaries are those of `specs/Summaries.antt`. What a
-//! definition refers to can be asked for by itself ([`references`]).
+//! A link decides liveness, imports and names by summaries alone and never opens a body for it (Johnson, Amini and Li,
+//! "ThinLTO: Scalable and Incremental LTO", 2017). The summary of a function says how long it is, whom it calls
+//! directly and what it refers to; that of a variable what its initialiser refers to. Below stand `ir_tree`, for
+//! modules, and `indexmap`, which keeps names in the order in which they first come.
 //!
-//! Below stand `ir_tree`, for modules, and `indexmap`, which keeps names in the order in which they
-//! first come. A body is walked three times, and no name is copied but those of the summary.
+//! **Promise.** Summaries are those of the definition (`specs/Summaries`), and so is what a definition refers to
+//! ([`references`]).
+//!
+//! **Cost.** A body is walked three times, and no name is copied but those of the summary.
+//!
+//! **Not shown.** That memory is found.
 #![tactic(auto)]
 
 mod bodies;

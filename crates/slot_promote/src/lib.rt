@@ -2,17 +2,19 @@
 //!
 //! An `alloca` of a scalar whose address is used for loads and stores of its type alone holds nothing that a value
 //! can't (LangRef, "alloca Instruction"; LLVM's `mem2reg`). All such slots are promoted at once: at each point of a
-//! block a slot has a value, which is its phi's at the block's start, poison behind its `alloca` and the stored
-//! operand behind a store. What a load gave is given by a `select` with that value in both arms; nothing is left of the
-//! slot's `alloca` and stores. Each block other than the entry that has a predecessor gets a phi for each slot, so
-//! neither dominance nor liveness is asked for; phis that nobody needs are for later passes to remove.
+//! block a slot has a value, which is its phi's at the block's start, poison behind its `alloca` and the stored operand
+//! behind a store. What a load gave is given by a `select` with that value in both arms; nothing is left of the slot's
+//! `alloca` and stores. Each block other than the entry that has a predecessor gets a phi for each slot, so neither
+//! dominance nor liveness is asked for; phis that nobody needs are for later passes to remove. Below stand `ir_tree`,
+//! `ir_flow` over `lto_sets` for predecessor edges, and `ir_meaning` and `ir_edit` for what is proved.
 //!
-//! The pass is a definition (`specs/Slots.antt`, `specs/Values.antt`, `specs/Promoted.antt`), and the call gives
-//! exactly it. Of a sound function the result is better in every program, and sound.
+//! **Promise.** The pass is a definition (`specs/Slots`, `specs/Values`, `specs/Promoted`), and the call gives exactly
+//! it. Of a sound function the result is better in every program, and sound.
 //!
-//! Below this crate stand `ir_tree`, `ir_flow` over `lto_sets` for predecessor edges, and `ir_meaning` and
-//! `ir_edit` for what is proved. Time is linear in the function's uses and in what is made: slots that
-//! are promoted times predecessor edges; a slot's value costs one look-up in a table of what its block stores.
+//! **Cost.** Linear in the function's uses and in what is made: slots that are promoted times predecessor edges. A
+//! slot's value costs one look-up in a table of what its block stores.
+//!
+//! **Not shown.** That the result is shorter or faster.
 #![tactic(auto)]
 
 mod laws;
