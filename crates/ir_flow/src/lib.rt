@@ -1,19 +1,20 @@
-//! Data flow over the functions of LLVM IR: predecessor edges, the blocks that are reached, dominators, and
-//! greatest solutions of equations.
+//! Data flow over the functions of LLVM IR: predecessor edges, the blocks that are reached, dominators, and greatest
+//! solutions of equations.
 //!
-//! A function's blocks go by their place, from 0, which is the entry. `ir_tree` stands below, with functions and
-//! with what edges, paths, dominance, greatest families and availability are, and `lto_sets`, with sets as rows
-//! of bits.
+//! A function's blocks go by their place, from 0, which is the entry. Below stand `ir_tree`, with functions and with
+//! what edges, paths, dominance, greatest families and availability are, and `lto_sets`, with sets as rows of bits.
 //!
-//! Its promises: the edges and the blocks that are reached are those of the definitions; `Dominators` answers
-//! dominance by paths; `greatest` gives the greatest solution of any lawful equations, whose marks hold on every path;
-//! and a local that one block defines is available exactly where that block dominates, so that what is available
-//! need not be kept as sets.
+//! **Promise.** The edges ([`preds`]) and the blocks that are reached ([`reachable`]) are those of the definitions;
+//! [`Dominators`] answers dominance by paths (`specs/Dominance`); [`greatest`] gives the greatest solution of any
+//! lawful equations ([`Equations`]), whose marks hold on every path; and a local that one block defines is available
+//! exactly where that block dominates ([`available_by_dominance`]), so that what is available need not be kept as sets.
 //!
-//! Edges and reached blocks take time and memory linear in blocks, edges and the greatest number of a block.
-//! Dominators take two rounds over the edges where control flow is reducible, each meeting of two blocks a
-//! logarithm of the tree's depth, and three numbers a block; elsewhere a round more for each round in which a
-//! link moves. `greatest` takes a bit for each pair of block and member.
+//! **Cost.** Edges and reached blocks take time and memory linear in blocks, edges and the greatest number of a block.
+//! Dominators take two rounds over the edges where control flow is reducible, each meeting of two blocks a logarithm of
+//! the tree's depth, and three numbers a block; elsewhere a round more for each round in which a link moves.
+//! [`greatest`] takes a bit for each pair of block and member.
+//!
+//! **Not shown.** How many rounds there are; that memory is found.
 #![tactic(auto)]
 
 mod chains;

@@ -1,12 +1,22 @@
 //! Modules of LLVM IR as trees, and the text and lists that they are made of.
 //!
-//! A tree holds what a module's text says and nothing of how it was written: no lines, no local
-//! names, no spellings of numbers. Contracts see shapes and initialisers as data types and every
-//! list as a list, so `≡` between two trees is equality of what they say.
+//! Nothing stands below this crate but the standard library. A tree holds what a module's text says and nothing of how
+//! it was written: no lines, no local names, no spellings of numbers. Contracts see shapes and initialisers as data
+//! types and every list as a list, so `≡` between two trees is equality of what they say. [`Parsed`] is a module that
+//! is formed, with lines beside it, and [`Verified`] one that is sound; both keep that in their types. What formed and
+//! sound are (`specs/Formed`, `specs/Rules`, `specs/Wholes`), and what edges, paths and dominance (`specs/Flow`), is
+//! defined here for the crates above.
 //!
-//! Below this crate stands the standard library alone. Its promises: the layout calls give the
-//! sizes, alignments and offsets of the definitions in `specs/Layout.antt`; copies and comparisons
-//! are exact. Layout takes one pass over a shape, a copy one pass over a tree.
+//! **Promise.** [`size_of`], [`align_of`] and [`offset_of`] give what LangRef, "Data Layout", says of x86-64
+//! (`specs/Layout`); a copy ([`Duplicate`]) is equal to what it was made of, and a name that is printed is read as
+//! itself ([`quoted_again`], `specs/Names`).
+//!
+//! **Cost.** Layout takes one pass over a shape and no memory. A copy takes one pass over a tree and memory in its
+//! size, and so does the text of a name; want of memory is answered as `AllocError`, and a [`Text`] or a list
+//! ([`Rows`]) that couldn't be added to is as it was.
+//!
+//! **Not shown.** That a copy is ever made: a refusal for want of memory meets each clause. That these layouts are
+//! those of LLVM's back end, beyond the examples of `text_tests`.
 #![tactic(auto)]
 
 mod block;

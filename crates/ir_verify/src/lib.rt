@@ -1,16 +1,21 @@
-//! The rules of soundness, item by item and over whole functions: what a verifier of modules is made of.
+//! The verifier: the rules of soundness, item by item and over whole functions, and the least fault of a module.
 //!
-//! [`learned`] gathers what is known of a function: where each local and each block is defined, and the edges into each block.
-//! [`phi_broken`], [`line_broken`] and [`end_broken`] answer with the first rule that a phi, a line or a terminator of a formed
-//! function breaks, and with none exactly where it keeps all eight (`ir_tree`'s `specs/Rules.antt`). What is available is
-//! answered point by point, from the place of a local's definition and the dominators of its function. [`noted`] keeps the fault of
-//! the least line, and on one line of the least rule, and [`function_fault`] goes over all items of a function with it. [`init_fits`] says whether an initialiser fits a shape, and
-//! [`module_fault`] finds the least fault of a module: of its functions and of the initialisers of its variables. [`verify`] answers with
-//! the sound module, or with that fault.
+//! [`learned`] gathers what is known of a function: where each local and each block is defined, and the edges into each
+//! block. [`phi_broken`], [`line_broken`] and [`end_broken`] answer with the first rule that a phi, a line or a
+//! terminator of a formed function breaks. What is available is answered point by point, from the place of a local's
+//! definition and the dominators of its function. [`function_fault`] goes over all items of a function and keeps the
+//! fault of the least line, and on one line of the least rule; [`init_fits`] says whether an initialiser fits a shape.
+//! Below stand `ir_tree`, and the edges and dominators of `ir_flow`.
 //!
-//! Below stand `ir_tree`, and the edges and dominators of `ir_flow`. The promise: each answer is what the definitions of
-//! soundness say. Tables go by the numbers of locals and blocks; a phi is checked in the time of sorting its entries, a switch in
-//! that of its cases, any other item in that of its operands.
+//! **Promise.** [`verify`] answers with the sound module, or with its least fault ([`module_fault`], `specs/Modules`):
+//! no fault is told exactly where each function keeps all eight rules (`specs/Rules` of `ir_tree`) and each initialiser
+//! fits.
+//!
+//! **Cost.** Tables go by the numbers of locals and blocks; a phi is checked in the time of sorting its entries, a
+//! switch in that of its cases, any other item in that of its operands.
+//!
+//! **Not shown.** That these are LLVM's rules: a check of the repository compares examples with its verifier. That
+//! memory is found.
 #![tactic(auto)]
 
 mod available;

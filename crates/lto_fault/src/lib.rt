@@ -1,13 +1,18 @@
-//! What a command says at its end: the linker's refusals, with their exit status and exact text, and the line of a run that
-//! returned; and how they are sent to a sink of bytes.
+//! What a command says at its end: the linker's refusals, with their exit status and exact text, and the line of a run
+//! that returned; and how they are sent to a sink of bytes.
 //!
-//! [`text`] gives just the line that the definition `refusal_text` says, and [`status`] the number that the process ends
-//! with. [`say`] sends that very line, [`say_returned`] the line that a run which returned ends with (`specs/Returned.antt`), and
-//! [`push_all`] any bytes. Where not all of a text was sent, a front of it was, and the sink's count of faults rose
-//! (`specs/Pushing.antt`).
+//! [`Refusal`] has a variant for each answer, and [`Kind`] one for each kind of fault in a file. [`say`] sends the line
+//! of a refusal, [`say_returned`] the line of a run that returned, and [`push_all`] any bytes. Below stand
+//! `lto_outside` for sinks, `ir_tree` for texts and for how names are printed, and `itoa` for numbers.
 //!
-//! Below stand `lto_outside` for sinks, `ir_tree` for texts and for how names are printed, and `itoa` for numbers. A text takes
-//! time and memory in its length; what is sent takes none, so a refusal is told also where memory is what was lacking.
+//! **Promise.** [`text`] gives just the line that the definition says (`specs/Texts`), and [`status`] the number that
+//! the process ends with (`specs/Statuses`). What is sent is that very line; where not all of it was sent, a front of
+//! it was, and the sink's count of faults rose (`specs/Pushing`).
+//!
+//! **Cost.** A text takes time and memory in its length; what is sent takes none, so a refusal is told also where
+//! memory is what was lacking.
+//!
+//! **Not shown.** That memory is found for [`text`].
 #![tactic(auto)]
 
 mod cause;

@@ -2,12 +2,18 @@
 //! tests hold workers back.
 //!
 //! Every object counts its faults: a call that answers a fault raised the count in that very call, and the count never
-//! falls. What an object holds, has left or was sent is told or not: [`Files`], [`CacheDisk`], [`ByteIn`] and [`ByteOut`]
-//! say what each call does to it where it is told. `Files` also keeps which calls were made, in order and with their
-//! answers, so that a contract above can say that nothing was put, or which fetch it was that failed.
+//! falls. What an object holds, has left or was sent is told or not: [`Files`], [`CacheDisk`], [`ByteIn`] and
+//! [`ByteOut`] say what each call does to it where it is told. [`Files`] also keeps which calls were made, in order and
+//! with their answers, so that a contract above can say that nothing was put, or which fetch it was that failed. Below
+//! stands `ir_tree`, for [`ir_tree::Text`] alone.
 //!
-//! Below it stands `ir_tree`, for [`ir_tree::Text`] alone. It promises what the code above may know of files and
-//! streams; nothing here allocates or takes time.
+//! **Promise.** What the code above may know of files and streams. Laws: calls in a row are replayed by their answers
+//! ([`calls_in_a_row`]), and a disk that is honest stays so ([`disk_stays_honest`]).
+//!
+//! **Cost.** Nothing here allocates or takes time.
+//!
+//! **Not shown.** That an outside is as its traits say: `outside_memory` is proved to be, `outside_real` is trusted for
+//! what it holds.
 #![tactic(auto)]
 
 mod bytes;
