@@ -162,17 +162,17 @@ module _ (interface : MadeHasInterface) (exports : List (List ℕ)) (limit : ℕ
   pub kept_of : (unit : List Piece) → IsTaskUnit t unit
       → (kept : List Piece) × ((pieces : List Piece) × AllZip (IsLinkedPiece bodies exports) part pieces × IsStripped (record { offers = offers symbols suffixes promoted part; pieces = pieces }) kept) × IsInNameOrder kept unit
   kept_of unit u =
-      let made : AllZip (IsLinkedPiece bodies t.exports) part u.pieces =
-      subst (λ (gs : List GlobalValue). AllZip (IsLinkedPiece bodies t.exports) gs u.pieces) own_are
-      (subst (λ (b : List ℕ → Option Function). AllZip (IsLinkedPiece b t.exports) (definitions t.own) u.pieces) bodies_are u.made) in
+      let made : AllZip (IsLinkedPiece bodies t.exports) part u.are_kept.pieces =
+      subst (λ (gs : List GlobalValue). AllZip (IsLinkedPiece bodies t.exports) gs u.are_kept.pieces) own_are
+      (subst (λ (b : List ℕ → Option Function). AllZip (IsLinkedPiece b t.exports) (definitions t.own) u.are_kept.pieces) bodies_are u.are_kept.made) in
       let shown_are : shown (definitions t.own) ++ t.promoted ≡ shown part ++ t.promoted = ap (λ (gs : List GlobalValue). shown gs ++ t.promoted) own_are in
-      let stripped : IsStripped (record { offers = shown part ++ t.promoted; pieces = u.pieces }) u.kept =
-      subst (λ (names : List (List ℕ)). IsStripped (record { offers = names; pieces = u.pieces }) u.kept) shown_are u.stripped in (
+      let stripped : IsStripped (record { offers = shown part ++ t.promoted; pieces = u.are_kept.pieces }) u.kept =
+      subst (λ (names : List (List ℕ)). IsStripped (record { offers = names; pieces = u.are_kept.pieces }) u.kept) shown_are u.are_kept.stripped in (
         u.kept,
         (
-          u.pieces,
-          zip_map (IsLinkedPiece bodies t.exports) (IsLinkedPiece bodies exports) part u.pieces (λ g p s piece. piece_same g p s piece) made,
-          same_stripped (shown part ++ t.promoted) (offers symbols suffixes promoted part) u.pieces u.kept
+          u.are_kept.pieces,
+          zip_map (IsLinkedPiece bodies t.exports) (IsLinkedPiece bodies exports) part u.are_kept.pieces (λ g p s piece. piece_same g p s piece) made,
+          same_stripped (shown part ++ t.promoted) (offers symbols suffixes promoted part) u.are_kept.pieces u.kept
               (with_front (shown part) t.promoted (names_of symbols suffixes promoted) (λ name h. (task.promoted_are name).0 h))
               (with_front (shown part) (names_of symbols suffixes promoted) t.promoted (λ name h. (task.promoted_are name).1 h))
               stripped,

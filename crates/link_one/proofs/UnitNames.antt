@@ -92,13 +92,13 @@ verified_once gs verified =
 
 pub task_unit_rises : MadeHasInterface → (t : TaskView) (unit : List Piece) → IsVerified (module_of t.own) → All IsWritten unit → IsTaskUnit t unit → IsUnit unit
 task_unit_rises interface t unit verified written u =
-    let keeps : Piece → Bool = λ p. u.stripped.keeps p.name in
-    let named_once : Distinct (map named u.pieces) =
-    subst Distinct (sym (names_are interface (bodies_in_task t) t.exports (definitions t.own) u.pieces u.made)) (distinct_kept name_of is_defined t.own (verified_once t.own verified)) in
-    let kept_once : Distinct (map named u.kept) = subst (λ (ps : List Piece). Distinct (map named ps)) (sym u.stripped.is) (distinct_kept named keeps u.pieces named_once) in
+    let keeps : Piece → Bool = λ p. u.are_kept.stripped.keeps p.name in
+    let named_once : Distinct (map named u.are_kept.pieces) =
+    subst Distinct (sym (names_are interface (bodies_in_task t) t.exports (definitions t.own) u.are_kept.pieces u.are_kept.made)) (distinct_kept name_of is_defined t.own (verified_once t.own verified)) in
+    let kept_once : Distinct (map named u.kept) = subst (λ (ps : List Piece). Distinct (map named ps)) (sym u.are_kept.stripped.is) (distinct_kept named keeps u.are_kept.pieces named_once) in
     let refs : All (λ p. NamesRise p.refs) u.kept =
-    subst (All (λ (p : Piece). NamesRise p.refs)) (sym u.stripped.is)
-    (All-filter keeps (λ (p : Piece). NamesRise p.refs) u.pieces (refs_rise interface (bodies_in_task t) t.exports (definitions t.own) u.pieces u.made)) in
+    subst (All (λ (p : Piece). NamesRise p.refs)) (sym u.are_kept.stripped.is)
+    (All-filter keeps (λ (p : Piece). NamesRise p.refs) u.are_kept.pieces (refs_rise interface (bodies_in_task t) t.exports (definitions t.own) u.are_kept.pieces u.are_kept.made)) in
     record {
       each = written;
       refs = All-permutation (λ (p : Piece). NamesRise p.refs) u.kept unit u.order.same refs;

@@ -29,18 +29,16 @@ bodies_in_task t = bodies_of t.inline_limit (t.imported ++ t.own)
 abbrev pub offered_by : TaskView → List (List ℕ)
 offered_by t = shown (definitions t.own) ++ t.promoted
 
--- of the pieces of definitions those are kept to which others may refer, and what these lead to
+-- each definition becomes a piece; of these those are kept to which others may refer, and what these lead to
 pub record AreKeptPieces (t : TaskView) (kept : List Piece) : Type 0 where
   pub pieces : List Piece
   pub made : AllZip (IsLinkedPiece (bodies_in_task t) t.exports) (definitions t.own) pieces
   pub stripped : IsStripped (record { offers = offered_by t; pieces = pieces }) kept
 
--- each definition becomes a piece; of these those are kept to which others may refer, and what these lead to; by name
+-- the pieces that are kept, by name
 pub record IsTaskUnit (t : TaskView) (unit : List Piece) : Type 0 where
-  pub pieces : List Piece
-  pub made : AllZip (IsLinkedPiece (bodies_in_task t) t.exports) (definitions t.own) pieces
   pub kept : List Piece
-  pub stripped : IsStripped (record { offers = offered_by t; pieces = pieces }) kept
+  pub are_kept : AreKeptPieces t kept
   pub order : IsInNameOrder kept unit
 
 -- what a back end may compile: both modules of the task are verified

@@ -12,6 +12,5 @@ kept_pieces-requires-clause-defined c = ap values c.deref.ensures.value ∙ c.in
 pub returns : goal.returns
 returns c =
     let kept = c.in_ok-kept.kept in
-    let are = c.in_ok-kept.ensures in
     IfOk-weaker c.in_name_order.result (IsInNameOrder kept) (IsTaskUnit (task_view c.args.task.now))
-    (λ unit order. record { pieces = are.pieces; made = are.made; kept = kept; stripped = are.stripped; order = order }) c.in_name_order.ensures
+    (λ unit order. record { kept = kept; are_kept = c.in_ok-kept.ensures; order = order }) c.in_name_order.ensures
