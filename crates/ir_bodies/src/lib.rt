@@ -1,9 +1,20 @@
 //! Reads the bodies of functions as trees with their names as they are written.
 //!
-//! Below stand the parts of instructions with their forms (`ir_read`), tokens (`ir_lex`) and the laws
-//! of forms (`lto_forms`). An instruction is read by the class of its first word. `definition_into`
-//! keeps the promise of the parts: it reads exactly the form of a definition (`specs/Blocks.antt`), and stops
-//! at the first token at which no reading goes on. Reading is linear in the tokens.
+//! Below stand heads of functions (`ir_heads`), instructions and terminators (`ir_instructions`), operands
+//! (`ir_operands`), names and types (`ir_read`), tokens (`ir_lex`) and the laws of forms (`lto_forms`). `calls` reads
+//! calls, of which those of lifetime markers are dropped; `opcodes` tells by its first word which instruction begins,
+//! `lines` reads it with the name of its result, `blocks` the lines and terminators of all blocks, and `definitions`
+//! the whole. A function has at most 65,535 blocks and 200,000 instructions, terminators not among them.
+//!
+//! **Promise.** [`definition_into`] reads exactly the form of a definition (`specs/Blocks`), and stops at the first
+//! token at which no reading goes on, with a fault that says whether a range or a limit is the cause
+//! ([`definition_rule`]).
+//!
+//! **Cost.** Linear in the tokens, with a loop over blocks and one over lines. Memory is taken for the tree; want of it
+//! is answered as such.
+//!
+//! **Not shown.** That memory is found. That this form is LLVM's: it is LangRef, "Functions", within the profile, and
+//! `text_tests` tries it on texts.
 #![tactic(auto)]
 
 mod blocks;

@@ -1,10 +1,20 @@
-//! Reads global variables with their initialisers, type definitions, target lines and attribute groups,
-//! with their names as they are written.
+//! Reads global variables with their initialisers, type definitions, target lines and attribute groups, with their
+//! names as they are written.
 //!
-//! Below stand the parts of items with their forms (`ir_read`), tokens (`ir_lex`) and the laws of forms
-//! (`lto_forms`). Each call gives what its form in specs/ spells, or the first token at which no reading
-//! goes on. An initialiser nests as deep as its text does: its open aggregates are a list, so nothing
-//! recurses, and reading is linear in the tokens.
+//! Below stand lines of the target and attribute groups (`ir_heads`), shapes and operands (`ir_operands`), a class of
+//! tokens of `ir_instructions` in definitions alone, names and types (`ir_read`), tokens (`ir_lex`) and the laws of
+//! forms (`lto_forms`). An initialiser nests as deep as its text does: it is kept as a flat list of parts, with the
+//! aggregates that are open on a stack, so nothing recurses but in shapes. A number for a pointer, or for what is no
+//! scalar, is read and kept, and left to the verifier.
+//!
+//! **Promise.** Each call gives what its form says of the tokens, or the first token at which no reading goes on, as
+//! [`variable_line_into`] (`specs/Variables`), [`initialiser_at`] (`specs/Initialisers`) and [`type_line_into`]
+//! (`specs/TypeDefinitions`). The parts of an initialiser that is read are those of one tree (`specs/Closed`).
+//!
+//! **Cost.** Linear in the tokens. Memory is taken for shapes and parts and for each aggregate that is open; want of it
+//! is answered as such.
+//!
+//! **Not shown.** That memory is found. Whether an initialiser fits its shape, which `ir_verify` says.
 #![tactic(auto)]
 
 mod constants;

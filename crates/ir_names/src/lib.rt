@@ -1,15 +1,23 @@
 //! Resolves the names of a module that is in the grammar: types, globals and locals.
 //!
-//! `Types`, `Globals` and `groups_of` keep the names of a module's items. `block_of` and `declaration_in`
-//! make the trees of blocks and declarations: locals and blocks numbered anew in the order of the text, type
-//! names expanded within the limits, constant addresses folded to a symbol and an offset, and alignments
-//! filled in.
+//! Below stand the tree of what is written (`ir_read`), tokens (`ir_lex`), the laws of forms (`lto_forms`), the tree
+//! that is made (`ir_tree`) and `indexmap`, which keeps names in the order in which they are first seen. [`Types`],
+//! [`Globals`], [`Locals`] and [`Groups`] hold the names of types, globals, a function's locals, and attribute groups.
+//! [`block_of`] and [`declaration_in`] make trees: locals and blocks are numbered anew in the order of the text, type
+//! names expanded within the limits ([`expanded`]), constant addresses folded to a symbol and an offset
+//! ([`address_offset`]), and alignments filled in. The definitions of stages over a whole module stand here too, for
+//! `ir_stages`.
 //!
-//! Below stand the tree of what is written (`ir_read`), tokens (`ir_lex`), the tree that is made
-//! (`ir_tree`) and `indexmap`, which keeps names in the order in which they are first seen. Each
-//! promise is one clause: a call gives what its definition in `specs/` says, the fault and its line
-//! among it, unless memory runs out. What a chain of type names leads to is found once for each name.
-//! Each pass is linear in the text and in what it makes.
+//! **Promise.** A call gives what its definition says, the fault with its kind and line among it, unless memory runs
+//! out (`specs/Settled`): [`block_of`] by `specs/Blocks`, [`expanded`] by `specs/Types`, [`Globals`] by
+//! `specs/Globals`.
+//!
+//! **Cost.** Names are found by hash, and what a chain of type names leads to is found once for each name. Each pass is
+//! linear in the text and in what it makes; a shape with its names expanded may be exponentially longer than its text,
+//! up to 32 levels and 2^31 bytes, and recursion goes as deep as its levels.
+//!
+//! **Not shown.** That memory is found, for an expanded shape least of all. That hashes seldom collide, on which time
+//! rests.
 #![tactic(auto)]
 
 mod address;

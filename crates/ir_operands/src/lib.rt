@@ -1,13 +1,20 @@
 //! Reads shapes and operands, by the class of the first word.
 //!
-//! Below stand the trees of what is written, with the readers of names, types, plain operands and attributes (`ir_read`), the
-//! tokens of `ir_lex`, the types of `ir_tree` and the forms of `lto_forms`. Nothing is resolved here: a type name may have no
-//! definition, and a local may stand for nothing.
+//! Below stand the trees of what is written, with the readers of names, types, numbers and operands of one token
+//! (`ir_read`), the tokens of `ir_lex`, the types of `ir_tree` and the forms of `lto_forms`. `shapes` reads arrays,
+//! structures and type names, and measures them as it goes ([`Extent`]); `values` reads operands with constant
+//! addresses, which are kept level by level. [`Listing`] is the list of a block's lines to which the readers above add.
+//! Nothing is resolved here: a type name may have no definition, and a local may stand for nothing.
 //!
-//! **Promise.** Each reader gives what the grammar's form says of the tokens (`specs/ShapeForms.antt`, `specs/Values.antt`), or
-//! stands at the first token at which no form goes on. A shape is read with its size and its nesting, within the limits.
+//! **Promise.** Each reader gives what the reader on lists of its name gives, value or fault: [`memory_shape_at`]
+//! (`specs/ShapeFormsAt`), with the shape's extent, and [`operand_at`] (`specs/ValuesAt`). Lemmas in `proofs/` tie
+//! these to their forms (`specs/ShapeForms`, `specs/Values`). A shape that is read has at most 32 levels and 2^31
+//! bytes, where type names count as neither.
 //!
-//! **Cost.** Linear in the tokens. Shapes and constant addresses are nested at most 32 deep.
+//! **Cost.** Linear in the tokens; a shape recurses once for each of its levels, a constant address keeps its open
+//! levels in a list. Memory is taken for nodes and lists, and want of it is answered as such.
+//!
+//! **Not shown.** That memory is found. What a shape measures once its names expand, which `named_types` finds.
 #![tactic(auto)]
 
 mod adding;

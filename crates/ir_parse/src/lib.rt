@@ -1,16 +1,22 @@
 //! Reads bytes as the one module of LLVM IR that they are, or tells their first fault.
 //!
-//! `parse` cuts the text into tokens, reads these as items, resolves names, shapes and numbers in stages over the whole
-//! text, and gives the module with the lines of its parts. The first place at which no reading goes on is a statement of the
-//! grammar alone, and so is why the token there is refused (`specs/Refusals.antt`); behind it the first stage that finds a
-//! fault tells it (`specs/FirstFault.antt`).
+//! Below stand tokens (`ir_lex`), the parts of items (`ir_read`), heads and target lines (`ir_heads`), definitions of
+//! functions (`ir_bodies`), variables and type definitions (`ir_globals`), the stages with functions and variables
+//! (`ir_stages`), and names (`ir_names`). [`parse`] cuts the text into tokens, reads these as items, resolves names,
+//! shapes and numbers in stages over the whole text, and gives the module with the lines of its parts. The first place
+//! at which no reading goes on is a statement of the grammar alone, and so is why the token there is refused
+//! (`specs/Refusals`); behind it the first stage that finds a fault tells it. Beside the reader stand laws: what
+//! resolves is formed (`resolved`), and what that asks of a text holds of all that the grammar spells (`spelled`).
 //!
-//! Below stand tokens (`ir_lex`), the parts of items (`ir_read`), definitions of functions (`ir_bodies`), variables and type
-//! definitions (`ir_globals`), the stages with functions and variables (`ir_stages`), and names (`ir_names`). Beside the reader stand laws: what resolves is formed (`resolved`), and what that asks of a text holds of all
-//! that the grammar spells (`spelled`). Its promise: exactly what `specs/Reading.antt` reads is answered, and each other text
-//! is refused for its first fault, unless memory runs out.
-//! Reading is linear in the text, but for chains of type names that stand for each other. Tokens and items borrow the text;
-//! nothing recurses in a depth that a text chooses.
+//! **Promise.** [`parse`] answers exactly what `specs/Reading` reads, and refuses each other text for its first fault
+//! (`specs/FirstFault`), unless memory runs out. Bytes are read as one module or have one first fault ([`decided`],
+//! [`one_reading`]), and what is read is formed ([`read_is_parsed`]).
+//!
+//! **Cost.** Linear in the text, and in its shapes with their type names expanded, which may be exponentially longer.
+//! Tokens and items borrow the text; recursion goes as deep as a shape, 32 levels. A text of `2^32 - 1` bytes or more
+//! is answered as want of memory.
+//!
+//! **Not shown.** That memory is found. That the grammar is LLVM's within the profile: `text_tests` tries it on texts.
 #![tactic(auto)]
 
 mod fault;

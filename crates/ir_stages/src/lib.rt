@@ -1,20 +1,24 @@
-//! The stages over a whole module in the grammar: type names, limits of shapes, names of globals; then functions and variables
-//! with each name resolved.
+//! The stages over a whole module in the grammar: type names, limits of shapes, names of globals; then functions and
+//! variables with each name resolved.
 //!
-//! `gather` goes once over the items and keeps, in the order of the text, what names a type or a global and what has a shape.
-//! `types_in` goes over these marks, gives the type names and refuses one that is defined twice, isn't defined, is opaque or
-//! holds itself; `globals_in` gives the names of globals and refuses one that is defined twice or isn't defined. Between them
-//! `shapes_within` goes over the items again, and refuses a shape past the limits and an index of a constant address that counts
-//! no part. `function_in` numbers the locals and blocks of a function anew, in the order of its text, and makes the trees of its
-//! blocks; `variable_in` makes the tree of a variable and its initialiser, and `lines_of` the lines that faults are told by.
+//! Below stand the tree of what is written (`ir_read`), names, shapes and terminators resolved (`ir_names`), the graph
+//! and the sizes of type names (`named_types`), and the tree that is made (`ir_tree`). [`gather`] goes once over the
+//! items and keeps, in the order of the text, what names a type or a global and what has a shape. Over these marks
+//! [`types_in`] refuses a type name that is defined twice, isn't defined, is opaque or holds itself, and [`globals_in`]
+//! a global that is defined twice or isn't defined; between them [`shapes_within`] goes over the items again and
+//! refuses a shape past the limits and an index that counts no part. [`function_in`] and [`variable_in`] make trees,
+//! [`lines_of`] the lines that faults are told by. Items are lent: of two lifetimes the first is that of the loan, the
+//! second that of the text.
 //!
-//! Marks, type names and items are lent by whoever owns the items: of two lifetimes the first is that of the loan, and the second
-//! that of the text.
+//! **Promise.** Each call gives what its definition says, the fault and its line among it, unless memory runs out:
+//! [`types_in`] by `ir_names/specs/TypeNames`, [`shapes_within`] by `ir_names/specs/Stages`, [`function_in`] by
+//! `ir_names/specs/Blocks`.
 //!
-//! Below stand the tree of what is written (`ir_read`), names, shapes, lines and terminators resolved (`ir_names`), the graph and
-//! the sizes of type names (`named_types`), and the tree that is made (`ir_tree`). Each promise is one clause: a call gives what
-//! its definition says, the fault and its line among it, unless memory runs out. Names are found by hash and type names measured
-//! once, so that each call is linear in the text, but for the shapes of constant addresses, which are expanded. Nothing recurses.
+//! **Cost.** Names are found by hash and type names measured once: linear in the text, and in the shapes that are
+//! spelled out with their names expanded, those of trees and of constant addresses. Recursion goes as deep as a shape,
+//! 32 levels. Memory is taken for marks, names and trees.
+//!
+//! **Not shown.** That memory is found. That LLVM tells the same fault first of a text with several.
 #![tactic(auto)]
 
 mod collected;

@@ -1,12 +1,19 @@
 //! The words of the command line as a command.
 //!
-//! [`command`] reads the words: a command that they are, or Usage exactly where they are none. The table of commands is
-//! data in `specs/Table.antt`, and `clap`'s statement for simple commands says which words fit it; what their values mean
-//! is said in `specs/Given.antt`, and `specs/Commands.antt` puts both together as `IsCommand`. A law says that words are one
-//! command at most.
+//! Below stand `clap`, which parses, `indexmap`, which keeps the names of a list in their order, and `ir_tree`, for
+//! texts and lists. The table of commands is data in `specs/Table`, and `clap`'s statement for simple commands says
+//! which words fit it; what their values mean is said in `specs/Given`, and `specs/Commands` puts both together as
+//! `IsCommand`. [`Command`] is what comes out, with the names of files ([`FileName`]) and what is chosen for a link
+//! ([`LinkOptions`]).
 //!
-//! Below stand `clap`, which parses, `indexmap`, which keeps the names of a list in their order, and `ir_tree`, for texts
-//! and lists. Time and memory are linear in the words, but for look-ups in the table, which has at most seven options.
+//! **Promise.** [`command`] gives a command that the words are, or Usage exactly where they are none, unless memory
+//! runs out (`specs/Commands`, `specs/Reads`); words are one command at most ([`one_command`]).
+//!
+//! **Cost.** Time and memory are linear in the words, but for look-ups in the table, which has at most seven options.
+//! Want of memory is answered as such, and never as Usage.
+//!
+//! **Not shown.** That the table is what README.md says: `outside_tests` tries words that are a command and words that
+//! are none. That memory is found.
 #![tactic(auto)]
 
 mod fault;

@@ -1,26 +1,22 @@
 //! The printed text of a module is read again as that module.
 //!
-//! Laws over the calls of reading (`ir_parse`) and printing (`ir_print`), as functions whose contracts state them. A printed text
-//! is cut into the tokens that it was put together from (`cutting`); types, operands, instructions and heads are read (`parts`),
-//! and so are lines, definitions, variables and whole modules (`printing_laws`), as the raw items that were printed, in which
-//! each local and block is named by its number; what is read of a function or a variable resolves to it where its locals are
-//! numbered along its text (`resolution`); and what the grammar spells of a text of bytes is within its limits (`limits`).
+//! Below stand reading (`ir_parse`) and printing (`ir_print`) with all that they stand on, and the tasks and final
+//! names of a link (`lto_task`, `merge_meaning`). Laws are functions whose contracts state them. A printed text is cut
+//! into the tokens that it was put together from (`cutting`); types, operands, instructions and heads are read
+//! (`parts`), and so are lines, definitions, variables and modules (`printing_laws`), as raw items that name each local
+//! by its number; what is read resolves to what was printed (`resolution`), within the limits of the grammar
+//! (`limits`). Values that a link takes from modules that were read, under final names, keep what the laws ask
+//! (`link_parts`, `specs/Renamed`).
 //!
-//! So what is read is read again as itself, with nothing else asked of it ([`read_modules_are_read`]), and so are a verified
-//! module whose locals are numbered along its text, as a link prints it, within the limits of the grammar (`specs/Within.antt`,
-//! [`verified_modules_are_read`]), and one with other numbers, under new ones ([`modules_numbered_anew_are_read`]).
+//! **Promise.** What is read is, printed, read again as itself ([`read_modules_are_read`], `specs/Laws`), and so is a
+//! verified module that is numbered along its text and within the grammar's limits ([`verified_modules_are_read`],
+//! `specs/Within`), as a link prints it. Two verified modules with one text, numbered so and of names and values within
+//! the limits, are one, and so are two tasks ([`modules_with_one_text_are_one`], [`tasks_with_one_text_are_one`],
+//! `specs/OneText`). [`read_twice`] does it with the real calls.
 //!
-//! Two modules with one printed text are one, however many global names they have ([`modules_with_one_text_are_one`]), and so
-//! are two tasks of a link (`lto_task`) with one text ([`tasks_with_one_text_are_one`]): their modules need be verified, numbered
-//! along their text, and of names and values within the grammar's limits (`specs/OneText.antt`). Verified values that a link takes
-//! from modules that were read, under final names, make such modules, and so do their declarations (`link_parts`,
-//! `specs/Renamed.antt`).
+//! **Cost.** Laws don't run. [`read_twice`] costs two readings and a print; want of memory is answered as such.
 //!
-//! [`read_twice`] does so with the real calls: it reads, prints and reads again, and its promise is that the second
-//! reading gives the module of the first and refuses nothing.
-//!
-//! **Cost.** That of two readings and a print; the laws don't run. **Not shown**: that a linked module is within the
-//! limits, which inlining may pass.
+//! **Not shown.** That a linked module is within the limits, which inlining may pass. That memory is found.
 #![tactic(auto)]
 
 mod cutting;

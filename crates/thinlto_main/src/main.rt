@@ -1,24 +1,25 @@
 //! The program `thinlto`: the link, batches of links, the index and the run of modules.
 //!
-//! `top` is the program's one call: it takes the words of the command line and the outside as five
-//! objects, and its contract says when each answer comes and what was done to each object. `main`
-//! makes the real objects, calls `top`, and ends with the status's number.
+//! [`top`] is the program's one call: it takes the words of the command line and the outside as five objects; `main`
+//! makes the real objects, calls it, and ends with the status's number. Words are told by `lto_words`; a command
+//! fetches its files in order, once per occurrence (`command_files`), and reads each (`link_one`), and by the modules'
+//! summaries it is decided what is kept and imported (`thin_link`). `link` puts the linked module, `batch` those of the
+//! links that its list file lists, once all are made, `index` prints what was decided, and `run` runs the modules
+//! together (`run_program`). Links are compiled over one cache of the command (`cache_slot`), in memory or in a
+//! directory.
 //!
-//! What words ask for is said by `lto_words`; a command fetches its files, each once and in order (`command_files`), and reads each
-//! (`link_one`), and by the modules' summaries it is decided what is kept and imported (`thin_link`). `link` puts the linked module,
-//! `batch` those of the links that its list file lists, once all are made, `index` prints what was decided, and `run` merges the
-//! modules (`merge_meaning`), lowers what they mean together and opens its memory (`machine_code`), and runs it with the input and
-//! the output (`ir_interp`). Links are compiled over one cache of the command (`cache_slot`), in memory or in a directory. Which
-//! answer comes when is one definition by cases on the command (`specs/Answers.antt`), what files that tell hold another
-//! (`specs/Telling.antt`), and what a cache's disk holds a third (`specs/Keys.antt`).
+//! **Promise.** Which answer comes when is one definition by cases on the command ([`top`], `specs/Answers`). Of a
+//! link, for any number of modules: the bytes put are the text of the linked module and of no other, and each run of
+//! the linked program is a run of what the modules mean together (`specs/Linking`); over a directory, where its disk
+//! was honest (`specs/Honest`). A run is the definition's, with 0 as every free choice. What files that tell hold is
+//! said in `specs/Telling`, what a cache's disk holds in `specs/Keys`; tasks with one text are one
+//! ([`tasks_are_told`]).
 //!
-//! The linker's two promises are kept here for any number of modules: the bytes put are the text of the linked module and of
-//! no other, and each run of the linked program is a run of what the modules mean together; of a link over a directory, where its
-//! disk was honest (`specs/Honest.antt`). A run that is asked for is the definition's of the merged modules with 0 as every free
-//! choice: its ending, what it writes and how much it reads. Of files of bytes, tasks of links that have one text are one
-//! ([`tasks_are_told`]), so what is found under a key is made of the key's task.
+//! **Cost.** Beside the link itself each byte is moved once; modules are copied once where they are merged. Want of
+//! memory is answered with a status of its own, before anything is put or printed, or in a run or behind it.
 //!
-//! Beside the link itself, each byte is moved once; modules are copied once where they are merged.
+//! **Not shown.** That memory is found, and how long a command takes, which `bench/` measures. That real files keep
+//! what was put (`outside_real`). That the definition of meaning is LLVM's, which `checks/` compares.
 #![tactic(auto)]
 
 mod batch;
