@@ -11,6 +11,7 @@ use Rattle.lto_forms.specs.declared.fault.Fault.{Fault}
 use Rattle.lto_forms.specs.Readers.{Reader, done, follow, ◌>>=◌}
 use Rattle.ir_read.specs.Classes.{one_of_at, the_at}
 use Rattle.ir_read.specs.declared.raw.Argument.{Argument}
+use Rattle.ir_read.specs.declared.raw.Case.{Case}
 use Rattle.ir_read.specs.declared.raw.Instr.TheVariants as instrs
 use Rattle.ir_read.specs.declared.raw.Operand.{Operand}
 use Rattle.ir_read.specs.declared.raw.Terminator.TheVariants as terminators
@@ -19,10 +20,10 @@ use Rattle.ir_read.specs.OperandsAt.{bit_at, integer_at, maybe_at, reg_at, scala
 use Rattle.ir_operands.specs.ShapeFormsAt.{memory_shape_at}
 use Rattle.ir_operands.specs.ValuesAt.{argument_at, operand_at, pointer_at, stepping_at}
 use Rattle.ir_operands.proofs.Grouping.{grouped}
-use Rattle.ir_instructions.specs.AddressingAt.{addressing_at, stepped_at, stepped_from_at, stepping_by_at}
+use Rattle.ir_instructions.specs.AddressingAt.{addressing_at, indices_at, stepped_at, stepping_by_at, steps_at}
 use Rattle.ir_instructions.specs.Instructions.{PREDICATES, predicate_of}
 use Rattle.ir_instructions.specs.InstructionsAt.{align_at, arm_at, arms_at, comparing_at, loading_at, on_two_at, other_at, pointed_at, second_at, selecting_at, stored_at, storing_at, storing_to_at}
-use Rattle.ir_instructions.specs.TerminatorsAt.{branch_at, branches_at, choosing_at, switched_at, switches_at, switching_at, target_at}
+use Rattle.ir_instructions.specs.TerminatorsAt.{branch_at, branches_at, bracketed_cases_at, cases_at, choosing_at, end_of_cases_at, switched_at, switches_at, switching_at, target_at}
 
 pub on_two_is : (op : BinaryOp) (f : Flags) (ts : List Tok) → on_two_at op f ts ≡ follow (integer_at ts) (λ w. operand_at (Int w) >>= λ left. second_at (Int w) >>= λ right. done (instrs.Binary op f w left right))
 unfolding on_two_at second_at
@@ -89,15 +90,23 @@ storing_is ts = by_type (scalar_at ts)
     by_type (Ok x) = by_value x.0 (operand_at x.0 x.1)
     by_type (Err e) = refl
 
-pub addressing_is : (ts : List Tok) → addressing_at ts ≡ follow (stepping_at ts) (λ inbounds. memory_shape_at >>= stepped_from_at inbounds)
-unfolding addressing_at stepped_from_at
+pub addressing_is : (ts : List Tok) → addressing_at ts ≡ follow (stepping_at ts) (λ inbounds. memory_shape_at >>= λ typed. steps_at >>= λ steps. done (instrs.Address inbounds typed steps.0 steps.1))
+unfolding addressing_at steps_at
 addressing_is ts = by_flags (stepping_at ts)
   where
-    by_shape : (i : Bool) (t : Result (Typed × List Tok) Fault) → follow t (stepping_by_at i) ≡ follow t (stepped_from_at i)
-    by_shape i (Ok x) = pointed_then (stepped_at i x.0) x.1
+    by_indices : (i : Bool) (typed : Typed) (base : Operand) (t : Result (List Argument × List Tok) Fault) → follow t (λ is. done (instrs.Address i typed base is)) ≡ follow (follow {B = Operand × List Argument} t (λ is. done (base, is))) (λ steps. done (instrs.Address i typed steps.0 steps.1))
+    by_indices i typed base (Ok x) = refl
+    by_indices i typed base (Err e) = refl
+
+    by_base : (i : Bool) (typed : Typed) (t : Result (Operand × List Tok) Fault) → follow t (stepped_at i typed) ≡ follow (follow {B = Operand × List Argument} t (λ base. indices_at >>= λ is. done (base, is))) (λ steps. done (instrs.Address i typed steps.0 steps.1))
+    by_base i typed (Ok x) = by_indices i typed x.0 (indices_at x.1)
+    by_base i typed (Err e) = refl
+
+    by_shape : (i : Bool) (t : Result (Typed × List Tok) Fault) → follow t (stepping_by_at i) ≡ follow t (λ typed. steps_at >>= λ steps. done (instrs.Address i typed steps.0 steps.1))
+    by_shape i (Ok x) = pointed_then (stepped_at i x.0) x.1 ∙ by_base i x.0 (pointed_at x.1)
     by_shape i (Err e) = refl
 
-    by_flags : (t : Result (Bool × List Tok) Fault) → follow t (λ i. memory_shape_at >>= stepping_by_at i) ≡ follow t (λ i. memory_shape_at >>= stepped_from_at i)
+    by_flags : (t : Result (Bool × List Tok) Fault) → follow t (λ i. memory_shape_at >>= stepping_by_at i) ≡ follow t (λ i. memory_shape_at >>= λ typed. steps_at >>= λ steps. done (instrs.Address i typed steps.0 steps.1))
     by_flags (Ok x) = by_shape x.0 (memory_shape_at x.1)
     by_flags (Err e) = refl
 
@@ -133,14 +142,35 @@ choosing_is ts = by_width (bit_at ts)
     by_width (Ok x) = by_condition (operand_at (Int x.0) x.1)
     by_width (Err e) = refl
 
-pub switching_is : (ts : List Tok) → switching_at ts ≡ follow (integer_at ts) (λ w. operand_at (Int w) >>= λ value. branch_at >>= switched_at w value)
+-- the cases in their brackets, and what they are of
+bracketed : (w : ℕ) (value : Operand) (default : Tok) (ts : List Tok) → switched_at w value default ts ≡ follow (bracketed_cases_at ts) (λ cases. done (terminators.Switch w value default cases))
+unfolding bracketed_cases_at
+bracketed w value default ts = by_bracket (the_at heads.OpenBracket ts)
+  where
+    by_end : (cases : List Case) (t : Result (Unit {0} × List Tok) Fault) → follow t (λ _. done (terminators.Switch w value default cases)) ≡ follow (follow t (λ _. done cases)) (λ cs. done (terminators.Switch w value default cs))
+    by_end cases (Ok x) = refl
+    by_end cases (Err e) = refl
+
+    by_cases : (t : Result (List Case × List Tok) Fault) → follow t (λ cases. end_of_cases_at >>= λ _. done (terminators.Switch w value default cases)) ≡ follow (follow t (λ cases. end_of_cases_at >>= λ _. done cases)) (λ cs. done (terminators.Switch w value default cs))
+    by_cases (Ok x) = by_end x.0 (end_of_cases_at x.1)
+    by_cases (Err e) = refl
+
+    by_bracket : (t : Result (Unit {0} × List Tok) Fault) → follow t (λ _. cases_at >>= λ cases. end_of_cases_at >>= λ _. done (terminators.Switch w value default cases)) ≡ follow (follow t (λ _. cases_at >>= λ cases. end_of_cases_at >>= λ _. done cases)) (λ cs. done (terminators.Switch w value default cs))
+    by_bracket (Ok x) = by_cases (cases_at x.1)
+    by_bracket (Err e) = refl
+
+pub switching_is : (ts : List Tok) → switching_at ts ≡ follow (integer_at ts) (λ w. operand_at (Int w) >>= λ value. branch_at >>= λ default. bracketed_cases_at >>= λ cases. done (terminators.Switch w value default cases))
 unfolding switching_at branch_at
 switching_is ts = by_width (integer_at ts)
   where
-    by_value : (w : ℕ) (t : Result (Operand × List Tok) Fault) → follow t (switches_at w) ≡ follow t (λ value. branch_at >>= switched_at w value)
-    by_value w (Ok x) = grouped (λ _. target_at) (switched_at w x.0) (the_at heads.Comma x.1)
+    by_default : (w : ℕ) (value : Operand) (t : Result (Tok × List Tok) Fault) → follow t (switched_at w value) ≡ follow t (λ default. bracketed_cases_at >>= λ cases. done (terminators.Switch w value default cases))
+    by_default w value (Ok x) = bracketed w value x.0 x.1
+    by_default w value (Err e) = refl
+
+    by_value : (w : ℕ) (t : Result (Operand × List Tok) Fault) → follow t (switches_at w) ≡ follow t (λ value. branch_at >>= λ default. bracketed_cases_at >>= λ cases. done (terminators.Switch w value default cases))
+    by_value w (Ok x) = grouped (λ _. target_at) (switched_at w x.0) (the_at heads.Comma x.1) ∙ by_default w x.0 (branch_at x.1)
     by_value w (Err e) = refl
 
-    by_width : (t : Result (ℕ × List Tok) Fault) → follow t (λ w. operand_at (Int w) >>= switches_at w) ≡ follow t (λ w. operand_at (Int w) >>= λ value. branch_at >>= switched_at w value)
+    by_width : (t : Result (ℕ × List Tok) Fault) → follow t (λ w. operand_at (Int w) >>= switches_at w) ≡ follow t (λ w. operand_at (Int w) >>= λ value. branch_at >>= λ default. bracketed_cases_at >>= λ cases. done (terminators.Switch w value default cases))
     by_width (Ok x) = by_value x.0 (operand_at (Int x.0) x.1)
     by_width (Err e) = refl

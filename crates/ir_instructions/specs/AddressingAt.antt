@@ -112,10 +112,11 @@ stepping_by_at inbounds typed = do
   stepped_at inbounds typed base
 
 -- , ptr operand, and the indices
-unfoldable pub stepped_from_at : Bool → Typed → Reader Tok Instr
-stepped_from_at inbounds typed = do
+unfoldable pub steps_at : Reader Tok (Operand × List Argument)
+steps_at = do
   base ← pointed_at
-  stepped_at inbounds typed base
+  is ← indices_at
+  done (base, is)
 
 unfoldable pub addressing_at : Reader Tok Instr
 addressing_at = do

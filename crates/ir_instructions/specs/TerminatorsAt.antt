@@ -92,6 +92,14 @@ cases_at = star_at (among tokens REG) case_at
 abbrev pub end_of_cases_at : Reader Tok (Unit {0})
 end_of_cases_at = token_at (is_class tokens type_refusal (number heads.CloseBracket))
 
+-- [ cases ]
+unfoldable pub bracketed_cases_at : Reader Tok (List Case)
+bracketed_cases_at = do
+  _ ← the_at heads.OpenBracket
+  cases ← cases_at
+  _ ← end_of_cases_at
+  done cases
+
 -- behind the target of what no case has
 abbrev pub switched_at : ℕ → Operand → Tok → Reader Tok Terminator
 switched_at w value default = do

@@ -6,7 +6,7 @@ ghost use Rattle.lto_forms.specs.Alphabet.{among};
 ghost use Rattle.lto_forms.specs.Readers.{Gives};
 ghost use Rattle.ir_operands.specs.Adding.{gathered_at};
 ghost use Rattle.ir_instructions.specs.Addressing.{keep, slots_fit};
-ghost use Rattle.ir_instructions.specs.AddressingAt.{addressing_at, behind_comma_at, count_in_at, count_means, further_at, indices_at, many_slots_at, one_slot_at, reserving_at, slots_at, slots_behind_at, stepped_from_at};
+ghost use Rattle.ir_instructions.specs.AddressingAt.{addressing_at, behind_comma_at, count_in_at, count_means, further_at, indices_at, many_slots_at, one_slot_at, reserving_at, slots_at, slots_behind_at, steps_at};
 ghost use Rattle.ir_read.specs.Classes.{tokens};
 ghost use Rattle.ir_operands.specs.Extents.{all_nest_within, extent_of, nests_within};
 ghost use Rattle.ir_read.specs.Literals.{IsWidth};
@@ -14,12 +14,12 @@ ghost use Rattle.ir_operands.specs.Listing.{put_at};
 ghost use Rattle.ir_operands.specs.ShapeForms.{NUMBER};
 ghost use Rattle.ir_read.specs.Shapes.{parts_of};
 
-use crate::instructions::{align_at, aligned_at, pointed_at};
+use crate::instructions::{align_at, aligned_at, argument_at, pointed_at};
 use ir_lex::{Head, Token};
-use ir_operands::{Listing, Measured, counted, memory_shape_at, operand_at, push, stepping_at};
+use ir_operands::{Listing, Measured, counted, memory_shape_at, push, stepping_at};
 use ir_read::{
-    Argument, Instr, Shape, ShapeNode, Tokens, Typed, attached_at, expect, integer_at, refusal,
-    reg_at,
+    Argument, Instr, Operand, Shape, ShapeNode, Tokens, attached_at, done, expect, integer_at,
+    refusal,
 };
 use ir_tree::Rows;
 use lto_forms::{Fault, FaultKind, ReadError};
@@ -196,7 +196,7 @@ pub fn reserving_into<'a>(
 
 /// Reads what follows a comma behind an index, or behind an attachment: an index, which is added, or an
 /// attachment, behind which only attachments follow. Gives whether it is an attachment.
-#[tactic(auto, unfolding(crate::specs::AddressingAt::attaching_at, crate::specs::AddressingAt::indexing_at, ir_operands::specs::ValuesAt::argument_at))]
+#[tactic(auto, unfolding(crate::specs::AddressingAt::attaching_at, crate::specs::AddressingAt::indexing_at))]
 fn behind_comma_into<'a>(
     alloc: Global,
     attached: bool,
@@ -213,9 +213,8 @@ fn behind_comma_into<'a>(
         attached_at(alloc, tokens)?;
         Ok(true)
     } else {
-        let reg = reg_at(tokens)?;
-        let operand = operand_at(alloc, reg, tokens)?;
-        push(indices, Argument { reg, operand })?;
+        let argument = argument_at(alloc, tokens)?;
+        push(indices, argument)?;
         Ok(false)
     }
 }
@@ -249,25 +248,21 @@ fn indices_at<'a>(
     Ok(indices)
 }
 
+/// The address that a `getelementptr` steps from, and the indices that it steps by.
+#[derive(Drop)]
+struct Steps<'a> {
+    base: Operand<'a>,
+    indices: Vec<Argument<'a>>,
+}
+
 /// Reads `, ptr operand` and the indices, behind a shape.
-#[tactic(auto, unfolding(crate::specs::AddressingAt::stepped_from_at))]
-fn stepped_from_into<'a>(
-    alloc: Global,
-    inbounds: bool,
-    typed: Typed<'a>,
-    list: &mut Listing<'a>,
-    tokens: &mut Tokens<'_, 'a>,
-) -> Result<(), ReadError>
-    ensures { Gives (λ _. (list.new.lines.items, tokens.new)) result (put_at list.old (stepped_from_at inbounds typed.entry) tokens.old) }
+#[tactic(auto, unfolding(crate::specs::AddressingAt::steps_at))]
+fn steps_at<'a>(alloc: Global, tokens: &mut Tokens<'_, 'a>) -> Result<Steps<'a>, ReadError>
+    ensures { Gives (λ x. ((x.base, x.indices.items), tokens.new)) result (steps_at tokens.old) }
 {
     let base = pointed_at(alloc, tokens)?;
     let indices = indices_at(alloc, tokens)?;
-    list.put(Instr::Address {
-        inbounds,
-        typed,
-        base,
-        indices: Rows::of(indices),
-    })
+    done(Steps { base, indices })
 }
 
 /// Reads what follows `getelementptr`.
@@ -280,5 +275,11 @@ pub fn addressing_into<'a>(
 {
     let inbounds = stepping_at(tokens)?;
     let shape = memory_shape_at(alloc, tokens)?;
-    stepped_from_into(alloc, inbounds, shape.typed, list, tokens)
+    let steps = steps_at(alloc, tokens)?;
+    list.put(Instr::Address {
+        inbounds,
+        typed: shape.typed,
+        base: steps.base,
+        indices: Rows::of(steps.indices),
+    })
 }

@@ -10,13 +10,14 @@ ghost use Rattle.ir_read.specs.Classes.{tokens, refusal, one_of_at};
 ghost use Rattle.ir_read.specs.Operands.{IsReg};
 ghost use Rattle.ir_instructions.specs.Instructions.{is_nuw, with_wrap, no_flags, PREDICATES, predicate_of};
 ghost use Rattle.ir_operands.specs.Listing.{put_at};
+ghost use Rattle.ir_operands.specs.ValuesAt.{argument_at};
 ghost use Rattle.ir_instructions.specs.InstructionsAt.{arm_at, pointed_at, second_at, wraps_at, on_two_at, wrapping_at, dividing_at, joining_at, comparing_at, casting_at, extending_at, narrowing_at, selecting_at, freezing_at, aligned_at, align_at, loading_at, storing_at};
 
 use ir_lex::{Head, Token};
 use ir_operands::{Listing, operand_at, pointer_at};
 use ir_read::{
-    Argument, Instr, Operand, Tokens, alignment_at, attached_at, attachments_at, bit_at, expect,
-    integer_at, maybe_at, refusal, reg_at, scalar_at,
+    Argument, Instr, Operand, Tokens, alignment_at, attached_at, attachments_at, bit_at, done,
+    expect, integer_at, maybe_at, refusal, reg_at, scalar_at,
 };
 use ir_tree::{BinaryOp, CastOp, Flags, Predicate, Reg};
 use lto_forms::{Fault, FaultKind, ReadError};
@@ -273,15 +274,26 @@ pub fn narrowing_into<'a>(
     casting_into(alloc, op, list, tokens)
 }
 
+/// Reads `reg operand`.
+#[tactic(auto, unfolding(ir_operands::specs::ValuesAt::argument_at))]
+pub fn argument_at<'a>(
+    alloc: Global,
+    tokens: &mut Tokens<'_, 'a>,
+) -> Result<Argument<'a>, ReadError>
+    ensures { Gives (λ x. (x, tokens.new)) result (argument_at tokens.old) }
+{
+    let reg = reg_at(tokens)?;
+    let operand = operand_at(alloc, reg, tokens)?;
+    done(Argument { reg, operand })
+}
+
 /// Reads `, reg operand`.
-#[tactic(auto, unfolding(crate::specs::InstructionsAt::arm_at, ir_operands::specs::ValuesAt::argument_at))]
+#[tactic(auto, unfolding(crate::specs::InstructionsAt::arm_at))]
 fn arm_at<'a>(alloc: Global, tokens: &mut Tokens<'_, 'a>) -> Result<Argument<'a>, ReadError>
     ensures { Gives (λ x. (x, tokens.new)) result (arm_at tokens.old) }
 {
     expect(Head::Comma, tokens)?;
-    let reg = reg_at(tokens)?;
-    let operand = operand_at(alloc, reg, tokens)?;
-    Ok(Argument { reg, operand })
+    argument_at(alloc, tokens)
 }
 
 /// Reads what follows `select`.

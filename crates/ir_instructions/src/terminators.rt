@@ -7,7 +7,7 @@ ghost use Rattle.lto_forms.specs.Rules.{is_among, is_valued};
 ghost use Rattle.ir_read.specs.Classes.{tokens, refusal, one_of_at};
 ghost use Rattle.ir_read.specs.Operands.{IsReg};
 ghost use Rattle.ir_instructions.specs.Terminators.{case_classes, matched_of, number_matched, ENDS, ending_of};
-ghost use Rattle.ir_instructions.specs.TerminatorsAt.{branch_at, returning_at, target_at, choosing_at, branching_at, constant_at, case_of_at, case_at, cases_at, end_of_cases_at, switching_at, behind_end_at, terminator_at};
+ghost use Rattle.ir_instructions.specs.TerminatorsAt.{branch_at, bracketed_cases_at, returning_at, target_at, choosing_at, branching_at, constant_at, case_of_at, case_at, cases_at, end_of_cases_at, switching_at, behind_end_at, terminator_at};
 
 use ir_lex::{Head, Token};
 use ir_operands::operand_at;
@@ -235,6 +235,20 @@ fn end_of_cases_at(tokens: &mut Tokens) -> Result<(), ReadError>
     }
 }
 
+/// Reads the cases of a `switch`, in their brackets.
+#[tactic(auto, unfolding(crate::specs::TerminatorsAt::bracketed_cases_at))]
+fn bracketed_cases_at<'a>(
+    alloc: Global,
+    tokens: &mut Tokens<'_, 'a>,
+) -> Result<Vec<Case<'a>>, ReadError>
+    ensures { Gives (λ x. (x.items, tokens.new)) result (bracketed_cases_at tokens.old) }
+{
+    expect(Head::OpenBracket, tokens)?;
+    let cases = cases_at(alloc, tokens)?;
+    end_of_cases_at(tokens)?;
+    Ok(cases)
+}
+
 /// Reads what follows `switch`.
 fn switching_into<'a>(
     alloc: Global,
@@ -246,9 +260,7 @@ fn switching_into<'a>(
     let width = integer_at(tokens)?;
     let value = operand_at(alloc, Reg::Int(width), tokens)?;
     let default = branch_at(tokens)?;
-    expect(Head::OpenBracket, tokens)?;
-    let cases = cases_at(alloc, tokens)?;
-    end_of_cases_at(tokens)?;
+    let cases = bracketed_cases_at(alloc, tokens)?;
     put(
         place,
         Terminator::Switch {

@@ -10,3 +10,6 @@ returns-in_err-inbounds c = grind (arith, addressing_is)
 
 pub returns-in_err-shape : goal.returns-in_err-shape
 returns-in_err-shape c = grind (arith, addressing_is)
+
+pub returns-in_err-steps : goal.returns-in_err-steps
+returns-in_err-steps c = grind (arith, addressing_is)

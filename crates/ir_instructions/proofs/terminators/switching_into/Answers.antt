@@ -14,11 +14,5 @@ returns-in_err-value c = grind (arith, switching_is)
 pub returns-in_err-default : goal.returns-in_err-default
 returns-in_err-default c = grind (arith, switching_is)
 
-pub returns-in_err-expect : goal.returns-in_err-expect
-returns-in_err-expect c = grind (arith, switching_is)
-
 pub returns-in_err-cases : goal.returns-in_err-cases
 returns-in_err-cases c = grind (arith, switching_is)
-
-pub returns-in_err-end_of_cases_at : goal.returns-in_err-end_of_cases_at
-returns-in_err-end_of_cases_at c = grind (arith, switching_is)
