@@ -11,7 +11,7 @@ ghost use Rattle.ir_read.specs.Operands.{named};
 ghost use Rattle.ir_instructions.specs.Terminators.{ENDS};
 ghost use Rattle.ir_bodies.specs.Blocks.{LABEL, block_of};
 ghost use Rattle.ir_bodies.specs.Adding.{added_at, joined_at};
-ghost use Rattle.ir_bodies.specs.BlocksAt.{BLOCK, label_at, maybe_label_at, lines_from_at, block_behind_at, block_at, blocks_from_at, blocks_at};
+ghost use Rattle.ir_bodies.specs.BlocksAt.{BLOCK, label_at, maybe_label_at, lines_from_at, block_at, blocks_from_at, blocks_at};
 ghost use Rattle.ir_bodies.specs.LinesAt.{LINE};
 
 use crate::lines::line_into;
@@ -58,13 +58,12 @@ struct Begun<'a> {
 }
 
 impl<'a> Begun<'a> {
-    /// No lines yet, behind this label.
-    fn new(alloc: Global, label: Option<Name<'a>>) -> Begun<'a>
-        ensures label { result.label ≡ label.entry }
-        ensures lines { result.listing.lines.items ≡ [] }
+    /// No label and no lines yet.
+    fn new(alloc: Global) -> Begun<'a>
+        ensures { result.listing.lines.items ≡ [] }
     {
         Begun {
-            label,
+            label: None,
             listing: Listing {
                 lines: Vec::new(alloc),
                 name: None,
@@ -217,40 +216,6 @@ fn lines_into<'a>(
     Ok(left)
 }
 
-/// Reads the lines of a block, of which there may be `room`, and its terminator. Gives how many more
-/// lines there may be.
-#[tactic(auto, unfolding(crate::specs::BlocksAt::block_behind_at, crate::specs::BlocksAt::lines_at))]
-fn begun_into<'a>(
-    alloc: Global,
-    room: usize,
-    begun: &mut Begun<'a>,
-    tokens: &mut Tokens<'_, 'a>,
-) -> Result<usize, ReadError>
-    requires { begun.now.listing.lines.items ≡ [] }
-    ensures { Gives (λ left. ((block_of begun.new.label begun.new.listing.lines.items begun.new.ended, left), tokens.new)) result (block_behind_at room begun.old.label tokens.old) }
-{
-    let left = lines_into(alloc, room, &mut begun.listing, tokens)?;
-    terminator_into(alloc, &mut begun.ended, tokens)?;
-    Ok(left)
-}
-
-/// Reads a block behind its label, and adds it. Gives how many instructions the function may still
-/// have.
-fn block_behind_into<'a>(
-    alloc: Global,
-    room: usize,
-    label: Option<Name<'a>>,
-    blocks: &mut Blocks<'a>,
-    tokens: &mut Tokens<'_, 'a>,
-) -> Result<usize, ReadError>
-    ensures { Gives (λ left. ((blocks.new.list.items, left), tokens.new)) result (added_at blocks.old.list.items (block_behind_at room label.entry) tokens.old) }
-{
-    let mut begun = Begun::new(alloc, label);
-    let left = begun_into(alloc, room, &mut begun, tokens)?;
-    push(&mut blocks.list, begun.block())?;
-    Ok(left)
-}
-
 /// Reads the label of a block, where it has one.
 fn maybe_label_at<'a>(tokens: &mut Tokens<'_, 'a>) -> Result<Option<Name<'a>>, ReadError>
     ensures { Gives (λ x. (x, tokens.new)) result (maybe_label_at tokens.old) }
@@ -263,6 +228,24 @@ fn maybe_label_at<'a>(tokens: &mut Tokens<'_, 'a>) -> Result<Option<Name<'a>>, R
     }
 }
 
+/// Reads a block: its label, where it has one, its lines, of which there may be `room`, and its
+/// terminator. Gives how many more lines there may be.
+#[tactic(auto, unfolding(crate::specs::BlocksAt::block_behind_at, crate::specs::BlocksAt::lines_at), using(crate::proofs::Grouping::block_is))]
+fn begun_into<'a>(
+    alloc: Global,
+    room: usize,
+    begun: &mut Begun<'a>,
+    tokens: &mut Tokens<'_, 'a>,
+) -> Result<usize, ReadError>
+    requires { begun.now.listing.lines.items ≡ [] }
+    ensures { Gives (λ left. ((block_of begun.new.label begun.new.listing.lines.items begun.new.ended, left), tokens.new)) result (block_at room tokens.old) }
+{
+    begun.label = maybe_label_at(tokens)?;
+    let left = lines_into(alloc, room, &mut begun.listing, tokens)?;
+    terminator_into(alloc, &mut begun.ended, tokens)?;
+    Ok(left)
+}
+
 /// Reads a block, of which the function may have `room` instructions yet, and adds it. Gives how many
 /// are left.
 fn block_into<'a>(
@@ -273,8 +256,10 @@ fn block_into<'a>(
 ) -> Result<usize, ReadError>
     ensures { Gives (λ left. ((blocks.new.list.items, left), tokens.new)) result (added_at blocks.old.list.items (block_at room) tokens.old) }
 {
-    let label = maybe_label_at(tokens)?;
-    block_behind_into(alloc, room, label, blocks, tokens)
+    let mut begun = Begun::new(alloc);
+    let left = begun_into(alloc, room, &mut begun, tokens)?;
+    push(&mut blocks.list, begun.block())?;
+    Ok(left)
 }
 
 /// Adds the blocks that follow, of which there may be `further` with `instructions` in all.

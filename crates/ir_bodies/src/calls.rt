@@ -21,8 +21,8 @@ use ir_heads::{
 use ir_lex::{Head, Token};
 use ir_operands::{Listing, address_at, operand_at, push};
 use ir_read::{
-    Argument, Instr, Name, Operand, Tokens, attachments_at, expect, operand_means, reg_at, reg_of,
-    result_at, type_refusal,
+    Argument, Instr, Name, Operand, Tokens, attachments_at, done, expect, operand_means, reg_at,
+    reg_of, result_at, type_refusal,
 };
 use ir_tree::{Reg, Rows};
 use lto_forms::{Fault, FaultKind, ReadError};
@@ -352,7 +352,7 @@ fn called_value_at<'a>(
     ensures { Gives (λ x. (x, tokens.new)) result (called_value_at tokens.old) }
 {
     let value = operand_at(alloc, Reg::Ptr, tokens)?;
-    Ok(Some(value))
+    done(Some(value))
 }
 
 /// What a token means as the callee of a call that has a name and gives nothing.
@@ -392,10 +392,10 @@ fn unmarked_value_at<'a>(
 {
     if tokens.comes(Head::GetElementPtr) {
         let value = address_at(alloc, tokens)?;
-        Ok(Some(value))
+        done(Some(value))
     } else {
         let value = unmarked_at(tokens)?;
-        Ok(Some(value))
+        done(Some(value))
     }
 }
 
