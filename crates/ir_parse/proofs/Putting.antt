@@ -12,24 +12,11 @@ use Rattle.ir_read.specs.declared.places.Before.{Before}
 use Rattle.ir_read.specs.declared.places.Position.{Position}
 use Rattle.ir_read.specs.declared.raw.Item.{Item}
 use Rattle.ir_parse.specs.ItemForms.{Found, at_place, keep}
-use Rattle.ir_parse.specs.ItemFormsAt.{NAMING, kept_at, naming_at, named_at, named_within_at, beside_at, other_at, piece_at}
-use Rattle.ir_parse.specs.Putting.{behind_at, Puts}
+use Rattle.ir_parse.specs.ItemFormsAt.{NAMING, naming_at, named_at, named_within_at, beside_at, other_at, piece_at}
+use Rattle.ir_parse.specs.Putting.{behind_at}
 
 abbrev kept_to : {S : Type 0} → List Item → Option Item × S → Reader Tok (List Item × S)
 kept_to front x = done (keep front x.0, x.1)
-
--- an item that was read and put
-pub kept_behind : (front new : List Item) (f : Reader Tok Item) (ts rest : List Tok) (r : Result Item ReadError) (s : Result Before ReadError) → Gives (λ x. (x, rest)) r (f ts) → Puts front r new s → Gives (λ b. ((new, b), rest)) s (behind_at front (kept_at f) ts)
-unfolding behind_at kept_at
-kept_behind front new f ts rest (Ok a) (Ok b) h p = rw h (rw p.0 (rw p.1 refl))
-kept_behind front new f ts rest (Ok a) (Err errors.NoMemory) h p = tt
-kept_behind front new f ts rest (Ok a) (Err (errors.Fault e)) h p = absurd p
-kept_behind front new f ts rest (Err errors.NoMemory) (Ok b) h p = absurd cc
-kept_behind front new f ts rest (Err (errors.Fault e)) (Ok b) h p = absurd cc
-kept_behind front new f ts rest (Err errors.NoMemory) (Err errors.NoMemory) h p = tt
-kept_behind front new f ts rest (Err errors.NoMemory) (Err (errors.Fault e)) h p = absurd cc
-kept_behind front new f ts rest (Err (errors.Fault e)) (Err errors.NoMemory) h p = tt
-kept_behind front new f ts rest (Err (errors.Fault e)) (Err (errors.Fault d)) h p = rw h cc
 
 abbrev placed : ℕ → Reader Tok Found → Reader Tok (Option Item × Position)
 placed names f = f >>= λ x. done (at_place names x)
