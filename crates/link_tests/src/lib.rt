@@ -20,26 +20,8 @@
 #![tactic(auto)]
 
 #[cfg(test)]
-mod declarations;
-#[cfg(test)]
-mod files;
-#[cfg(test)]
-mod graphs;
-#[cfg(test)]
 mod links;
-#[cfg(test)]
-mod merged;
-#[cfg(test)]
-mod names;
 #[cfg(test)]
 mod numbers;
 #[cfg(test)]
-mod points;
-#[cfg(test)]
-mod rows;
-#[cfg(test)]
-mod sizes;
-#[cfg(test)]
-mod tables;
-#[cfg(test)]
-mod units;
+mod passes;

@@ -1,5 +1,5 @@
 //! Long functions, which loops write.
-use crate::rows::{Pass, after, first, read};
+use crate::passes::rows::{Pass, after, first, read};
 use block_trim::merge;
 use std::alloc::{AllocError, Global};
 use std::fmt::Write;

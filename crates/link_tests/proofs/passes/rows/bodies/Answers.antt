@@ -2,7 +2,7 @@ use Rattle.std.proofs.Common.{◌≡◌, ◌∙◌, List, All, Bor, ap, map, sub
 use Rattle.ir_tree.specs.Wholes.{GlobalSound}
 use Rattle.ir_tree.specs.declared.module.GlobalValue.{GlobalValue}
 use Rattle.ir_tree.specs.declared.module.Module.{Module}
-use Rattle.link_tests.proofs.rows.bodies.Goals as goal
+use Rattle.link_tests.proofs.passes.rows.bodies.Goals as goal
 
 pub returns : goal.returns
 returns c =

@@ -1,5 +1,5 @@
 //! Calls in whose place the callee's body stands, and places where no call of the callee, of its type, stands.
-use crate::rows::{Pass, Row, failing};
+use crate::passes::rows::{Pass, Row, failing};
 use std::alloc::AllocError;
 
 /// A function that calls the second, which returns its parameter.

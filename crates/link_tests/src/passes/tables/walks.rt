@@ -1,5 +1,5 @@
 //! The inline walk over a function, and the whole back end with it.
-use crate::rows::{Pass, Row, failing};
+use crate::passes::rows::{Pass, Row, failing};
 use std::alloc::AllocError;
 
 const WALKS: [Row; 9] = [

@@ -1,5 +1,5 @@
 //! Dead code.
-use crate::rows::{Pass, Row, failing};
+use crate::passes::rows::{Pass, Row, failing};
 use std::alloc::AllocError;
 
 const NEEDED: [Row; 2] = [

@@ -1,5 +1,5 @@
 //! The suffix of a module's locals, and a local that an import promotes.
-use crate::files::linked;
+use crate::links::files::linked;
 use promote_rename::{promoted, suffix};
 use std::alloc::{AllocError, Global};
 

@@ -1,5 +1,5 @@
 //! Values, and how they are declared.
-use crate::files::read;
+use crate::links::files::read;
 use ir_tree::Text;
 use lto_task::{declaration_of, piece_of};
 use std::alloc::Global;

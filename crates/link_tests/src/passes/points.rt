@@ -1,5 +1,5 @@
 //! Facts at the points of functions.
-use crate::rows::{first, read};
+use crate::passes::rows::{first, read};
 use ir_facts::{Fact, facts};
 use std::alloc::{AllocError, Global};
 

@@ -1,5 +1,5 @@
 //! Copies and constants.
-use crate::rows::{Pass, Row, failing};
+use crate::passes::rows::{Pass, Row, failing};
 use std::alloc::AllocError;
 
 const FACTS: [Row; 13] = [

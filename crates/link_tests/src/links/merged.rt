@@ -1,6 +1,6 @@
 //! The merged programs of links of two modules: their definitions, in order, with the module of each local, and behind them the
 //! functions of the outside.
-use crate::files::modules_of;
+use crate::links::files::modules_of;
 use ir_tree::{GlobalValue, Rows};
 use merge_meaning::program;
 use std::alloc::Global;

@@ -1,5 +1,5 @@
 //! Stack slots that become values.
-use crate::rows::{Pass, Row, failing};
+use crate::passes::rows::{Pass, Row, failing};
 use std::alloc::AllocError;
 
 const SLOTS: [Row; 3] = [

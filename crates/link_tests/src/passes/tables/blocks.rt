@@ -1,5 +1,5 @@
 //! Branches, blocks that are not reached, and blocks that follow one another.
-use crate::rows::{Pass, Row, failing};
+use crate::passes::rows::{Pass, Row, failing};
 use std::alloc::AllocError;
 
 /// Blocks 7, 5 and 3 follow one another against the text, and block 12 follows block 9, which has a phi.

@@ -1,6 +1,6 @@
 //! Imports in call graphs of four functions, each in a file of its own: along chains, under a limit that falls to seven
 //! tenths with each call, and in other shapes.
-use crate::files::{answered, linked, texts};
+use crate::links::files::{answered, linked, texts};
 use combined_index::Index;
 use ir_tree::Text;
 use liveness::live;
