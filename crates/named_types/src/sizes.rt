@@ -148,7 +148,6 @@ fn known_here<'t, 'a>(
 }
 
 /// Finds what is known of the definition at a place.
-#[tactic(auto, using(crate::proofs::Measured::known_set, crate::proofs::Measured::small_set))]
 fn find<'t, 'a>(
     alloc: Global,
     names: &TypeNames<'t, 'a>,

@@ -1,10 +1,35 @@
-use Rattle.std.proofs.Common.{◌≤◌, sym, subst, ◌∙◌, arith}
+use Rattle.std.proofs.Common.{◌≤◌, List, sym, subst, ◌∙◌, arith}
 use Rattle.ir_read.specs.Shapes.{parts_of}
 use Rattle.ir_read.specs.ShapeSizes.{all_nodes}
 use Rattle.ir_names.proofs.Each.{here, goes_on}
-use Rattle.named_types.specs.Measures.{weigh}
+use Rattle.named_types.specs.declared.measure.Measure.{Measure}
+use Rattle.named_types.specs.Measures.{AreSmall, weigh}
 use Rattle.named_types.proofs.Small.{small_push}
 use Rattle.named_types.proofs.weigh.+weighing.Goals as goal
+
+pub weigh-array_of-requires : goal.weigh-array_of-requires
+weigh-array_of-requires t c = c.in_ok-of-in-Array.ensures.small
+
+pub weigh-structure_of-requires : goal.weigh-structure_of-requires
+weigh-structure_of-requires t c = subst (λ (ms : List Measure). AreSmall ms) (sym c.as_slice.ensures.value) c.in_ok-parts-in-Struct.ensures.small
+
+pub weigh-weigh_name-requires : goal.weigh-weigh_name-requires
+weigh-weigh_name-requires t c = c.requires
+
+pub weigh-returns-in-Int-clause-small : goal.weigh-returns-in-Int-clause-small
+weigh-returns-in-Int-clause-small t c = c.scalar.ensures.small
+
+pub weigh-returns-in_ok-of-in-Array-clause-small : goal.weigh-returns-in_ok-of-in-Array-clause-small
+weigh-returns-in_ok-of-in-Array-clause-small t c = c.array_of.ensures.small
+
+pub weigh-returns-in_ok-parts-in-Struct-clause-small : goal.weigh-returns-in_ok-parts-in-Struct-clause-small
+weigh-returns-in_ok-parts-in-Struct-clause-small t c = c.structure_of.ensures.small
+
+pub weigh-returns-in-Named-clause-small : goal.weigh-returns-in-Named-clause-small
+weigh-returns-in-Named-clause-small t c = c.weigh_name.ensures.small
+
+pub weigh_all-returns-clause-small : goal.weigh_all-returns-clause-small
+weigh_all-returns-clause-small t c = c.each.invariant.small
 
 pub weigh_all-each-preserved : goal.weigh_all-each-preserved
 weigh_all-each-preserved t c =
