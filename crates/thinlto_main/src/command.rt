@@ -2,26 +2,71 @@
 ghost use Rattle.std.specs.Prelude.{◌≡◌, ◌≤◌, ◌↔◌, ◌⊎◌, ℕ, List, OnErr, OnOk, map, string_bytes};
 ghost use Rattle.cache_slot.specs.Decoded.{decoded};
 ghost use Rattle.lto_outside.specs.Honest.{IsHonest};
-ghost use Rattle.thinlto_main.specs.Answers.{Says, causes_of, obeyed};
+ghost use Rattle.lto_outside.specs.Seen.{files_seen};
+ghost use Rattle.thinlto_main.specs.Answers.{Says, causes_of, obeyed, reporting};
 ghost use Rattle.thinlto_main.specs.Asking.{Asked};
 ghost use Rattle.run_program.specs.Causes.{Comes};
 ghost use Rattle.thinlto_main.specs.Honest.{HonestEntry};
 ghost use Rattle.thinlto_main.specs.Keys.{LeavesDisk};
+ghost use Rattle.thinlto_main.specs.Modules.{AreRead};
+ghost use Rattle.thinlto_main.specs.Running.{SaysReturned, running};
 ghost use Rattle.thinlto_main.specs.Seen.{rest_seen, seen};
-ghost use Rattle.run_program.specs.Streams.{notes_seen};
+ghost use Rattle.run_program.specs.Streams.{notes_seen, streams_seen};
 
 use crate::batch::batch;
 use crate::entry::Ended;
 use crate::index::index;
 use crate::link::link;
 use crate::run::run;
+use crate::status::Status;
+use ir_tree::{Rows, Text};
 use lto_fault::Refusal;
 use lto_outside::{ByteIn, ByteOut, CacheDisk, Files, Gate};
-use lto_words::{Command, WordsError, command, one_command};
+use lto_words::{Command, FileName, WordsError, command, one_command};
 use run_program::RunOptions;
 use std::alloc::Global;
 use std::sync::Wait;
 use std::thread::Threads;
+
+/// Does the index that a command asks for.
+fn obey_index<F: Files, O: ByteOut>(
+    alloc: Global,
+    files: &mut F,
+    out: &mut O,
+    exports: Rows<Text>,
+    import_limit: u32,
+    names: Rows<FileName>,
+) -> Status
+    ensures answer { Comes (reporting exports import_limit names (seen F.did F.held F.faults O.sent O.faults files.old files.new out.old out.new)) result }
+    ensures later { F.faults files.old ≤ F.faults files.new }
+{
+    index(
+        alloc,
+        files,
+        out,
+        exports.as_slice(),
+        import_limit,
+        names.as_slice(),
+    )
+}
+
+/// Does the run that a command asks for. Where it returned, the notes get what it says.
+fn obey_run<F: Files, I: ByteIn, O: ByteOut, N: ByteOut>(
+    alloc: Global,
+    files: &mut F,
+    input: &mut I,
+    out: &mut O,
+    notes: &mut N,
+    options: RunOptions,
+    names: Rows<FileName>,
+) -> Status
+    ensures answer { Comes (running options.root options.args options.steps names (files_seen F.did F.held F.faults files.old files.new) (streams_seen I.left I.faults O.sent O.faults input.old input.new out.old out.new)) result }
+    ensures says { OnOk result (SaysReturned (AreRead names (λ calls. F.did files.old calls files.new)) options.root options.args options.steps names (streams_seen I.left I.faults O.sent O.faults input.old input.new out.old out.new) (notes_seen N.sent N.faults notes.old notes.new)) }
+    ensures silent { OnErr result (notes.new ≡ notes.old) }
+    ensures later { F.faults files.old ≤ F.faults files.new }
+{
+    run(alloc, files, input, out, notes, &options, names.as_slice())
+}
 
 /// Does a command. Where it is done, the notes get what it says. No modules are generated.
 fn obey<
@@ -70,14 +115,7 @@ fn obey<
             import_limit,
             files: names,
         } => {
-            let status = index(
-                alloc,
-                files,
-                out,
-                exports.as_slice(),
-                import_limit,
-                names.as_slice(),
-            );
+            let status = obey_index(alloc, files, out, exports, import_limit, names);
             Ended { status, disk }
         }
         Command::Batch { options, list } => { batch(rt, alloc, files, disk, gate, &options, &list) }
@@ -88,7 +126,7 @@ fn obey<
             files: names,
         } => {
             let options = RunOptions { root, args, steps };
-            let status = run(alloc, files, input, out, notes, &options, names.as_slice());
+            let status = obey_run(alloc, files, input, out, notes, options, names);
             Ended { status, disk }
         }
         Command::Gen { .. } => Ended {

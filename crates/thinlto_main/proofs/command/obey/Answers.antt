@@ -2,7 +2,7 @@ use Rattle.std.proofs.Common.{◌≡◌, ℕ, List, OnOk, refl, ap, subst, sym}
 use Rattle.lto_outside.specs.Calls.{Call}
 use Rattle.lto_outside.specs.Seen.{files_seen}
 use Rattle.lto_words.specs.declared.request.Command.{Command}
-use Rattle.thinlto_main.specs.Answers.{Says, obeyed, reporting}
+use Rattle.thinlto_main.specs.Answers.{Says, obeyed}
 use Rattle.thinlto_main.specs.Asking.{is_offered}
 use Rattle.cache_slot.specs.Decoded.{decoded}
 use Rattle.lto_outside.specs.Honest.{IsHonest}
@@ -10,10 +10,8 @@ use Rattle.thinlto_main.specs.Honest.{IsTrustedBy}
 use Rattle.thinlto_main.specs.Keys.{DiskKept, IsKeyOfFiles, LeavesDisk}
 use Rattle.run_program.specs.Causes.{Comes}
 use Rattle.thinlto_main.specs.Linking.{linking}
-use Rattle.thinlto_main.specs.Modules.{AreRead}
-use Rattle.thinlto_main.specs.Running.{SaysReturned, running}
 use Rattle.thinlto_main.specs.Seen.{rest_seen, seen}
-use Rattle.run_program.specs.Streams.{notes_seen, streams_seen}
+use Rattle.run_program.specs.Streams.{notes_seen}
 use Rattle.thinlto_main.proofs.Asking.{batch_obeyed, index_obeyed, link_obeyed, on_each, run_obeyed}
 use Rattle.run_program.proofs.Causes.{comes_map}
 use Rattle.thinlto_main.proofs.command.obey.Goals as goal
@@ -40,17 +38,15 @@ returns-in-Link-clause-silent g c = (on_each c.link.result.status (c.args.notes.
 
 pub returns-in-Index-clause-answer : goal.returns-in-Index-clause-answer
 returns-in-Index-clause-answer g c =
-    subst (λ (k : Command). Comes (obeyed k (seen g.F.Files.did g.F.Files.held g.F.Files.faults g.O.ByteOut.sent g.O.ByteOut.faults c.args.files.now c.index-status.new.files c.args.out.now c.index-status.new.out) (rest_seen g.I.ByteIn.left g.I.ByteIn.faults (IsHonest decoded g.D.CacheDisk.fits (g.D.CacheDisk.held c.args.disk)) c.args.input.now c.args.input.now)) c.index-status.result) (sym c.in-Index.is)
-    (comes_map (index_obeyed c.in-Index.exports c.in-Index.import_limit c.in-Index.names (seen g.F.Files.did g.F.Files.held g.F.Files.faults g.O.ByteOut.sent g.O.ByteOut.faults c.args.files.now c.index-status.new.files c.args.out.now c.index-status.new.out) (rest_seen g.I.ByteIn.left g.I.ByteIn.faults (IsHonest decoded g.D.CacheDisk.fits (g.D.CacheDisk.held c.args.disk)) c.args.input.now c.args.input.now) refl) c.index-status.result
-    (subst (λ (es : List (List ℕ)). Comes (reporting es c.in-Index.import_limit c.in-Index.names (seen g.F.Files.did g.F.Files.held g.F.Files.faults g.O.ByteOut.sent g.O.ByteOut.faults c.args.files.now c.index-status.new.files c.args.out.now c.index-status.new.out)) c.index-status.result) c.as_slice-in-Index.ensures
-    (subst (λ (ns : List (List ℕ)). Comes (reporting c.as_slice-in-Index.result.now c.in-Index.import_limit ns (seen g.F.Files.did g.F.Files.held g.F.Files.faults g.O.ByteOut.sent g.O.ByteOut.faults c.args.files.now c.index-status.new.files c.args.out.now c.index-status.new.out)) c.index-status.result) c.as_slice-in-Index-2.ensures c.index-status.ensures.answer)))
+    subst (λ (k : Command). Comes (obeyed k (seen g.F.Files.did g.F.Files.held g.F.Files.faults g.O.ByteOut.sent g.O.ByteOut.faults c.args.files.now c.obey_index-status.new.files c.args.out.now c.obey_index-status.new.out) (rest_seen g.I.ByteIn.left g.I.ByteIn.faults (IsHonest decoded g.D.CacheDisk.fits (g.D.CacheDisk.held c.args.disk)) c.args.input.now c.args.input.now)) c.obey_index-status.result) (sym c.in-Index.is)
+    (comes_map (index_obeyed c.in-Index.exports c.in-Index.import_limit c.in-Index.names (seen g.F.Files.did g.F.Files.held g.F.Files.faults g.O.ByteOut.sent g.O.ByteOut.faults c.args.files.now c.obey_index-status.new.files c.args.out.now c.obey_index-status.new.out) (rest_seen g.I.ByteIn.left g.I.ByteIn.faults (IsHonest decoded g.D.CacheDisk.fits (g.D.CacheDisk.held c.args.disk)) c.args.input.now c.args.input.now) refl) c.obey_index-status.result c.obey_index-status.ensures.answer)
 
 pub returns-in-Index-clause-says : goal.returns-in-Index-clause-says
 returns-in-Index-clause-says g c =
-    subst (λ (k : Command). OnOk c.index-status.result (Says k (seen g.F.Files.did g.F.Files.held g.F.Files.faults g.O.ByteOut.sent g.O.ByteOut.faults c.args.files.now c.index-status.new.files c.args.out.now c.index-status.new.out) (rest_seen g.I.ByteIn.left g.I.ByteIn.faults (IsHonest decoded g.D.CacheDisk.fits (g.D.CacheDisk.held c.args.disk)) c.args.input.now c.args.input.now) (notes_seen g.N.ByteOut.sent g.N.ByteOut.faults c.args.notes.now c.args.notes.now))) (sym c.in-Index.is) (on_each c.index-status.result (c.args.notes.now ≡ c.args.notes.now) refl).0
+    subst (λ (k : Command). OnOk c.obey_index-status.result (Says k (seen g.F.Files.did g.F.Files.held g.F.Files.faults g.O.ByteOut.sent g.O.ByteOut.faults c.args.files.now c.obey_index-status.new.files c.args.out.now c.obey_index-status.new.out) (rest_seen g.I.ByteIn.left g.I.ByteIn.faults (IsHonest decoded g.D.CacheDisk.fits (g.D.CacheDisk.held c.args.disk)) c.args.input.now c.args.input.now) (notes_seen g.N.ByteOut.sent g.N.ByteOut.faults c.args.notes.now c.args.notes.now))) (sym c.in-Index.is) (on_each c.obey_index-status.result (c.args.notes.now ≡ c.args.notes.now) refl).0
 
 pub returns-in-Index-clause-silent : goal.returns-in-Index-clause-silent
-returns-in-Index-clause-silent g c = (on_each c.index-status.result (c.args.notes.now ≡ c.args.notes.now) refl).1
+returns-in-Index-clause-silent g c = (on_each c.obey_index-status.result (c.args.notes.now ≡ c.args.notes.now) refl).1
 
 pub returns-in-Batch-clause-answer : goal.returns-in-Batch-clause-answer
 returns-in-Batch-clause-answer g c =
@@ -66,16 +62,15 @@ returns-in-Batch-clause-silent g c = (on_each c.batch.result.status (c.args.note
 
 pub returns-in-Run-clause-answer : goal.returns-in-Run-clause-answer
 returns-in-Run-clause-answer g c =
-    subst (λ (k : Command). Comes (obeyed k (seen g.F.Files.did g.F.Files.held g.F.Files.faults g.O.ByteOut.sent g.O.ByteOut.faults c.args.files.now c.run-status.new.files c.args.out.now c.run-status.new.out) (rest_seen g.I.ByteIn.left g.I.ByteIn.faults (IsHonest decoded g.D.CacheDisk.fits (g.D.CacheDisk.held c.args.disk)) c.args.input.now c.run-status.new.input)) c.run-status.result) (sym c.in-Run.is)
-    (comes_map (run_obeyed c.in-Run.root c.in-Run.args c.in-Run.steps c.in-Run.names (seen g.F.Files.did g.F.Files.held g.F.Files.faults g.O.ByteOut.sent g.O.ByteOut.faults c.args.files.now c.run-status.new.files c.args.out.now c.run-status.new.out) (rest_seen g.I.ByteIn.left g.I.ByteIn.faults (IsHonest decoded g.D.CacheDisk.fits (g.D.CacheDisk.held c.args.disk)) c.args.input.now c.run-status.new.input)) c.run-status.result
-    (subst (λ (ns : List (List ℕ)). Comes (running c.in-Run.root c.in-Run.args c.in-Run.steps ns (files_seen g.F.Files.did g.F.Files.held g.F.Files.faults c.args.files.now c.run-status.new.files) (streams_seen g.I.ByteIn.left g.I.ByteIn.faults g.O.ByteOut.sent g.O.ByteOut.faults c.args.input.now c.run-status.new.input c.args.out.now c.run-status.new.out)) c.run-status.result)
-    c.as_slice-in-Run.ensures c.run-status.ensures.answer))
+    subst (λ (k : Command). Comes (obeyed k (seen g.F.Files.did g.F.Files.held g.F.Files.faults g.O.ByteOut.sent g.O.ByteOut.faults c.args.files.now c.obey_run-status.new.files c.args.out.now c.obey_run-status.new.out) (rest_seen g.I.ByteIn.left g.I.ByteIn.faults (IsHonest decoded g.D.CacheDisk.fits (g.D.CacheDisk.held c.args.disk)) c.args.input.now c.obey_run-status.new.input)) c.obey_run-status.result) (sym c.in-Run.is)
+    (comes_map (run_obeyed c.in-Run.root c.in-Run.args c.in-Run.steps c.in-Run.names (seen g.F.Files.did g.F.Files.held g.F.Files.faults g.O.ByteOut.sent g.O.ByteOut.faults c.args.files.now c.obey_run-status.new.files c.args.out.now c.obey_run-status.new.out) (rest_seen g.I.ByteIn.left g.I.ByteIn.faults (IsHonest decoded g.D.CacheDisk.fits (g.D.CacheDisk.held c.args.disk)) c.args.input.now c.obey_run-status.new.input)) c.obey_run-status.result c.obey_run-status.ensures.answer)
 
 pub returns-in-Run-clause-says : goal.returns-in-Run-clause-says
 returns-in-Run-clause-says g c =
-    subst (λ (k : Command). OnOk c.run-status.result (Says k (seen g.F.Files.did g.F.Files.held g.F.Files.faults g.O.ByteOut.sent g.O.ByteOut.faults c.args.files.now c.run-status.new.files c.args.out.now c.run-status.new.out) (rest_seen g.I.ByteIn.left g.I.ByteIn.faults (IsHonest decoded g.D.CacheDisk.fits (g.D.CacheDisk.held c.args.disk)) c.args.input.now c.run-status.new.input) (notes_seen g.N.ByteOut.sent g.N.ByteOut.faults c.args.notes.now c.run-status.new.notes))) (sym c.in-Run.is)
-    (subst (λ (ns : List (List ℕ)). OnOk c.run-status.result (SaysReturned (AreRead ns (λ (calls : List Call). g.F.Files.did c.args.files.now calls c.run-status.new.files)) c.in-Run.root c.in-Run.args c.in-Run.steps ns (streams_seen g.I.ByteIn.left g.I.ByteIn.faults g.O.ByteOut.sent g.O.ByteOut.faults c.args.input.now c.run-status.new.input c.args.out.now c.run-status.new.out) (notes_seen g.N.ByteOut.sent g.N.ByteOut.faults c.args.notes.now c.run-status.new.notes)))
-    c.as_slice-in-Run.ensures c.run-status.ensures.says)
+    subst (λ (k : Command). OnOk c.obey_run-status.result (Says k (seen g.F.Files.did g.F.Files.held g.F.Files.faults g.O.ByteOut.sent g.O.ByteOut.faults c.args.files.now c.obey_run-status.new.files c.args.out.now c.obey_run-status.new.out) (rest_seen g.I.ByteIn.left g.I.ByteIn.faults (IsHonest decoded g.D.CacheDisk.fits (g.D.CacheDisk.held c.args.disk)) c.args.input.now c.obey_run-status.new.input) (notes_seen g.N.ByteOut.sent g.N.ByteOut.faults c.args.notes.now c.obey_run-status.new.notes))) (sym c.in-Run.is) c.obey_run-status.ensures.says
+
+pub returns-in-Run-clause-silent : goal.returns-in-Run-clause-silent
+returns-in-Run-clause-silent g c = c.obey_run-status.ensures.silent
 
 pub returns-in-Link-clause-disk : goal.returns-in-Link-clause-disk
 returns-in-Link-clause-disk g c =
@@ -89,8 +84,23 @@ returns-in-Batch-clause-disk g c =
 
 pub returns-in-Index-clause-disk : goal.returns-in-Index-clause-disk
 returns-in-Index-clause-disk g c =
-    subst (λ (k : Command). LeavesDisk k (λ (calls : List Call). g.F.Files.did c.args.files.now calls c.index-status.new.files) g.D.CacheDisk.fits (g.D.CacheDisk.held c.args.disk) (g.D.CacheDisk.held c.args.disk)) (sym c.in-Index.is) refl
+    subst (λ (k : Command). LeavesDisk k (λ (calls : List Call). g.F.Files.did c.args.files.now calls c.obey_index-status.new.files) g.D.CacheDisk.fits (g.D.CacheDisk.held c.args.disk) (g.D.CacheDisk.held c.args.disk)) (sym c.in-Index.is) refl
 
 pub returns-in-Run-clause-disk : goal.returns-in-Run-clause-disk
 returns-in-Run-clause-disk g c =
-    subst (λ (k : Command). LeavesDisk k (λ (calls : List Call). g.F.Files.did c.args.files.now calls c.run-status.new.files) g.D.CacheDisk.fits (g.D.CacheDisk.held c.args.disk) (g.D.CacheDisk.held c.args.disk)) (sym c.in-Run.is) refl
+    subst (λ (k : Command). LeavesDisk k (λ (calls : List Call). g.F.Files.did c.args.files.now calls c.obey_run-status.new.files) g.D.CacheDisk.fits (g.D.CacheDisk.held c.args.disk) (g.D.CacheDisk.held c.args.disk)) (sym c.in-Run.is) refl
+
+pub returns-in-Link-clause-later : goal.returns-in-Link-clause-later
+returns-in-Link-clause-later g c = c.link.ensures.later
+
+pub returns-in-Index-clause-later : goal.returns-in-Index-clause-later
+returns-in-Index-clause-later g c = c.obey_index-status.ensures.later
+
+pub returns-in-Batch-clause-later : goal.returns-in-Batch-clause-later
+returns-in-Batch-clause-later g c = c.batch.ensures.later
+
+pub returns-in-Run-clause-later : goal.returns-in-Run-clause-later
+returns-in-Run-clause-later g c = c.obey_run-status.ensures.later
+
+pub returns-in-Gen-clause-silent : goal.returns-in-Gen-clause-silent
+returns-in-Gen-clause-silent g c = refl
