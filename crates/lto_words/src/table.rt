@@ -124,10 +124,14 @@ fn generate<'a>(alloc: Global) -> Result<Command<'a>, AllocError>
     with_number(command, alloc, JOBS)
 }
 
-fn with_command<'a>(program: Command<'a>, command: Command<'a>) -> Result<Command<'a>, AllocError>
-    ensures { (a b : App) → Builds a program.entry → Builds b command.entry → IfOk result (Builds (with_subcommand a b.top)) }
+/// The program with this command, where that could be built.
+fn with_command<'a>(
+    program: Command<'a>,
+    command: Result<Command<'a>, AllocError>,
+) -> Result<Command<'a>, AllocError>
+    ensures { (a b : App) → Builds a program.entry → IfOk command.entry (Builds b) → IfOk result (Builds (with_subcommand a b.top)) }
 {
-    program.subcommand(command)
+    program.subcommand(command?)
 }
 
 /// The program without its commands.
@@ -143,20 +147,18 @@ fn program<'a>(alloc: Global) -> Command<'a>
 
 /// The program with the commands that link.
 fn with_links<'a>(program: Command<'a>, alloc: Global) -> Result<Command<'a>, AllocError>
-    ensures { IfOk result (λ new. (a : App) → Builds a program.entry → Builds (with_subcommand (with_subcommand a table.link) table.batch) new) }
+    ensures { (a : App) → Builds a program.entry → IfOk result (Builds (with_subcommand (with_subcommand a table.link) table.batch)) }
 {
-    let program = with_command(program, link(alloc)?)?;
-    let program = with_command(program, batch(alloc)?)?;
-    Ok(program)
+    let program = with_command(program, link(alloc))?;
+    with_command(program, batch(alloc))
 }
 
 /// The program with the commands `index` and `run`.
 fn with_index_and_run<'a>(program: Command<'a>, alloc: Global) -> Result<Command<'a>, AllocError>
-    ensures { IfOk result (λ new. (a : App) → Builds a program.entry → Builds (with_subcommand (with_subcommand a table.index) table.run) new) }
+    ensures { (a : App) → Builds a program.entry → IfOk result (Builds (with_subcommand (with_subcommand a table.index) table.run)) }
 {
-    let program = with_command(program, index(alloc)?)?;
-    let program = with_command(program, run(alloc)?)?;
-    Ok(program)
+    let program = with_command(program, index(alloc))?;
+    with_command(program, run(alloc))
 }
 
 /// The program with all its commands.
@@ -165,5 +167,5 @@ pub(crate) fn thinlto<'a>(alloc: Global) -> Result<Command<'a>, AllocError>
 {
     let thinlto = with_links(program(alloc), alloc)?;
     let thinlto = with_index_and_run(thinlto, alloc)?;
-    with_command(thinlto, generate(alloc)?)
+    with_command(thinlto, generate(alloc))
 }

@@ -6,4 +6,4 @@ unfolding thinlto
 returns c =
     let with_links = c.in_ok-thinlto.ensures _ c.program.ensures in
     let with_index_and_run = c.in_ok-thinlto-2.ensures _ with_links in
-    c.with_command.ensures _ _ with_index_and_run (c.in_ok-generate.ensures)
+    c.with_command.ensures _ _ with_index_and_run c.generate.ensures

@@ -1,4 +1,4 @@
 use Rattle.lto_words.proofs.table.with_index_and_run.Goals as goal
 
 pub returns : goal.returns
-returns c = λ a built. c.in_ok-program-2.ensures _ _ (c.in_ok-program.ensures _ _ built (c.in_ok-index.ensures)) (c.in_ok-run.ensures)
+returns c = λ a built. c.with_command-2.ensures _ _ (c.in_ok-program.ensures _ _ built c.index.ensures) c.run.ensures
