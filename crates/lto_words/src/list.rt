@@ -13,7 +13,7 @@ use ir_tree::{Rows, Text};
 use std::alloc::{AllocError, Global};
 
 /// A signed decimal number of any length.
-#[derive(Clone, Copy, Debug, PartialEq, Eq)]
+#[derive(Clone, Copy)]
 pub struct Decimal {
     /// Whether a hyphen stands before the digits.
     pub negative: bool,

@@ -66,7 +66,7 @@ pub enum Command {
 }
 
 /// The commands without what is given for them.
-#[derive(Clone, Copy, Debug, PartialEq, Eq)]
+#[derive(Clone, Copy)]
 pub(crate) enum Kind {
     Link,
     Batch,
