@@ -1,5 +1,5 @@
 -- What a look-up and a store say, at the shelf's own directory and history.
-use Rattle.std.proofs.Common.{Bor, ◌≡◌, ◌≢◌, ℕ, ⊎_elim, false, true, List, [], ◌∷◌, Option, None, Some, Result, Ok, Err, refl, sym, ap, subst, ◌∙◌}
+use Rattle.std.proofs.Common.{Bor, ◌≡◌, ◌≢◌, ℕ, ⊎_elim, Bool, false, true, List, [], ◌∷◌, ◌++◌, Option, None, Some, Result, Ok, Err, refl, sym, ap, subst, ◌∙◌}
 use Rattle.std.specs.Prelude.{IfSome, IfOk, OnErr, is_some}
 use Rattle.std.specs.Option.{option_copied}
 use Rattle.std.specs.Result.{result_ok}
@@ -13,7 +13,7 @@ use Rattle.cache_slot.specs.declared.kept.Kept.TheVariants.{New, Already, Skippe
 use Rattle.cache_slot.specs.declared.record.Record.{Record}
 use Rattle.cache_slot.specs.declared.record.Record.TheVariants.{Entry, Again}
 use Rattle.cache_slot.specs.declared.record.Why.TheVariants.{NoDirectory, Lacking, Fault}
-use Rattle.cache_slot.specs.Found.{Finding, FoundOn, record_of, LookedOn, Stored}
+use Rattle.cache_slot.specs.Found.{Finding, FoundOn, SavedOn, record_of, kept_of, LookedOn, Stored, StoredOn}
 use Rattle.cache_slot.specs.Records.{text_of}
 use Rattle.cache_slot.proofs.Texts.{text_kept, text_pushed, none_front}
 
@@ -30,6 +30,25 @@ each_answer P (Err why) answer is h = subst (λ (z : Option (List ℕ)). IfSome 
 pub none_found : (found : Option (Bor (List ℕ))) (text : Option (List ℕ)) → option_copied found ≡ text → is_some found ≡ false → text ≡ None
 none_found None text is none = sym is
 none_found (Some t) text is none = absurd (cc none)
+
+-- one was found
+pub some_found : (found : Option (Bor (List ℕ))) (text : Option (List ℕ)) → option_copied found ≡ text → is_some found ≡ true → text ≢ None
+some_found None text is some = absurd (cc some)
+some_found (Some t) text is some = λ none. let q : Some t.now ≡ None = is ∙ none in cc q
+
+-- what a store answers that found none
+pub stored_new : (held held_now : Option DiskStore) (count count_now : ℕ) (dir : Option (List ℕ)) (key text : List ℕ) (before after : List Record) (failed : Bool) (kept : Kept) → kept ≡ kept_of failed
+    → text_of key before ≡ None → SavedOn held held_now count count_now dir key text failed → after ≡ before ++ Entry key text failed ∷ [] → Stored dir key text before after kept
+stored_new held held_now count count_now dir key text before after false kept is none saved more = subst (Stored dir key text before after) (sym is) (none, more)
+stored_new held held_now count count_now None key text before after true kept is none saved more = absurd saved
+stored_new held held_now count count_now (Some d) key text before after true kept is none saved more =
+    subst (Stored (Some d) key text before after) (sym is) (none, (λ e. let q : Some d ≡ None = e in cc q), more)
+
+-- and what it did to the disk
+pub stored_on_new : (held held_now : Option DiskStore) (count count_now : ℕ) (dir : Option (List ℕ)) (key text : List ℕ) (failed : Bool) (kept : Kept) → kept ≡ kept_of failed
+    → SavedOn held held_now count count_now dir key text failed → StoredOn held held_now count count_now dir key text kept
+stored_on_new held held_now count count_now dir key text false kept is saved = subst (StoredOn held held_now count count_now dir key text) (sym is) saved
+stored_on_new held held_now count count_now dir key text true kept is saved = subst (StoredOn held held_now count count_now dir key text) (sym is) saved
 
 module _ {E : Type 0} where
   -- a look adds to the history at its end

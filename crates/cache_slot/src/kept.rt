@@ -1,7 +1,7 @@
 //! What a store answers.
 
 /// What a store did with the pair.
-#[derive(Clone, Copy, Debug, PartialEq, Eq)]
+#[derive(Clone, Copy, PartialEq, Eq)]
 pub enum Kept {
     /// It is an entry now, and saved where there is a directory.
     New,
@@ -12,7 +12,7 @@ pub enum Kept {
 }
 
 /// Why an entry wasn't saved.
-#[derive(Clone, Copy, Debug, PartialEq, Eq)]
+#[derive(Clone, Copy, PartialEq, Eq)]
 pub enum Cause {
     /// The disk failed.
     Disk,

@@ -6,7 +6,7 @@ ghost use Rattle.cache_slot.specs.Noted.{noted};
 use ir_tree::Text;
 
 /// Why a look-up found nothing.
-#[derive(Clone, Copy, Debug, PartialEq, Eq)]
+#[derive(Clone, Copy)]
 pub enum Why {
     /// No entry has the key, and the cache has no directory.
     NoDirectory,

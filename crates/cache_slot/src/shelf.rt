@@ -34,12 +34,13 @@ impl<D: CacheDisk, S: Setting> Logged<Record> for Shelf<D, S> {
 }
 
 impl<D: CacheDisk, S: Setting> Shelf<D, S> {
-    ghost use Rattle.std.specs.Prelude.{◌≤◌, ◌<◌, ◌^◌, [], ◌⊎◌, None, length, IfOk, IfSome, OnErr};
+    ghost use Rattle.std.specs.Prelude.{◌≤◌, ◌<◌, ◌+◌, ◌^◌, [], ◌⊎◌, None, length, IfOk, IfSome, OnErr};
     ghost use Rattle.std.specs.List.{Contains};
     ghost use Rattle.lto_outside.specs.DiskStore.{DiskStays};
     ghost use Rattle.lto_outside.specs.Honest.{IsHonest};
     ghost use Rattle.cache_slot.specs.Decoded.{decoded};
     ghost use Rattle.cache_slot.specs.Found.{NeedsNoDisk, LookedOn, Stored, StoredOn};
+    ghost use Rattle.cache_slot.specs.Records.{text_of};
 
     /// A shelf with an empty history. Takes no memory.
     pub fn new(alloc: Global, disk: D, dir: Option<String>) -> Self
@@ -98,6 +99,22 @@ impl<D: CacheDisk, S: Setting> Shelf<D, S> {
             self.records.note(&Note::Again(key));
             return Ok(Kept::Already);
         }
+        self.add(alloc, own, text)
+    }
+
+    /// Makes the pair an entry, the first of its key, and saves it where there is a directory. Refused where there is no
+    /// memory, and then the history and the disk are as before.
+    fn add(&mut self, alloc: Global, key: Key, text: &[u8]) -> Result<Kept, AllocError>
+        requires count { length self.old.records.history.items + 1 < 2 ^ 64 }
+        requires new { text_of key self.old.records.history.items ≡ None }
+        requires key { S.keys key }
+        requires made { D.fits key text.now }
+        ensures stored { IfOk result (Stored S.dir key text.now self.old.records.history.items self.new.records.history.items) }
+        ensures disk { IfOk result (StoredOn (D.held self.old.disk) (D.held self.new.disk) (D.faults self.old.disk) (D.faults self.new.disk) S.dir key text.now) }
+        ensures later { D.faults self.old.disk ≤ D.faults self.new.disk }
+        ensures uncalled { S.dir ≡ None → self.new.disk ≡ self.old.disk }
+        ensures err { OnErr result ((self.new.records.history.items ≡ self.old.records.history.items) × (self.new.disk ≡ self.old.disk)) }
+    {
         let kept = Text::copied(alloc, text)?;
         self.records.reserve()?;
         let Shelf {
@@ -106,8 +123,8 @@ impl<D: CacheDisk, S: Setting> Shelf<D, S> {
             records,
             setting: _,
         } = self;
-        let failed = save(alloc, disk, dir_str(dir), key, text)?;
-        records.enter(own, kept, failed);
+        let failed = save(alloc, disk, dir_str(dir), key.as_slice(), text)?;
+        records.enter(key, kept, failed);
         Ok(kept_of(failed))
     }
 
