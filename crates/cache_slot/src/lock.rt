@@ -171,9 +171,7 @@ impl<T: Logged<R> + Drop, R> TicketLock<T, R> {
     }
 }
 
-fn wait_for_ever<W: Wait>(rt: &W)
-    ensures { ⊥ }
-{
+fn wait_for_ever<W: Wait>(rt: &W) -> ! {
     for _ in rt.forever() {}
     unreachable!()
 }

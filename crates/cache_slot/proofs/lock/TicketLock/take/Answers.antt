@@ -2,12 +2,11 @@ use Rattle.std.proofs.Common.{rules, arith, ◌<◌, ℕ, ◌∷◌, Some, Optio
 use Rattle.cache_slot.specs.Views.{ticket_of}
 use Rattle.atomic_table.specs.Table.{rest}
 use Rattle.cache_slot.proofs.Steps.{draws, waits}
-use Rattle.cache_slot.proofs.lock.TicketLock.take.Goals.{then-place-eq0, else-place-eq0}
 use Rattle.cache_slot.proofs.lock.TicketLock.take.Goals as goal
 
 pub fetch_add-ticket-requires : goal.fetch_add-ticket-requires
 fetch_add-ticket-requires g c =
-    let some_left : 0 < c.args.place.now.seat.me.0.turns = elim c.if-place-eq0.branch [ then-place-eq0 w ↦ absurd w.wait_for_ever.ensures | else-place-eq0 w ↦ omega arith ] in
+    let some_left : 0 < c.args.place.now.seat.me.0.turns = omega arith in
     (search rules, search rules, draws g.T.Logged.log _ _ _ c.requires.2 some_left)
 
 pub loop-init : goal.loop-init
