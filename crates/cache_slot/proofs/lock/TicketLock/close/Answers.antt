@@ -4,6 +4,12 @@ use Rattle.cache_slot.proofs.lock.TicketLock.close.Goals as goal
 pub take-value-requires : goal.take-value-requires
 take-value-requires g c = c.requires
 
+pub take-requires : goal.take-requires
+take-requires g c =
+    let one = c.close-closed.ensures.counts.1 ∙ c.args.self.wide.1 in
+    let low = subst (λ (n : ℕ). 0 < n) (sym one) (omega arith) in
+    (low, c.close-closed.ensures.values.1 0 (omega arith) low)
+
 -- a row of one place, which is empty
 emptied : (filled : List Bool) (k : ℕ) → k < 1 → slice_index_or (slice_set filled 0 false) k false ≡ false
 emptied [] zero low = refl
