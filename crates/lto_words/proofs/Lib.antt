@@ -3,3 +3,4 @@ pub mod Lists
 pub mod Numbers
 pub mod Simple
 pub mod OneCommand
+pub mod Arguments

@@ -1,10 +1,13 @@
 -- The table of commands: the options of each, with the range and the default of those whose values are numbers.
 use Rattle.std.specs.Prelude.{◌≡◌, ℕ, Bool, true, false, not, List, [], ◌∷◌, ◌++◌, map, fold, Option, Some, None, is_some, option_map, codes}
+use Rattle.std.specs.Borrow.{Bor}
 use Rattle.clap.specs.Words.{App, Rule, Shape, Text, app_of, new_app, new_rule, with_subcommand}
 use Rattle.clap.specs.Simple.{new_shape}
 use Rattle.clap.specs.declared.builder.ArgAction.TheVariants.{Append}
 use Rattle.clap.specs.declared.builder.Command.{Command}
 use Rattle.clap.specs.declared.builder.command.Command.TheViews.{out-Command}
+use Rattle.lto_words.specs.declared.argument.Argument.{Argument}
+use Rattle.lto_words.specs.declared.argument.Argument.TheVariants as argument
 
 -- ---- options
 
@@ -66,11 +69,23 @@ root = option (codes "root") false
 abbrev pub args : Rule
 args = option (codes "args") false
 
+-- what an argument asks
+abbrev pub rule : Argument → Rule
+rule (argument.Text name) = option name.now false
+rule (argument.Number o) = option o.name.now (not (is_some o.default))
+rule argument.Out = out
+rule argument.Files = files
+rule argument.ListFile = list_file
+
 -- ---- commands
 
 -- a command with these rules
 abbrev pub command : Text → List Rule → Shape
 command name rules = record (new_shape name) { rules = rules }
+
+-- the same by its name and its arguments
+abbrev pub shape : Bor Text × Bor (List Argument) → Shape
+shape row = command row.0.now (map rule row.1.now)
 
 -- the options of links
 abbrev pub link_options : List Rule

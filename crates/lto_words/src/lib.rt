@@ -16,6 +16,7 @@
 //! are none. That memory is found.
 #![tactic(auto)]
 
+mod argument;
 mod fault;
 mod given;
 mod laws;
