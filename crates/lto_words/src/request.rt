@@ -93,10 +93,10 @@ fn link_options(alloc: Global, matches: &ArgMatches<'_>) -> Result<LinkOptions, 
     ensures { Reads (HasLinkOptions (rows_in matches.now)) result }
 {
     let jobs = number_given(matches, JOBS)?;
-    let cache = cache_given(alloc, matches)?;
-    let exports = exports_given(alloc, matches)?;
     let import_limit = number_given(matches, IMPORT_LIMIT)?;
     let inline_limit = number_given(matches, INLINE_LIMIT)?;
+    let cache = cache_given(alloc, matches)?;
+    let exports = exports_given(alloc, matches)?;
     Ok(LinkOptions {
         jobs,
         cache,
@@ -130,8 +130,8 @@ fn batch(alloc: Global, matches: &ArgMatches<'_>) -> Result<Command, WordsError>
 fn index(alloc: Global, matches: &ArgMatches<'_>) -> Result<Command, WordsError>
     ensures { Reads (IsIndex (rows_in matches.now)) result }
 {
-    let exports = exports_given(alloc, matches)?;
     let import_limit = number_given(matches, IMPORT_LIMIT)?;
+    let exports = exports_given(alloc, matches)?;
     let files = files_given(alloc, matches)?;
     Ok(Command::Index {
         exports,
@@ -143,9 +143,9 @@ fn index(alloc: Global, matches: &ArgMatches<'_>) -> Result<Command, WordsError>
 fn run(alloc: Global, matches: &ArgMatches<'_>) -> Result<Command, WordsError>
     ensures { Reads (IsRun (rows_in matches.now)) result }
 {
+    let steps = number_given(matches, STEPS)?;
     let root = root_given(alloc, matches)?;
     let args = args_given(alloc, matches)?;
-    let steps = number_given(matches, STEPS)?;
     let files = files_given(alloc, matches)?;
     Ok(Command::Run {
         root,

@@ -1,6 +1,6 @@
 //! The table of commands, as `clap` takes it.
 ghost use Rattle.std.specs.Prelude.{map, fold, IfOk};
-ghost use Rattle.clap.specs.Words.{with_subcommand};
+ghost use Rattle.clap.specs.Words.{App, with_subcommand};
 ghost use Rattle.lto_words.specs.Table.{Builds, alone, rule, shape};
 ghost use Rattle.lto_words.specs.Table as table;
 
@@ -43,6 +43,16 @@ fn program<'a>(alloc: Global) -> Command<'a>
         .subcommand_required(true)
 }
 
+/// The program with this command, where that could be built.
+fn with_command<'a>(
+    program: Command<'a>,
+    command: Result<Command<'a>, AllocError>,
+) -> Result<Command<'a>, AllocError>
+    ensures { (a b : App) → Builds a program.entry → IfOk command.entry (Builds b) → IfOk result (Builds (with_subcommand a b.top)) }
+{
+    program.subcommand(command?)
+}
+
 /// The program with these commands.
 fn with_commands<'a>(
     alloc: Global,
@@ -52,7 +62,7 @@ fn with_commands<'a>(
 {
     let mut program = program(alloc);
     for &(name, arguments) in commands {
-        program = program.subcommand(command(alloc, name, arguments)?)?;
+        program = with_command(program, command(alloc, name, arguments))?;
     }
     Ok(program)
 }
