@@ -1,6 +1,6 @@
 //! Reads basic blocks (LangRef, "Functions").
 
-ghost use Rattle.std.specs.Prelude.{◌≡◌, []};
+ghost use Rattle.std.specs.Prelude.{◌≡◌, [], IfOk};
 ghost use Rattle.ir_lex.specs.Heads.{number};
 ghost use Rattle.ir_lex.specs.Tok.{tok};
 ghost use Rattle.lto_forms.specs.Alphabet.{among, contains};
@@ -18,10 +18,10 @@ use crate::lines::line_into;
 use ir_instructions::{Ended, terminator_into};
 use ir_lex::{Head, Token};
 use ir_operands::{Listing, push};
-use ir_read::{Block, Name, Terminator, Tokens, named, refusal};
+use ir_read::{Block, BlockEnd, Name, Tokens, named, refusal};
 use ir_tree::Rows;
 use lto_forms::{Fault, FaultKind, ReadError};
-use std::alloc::Global;
+use std::alloc::{AllocError, Global};
 
 /// The blocks of a function while they are read.
 ///
@@ -59,10 +59,11 @@ struct Begun<'a> {
 
 impl<'a> Begun<'a> {
     /// No label and no lines yet.
-    fn new(alloc: Global) -> Begun<'a>
-        ensures { result.listing.lines.items ≡ [] }
+    fn new(alloc: Global) -> Result<Begun<'a>, AllocError>
+        ensures { IfOk result (λ b. b.listing.lines.items ≡ []) }
     {
-        Begun {
+        let terminator = BlockEnd::new(alloc)?;
+        Ok(Begun {
             label: None,
             listing: Listing {
                 lines: Vec::new(alloc),
@@ -70,10 +71,10 @@ impl<'a> Begun<'a> {
                 line: 0,
             },
             ended: Ended {
-                terminator: Terminator::Unreachable,
+                terminator,
                 line: 0,
             },
-        }
+        })
     }
 
     /// The block.
@@ -256,7 +257,7 @@ fn block_into<'a>(
 ) -> Result<usize, ReadError>
     ensures { Gives (λ left. ((blocks.new.list.items, left), tokens.new)) result (added_at blocks.old.list.items (block_at room) tokens.old) }
 {
-    let mut begun = Begun::new(alloc);
+    let mut begun = Begun::new(alloc)?;
     let left = begun_into(alloc, room, &mut begun, tokens)?;
     push(&mut blocks.list, begun.block())?;
     Ok(left)

@@ -1,6 +1,6 @@
 //! Reads definitions of functions (LangRef, "Functions").
 
-ghost use Rattle.std.specs.Prelude.{◌≡◌};
+ghost use Rattle.std.specs.Prelude.{◌≡◌, []};
 ghost use Rattle.lto_forms.specs.Readers.{Gives};
 ghost use Rattle.ir_operands.specs.Adding.{pushed_at};
 ghost use Rattle.ir_bodies.specs.Adding.{joined_at};
@@ -10,8 +10,9 @@ ghost use Rattle.ir_bodies.specs.BlocksAt.{heading_at, braced_at, defined_at, de
 use crate::blocks::{Blocks, blocks_into};
 use ir_heads::{Kept, Role, definition_attributes_at, head_at};
 use ir_lex::Head;
-use ir_operands::push;
-use ir_read::{Item, Tokens, done, expect};
+use ir_operands::push_item;
+use ir_read::{Block, Item, Tokens, done, expect};
+use ir_tree::Rows;
 use lto_forms::ReadError;
 use std::alloc::Global;
 
@@ -74,6 +75,15 @@ fn braced_into<'a>(
     expect(Head::CloseBrace, tokens)
 }
 
+/// Reads the blocks of a function, in their braces.
+fn rows_at<'a>(alloc: Global, tokens: &mut Tokens<'_, 'a>) -> Result<Rows<Block<'a>>, ReadError>
+    ensures { Gives (λ x. (x, tokens.new)) result (joined_at [] braced_at tokens.old) }
+{
+    let mut blocks = Blocks::new(alloc);
+    braced_into(alloc, &mut blocks, tokens)?;
+    Ok(blocks.rows())
+}
+
 /// Reads the blocks of a function behind its head, and adds its definition.
 #[tactic(auto, using(crate::proofs::Grouping::pushed_defined))]
 fn defined_into<'a>(
@@ -84,9 +94,8 @@ fn defined_into<'a>(
 ) -> Result<(), ReadError>
     ensures { Gives (λ _. (items.new.items, tokens.new)) result (pushed_at items.old.items (defined_at head.entry) tokens.old) }
 {
-    let mut blocks = Blocks::new(alloc);
-    braced_into(alloc, &mut blocks, tokens)?;
-    push(items, Item::Definition(head, blocks.rows()))
+    let blocks = rows_at(alloc, tokens)?;
+    push_item(items, Item::Definition(head, blocks))
 }
 
 /// Reads a definition of a function, `define i32 @f(i32 %x) { .. }`, and adds it. Behind the first

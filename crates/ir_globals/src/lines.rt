@@ -6,7 +6,7 @@ ghost use Rattle.ir_heads.specs.AttributesAt.{attribute_group_at};
 ghost use Rattle.ir_heads.specs.TargetsAt.{layout_line_at, triple_line_at};
 
 use ir_heads::{attribute_group_at, layout_line_at, triple_line_at};
-use ir_operands::push;
+use ir_operands::push_item;
 use ir_read::{Item, Tokens};
 use lto_forms::ReadError;
 use std::alloc::Global;
@@ -20,7 +20,7 @@ pub fn layout_line_into<'a>(
     ensures { Gives (λ _. (items.new.items, tokens.new)) result (pushed_at items.old.items layout_line_at tokens.old) }
 {
     let layout = layout_line_at(alloc, tokens)?;
-    push(items, Item::Datalayout(layout))
+    push_item(items, Item::Datalayout(layout))
 }
 
 /// Reads the triple of the target behind `target`, and adds it.
@@ -31,7 +31,7 @@ pub fn triple_line_into<'a>(
     ensures { Gives (λ _. (items.new.items, tokens.new)) result (pushed_at items.old.items triple_line_at tokens.old) }
 {
     let triple = triple_line_at(tokens)?;
-    push(items, Item::Triple(triple))
+    push_item(items, Item::Triple(triple))
 }
 
 /// Reads a group of attributes, `attributes #0 = { noinline }`, and adds it.
@@ -43,5 +43,5 @@ pub fn attribute_group_into<'a>(
     ensures { Gives (λ _. (items.new.items, tokens.new)) result (pushed_at items.old.items attribute_group_at tokens.old) }
 {
     let group = attribute_group_at(alloc, tokens)?;
-    push(items, group)
+    push_item(items, group)
 }

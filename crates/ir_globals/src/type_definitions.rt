@@ -6,7 +6,7 @@ ghost use Rattle.ir_operands.specs.Adding.{pushed_at};
 ghost use Rattle.ir_globals.specs.TypeDefinitionsAt.{defined_at, type_line_at, type_name_at};
 
 use ir_lex::Head;
-use ir_operands::{memory_shape_at, push};
+use ir_operands::{memory_shape_at, push_item};
 use ir_read::{Item, Name, Tokens, Typed, done, expect, local_at};
 use lto_forms::ReadError;
 use std::alloc::Global;
@@ -50,5 +50,5 @@ pub fn type_line_into<'a>(
 {
     let name = type_name_at(tokens)?;
     let typed = defined_at(alloc, tokens)?;
-    push(items, Item::Type(name, typed))
+    push_item(items, Item::Type(name, typed))
 }

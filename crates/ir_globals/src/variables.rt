@@ -8,15 +8,16 @@ ghost use Rattle.lto_forms.specs.Readers.{Gives, next_is};
 ghost use Rattle.lto_forms.specs.Rules.{is_valued};
 ghost use Rattle.ir_read.specs.Classes.{tokens, one_of_at};
 ghost use Rattle.ir_heads.specs.FunctionHeads.{LINKAGES, linkage_word, name_refusal};
+ghost use Rattle.ir_read.specs.declared.raw.Item.TheVariants as items;
 ghost use Rattle.ir_read.specs.Operands.{IsReg, global_named};
 ghost use Rattle.ir_operands.specs.Adding.{pushed_at};
 ghost use Rattle.ir_globals.specs.Variables.{KINDS, NAMES, is_constant, is_declared, with_align};
-ghost use Rattle.ir_globals.specs.VariablesAt.{variable_name_at, linkage_at, qualifiers_at, linked_at, value_at, comdat_name_at, in_comdat_at, aligned_at, marked_at, further_at, headed_at, tail_at, variable_line_at};
+ghost use Rattle.ir_globals.specs.VariablesAt.{variable_name_at, linkage_at, qualifiers_at, linked_at, value_at, comdat_name_at, in_comdat_at, aligned_at, marked_at, further_at, headed_at, tail_at, behind_kind_at, variable_line_at};
 
 use crate::initialisers::{initialiser_at, scalar_of, shape_at};
 use ir_heads::{comes_qualifier, linkage_by, name_refusal, qualifier_word_at, with_linkage};
 use ir_lex::{Head, Token};
-use ir_operands::push;
+use ir_operands::push_item;
 use ir_read::{
     Init, Item, Name, Tokens, Variable, alignment_at, attached_at, done, expect, global_named,
     refusal,
@@ -280,19 +281,15 @@ fn headed_at<'a>(tokens: &mut Tokens<'_, 'a>) -> Result<Headed<'a>, ReadError>
     })
 }
 
-/// Reads a variable, `@g = internal constant [2 x i8] c"a\00", align 1`, and adds it.
-///
-/// An initialiser stands exactly where `external` isn't written. Words of visibility, comdats and
-/// metadata are dropped, and of several alignments the last one stands.
-#[tactic(auto, unfolding(crate::specs::VariablesAt::behind_kind_at), using(crate::proofs::Grouping::variable_line_is))]
-pub fn variable_line_into<'a>(
+/// Reads what stands behind `global` or `constant`: the rest of the variable that is headed so.
+#[tactic(auto, unfolding(crate::specs::VariablesAt::behind_kind_at))]
+fn behind_kind_at<'a>(
     alloc: Global,
-    items: &mut Vec<Item<'a>>,
+    headed: Headed<'a>,
     tokens: &mut Tokens<'_, 'a>,
-) -> Result<(), ReadError>
-    ensures { Gives (λ _. (items.new.items, tokens.new)) result (pushed_at items.old.items variable_line_at tokens.old) }
+) -> Result<Variable<'a>, ReadError>
+    ensures { Gives (λ x. (items.Variable x, tokens.new)) result (behind_kind_at headed.entry.name headed.entry.linkage headed.entry.constant tokens.old) }
 {
-    let headed = headed_at(tokens)?;
     let typed = shape_at(alloc, tokens)?;
     let init = value_at(
         alloc,
@@ -302,16 +299,30 @@ pub fn variable_line_into<'a>(
     )?;
     let align = tail_at(alloc, tokens)?;
     let line = headed.name.line();
-    push(
-        items,
-        Item::Variable(Variable {
-            name: headed.name,
-            linkage: with_linkage(Linkage::External, headed.linkage),
-            constant: headed.constant,
-            typed,
-            init,
-            align,
-            line,
-        }),
-    )
+    Ok(Variable {
+        name: headed.name,
+        linkage: with_linkage(Linkage::External, headed.linkage),
+        constant: headed.constant,
+        typed,
+        init,
+        align,
+        line,
+    })
+}
+
+/// Reads a variable, `@g = internal constant [2 x i8] c"a\00", align 1`, and adds it.
+///
+/// An initialiser stands exactly where `external` isn't written. Words of visibility, comdats and
+/// metadata are dropped, and of several alignments the last one stands.
+#[tactic(auto, using(crate::proofs::Grouping::variable_line_is))]
+pub fn variable_line_into<'a>(
+    alloc: Global,
+    items: &mut Vec<Item<'a>>,
+    tokens: &mut Tokens<'_, 'a>,
+) -> Result<(), ReadError>
+    ensures { Gives (λ _. (items.new.items, tokens.new)) result (pushed_at items.old.items variable_line_at tokens.old) }
+{
+    let headed = headed_at(tokens)?;
+    let variable = behind_kind_at(alloc, headed, tokens)?;
+    push_item(items, Item::Variable(variable))
 }

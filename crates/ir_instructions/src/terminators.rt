@@ -12,13 +12,12 @@ ghost use Rattle.ir_instructions.specs.TerminatorsAt.{branch_at, bracketed_cases
 use ir_lex::{Head, Token};
 use ir_operands::operand_at;
 use ir_read::{
-    Argument, Case, Name, Terminator, Tokens, attachments_at, bit_at, done, expect, integer_at,
-    literal, local_at, refusal, reg_at, result_at, type_refusal,
+    Argument, BlockEnd, Case, Name, Terminator, Tokens, attachments_at, bit_at, done, expect,
+    integer_at, literal, local_at, refusal, reg_at, result_at, type_refusal,
 };
 use ir_tree::{Reg, Rows};
 use lto_forms::{Fault, FaultKind, ReadError};
 use std::alloc::Global;
-use std::mem::replace;
 
 /// What a terminator begins with.
 #[derive(Clone, Copy)]
@@ -39,7 +38,7 @@ pub struct Ending {
 /// A terminator, and the line of its first token.
 #[derive(Drop)]
 pub struct Ended<'a> {
-    pub terminator: Terminator<'a>,
+    pub terminator: BlockEnd<'a>,
     pub line: u32,
 }
 
@@ -50,30 +49,23 @@ pub struct Matched {
     pub bits: u64,
 }
 
-/// Puts a terminator in the place of what stood there.
-fn put<'a>(place: &mut Terminator<'a>, terminator: Terminator<'a>)
-    ensures { place.new ≡ terminator.entry }
-{
-    drop(replace(place, terminator));
-}
-
 /// Reads what follows `ret`.
 #[tactic(auto, unfolding(crate::specs::TerminatorsAt::returning_at))]
 fn returning_into<'a>(
     alloc: Global,
-    place: &mut Terminator<'a>,
+    place: &mut BlockEnd<'a>,
     tokens: &mut Tokens<'_, 'a>,
 ) -> Result<(), ReadError>
     ensures { Gives (λ _. (place.new, tokens.new)) result (returning_at tokens.old) }
 {
     match result_at(tokens)? {
         None => {
-            put(place, Terminator::Return(None));
+            place.set(Terminator::Return(None));
             Ok(())
         }
         Some(reg) => {
             let operand = operand_at(alloc, reg, tokens)?;
-            put(place, Terminator::Return(Some(Argument { reg, operand })));
+            place.set(Terminator::Return(Some(Argument { reg, operand })));
             Ok(())
         }
     }
@@ -100,7 +92,7 @@ fn branch_at<'a>(tokens: &mut Tokens<'_, 'a>) -> Result<Name<'a>, ReadError>
 /// Reads `i1 operand , label Local , label Local`.
 fn choosing_into<'a>(
     alloc: Global,
-    place: &mut Terminator<'a>,
+    place: &mut BlockEnd<'a>,
     tokens: &mut Tokens<'_, 'a>,
 ) -> Result<(), ReadError>
     ensures { Gives (λ _. (place.new, tokens.new)) result (choosing_at tokens.old) }
@@ -109,14 +101,11 @@ fn choosing_into<'a>(
     let condition = operand_at(alloc, Reg::Int(width), tokens)?;
     let if_true = branch_at(tokens)?;
     let if_false = branch_at(tokens)?;
-    put(
-        place,
-        Terminator::Branch {
-            condition,
-            if_true,
-            if_false,
-        },
-    );
+    place.set(Terminator::Branch {
+        condition,
+        if_true,
+        if_false,
+    });
     Ok(())
 }
 
@@ -124,14 +113,14 @@ fn choosing_into<'a>(
 #[tactic(auto, unfolding(crate::specs::TerminatorsAt::branching_at))]
 fn branching_into<'a>(
     alloc: Global,
-    place: &mut Terminator<'a>,
+    place: &mut BlockEnd<'a>,
     tokens: &mut Tokens<'_, 'a>,
 ) -> Result<(), ReadError>
     ensures { Gives (λ _. (place.new, tokens.new)) result (branching_at tokens.old) }
 {
     if tokens.comes(Head::LabelType) {
         let to = target_at(tokens)?;
-        put(place, Terminator::Jump(to));
+        place.set(Terminator::Jump(to));
         Ok(())
     } else {
         choosing_into(alloc, place, tokens)
@@ -252,7 +241,7 @@ fn bracketed_cases_at<'a>(
 /// Reads what follows `switch`.
 fn switching_into<'a>(
     alloc: Global,
-    place: &mut Terminator<'a>,
+    place: &mut BlockEnd<'a>,
     tokens: &mut Tokens<'_, 'a>,
 ) -> Result<(), ReadError>
     ensures { Gives (λ _. (place.new, tokens.new)) result (switching_at tokens.old) }
@@ -261,15 +250,12 @@ fn switching_into<'a>(
     let value = operand_at(alloc, Reg::Int(width), tokens)?;
     let default = branch_at(tokens)?;
     let cases = bracketed_cases_at(alloc, tokens)?;
-    put(
-        place,
-        Terminator::Switch {
-            width,
-            value,
-            default,
-            cases: Rows::of(cases),
-        },
-    );
+    place.set(Terminator::Switch {
+        width,
+        value,
+        default,
+        cases: Rows::of(cases),
+    });
     Ok(())
 }
 
@@ -315,7 +301,7 @@ fn ending_at(tokens: &mut Tokens) -> Result<Ending, ReadError>
 fn behind_end_into<'a>(
     alloc: Global,
     end: End,
-    place: &mut Terminator<'a>,
+    place: &mut BlockEnd<'a>,
     tokens: &mut Tokens<'_, 'a>,
 ) -> Result<(), ReadError>
     ensures { Gives (λ _. (place.new, tokens.new)) result (behind_end_at end tokens.old) }
@@ -325,7 +311,7 @@ fn behind_end_into<'a>(
         End::Br => branching_into(alloc, place, tokens),
         End::Switch => switching_into(alloc, place, tokens),
         End::Unreachable => {
-            put(place, Terminator::Unreachable);
+            place.set(Terminator::Unreachable);
             Ok(())
         }
     }

@@ -6,6 +6,7 @@
 ghost use Rattle.std.specs.Prelude.{◌≡◌, ◌++◌, ◌∷◌, [], IfErr, OnOk};
 ghost use Rattle.lto_forms.specs.declared.fault.ReadError.TheVariants.{NoMemory};
 
+use ir_read::Item;
 use lto_forms::ReadError;
 
 /// Adds a value, or says that memory ran out.
@@ -15,4 +16,14 @@ pub fn push<T: Drop>(list: &mut Vec<T>, value: T) -> Result<(), ReadError>
 {
     list.push(value)?;
     Ok(())
+}
+
+/// Adds an item, or says that memory ran out.
+///
+/// One call for all readers of items, so that what is proved of a list of items is proved once.
+pub fn push_item<'a>(items: &mut Vec<Item<'a>>, item: Item<'a>) -> Result<(), ReadError>
+    ensures pushed { OnOk result (items.new.items ≡ items.old.items ++ item.entry ∷ []) }
+    ensures memory { IfErr result (λ e. e ≡ NoMemory) }
+{
+    push(items, item)
 }

@@ -23,7 +23,7 @@ mod listing;
 mod shapes;
 mod values;
 
-pub use adding::push;
+pub use adding::{push, push_item};
 pub use extents::{Align, Extent, Room};
 pub use listing::Listing;
 pub use shapes::{

@@ -20,6 +20,7 @@
 #![tactic(auto)]
 
 mod address;
+mod block_end;
 mod brackets;
 mod finished;
 mod literals;
@@ -35,6 +36,7 @@ mod terminals;
 mod tokens;
 
 pub use address::{Address, Index, Level, Steps};
+pub use block_end::BlockEnd;
 pub use brackets::{Bracket, BracketMove, group_at, move_of};
 pub use finished::done;
 pub use literals::literal;

@@ -4,6 +4,7 @@
 //! and the levels of constant addresses nest as deep as the text does, and lie one behind the other.
 
 use crate::address::Address;
+use crate::block_end::BlockEnd;
 use crate::name::Name;
 use crate::shape::Typed;
 use ir_tree::{BinaryOp, CastOp, Flags, Linkage, Predicate, Reg, Rows};
@@ -283,7 +284,7 @@ impl<'a> Drop for Terminator<'a> {
 pub struct Block<'a> {
     pub label: Option<Name<'a>>,
     pub lines: Rows<Line<'a>>,
-    pub end: Terminator<'a>,
+    pub end: BlockEnd<'a>,
     pub end_line: u32,
 }
 

@@ -36,7 +36,14 @@ fn block_in<'t, 'a>(
 ) -> Result<Block, ResolveError>
     ensures { Settles (λ b. b) result (block_in types.now locals.now number block.now) }
 {
-    block_of(alloc, types, locals, number, lines_in(block), &block.end)
+    block_of(
+        alloc,
+        types,
+        locals,
+        number,
+        lines_in(block),
+        block.end.get(),
+    )
 }
 
 /// The blocks of a function, the first of which takes this number, with their locals known.

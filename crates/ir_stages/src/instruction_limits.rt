@@ -184,7 +184,7 @@ fn block_within<'t, 'a>(
     ensures { Settles (λ u. u) result (stages.marks_within types.now (marked.block_marks block.now)) }
 {
     lines_within(block.lines.as_slice(), alloc, types)?;
-    end_within(&block.end, alloc, types)
+    end_within(block.end.get(), alloc, types)
 }
 
 /// The shapes and constant addresses of the blocks of a function.

@@ -130,7 +130,7 @@ fn block_marks<'t, 'a>(block: &'t Block<'a>, marks: &mut Marks<'t, 'a>) -> Resul
     ensures { OnOk result (marks.new ≡ marks.old ++ marked.block_marks block.now) }
 {
     lines(block.lines.as_slice(), marks)?;
-    end_marks(&block.end, marks)
+    end_marks(block.end.get(), marks)
 }
 
 /// The marks of the blocks of a function.
