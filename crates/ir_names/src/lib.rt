@@ -54,4 +54,4 @@ pub use numbering::locals_of;
 pub use operand::operand_in;
 pub use symbol::{symbol_name, symbol_of};
 pub use terminator::end_in;
-pub use types::{TypeNames, unknown};
+pub use types::{TypeNames, shape_if, unknown};

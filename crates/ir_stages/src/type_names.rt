@@ -1,27 +1,16 @@
 //! The type names of a module (LangRef, "Structure Type" and "Opaque Structure Types").
-ghost use Rattle.std.specs.Prelude.{◌≡◌, Ok, [], option_copied};
+ghost use Rattle.std.specs.Prelude.{◌≡◌, Ok, []};
 ghost use Rattle.ir_names.specs.Keys.{key_of};
 ghost use Rattle.ir_names.specs.Settled.{Settles};
-ghost use Rattle.ir_names.specs.Types as typing;
 ghost use Rattle.ir_names.specs.TypeNames.{first_types, all_typed, use_in, holds_itself, graph_of, type_names};
 ghost use Rattle.ir_stages.specs.MarkViews.{standing, marks};
 
 use crate::mark::{Mark, Marks};
 use crate::name_graph::graph_of;
-use ir_names::{ResolveError, TypeNames, Types, unknown};
-use ir_read::{Name, Shape, Typed};
+use ir_names::{ResolveError, TypeNames, Types, shape_if, unknown};
+use ir_read::Name;
 use named_types::Circles;
 use std::alloc::Global;
-
-/// The shape of a type name that isn't opaque.
-fn shape_if<'t, 'a>(typed: &'t Option<Typed<'a>>) -> Option<&'t Shape<'a>>
-    ensures { option_copied result ≡ typing.shape_if typed.now }
-{
-    match typed {
-        None => None,
-        Some(typed) => Some(&typed.shape),
-    }
-}
 
 fn with_first<'t, 'a>(
     alloc: Global,
@@ -119,6 +108,20 @@ fn all_typed<'t, 'a>(
     Ok(types)
 }
 
+/// The type names of a module, given the first definition of each.
+fn types_with<'t, 'a>(
+    alloc: Global,
+    all: &TypeNames<'t, 'a>,
+    rows: &[Mark<'t, 'a>],
+) -> Result<Types<'t, 'a>, ResolveError>
+    ensures { Settles (λ t. t) result (all_typed all.now [] (marks rows.now)) }
+{
+    let circles = Circles::of(alloc, graph_of(alloc, all)?)?;
+    let names = all_typed(alloc, all, &circles, rows)?;
+    let types = Types::of(alloc, names)?;
+    Ok(types)
+}
+
 /// The type names of a module. A fault is at the first token that defines a name a second time, or that uses
 /// one which isn't defined, is opaque, or holds itself.
 #[tactic(auto, unfolding(ir_names::specs::TypeNames::type_names))]
@@ -127,8 +130,5 @@ pub fn types_in<'t, 'a>(alloc: Global, marks: &Marks<'t, 'a>) -> Result<Types<'t
 {
     let rows = marks.as_slice();
     let all = first_types(alloc, rows)?;
-    let circles = Circles::of(alloc, graph_of(alloc, &all)?)?;
-    let names = all_typed(alloc, &all, &circles, rows)?;
-    let types = Types::of(alloc, names)?;
-    Ok(types)
+    types_with(alloc, &all, rows)
 }
