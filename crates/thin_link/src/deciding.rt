@@ -73,6 +73,27 @@ fn kept(
     }
 }
 
+/// The live symbols of modules of this index, and what each module imports.
+fn decided(
+    alloc: Global,
+    files: &[Text],
+    modules: &[Verified],
+    index: &Index,
+    exports: &[Text],
+    import_limit: u32,
+) -> Result<(Live, Vec<Vec<u32>>), Refusal>
+    requires resolved { NoClash modules.now }
+    requires indexed { IsIndex modules.now index.now }
+    ensures done { IfOk result (λ d. IsThinLink modules.now exports.now import_limit index.now d.0 (rows d.1.items)) }
+    ensures refused { IfErr result (λ why. why ≢ NoMemory → IsLack files.now modules.now exports.now why) }
+{
+    let live = kept(alloc, files, modules, index, exports)?;
+    let Ok(imports) = plan(alloc, index, &live, import_limit) else {
+        return Err(Refusal::NoMemory);
+    };
+    Ok((live, imports))
+}
+
 /// What the thin link of these modules decides, where these names are exported and a module imports
 /// functions of at most `import_limit` instructions that it calls, and smaller ones that those call.
 /// There is a file for each module, in command order.
@@ -99,10 +120,7 @@ pub fn thin_link<'a>(
     let Ok(index) = indexed(alloc, modules, &resolution) else {
         return Err(Refusal::NoMemory);
     };
-    let live = kept(alloc, files, modules, &index, exports)?;
-    let Ok(imports) = plan(alloc, &index, &live, import_limit) else {
-        return Err(Refusal::NoMemory);
-    };
+    let (live, imports) = decided(alloc, files, modules, &index, exports, import_limit)?;
     Ok(ThinLink {
         resolution,
         index,
