@@ -18,7 +18,7 @@ use crate::lines::line_into;
 use ir_instructions::{Ended, terminator_into};
 use ir_lex::{Head, Token};
 use ir_operands::{Listing, push};
-use ir_read::{Block, BlockEnd, Name, Tokens, named, refusal};
+use ir_read::{Block, Name, Terminator, Tokens, named, refusal};
 use ir_tree::Rows;
 use lto_forms::{Fault, FaultKind, ReadError};
 use std::alloc::{AllocError, Global};
@@ -27,13 +27,13 @@ use std::alloc::{AllocError, Global};
 ///
 /// A type of its own, so that what is proved of a list that is dropped is proved once.
 #[derive(Drop)]
-pub struct Blocks<'a> {
-    pub list: Vec<Block<'a>>,
+pub struct Blocks {
+    pub list: Vec<Block>,
 }
 
-impl<'a> Blocks<'a> {
+impl Blocks {
     /// None yet.
-    pub fn new(alloc: Global) -> Blocks<'a>
+    pub fn new(alloc: Global) -> Blocks
         ensures { result.list.items ≡ [] }
     {
         Blocks {
@@ -42,8 +42,8 @@ impl<'a> Blocks<'a> {
     }
 
     /// All of them.
-    pub fn rows(self) -> Rows<Block<'a>>
-        ensures { result ≡ self.entry.list.items }
+    pub fn rows(self) -> Rows<Block>
+        ensures { result ≡ self.list.items }
     {
         Rows::of(self.list)
     }
@@ -51,19 +51,18 @@ impl<'a> Blocks<'a> {
 
 /// A block while it is read: its label, its lines so far, and its terminator.
 #[derive(Drop)]
-struct Begun<'a> {
-    label: Option<Name<'a>>,
-    listing: Listing<'a>,
-    ended: Ended<'a>,
+struct Begun {
+    label: Option<Name>,
+    listing: Listing,
+    ended: Ended,
 }
 
-impl<'a> Begun<'a> {
+impl Begun {
     /// No label and no lines yet.
-    fn new(alloc: Global) -> Result<Begun<'a>, AllocError>
-        ensures { IfOk result (λ b. b.listing.lines.items ≡ []) }
+    fn new(alloc: Global) -> Begun
+        ensures { result.listing.lines.items ≡ [] }
     {
-        let terminator = BlockEnd::new(alloc)?;
-        Ok(Begun {
+        Begun {
             label: None,
             listing: Listing {
                 lines: Vec::new(alloc),
@@ -71,41 +70,46 @@ impl<'a> Begun<'a> {
                 line: 0,
             },
             ended: Ended {
-                terminator,
+                terminator: Terminator::Unreachable,
                 line: 0,
             },
-        })
+        }
     }
 
     /// The block.
-    fn block(self) -> Block<'a>
-        ensures { result ≡ block_of self.entry.label self.entry.listing.lines.items self.entry.ended }
+    fn block(self) -> Block
+        ensures { result ≡ block_of self.label self.listing.lines.items self.ended }
     {
+        let Begun {
+            label,
+            listing,
+            ended,
+        } = self;
         Block {
-            label: self.label,
-            lines: Rows::of(self.listing.lines),
-            end: self.ended.terminator,
-            end_line: self.ended.line,
+            label,
+            lines: Rows::of(listing.lines),
+            end: ended.terminator,
+            end_line: ended.line,
         }
     }
 }
 
 #[tactic(auto, unfolding(lto_forms::specs::Rules::is_valued))]
-fn label_means<'a>(t: &Token<'a>) -> Result<Name<'a>, FaultKind>
-    ensures { result ≡ is_valued tokens refusal LABEL named (tok t.now) }
+fn label_means(alloc: Global, t: &Token) -> Result<Result<Name, FaultKind>, AllocError>
+    ensures { IfOk result (λ x. x ≡ is_valued tokens refusal LABEL named (tok t.now)) }
 {
     if t.head.is(Head::Label) {
-        match named(t) {
-            None => Err(FaultKind::Number),
-            Some(name) => Ok(name),
+        match named(alloc, t)? {
+            None => Ok(Err(FaultKind::Number)),
+            Some(name) => Ok(Ok(name)),
         }
     } else {
-        Err(refusal(t.head))
+        Ok(Err(refusal(t.head)))
     }
 }
 
 /// Takes the label of a block.
-fn label_at<'a>(tokens: &mut Tokens<'_, 'a>) -> Result<Name<'a>, ReadError>
+fn label_at(alloc: Global, tokens: &mut Tokens) -> Result<Name, ReadError>
     ensures { Gives (λ x. (x, tokens.new)) result (label_at tokens.old) }
 {
     let left = tokens.left();
@@ -114,7 +118,7 @@ fn label_at<'a>(tokens: &mut Tokens<'_, 'a>) -> Result<Name<'a>, ReadError>
             left,
             kind: FaultKind::Syntax,
         })),
-        Some(t) => match label_means(&t) {
+        Some(t) => match label_means(alloc, &t)? {
             Ok(x) => Ok(x),
             Err(kind) => Err(ReadError::Fault(Fault { left, kind })),
         },
@@ -195,11 +199,11 @@ fn comes_block(rest: &Tokens) -> bool
 }
 
 /// Adds the lines of a block, of which there may be `room`. Gives how many more there may be.
-fn lines_into<'a>(
+fn lines_into(
     alloc: Global,
     room: usize,
-    list: &mut Listing<'a>,
-    tokens: &mut Tokens<'_, 'a>,
+    list: &mut Listing,
+    tokens: &mut Tokens,
 ) -> Result<usize, ReadError>
     ensures { Gives (λ left. ((list.new.lines.items, left), tokens.new)) result (lines_from_at room list.old.lines.items tokens.old) }
 {
@@ -218,11 +222,11 @@ fn lines_into<'a>(
 }
 
 /// Reads the label of a block, where it has one.
-fn maybe_label_at<'a>(tokens: &mut Tokens<'_, 'a>) -> Result<Option<Name<'a>>, ReadError>
+fn maybe_label_at(alloc: Global, tokens: &mut Tokens) -> Result<Option<Name>, ReadError>
     ensures { Gives (λ x. (x, tokens.new)) result (maybe_label_at tokens.old) }
 {
     if tokens.comes(Head::Label) {
-        let label = label_at(tokens)?;
+        let label = label_at(alloc, tokens)?;
         Ok(Some(label))
     } else {
         Ok(None)
@@ -232,16 +236,16 @@ fn maybe_label_at<'a>(tokens: &mut Tokens<'_, 'a>) -> Result<Option<Name<'a>>, R
 /// Reads a block: its label, where it has one, its lines, of which there may be `room`, and its
 /// terminator. Gives how many more lines there may be.
 #[tactic(auto, unfolding(crate::specs::BlocksAt::block_behind_at, crate::specs::BlocksAt::lines_at), using(crate::proofs::Grouping::block_is))]
-fn begun_into<'a>(
+fn begun_into(
     alloc: Global,
     room: usize,
-    begun: &mut Begun<'a>,
-    tokens: &mut Tokens<'_, 'a>,
+    begun: &mut Begun,
+    tokens: &mut Tokens,
 ) -> Result<usize, ReadError>
     requires { begun.now.listing.lines.items ≡ [] }
     ensures { Gives (λ left. ((block_of begun.new.label begun.new.listing.lines.items begun.new.ended, left), tokens.new)) result (block_at room tokens.old) }
 {
-    begun.label = maybe_label_at(tokens)?;
+    begun.label = maybe_label_at(alloc, tokens)?;
     let left = lines_into(alloc, room, &mut begun.listing, tokens)?;
     terminator_into(alloc, &mut begun.ended, tokens)?;
     Ok(left)
@@ -249,27 +253,27 @@ fn begun_into<'a>(
 
 /// Reads a block, of which the function may have `room` instructions yet, and adds it. Gives how many
 /// are left.
-fn block_into<'a>(
+fn block_into(
     alloc: Global,
     room: usize,
-    blocks: &mut Blocks<'a>,
-    tokens: &mut Tokens<'_, 'a>,
+    blocks: &mut Blocks,
+    tokens: &mut Tokens,
 ) -> Result<usize, ReadError>
     ensures { Gives (λ left. ((blocks.new.list.items, left), tokens.new)) result (added_at blocks.old.list.items (block_at room) tokens.old) }
 {
-    let mut begun = Begun::new(alloc)?;
+    let mut begun = Begun::new(alloc);
     let left = begun_into(alloc, room, &mut begun, tokens)?;
     push(&mut blocks.list, begun.block())?;
     Ok(left)
 }
 
 /// Adds the blocks that follow, of which there may be `further` with `instructions` in all.
-fn further_blocks_into<'a>(
+fn further_blocks_into(
     alloc: Global,
     further: usize,
     instructions: usize,
-    blocks: &mut Blocks<'a>,
-    tokens: &mut Tokens<'_, 'a>,
+    blocks: &mut Blocks,
+    tokens: &mut Tokens,
 ) -> Result<(), ReadError>
     ensures { Gives (λ _. (blocks.new.list.items, tokens.new)) result (blocks_from_at further instructions blocks.old.list.items tokens.old) }
 {
@@ -292,12 +296,12 @@ fn further_blocks_into<'a>(
 /// many `instructions` in all of them, phis and dropped calls among them and terminators not.
 ///
 /// The block too many is a fault at its first token, and the instruction too many at its own.
-pub fn blocks_into<'a>(
+pub fn blocks_into(
     alloc: Global,
     further: usize,
     instructions: usize,
-    blocks: &mut Blocks<'a>,
-    tokens: &mut Tokens<'_, 'a>,
+    blocks: &mut Blocks,
+    tokens: &mut Tokens,
 ) -> Result<(), ReadError>
     ensures { Gives (λ _. (blocks.new.list.items, tokens.new)) result (joined_at blocks.old.list.items (blocks_at further instructions) tokens.old) }
 {

@@ -26,7 +26,7 @@ use ir_read::{
 };
 use ir_tree::{Reg, Rows};
 use lto_forms::{Fault, FaultKind, ReadError};
-use std::alloc::Global;
+use std::alloc::{AllocError, Global};
 
 /// Reads a calling convention, or an attribute of the result.
 #[tactic(auto, unfolding(crate::specs::CallsAt::convention_at))]
@@ -66,7 +66,7 @@ fn conventions_at(alloc: Global, tokens: &mut Tokens) -> Result<(), ReadError>
 
 /// Takes the type of a parameter of a callee.
 #[tactic(auto, unfolding(lto_forms::specs::Rules::is_among))]
-fn written_type_at<'a>(tokens: &mut Tokens<'_, 'a>) -> Result<Name<'a>, ReadError>
+fn written_type_at(alloc: Global, tokens: &mut Tokens) -> Result<Name, ReadError>
     ensures { Gives (λ x. (x, tokens.new)) result (written_type_at tokens.old) }
 {
     let left = tokens.left();
@@ -76,7 +76,10 @@ fn written_type_at<'a>(tokens: &mut Tokens<'_, 'a>) -> Result<Name<'a>, ReadErro
             kind: FaultKind::Syntax,
         })),
         Some(t) => match t.head {
-            Head::MemoryInteger | Head::RegisterInteger | Head::Ptr => Ok(Name::of(t)),
+            Head::MemoryInteger | Head::RegisterInteger | Head::Ptr => {
+                let name = Name::of(alloc, &t)?;
+                done(name)
+            }
             head => Err(ReadError::Fault(Fault {
                 left,
                 kind: type_refusal(head),
@@ -86,44 +89,37 @@ fn written_type_at<'a>(tokens: &mut Tokens<'_, 'a>) -> Result<Name<'a>, ReadErro
 }
 
 #[tactic(auto, unfolding(crate::specs::CallsAt::further_type_at))]
-fn further_type_at<'a>(tokens: &mut Tokens<'_, 'a>) -> Result<Name<'a>, ReadError>
+fn further_type_at(alloc: Global, tokens: &mut Tokens) -> Result<Name, ReadError>
     ensures { Gives (λ x. (x, tokens.new)) result (further_type_at tokens.old) }
 {
     expect(Head::Comma, tokens)?;
-    written_type_at(tokens)
+    written_type_at(alloc, tokens)
 }
 
 /// Reads the types behind a first one, and adds that in front.
 #[tactic(auto, unfolding(crate::specs::CallsAt::types_behind_at))]
-fn types_behind_at<'a>(
-    alloc: Global,
-    first: Name<'a>,
-    tokens: &mut Tokens<'_, 'a>,
-) -> Result<Vec<Name<'a>>, ReadError>
-    ensures { Gives (λ x. (x.items, tokens.new)) result (types_behind_at first.entry tokens.old) }
+fn types_behind_at(alloc: Global, first: Name, tokens: &mut Tokens) -> Result<Vec<Name>, ReadError>
+    ensures { Gives (λ x. (x.items, tokens.new)) result (types_behind_at first tokens.old) }
 {
     let mut types = Vec::new(alloc);
     types.push(first)?;
     'each: while tokens.comes(Head::Comma) {
-        let further = further_type_at(tokens)?;
+        let further = further_type_at(alloc, tokens)?;
         types.push(further)?;
     }
     Ok(types)
 }
 
 #[tactic(auto, unfolding(crate::specs::CallsAt::some_types_at))]
-fn some_types_at<'a>(alloc: Global, tokens: &mut Tokens<'_, 'a>) -> Result<Vec<Name<'a>>, ReadError>
+fn some_types_at(alloc: Global, tokens: &mut Tokens) -> Result<Vec<Name>, ReadError>
     ensures { Gives (λ x. (x.items, tokens.new)) result (some_types_at tokens.old) }
 {
-    let first = written_type_at(tokens)?;
+    let first = written_type_at(alloc, tokens)?;
     types_behind_at(alloc, first, tokens)
 }
 
 #[tactic(auto, unfolding(crate::specs::CallsAt::listed_types_at))]
-fn listed_types_at<'a>(
-    alloc: Global,
-    tokens: &mut Tokens<'_, 'a>,
-) -> Result<Vec<Name<'a>>, ReadError>
+fn listed_types_at(alloc: Global, tokens: &mut Tokens) -> Result<Vec<Name>, ReadError>
     ensures { Gives (λ x. (x.items, tokens.new)) result (listed_types_at tokens.old) }
 {
     if tokens.comes_reg() {
@@ -138,7 +134,7 @@ fn listed_types_at<'a>(
 
 /// Reads the types of a callee's parameters: `(i32, ptr)`.
 #[tactic(auto, unfolding(crate::specs::CallsAt::types_at))]
-fn types_at<'a>(alloc: Global, tokens: &mut Tokens<'_, 'a>) -> Result<Vec<Name<'a>>, ReadError>
+fn types_at(alloc: Global, tokens: &mut Tokens) -> Result<Vec<Name>, ReadError>
     ensures { Gives (λ x. (x.items, tokens.new)) result (types_at tokens.old) }
 {
     expect(Head::OpenParen, tokens)?;
@@ -147,11 +143,11 @@ fn types_at<'a>(alloc: Global, tokens: &mut Tokens<'_, 'a>) -> Result<Vec<Name<'
 
 /// Reads an argument behind its type, and adds it.
 #[tactic(auto, unfolding(crate::specs::CallsAt::argument_behind_at))]
-fn argument_behind_into<'a>(
+fn argument_behind_into(
     alloc: Global,
     reg: Reg,
-    arguments: &mut Vec<Argument<'a>>,
-    tokens: &mut Tokens<'_, 'a>,
+    arguments: &mut Vec<Argument>,
+    tokens: &mut Tokens,
 ) -> Result<(), ReadError>
     requires { IsReg reg }
     ensures { Gives (λ _. (arguments.new.items, tokens.new)) result (pushed_at arguments.old.items (argument_behind_at reg) tokens.old) }
@@ -163,10 +159,10 @@ fn argument_behind_into<'a>(
 
 /// Reads an argument of any type, `ptr noundef %p`, and adds it.
 #[tactic(auto, unfolding(crate::specs::CallsAt::argument_at))]
-fn argument_into<'a>(
+fn argument_into(
     alloc: Global,
-    arguments: &mut Vec<Argument<'a>>,
-    tokens: &mut Tokens<'_, 'a>,
+    arguments: &mut Vec<Argument>,
+    tokens: &mut Tokens,
 ) -> Result<(), ReadError>
     ensures { Gives (λ _. (arguments.new.items, tokens.new)) result (pushed_at arguments.old.items argument_at tokens.old) }
 {
@@ -175,10 +171,10 @@ fn argument_into<'a>(
 }
 
 #[tactic(auto, unfolding(crate::specs::CallsAt::further_argument_at))]
-fn further_argument_into<'a>(
+fn further_argument_into(
     alloc: Global,
-    arguments: &mut Vec<Argument<'a>>,
-    tokens: &mut Tokens<'_, 'a>,
+    arguments: &mut Vec<Argument>,
+    tokens: &mut Tokens,
 ) -> Result<(), ReadError>
     ensures { Gives (λ _. (arguments.new.items, tokens.new)) result (pushed_at arguments.old.items further_argument_at tokens.old) }
 {
@@ -187,10 +183,10 @@ fn further_argument_into<'a>(
 }
 
 /// Reads arguments of any types, at least one, and adds them.
-fn some_arguments_into<'a>(
+fn some_arguments_into(
     alloc: Global,
-    arguments: &mut Vec<Argument<'a>>,
-    tokens: &mut Tokens<'_, 'a>,
+    arguments: &mut Vec<Argument>,
+    tokens: &mut Tokens,
 ) -> Result<(), ReadError>
     ensures { Gives (λ _. (arguments.new.items, tokens.new)) result (joined_at arguments.old.items some_arguments_at tokens.old) }
 {
@@ -203,10 +199,10 @@ fn some_arguments_into<'a>(
 
 /// Reads arguments of any types, and the `)` behind them, and adds the arguments.
 #[tactic(auto, unfolding(crate::specs::CallsAt::any_arguments_at), using(crate::proofs::Additions::joined_closed))]
-fn any_arguments_into<'a>(
+fn any_arguments_into(
     alloc: Global,
-    arguments: &mut Vec<Argument<'a>>,
-    tokens: &mut Tokens<'_, 'a>,
+    arguments: &mut Vec<Argument>,
+    tokens: &mut Tokens,
 ) -> Result<(), ReadError>
     ensures { Gives (λ _. (arguments.new.items, tokens.new)) result (joined_at arguments.old.items any_arguments_at tokens.old) }
 {
@@ -268,11 +264,11 @@ fn type_again_at(written: &Name, tokens: &mut Tokens) -> Result<Reg, ReadError>
 
 /// Reads an argument of the type that is written, and adds it.
 #[tactic(auto, unfolding(crate::specs::CallsAt::argument_of_at))]
-fn argument_of_into<'a>(
+fn argument_of_into(
     alloc: Global,
     written: &Name,
-    arguments: &mut Vec<Argument<'a>>,
-    tokens: &mut Tokens<'_, 'a>,
+    arguments: &mut Vec<Argument>,
+    tokens: &mut Tokens,
 ) -> Result<(), ReadError>
     ensures { Gives (λ _. (arguments.new.items, tokens.new)) result (pushed_at arguments.old.items (argument_of_at written.now) tokens.old) }
 {
@@ -281,11 +277,11 @@ fn argument_of_into<'a>(
 }
 
 #[tactic(auto, unfolding(crate::specs::CallsAt::further_of_at))]
-fn further_of_into<'a>(
+fn further_of_into(
     alloc: Global,
     written: &Name,
-    arguments: &mut Vec<Argument<'a>>,
-    tokens: &mut Tokens<'_, 'a>,
+    arguments: &mut Vec<Argument>,
+    tokens: &mut Tokens,
 ) -> Result<(), ReadError>
     ensures { Gives (λ _. (arguments.new.items, tokens.new)) result (pushed_at arguments.old.items (further_of_at written.now) tokens.old) }
 {
@@ -294,12 +290,12 @@ fn further_of_into<'a>(
 }
 
 /// Reads an argument of each of these types, and adds them.
-fn some_of_into<'a>(
+fn some_of_into(
     alloc: Global,
     first: &Name,
     further: &[Name],
-    arguments: &mut Vec<Argument<'a>>,
-    tokens: &mut Tokens<'_, 'a>,
+    arguments: &mut Vec<Argument>,
+    tokens: &mut Tokens,
 ) -> Result<(), ReadError>
     ensures { Gives (λ _. (arguments.new.items, tokens.new)) result (joined_at arguments.old.items (some_of_at first.now further.now) tokens.old) }
 {
@@ -312,11 +308,11 @@ fn some_of_into<'a>(
 
 /// Reads an argument of each of these types, and the `)` behind them, and adds the arguments.
 #[tactic(auto, using(crate::proofs::Additions::joined_closed))]
-fn arguments_of_into<'a>(
+fn arguments_of_into(
     alloc: Global,
     types: &[Name],
-    arguments: &mut Vec<Argument<'a>>,
-    tokens: &mut Tokens<'_, 'a>,
+    arguments: &mut Vec<Argument>,
+    tokens: &mut Tokens,
 ) -> Result<(), ReadError>
     ensures { Gives (λ _. (arguments.new.items, tokens.new)) result (joined_at arguments.old.items (arguments_of_at types.now) tokens.old) }
 {
@@ -330,11 +326,11 @@ fn arguments_of_into<'a>(
 }
 
 /// Reads the arguments of a call, of the types that are written, where they are, and adds them.
-fn arguments_into<'a>(
+fn arguments_into(
     alloc: Global,
     types: &Option<Rows<Name>>,
-    arguments: &mut Vec<Argument<'a>>,
-    tokens: &mut Tokens<'_, 'a>,
+    arguments: &mut Vec<Argument>,
+    tokens: &mut Tokens,
 ) -> Result<(), ReadError>
     ensures { Gives (λ _. (arguments.new.items, tokens.new)) result (joined_at arguments.old.items (arguments_at types.now) tokens.old) }
 {
@@ -345,10 +341,7 @@ fn arguments_into<'a>(
 }
 
 #[tactic(auto, unfolding(crate::specs::CallsAt::called_value_at))]
-fn called_value_at<'a>(
-    alloc: Global,
-    tokens: &mut Tokens<'_, 'a>,
-) -> Result<Option<Operand<'a>>, ReadError>
+fn called_value_at(alloc: Global, tokens: &mut Tokens) -> Result<Option<Operand>, ReadError>
     ensures { Gives (λ x. (x, tokens.new)) result (called_value_at tokens.old) }
 {
     let value = operand_at(alloc, Reg::Ptr, tokens)?;
@@ -357,17 +350,17 @@ fn called_value_at<'a>(
 
 /// What a token means as the callee of a call that has a name and gives nothing.
 #[tactic(auto, unfolding(lto_forms::specs::Rules::is_valued))]
-fn unmarked_means<'a>(t: &Token<'a>) -> Result<Operand<'a>, FaultKind>
-    ensures { result ≡ is_valued tokens marker_refusal (classes_of Ptr) (operand_of Ptr) (tok t.now) }
+fn unmarked_means(alloc: Global, t: &Token) -> Result<Result<Operand, FaultKind>, AllocError>
+    ensures { IfOk result (λ x. x ≡ is_valued tokens marker_refusal (classes_of Ptr) (operand_of Ptr) (tok t.now)) }
 {
     if t.head.is(Head::LifetimeMarker) {
-        Err(FaultKind::Syntax)
+        Ok(Err(FaultKind::Syntax))
     } else {
-        operand_means(Reg::Ptr, t)
+        operand_means(alloc, Reg::Ptr, t)
     }
 }
 
-fn unmarked_at<'a>(tokens: &mut Tokens<'_, 'a>) -> Result<Operand<'a>, ReadError>
+fn unmarked_at(alloc: Global, tokens: &mut Tokens) -> Result<Operand, ReadError>
     ensures { Gives (λ x. (x, tokens.new)) result (unmarked_at tokens.old) }
 {
     let left = tokens.left();
@@ -376,7 +369,7 @@ fn unmarked_at<'a>(tokens: &mut Tokens<'_, 'a>) -> Result<Operand<'a>, ReadError
             left,
             kind: FaultKind::Syntax,
         })),
-        Some(t) => match unmarked_means(&t) {
+        Some(t) => match unmarked_means(alloc, &t)? {
             Ok(x) => Ok(x),
             Err(kind) => Err(ReadError::Fault(Fault { left, kind })),
         },
@@ -384,29 +377,26 @@ fn unmarked_at<'a>(tokens: &mut Tokens<'_, 'a>) -> Result<Operand<'a>, ReadError
 }
 
 #[tactic(auto, unfolding(crate::specs::CallsAt::unmarked_value_at))]
-fn unmarked_value_at<'a>(
-    alloc: Global,
-    tokens: &mut Tokens<'_, 'a>,
-) -> Result<Option<Operand<'a>>, ReadError>
+fn unmarked_value_at(alloc: Global, tokens: &mut Tokens) -> Result<Option<Operand>, ReadError>
     ensures { Gives (λ x. (x, tokens.new)) result (unmarked_value_at tokens.old) }
 {
     if tokens.comes(Head::GetElementPtr) {
         let value = address_at(alloc, tokens)?;
         done(Some(value))
     } else {
-        let value = unmarked_at(tokens)?;
+        let value = unmarked_at(alloc, tokens)?;
         done(Some(value))
     }
 }
 
 /// Reads what is called: `None` for a lifetime marker, whose call is dropped.
 #[tactic(auto, unfolding(crate::specs::CallsAt::marker_at))]
-fn callee_at<'a>(
+fn callee_at(
     alloc: Global,
     named: bool,
     reg: Option<Reg>,
-    tokens: &mut Tokens<'_, 'a>,
-) -> Result<Option<Operand<'a>>, ReadError>
+    tokens: &mut Tokens,
+) -> Result<Option<Operand>, ReadError>
     ensures { Gives (λ x. (x, tokens.new)) result (callee_at named reg tokens.old) }
 {
     if reg.is_some() {
@@ -422,10 +412,7 @@ fn callee_at<'a>(
 }
 
 /// Reads the types of the callee's parameters, where they are written.
-fn maybe_types_at<'a>(
-    alloc: Global,
-    tokens: &mut Tokens<'_, 'a>,
-) -> Result<Option<Rows<Name<'a>>>, ReadError>
+fn maybe_types_at(alloc: Global, tokens: &mut Tokens) -> Result<Option<Rows<Name>>, ReadError>
     ensures { Gives (λ x. (x, tokens.new)) result (maybe_types_at tokens.old) }
 {
     if tokens.comes(Head::OpenParen) {
@@ -438,11 +425,11 @@ fn maybe_types_at<'a>(
 
 /// Reads the arguments of a call: of the types that are written, where they are.
 #[tactic(auto, using(crate::proofs::Additions::joined_alone))]
-fn arguments_at<'a>(
+fn arguments_at(
     alloc: Global,
     types: &Option<Rows<Name>>,
-    tokens: &mut Tokens<'_, 'a>,
-) -> Result<Vec<Argument<'a>>, ReadError>
+    tokens: &mut Tokens,
+) -> Result<Vec<Argument>, ReadError>
     ensures { Gives (λ x. (x.items, tokens.new)) result (arguments_at types.now tokens.old) }
 {
     let mut arguments = Vec::new(alloc);
@@ -451,13 +438,13 @@ fn arguments_at<'a>(
 }
 
 /// Adds a call, unless it is dropped.
-fn put_call<'a>(
+fn put_call(
     reg: Option<Reg>,
-    callee: Option<Operand<'a>>,
-    arguments: Vec<Argument<'a>>,
-    list: &mut Listing<'a>,
+    callee: Option<Operand>,
+    arguments: Vec<Argument>,
+    list: &mut Listing,
 ) -> Result<(), ReadError>
-    ensures put { OnOk result (list.new.lines.items ≡ kept_in list.old (called reg callee.entry arguments.entry.items)) }
+    ensures put { OnOk result (list.new.lines.items ≡ kept_in list.old (called reg callee arguments.items)) }
     ensures memory { IfErr result (λ e. e ≡ NoMemory) }
 {
     match callee {
@@ -471,15 +458,15 @@ fn put_call<'a>(
 }
 
 /// Adds a call, and reads what follows its arguments.
-fn called_into<'a>(
+fn called_into(
     alloc: Global,
     reg: Option<Reg>,
-    callee: Option<Operand<'a>>,
-    arguments: Vec<Argument<'a>>,
-    list: &mut Listing<'a>,
-    tokens: &mut Tokens<'_, 'a>,
+    callee: Option<Operand>,
+    arguments: Vec<Argument>,
+    list: &mut Listing,
+    tokens: &mut Tokens,
 ) -> Result<(), ReadError>
-    ensures { Gives (λ _. (list.new.lines.items, tokens.new)) result (listed_at list.old (called_at reg callee.entry arguments.entry.items) tokens.old) }
+    ensures { Gives (λ _. (list.new.lines.items, tokens.new)) result (listed_at list.old (called_at reg callee arguments.items) tokens.old) }
 {
     put_call(reg, callee, arguments, list)?;
     call_attributes_at(alloc, tokens)?;
@@ -487,12 +474,12 @@ fn called_into<'a>(
 }
 
 /// Reads what follows the result of a call: arguments of the types that are written, where they are.
-fn calling_of_into<'a>(
+fn calling_of_into(
     alloc: Global,
     named: bool,
     reg: Option<Reg>,
-    list: &mut Listing<'a>,
-    tokens: &mut Tokens<'_, 'a>,
+    list: &mut Listing,
+    tokens: &mut Tokens,
 ) -> Result<(), ReadError>
     ensures { Gives (λ _. (list.new.lines.items, tokens.new)) result (listed_at list.old (calling_of_at named reg) tokens.old) }
 {
@@ -506,11 +493,11 @@ fn calling_of_into<'a>(
 /// Reads what follows `call`, with the name of a result before it or not. Where the callee is a lifetime
 /// marker, the call is dropped.
 #[tactic(auto, unfolding(crate::specs::CallsAt::calling_at))]
-pub fn calling_into<'a>(
+pub fn calling_into(
     alloc: Global,
     named: bool,
-    list: &mut Listing<'a>,
-    tokens: &mut Tokens<'_, 'a>,
+    list: &mut Listing,
+    tokens: &mut Tokens,
 ) -> Result<(), ReadError>
     ensures { Gives (λ _. (list.new.lines.items, tokens.new)) result (listed_at list.old (calling_at named) tokens.old) }
 {
@@ -521,11 +508,11 @@ pub fn calling_into<'a>(
 
 /// Reads what follows `tail` or `notail`.
 #[tactic(auto, unfolding(crate::specs::CallsAt::tail_calling_at))]
-pub fn tail_calling_into<'a>(
+pub fn tail_calling_into(
     alloc: Global,
     named: bool,
-    list: &mut Listing<'a>,
-    tokens: &mut Tokens<'_, 'a>,
+    list: &mut Listing,
+    tokens: &mut Tokens,
 ) -> Result<(), ReadError>
     ensures { Gives (λ _. (list.new.lines.items, tokens.new)) result (listed_at list.old (tail_calling_at named) tokens.old) }
 {

@@ -33,8 +33,8 @@ fn instructions() -> usize
 }
 
 /// A head with what is kept of the attributes behind it.
-fn with_kept<'a>(head: ir_read::Head<'a>, kept: Kept<'a>) -> ir_read::Head<'a>
-    ensures { result ≡ with_kept head.entry kept.entry }
+fn with_kept(head: ir_read::Head, kept: Kept) -> ir_read::Head
+    ensures { result ≡ with_kept head kept }
 {
     ir_read::Head {
         linkage: head.linkage,
@@ -48,11 +48,7 @@ fn with_kept<'a>(head: ir_read::Head<'a>, kept: Kept<'a>) -> ir_read::Head<'a>
 }
 
 /// Reads what stands before the braces of a definition.
-fn heading_at<'a>(
-    alloc: Global,
-    room: usize,
-    tokens: &mut Tokens<'_, 'a>,
-) -> Result<ir_read::Head<'a>, ReadError>
+fn heading_at(alloc: Global, room: usize, tokens: &mut Tokens) -> Result<ir_read::Head, ReadError>
     ensures { Gives (λ x. (x, tokens.new)) result (heading_at room tokens.old) }
 {
     expect(Head::Define, tokens)?;
@@ -63,11 +59,7 @@ fn heading_at<'a>(
 
 /// Reads the blocks of a function, in their braces, and adds them.
 #[tactic(auto, using(crate::proofs::Grouping::braced_is))]
-fn braced_into<'a>(
-    alloc: Global,
-    blocks: &mut Blocks<'a>,
-    tokens: &mut Tokens<'_, 'a>,
-) -> Result<(), ReadError>
+fn braced_into(alloc: Global, blocks: &mut Blocks, tokens: &mut Tokens) -> Result<(), ReadError>
     ensures { Gives (λ _. (blocks.new.list.items, tokens.new)) result (joined_at blocks.old.list.items braced_at tokens.old) }
 {
     expect(Head::OpenBrace, tokens)?;
@@ -76,7 +68,7 @@ fn braced_into<'a>(
 }
 
 /// Reads the blocks of a function, in their braces.
-fn rows_at<'a>(alloc: Global, tokens: &mut Tokens<'_, 'a>) -> Result<Rows<Block<'a>>, ReadError>
+fn rows_at(alloc: Global, tokens: &mut Tokens) -> Result<Rows<Block>, ReadError>
     ensures { Gives (λ x. (x, tokens.new)) result (joined_at [] braced_at tokens.old) }
 {
     let mut blocks = Blocks::new(alloc);
@@ -86,13 +78,13 @@ fn rows_at<'a>(alloc: Global, tokens: &mut Tokens<'_, 'a>) -> Result<Rows<Block<
 
 /// Reads the blocks of a function behind its head, and adds its definition.
 #[tactic(auto, using(crate::proofs::Grouping::pushed_defined))]
-fn defined_into<'a>(
+fn defined_into(
     alloc: Global,
-    head: ir_read::Head<'a>,
-    items: &mut Vec<Item<'a>>,
-    tokens: &mut Tokens<'_, 'a>,
+    head: ir_read::Head,
+    items: &mut Vec<Item>,
+    tokens: &mut Tokens,
 ) -> Result<(), ReadError>
-    ensures { Gives (λ _. (items.new.items, tokens.new)) result (pushed_at items.old.items (defined_at head.entry) tokens.old) }
+    ensures { Gives (λ _. (items.new.items, tokens.new)) result (pushed_at items.old.items (defined_at head) tokens.old) }
 {
     let blocks = rows_at(alloc, tokens)?;
     push_item(items, Item::Definition(head, blocks))
@@ -102,11 +94,11 @@ fn defined_into<'a>(
 /// parameter `room` others may stand; there may be 65,535 blocks, and 200,000 instructions, phis and
 /// dropped calls among them and terminators not.
 #[tactic(auto, using(crate::proofs::Grouping::pushed_definition))]
-pub fn definition_into<'a>(
+pub fn definition_into(
     alloc: Global,
     room: usize,
-    items: &mut Vec<Item<'a>>,
-    tokens: &mut Tokens<'_, 'a>,
+    items: &mut Vec<Item>,
+    tokens: &mut Tokens,
 ) -> Result<(), ReadError>
     ensures { Gives (λ _. (items.new.items, tokens.new)) result (pushed_at items.old.items (definition_at room) tokens.old) }
 {

@@ -22,11 +22,11 @@ use lto_forms::ReadError;
 use std::alloc::Global;
 
 /// Reads what follows the first word of an operation on values, but for its attachments.
-fn operation_into<'a>(
+fn operation_into(
     alloc: Global,
     operation: Operation,
-    list: &mut Listing<'a>,
-    tokens: &mut Tokens<'_, 'a>,
+    list: &mut Listing,
+    tokens: &mut Tokens,
 ) -> Result<(), ReadError>
     ensures { Gives (λ _. (list.new.lines.items, tokens.new)) result (put_at list.old (operation_at operation) tokens.old) }
 {
@@ -53,11 +53,11 @@ fn operation_into<'a>(
 
 /// Reads what follows the first word of an operation on values, its attachments too.
 #[tactic(auto, using(crate::proofs::Listed::attended_listed))]
-fn attended_into<'a>(
+fn attended_into(
     alloc: Global,
     operation: Operation,
-    list: &mut Listing<'a>,
-    tokens: &mut Tokens<'_, 'a>,
+    list: &mut Listing,
+    tokens: &mut Tokens,
 ) -> Result<(), ReadError>
     ensures { Gives (λ _. (list.new.lines.items, tokens.new)) result (listed_at list.old (attended_at (operation_at operation)) tokens.old) }
 {
@@ -68,12 +68,12 @@ fn attended_into<'a>(
 /// Reads what follows the first word of an instruction, with the name of a result before it or not. A
 /// call that is dropped adds no line.
 #[tactic(auto, using(crate::proofs::Listed::some_listed))]
-fn behind_into<'a>(
+fn behind_into(
     alloc: Global,
     named: bool,
     opcode: Opcode,
-    list: &mut Listing<'a>,
-    tokens: &mut Tokens<'_, 'a>,
+    list: &mut Listing,
+    tokens: &mut Tokens,
 ) -> Result<(), ReadError>
     ensures { Gives (λ _. (list.new.lines.items, tokens.new)) result (listed_at list.old (behind_at named opcode) tokens.old) }
 {
@@ -91,13 +91,13 @@ fn behind_into<'a>(
 
 /// Reads `= instr` behind the name of a result, and adds the line.
 #[tactic(auto, unfolding(crate::specs::LinesAt::line_behind_at))]
-fn line_behind_into<'a>(
+fn line_behind_into(
     alloc: Global,
-    name: Name<'a>,
-    list: &mut Listing<'a>,
-    tokens: &mut Tokens<'_, 'a>,
+    name: Name,
+    list: &mut Listing,
+    tokens: &mut Tokens,
 ) -> Result<(), ReadError>
-    ensures { Gives (λ _. (list.new.lines.items, tokens.new)) result (kept_at list.old.lines.items (line_behind_at name.entry) tokens.old) }
+    ensures { Gives (λ _. (list.new.lines.items, tokens.new)) result (kept_at list.old.lines.items (line_behind_at name) tokens.old) }
 {
     list.line = name.line();
     list.name = Some(name);
@@ -107,23 +107,15 @@ fn line_behind_into<'a>(
 }
 
 #[tactic(auto, unfolding(crate::specs::LinesAt::named_line_at))]
-fn named_line_into<'a>(
-    alloc: Global,
-    list: &mut Listing<'a>,
-    tokens: &mut Tokens<'_, 'a>,
-) -> Result<(), ReadError>
+fn named_line_into(alloc: Global, list: &mut Listing, tokens: &mut Tokens) -> Result<(), ReadError>
     ensures { Gives (λ _. (list.new.lines.items, tokens.new)) result (kept_at list.old.lines.items named_line_at tokens.old) }
 {
-    let name = local_at(tokens)?;
+    let name = local_at(alloc, tokens)?;
     line_behind_into(alloc, name, list, tokens)
 }
 
 #[tactic(auto, unfolding(crate::specs::LinesAt::plain_line_at))]
-fn plain_line_into<'a>(
-    alloc: Global,
-    list: &mut Listing<'a>,
-    tokens: &mut Tokens<'_, 'a>,
-) -> Result<(), ReadError>
+fn plain_line_into(alloc: Global, list: &mut Listing, tokens: &mut Tokens) -> Result<(), ReadError>
     ensures { Gives (λ _. (list.new.lines.items, tokens.new)) result (kept_at list.old.lines.items plain_line_at tokens.old) }
 {
     let begun = begun_at(tokens)?;
@@ -135,11 +127,7 @@ fn plain_line_into<'a>(
 /// Reads an instruction with the name of its result, where it has one, and its attachments, and adds
 /// the line, unless its call is dropped.
 #[tactic(auto, unfolding(crate::specs::LinesAt::line_at))]
-pub fn line_into<'a>(
-    alloc: Global,
-    list: &mut Listing<'a>,
-    tokens: &mut Tokens<'_, 'a>,
-) -> Result<(), ReadError>
+pub fn line_into(alloc: Global, list: &mut Listing, tokens: &mut Tokens) -> Result<(), ReadError>
     ensures { Gives (λ _. (list.new.lines.items, tokens.new)) result (kept_at list.old.lines.items line_at tokens.old) }
 {
     if tokens.comes(Head::Local) {

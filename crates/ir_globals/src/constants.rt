@@ -1,6 +1,6 @@
 //! Reads the constants that variables and their parts begin with (LangRef, "Constants").
 
-ghost use Rattle.std.specs.Prelude.{◌≡◌, option_map, IfSome};
+ghost use Rattle.std.specs.Prelude.{◌≡◌, option_map, Ok, IfOk, IfSome};
 ghost use Rattle.ir_lex.specs.Tok.{tok};
 ghost use Rattle.lto_forms.specs.Readers.{Gives};
 ghost use Rattle.lto_forms.specs.Rules.{in_range, is_valued};
@@ -15,7 +15,7 @@ use ir_operands::address_at;
 use ir_read::{InitHead, Name, Operand, Tokens, done, literal, named, refusal};
 use ir_tree::Reg;
 use lto_forms::{Fault, FaultKind, ReadError};
-use std::alloc::Global;
+use std::alloc::{AllocError, Global};
 
 /// The type of a constant: `i1`, which nothing in memory has, where it is of no scalar.
 fn type_of(scalar: Option<Reg>) -> Reg
@@ -29,52 +29,68 @@ fn type_of(scalar: Option<Reg>) -> Reg
 
 /// A literal of an integer. Of a pointer a number is none: it is kept as one of `i1`. Where no scalar
 /// is written the number itself is kept.
-fn number_means<'a>(scalar: Option<Reg>, t: &Token<'a>) -> Result<InitHead<'a>, FaultKind>
+fn number_means(
+    alloc: Global,
+    scalar: Option<Reg>,
+    t: &Token,
+) -> Result<Result<InitHead, FaultKind>, AllocError>
     requires { IfSome scalar IsReg }
-    ensures { result ≡ in_range (number_of scalar (tok t.now)) }
+    ensures { IfOk result (λ x. x ≡ in_range (number_of scalar (tok t.now))) }
 {
     match scalar {
         Some(Reg::Int(width)) => match literal(width, t.text) {
-            None => Err(FaultKind::Number),
-            Some(bits) => Ok(InitHead::Plain(Operand::Number { width, bits })),
+            None => Ok(Err(FaultKind::Number)),
+            Some(bits) => Ok(Ok(InitHead::Plain(Operand::Number { width, bits }))),
         },
-        Some(Reg::Ptr) => Ok(InitHead::Plain(Operand::Number { width: 1, bits: 0 })),
-        None => Ok(InitHead::Number(Name::of(*t))),
+        Some(Reg::Ptr) => Ok(Ok(InitHead::Plain(Operand::Number { width: 1, bits: 0 }))),
+        None => {
+            let name = Name::of(alloc, t)?;
+            Ok(Ok(InitHead::Number(name)))
+        }
     }
 }
 
 /// A global that is written by its number.
-fn global_means<'a>(t: &Token<'a>) -> Result<InitHead<'a>, FaultKind>
-    ensures { result ≡ in_range (option_map (λ name. plain (operands.Global name)) (named (tok t.now))) }
+fn global_means(alloc: Global, t: &Token) -> Result<Result<InitHead, FaultKind>, AllocError>
+    ensures { IfOk result (λ x. x ≡ in_range (option_map (λ name. plain (operands.Global name)) (named (tok t.now)))) }
 {
-    match named(t) {
-        None => Err(FaultKind::Number),
-        Some(name) => Ok(InitHead::Plain(Operand::Global(name))),
+    match named(alloc, t)? {
+        None => Ok(Err(FaultKind::Number)),
+        Some(name) => Ok(Ok(InitHead::Plain(Operand::Global(name)))),
     }
+}
+
+/// A global that is written by a name.
+fn spelled_means(alloc: Global, t: &Token) -> Result<Result<InitHead, FaultKind>, AllocError>
+    ensures { IfOk result (λ x. x ≡ Ok (plain (operands.Global (tok t.now)))) }
+{
+    let name = Name::of(alloc, t)?;
+    Ok(Ok(InitHead::Plain(Operand::Global(name))))
 }
 
 /// What a token means where a constant may stand.
 #[tactic(auto, unfolding(lto_forms::specs::Rules::is_valued))]
-fn constant_means<'a>(scalar: Option<Reg>, t: &Token<'a>) -> Result<InitHead<'a>, FaultKind>
+fn constant_means(
+    alloc: Global,
+    scalar: Option<Reg>,
+    t: &Token,
+) -> Result<Result<InitHead, FaultKind>, AllocError>
     requires { IfSome scalar IsReg }
-    ensures { result ≡ is_valued tokens refusal CONSTANTS (constant_of scalar) (tok t.now) }
+    ensures { IfOk result (λ x. x ≡ is_valued tokens refusal CONSTANTS (constant_of scalar) (tok t.now)) }
 {
     match t.head {
-        Head::Number => number_means(scalar, t),
-        Head::True => Ok(InitHead::Plain(Operand::Number { width: 1, bits: 1 })),
-        Head::False => Ok(InitHead::Plain(Operand::Number { width: 1, bits: 0 })),
-        Head::Null => Ok(InitHead::Plain(Operand::Null)),
-        Head::Poison => Ok(InitHead::Plain(Operand::Poison(type_of(scalar)))),
-        Head::Global => Ok(InitHead::Plain(Operand::Global(Name::of(*t)))),
-        Head::NumberedGlobal | Head::NumberedDefinition => global_means(t),
-        head => Err(refusal(head)),
+        Head::Number => number_means(alloc, scalar, t),
+        Head::True => Ok(Ok(InitHead::Plain(Operand::Number { width: 1, bits: 1 }))),
+        Head::False => Ok(Ok(InitHead::Plain(Operand::Number { width: 1, bits: 0 }))),
+        Head::Null => Ok(Ok(InitHead::Plain(Operand::Null))),
+        Head::Poison => Ok(Ok(InitHead::Plain(Operand::Poison(type_of(scalar))))),
+        Head::Global => spelled_means(alloc, t),
+        Head::NumberedGlobal | Head::NumberedDefinition => global_means(alloc, t),
+        head => Ok(Err(refusal(head))),
     }
 }
 
-fn single_at<'a>(
-    scalar: Option<Reg>,
-    tokens: &mut Tokens<'_, 'a>,
-) -> Result<InitHead<'a>, ReadError>
+fn single_at(alloc: Global, scalar: Option<Reg>, tokens: &mut Tokens) -> Result<InitHead, ReadError>
     requires { IfSome scalar IsReg }
     ensures { Gives (λ x. (x, tokens.new)) result (single_at scalar tokens.old) }
 {
@@ -84,7 +100,7 @@ fn single_at<'a>(
             left,
             kind: FaultKind::Syntax,
         })),
-        Some(t) => match constant_means(scalar, &t) {
+        Some(t) => match constant_means(alloc, scalar, &t)? {
             Ok(x) => Ok(x),
             Err(kind) => Err(ReadError::Fault(Fault { left, kind })),
         },
@@ -97,11 +113,11 @@ fn single_at<'a>(
 /// one of `i1`, which fits nothing, as the verifier says; for an array, a structure or a type name the
 /// number is kept as it is written. `poison` for what is no scalar is one of `i1`.
 #[tactic(auto, unfolding(crate::specs::ConstantsAt::constant_at))]
-pub fn constant_at<'a>(
+pub fn constant_at(
     alloc: Global,
     scalar: Option<Reg>,
-    tokens: &mut Tokens<'_, 'a>,
-) -> Result<InitHead<'a>, ReadError>
+    tokens: &mut Tokens,
+) -> Result<InitHead, ReadError>
     requires { IfSome scalar IsReg }
     ensures { Gives (λ x. (x, tokens.new)) result (constant_at scalar tokens.old) }
 {
@@ -109,6 +125,6 @@ pub fn constant_at<'a>(
         let address = address_at(alloc, tokens)?;
         done(InitHead::Plain(address))
     } else {
-        single_at(scalar, tokens)
+        single_at(alloc, scalar, tokens)
     }
 }

@@ -36,15 +36,15 @@ pub enum Aggregate {
 
 /// A part up to its own parts, and what those belong to, where it has parts.
 #[derive(Drop)]
-struct Part<'a> {
-    part: InitPart<'a>,
+struct Part {
+    part: InitPart,
     inner: Option<Aggregate>,
 }
 
 /// A part, or the end of an aggregate's parts, and whether the next part is the first of its aggregate.
 #[derive(Drop)]
-struct Piece<'a> {
-    part: InitPart<'a>,
+struct Piece {
+    part: InitPart,
     first: bool,
 }
 
@@ -77,7 +77,7 @@ fn aggregate_of(head: &InitHead) -> Option<Aggregate>
 
 /// Takes a string of bytes.
 #[tactic(auto, unfolding(lto_forms::specs::Rules::is_among, crate::specs::InitialisersAt::bytes_at))]
-fn bytes_at<'a>(tokens: &mut Tokens<'_, 'a>) -> Result<InitHead<'a>, ReadError>
+fn bytes_at(alloc: Global, tokens: &mut Tokens) -> Result<InitHead, ReadError>
     ensures { Gives (λ x. (x, tokens.new)) result (bytes_at tokens.old) }
 {
     let left = tokens.left();
@@ -88,7 +88,8 @@ fn bytes_at<'a>(tokens: &mut Tokens<'_, 'a>) -> Result<InitHead<'a>, ReadError>
         })),
         Some(t) => {
             if t.head.is(Head::CStr) {
-                done(InitHead::Bytes(Name::of(t)))
+                let name = Name::of(alloc, &t)?;
+                done(InitHead::Bytes(name))
             } else {
                 Err(ReadError::Fault(Fault {
                     left,
@@ -100,7 +101,7 @@ fn bytes_at<'a>(tokens: &mut Tokens<'_, 'a>) -> Result<InitHead<'a>, ReadError>
 }
 
 /// The beginning of an initialiser of this aggregate.
-fn opening<'a>(aggregate: Aggregate) -> InitHead<'a>
+fn opening(aggregate: Aggregate) -> InitHead
     ensures { result ≡ opening aggregate }
 {
     match aggregate {
@@ -128,7 +129,7 @@ fn opening_at(tokens: &mut Tokens) -> Result<Aggregate, ReadError>
 }
 
 /// Reads the beginning of an initialiser with parts.
-fn aggregate_begin_at<'a>(tokens: &mut Tokens<'_, 'a>) -> Result<InitHead<'a>, ReadError>
+fn aggregate_begin_at(tokens: &mut Tokens) -> Result<InitHead, ReadError>
     ensures { Gives (λ x. (x, tokens.new)) result (aggregate_begin_at tokens.old) }
 {
     let aggregate = opening_at(tokens)?;
@@ -137,11 +138,11 @@ fn aggregate_begin_at<'a>(tokens: &mut Tokens<'_, 'a>) -> Result<InitHead<'a>, R
 
 /// Reads an initialiser up to its parts, for a scalar of this type, or for what is no scalar.
 #[tactic(auto, unfolding(crate::specs::InitialisersAt::beginning_at, crate::specs::InitialisersAt::zeros_at))]
-fn beginning_at<'a>(
+fn beginning_at(
     alloc: Global,
     scalar: Option<Reg>,
-    tokens: &mut Tokens<'_, 'a>,
-) -> Result<InitHead<'a>, ReadError>
+    tokens: &mut Tokens,
+) -> Result<InitHead, ReadError>
     requires { IfSome scalar IsReg }
     ensures { Gives (λ x. (x, tokens.new)) result (beginning_at scalar tokens.old) }
 {
@@ -149,7 +150,7 @@ fn beginning_at<'a>(
         expect(Head::ZeroInitializer, tokens)?;
         Ok(InitHead::Zeros)
     } else if tokens.comes(Head::CStr) {
-        bytes_at(tokens)
+        bytes_at(alloc, tokens)
     } else if tokens.comes_bracket() {
         aggregate_begin_at(tokens)
     } else {
@@ -221,7 +222,7 @@ fn comes_closing(aggregate: Aggregate, rest: &Tokens) -> bool
 }
 
 /// Reads a shape of memory. If it is a scalar it has the type of a register.
-pub fn shape_at<'a>(alloc: Global, tokens: &mut Tokens<'_, 'a>) -> Result<Typed<'a>, ReadError>
+pub fn shape_at(alloc: Global, tokens: &mut Tokens) -> Result<Typed, ReadError>
     ensures exact { Gives (λ x. (x, tokens.new)) result (memory_shape_at tokens.old) }
     ensures ranged { IfOk result (λ x. IfSome (scalar_of x.shape) IsReg) }
 {
@@ -230,11 +231,7 @@ pub fn shape_at<'a>(alloc: Global, tokens: &mut Tokens<'_, 'a>) -> Result<Typed<
 }
 
 /// Reads the shape of a part, with a comma before it where it is not the first.
-fn part_shape_at<'a>(
-    alloc: Global,
-    first: bool,
-    tokens: &mut Tokens<'_, 'a>,
-) -> Result<Typed<'a>, ReadError>
+fn part_shape_at(alloc: Global, first: bool, tokens: &mut Tokens) -> Result<Typed, ReadError>
     ensures exact { Gives (λ x. (x, tokens.new)) result (part_shape_at first tokens.old) }
     ensures ranged { IfOk result (λ x. IfSome (scalar_of x.shape) IsReg) }
 {
@@ -246,11 +243,7 @@ fn part_shape_at<'a>(
 }
 
 /// Reads a part up to its own parts, inside any aggregates.
-fn part_at<'a>(
-    alloc: Global,
-    first: bool,
-    tokens: &mut Tokens<'_, 'a>,
-) -> Result<Part<'a>, ReadError>
+fn part_at(alloc: Global, first: bool, tokens: &mut Tokens) -> Result<Part, ReadError>
     ensures { (outer : List Aggregate) → Gives (λ x. ((x.part, entered x.inner outer), tokens.new)) result (begun_at first outer tokens.old) }
 {
     let typed = part_shape_at(alloc, first, tokens)?;
@@ -279,12 +272,12 @@ fn enter(
 }
 
 /// Reads a part up to its own parts inside these aggregates, the outermost first.
-fn begun_at<'a>(
+fn begun_at(
     alloc: Global,
     first: bool,
     around: &mut Vec<Aggregate>,
-    tokens: &mut Tokens<'_, 'a>,
-) -> Result<Piece<'a>, ReadError>
+    tokens: &mut Tokens,
+) -> Result<Piece, ReadError>
     ensures { Gives (λ x. ((x.part, (x.first, reverse around.new.items)), tokens.new)) result (begun_at first (reverse around.old.items) tokens.old) }
 {
     let begun = part_at(alloc, first, tokens)?;
@@ -298,12 +291,12 @@ fn begun_at<'a>(
 /// Reads a part up to its own parts, or what closes the innermost of these aggregates, the outermost
 /// first.
 #[tactic(auto, unfolding(crate::specs::InitialisersAt::closed_at))]
-fn piece_at<'a>(
+fn piece_at(
     alloc: Global,
     first: bool,
     around: &mut Vec<Aggregate>,
-    tokens: &mut Tokens<'_, 'a>,
-) -> Result<Piece<'a>, ReadError>
+    tokens: &mut Tokens,
+) -> Result<Piece, ReadError>
     ensures { Gives (λ x. ((x.part, (x.first, reverse around.new.items)), tokens.new)) result (piece_at first (reverse around.old.items) tokens.old) }
 {
     let Some(inner) = around.pop() else {
@@ -368,7 +361,7 @@ fn goes_on(first: bool, around: &[Aggregate], rest: &Tokens) -> bool
 }
 
 /// Reads the parts of an aggregate, each before its own parts and their end.
-fn listed_at<'a>(alloc: Global, tokens: &mut Tokens<'_, 'a>) -> Result<Vec<InitPart<'a>>, ReadError>
+fn listed_at(alloc: Global, tokens: &mut Tokens) -> Result<Vec<InitPart>, ReadError>
     ensures { Gives (λ x. (x.items, tokens.new)) result (listed_at tokens.old) }
 {
     let mut parts = Vec::new(alloc);
@@ -394,11 +387,11 @@ fn is_none(parts: &[InitPart]) -> bool
 
 /// Reads the parts of an aggregate, and what closes it.
 #[tactic(auto, unfolding(crate::specs::InitialisersAt::parts_at))]
-fn parts_at<'a>(
+fn parts_at(
     alloc: Global,
     whole: Aggregate,
-    tokens: &mut Tokens<'_, 'a>,
-) -> Result<Vec<InitPart<'a>>, ReadError>
+    tokens: &mut Tokens,
+) -> Result<Vec<InitPart>, ReadError>
     ensures { Gives (λ x. (x.items, tokens.new)) result (parts_at whole tokens.old) }
 {
     let mut parts = listed_at(alloc, tokens)?;
@@ -408,11 +401,11 @@ fn parts_at<'a>(
 }
 
 /// Reads the parts behind the beginning of an initialiser, where it has parts.
-fn behind_at<'a>(
+fn behind_at(
     alloc: Global,
     whole: Option<Aggregate>,
-    tokens: &mut Tokens<'_, 'a>,
-) -> Result<Vec<InitPart<'a>>, ReadError>
+    tokens: &mut Tokens,
+) -> Result<Vec<InitPart>, ReadError>
     ensures { Gives (λ x. (x.items, tokens.new)) result (behind_at whole tokens.old) }
 {
     match whole {
@@ -423,11 +416,11 @@ fn behind_at<'a>(
 
 /// Reads the initialiser of a scalar of this type, or of what is no scalar: `[i8 1, i8 2]`.
 #[tactic(auto, unfolding(crate::specs::InitialisersAt::initialiser_at))]
-pub fn initialiser_at<'a>(
+pub fn initialiser_at(
     alloc: Global,
     scalar: Option<Reg>,
-    tokens: &mut Tokens<'_, 'a>,
-) -> Result<Init<'a>, ReadError>
+    tokens: &mut Tokens,
+) -> Result<Init, ReadError>
     requires { IfSome scalar IsReg }
     ensures { Gives (λ x. (x, tokens.new)) result (initialiser_at scalar tokens.old) }
 {

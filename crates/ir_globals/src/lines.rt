@@ -12,10 +12,10 @@ use lto_forms::ReadError;
 use std::alloc::Global;
 
 /// Reads the layout of the target behind `target`, and adds it.
-pub fn layout_line_into<'a>(
+pub fn layout_line_into(
     alloc: Global,
-    items: &mut Vec<Item<'a>>,
-    tokens: &mut Tokens<'_, 'a>,
+    items: &mut Vec<Item>,
+    tokens: &mut Tokens,
 ) -> Result<(), ReadError>
     ensures { Gives (λ _. (items.new.items, tokens.new)) result (pushed_at items.old.items layout_line_at tokens.old) }
 {
@@ -24,21 +24,22 @@ pub fn layout_line_into<'a>(
 }
 
 /// Reads the triple of the target behind `target`, and adds it.
-pub fn triple_line_into<'a>(
-    items: &mut Vec<Item<'a>>,
-    tokens: &mut Tokens<'_, 'a>,
+pub fn triple_line_into(
+    alloc: Global,
+    items: &mut Vec<Item>,
+    tokens: &mut Tokens,
 ) -> Result<(), ReadError>
     ensures { Gives (λ _. (items.new.items, tokens.new)) result (pushed_at items.old.items triple_line_at tokens.old) }
 {
-    let triple = triple_line_at(tokens)?;
+    let triple = triple_line_at(alloc, tokens)?;
     push_item(items, Item::Triple(triple))
 }
 
 /// Reads a group of attributes, `attributes #0 = { noinline }`, and adds it.
-pub fn attribute_group_into<'a>(
+pub fn attribute_group_into(
     alloc: Global,
-    items: &mut Vec<Item<'a>>,
-    tokens: &mut Tokens<'_, 'a>,
+    items: &mut Vec<Item>,
+    tokens: &mut Tokens,
 ) -> Result<(), ReadError>
     ensures { Gives (λ _. (items.new.items, tokens.new)) result (pushed_at items.old.items attribute_group_at tokens.old) }
 {

@@ -13,10 +13,7 @@ use std::alloc::Global;
 
 /// Reads what a type name stands for: a shape, or nothing where it is opaque.
 #[tactic(auto, unfolding(crate::specs::TypeDefinitionsAt::defined_at))]
-fn defined_at<'a>(
-    alloc: Global,
-    tokens: &mut Tokens<'_, 'a>,
-) -> Result<Option<Typed<'a>>, ReadError>
+fn defined_at(alloc: Global, tokens: &mut Tokens) -> Result<Option<Typed>, ReadError>
     ensures { Gives (λ x. (x, tokens.new)) result (defined_at tokens.old) }
 {
     if tokens.comes(Head::Opaque) {
@@ -29,10 +26,10 @@ fn defined_at<'a>(
 }
 
 /// Reads what stands before what a type name stands for: the name.
-fn type_name_at<'a>(tokens: &mut Tokens<'_, 'a>) -> Result<Name<'a>, ReadError>
+fn type_name_at(alloc: Global, tokens: &mut Tokens) -> Result<Name, ReadError>
     ensures { Gives (λ x. (x, tokens.new)) result (type_name_at tokens.old) }
 {
-    let name = local_at(tokens)?;
+    let name = local_at(alloc, tokens)?;
     expect(Head::Equals, tokens)?;
     expect(Head::Type, tokens)?;
     Ok(name)
@@ -41,14 +38,14 @@ fn type_name_at<'a>(tokens: &mut Tokens<'_, 'a>) -> Result<Name<'a>, ReadError>
 /// Reads a type definition, `%pair = type { i32, ptr }`, and adds it. A type name that is a number is
 /// one below `2^32`, and the shape is one of memory.
 #[tactic(auto, using(crate::proofs::Grouping::type_line_is))]
-pub fn type_line_into<'a>(
+pub fn type_line_into(
     alloc: Global,
-    items: &mut Vec<Item<'a>>,
-    tokens: &mut Tokens<'_, 'a>,
+    items: &mut Vec<Item>,
+    tokens: &mut Tokens,
 ) -> Result<(), ReadError>
     ensures { Gives (λ _. (items.new.items, tokens.new)) result (pushed_at items.old.items type_line_at tokens.old) }
 {
-    let name = type_name_at(tokens)?;
+    let name = type_name_at(alloc, tokens)?;
     let typed = defined_at(alloc, tokens)?;
     push_item(items, Item::Type(name, typed))
 }

@@ -1,6 +1,6 @@
 //! Reads global variables (LangRef, "Global Variables", "Linkage Types", "Comdats").
 
-ghost use Rattle.std.specs.Prelude.{◌≡◌, IfSome};
+ghost use Rattle.std.specs.Prelude.{◌≡◌, IfSome, IfOk};
 ghost use Rattle.ir_lex.specs.Heads.{number};
 ghost use Rattle.ir_lex.specs.Tok.{tok};
 ghost use Rattle.lto_forms.specs.Alphabet.{contains, among};
@@ -24,25 +24,25 @@ use ir_read::{
 };
 use ir_tree::{Linkage, Reg};
 use lto_forms::{Fault, FaultKind, ReadError};
-use std::alloc::Global;
+use std::alloc::{AllocError, Global};
 
 /// What a token means where the name of a variable stands.
 #[tactic(auto, unfolding(lto_forms::specs::Rules::is_valued))]
-fn name_means<'a>(t: &Token<'a>) -> Result<Name<'a>, FaultKind>
-    ensures { result ≡ is_valued tokens name_refusal NAMES global_named (tok t.now) }
+fn name_means(alloc: Global, t: &Token) -> Result<Result<Name, FaultKind>, AllocError>
+    ensures { IfOk result (λ x. x ≡ is_valued tokens name_refusal NAMES global_named (tok t.now)) }
 {
     match t.head {
-        Head::Global | Head::NumberedDefinition => match global_named(t) {
-            None => Err(FaultKind::Number),
-            Some(name) => Ok(name),
+        Head::Global | Head::NumberedDefinition => match global_named(alloc, t)? {
+            None => Ok(Err(FaultKind::Number)),
+            Some(name) => Ok(Ok(name)),
         },
-        head => Err(name_refusal(head)),
+        head => Ok(Err(name_refusal(head))),
     }
 }
 
 /// Takes the name of a variable. One that is a number is taken where `= private` or `= internal`
 /// stands behind it.
-fn variable_name_at<'a>(tokens: &mut Tokens<'_, 'a>) -> Result<Name<'a>, ReadError>
+fn variable_name_at(alloc: Global, tokens: &mut Tokens) -> Result<Name, ReadError>
     ensures { Gives (λ x. (x, tokens.new)) result (variable_name_at tokens.old) }
 {
     let left = tokens.left();
@@ -51,7 +51,7 @@ fn variable_name_at<'a>(tokens: &mut Tokens<'_, 'a>) -> Result<Name<'a>, ReadErr
             left,
             kind: FaultKind::Syntax,
         })),
-        Some(t) => match name_means(&t) {
+        Some(t) => match name_means(alloc, &t)? {
             Ok(x) => Ok(x),
             Err(kind) => Err(ReadError::Fault(Fault { left, kind })),
         },
@@ -170,12 +170,12 @@ fn is_declared(linkage: Option<Linkage>) -> bool
 }
 
 /// Reads an initialiser, unless the variable is only declared.
-fn value_at<'a>(
+fn value_at(
     alloc: Global,
     declared: bool,
     scalar: Option<Reg>,
-    tokens: &mut Tokens<'_, 'a>,
-) -> Result<Option<Init<'a>>, ReadError>
+    tokens: &mut Tokens,
+) -> Result<Option<Init>, ReadError>
     requires { IfSome scalar IsReg }
     ensures { Gives (λ x. (x, tokens.new)) result (value_at declared scalar tokens.old) }
 {
@@ -260,17 +260,17 @@ fn tail_at(alloc: Global, tokens: &mut Tokens) -> Result<Option<u64>, ReadError>
 /// What stands before the shape of a variable: its name, the linkage that is written, and whether it is
 /// constant.
 #[derive(Drop)]
-struct Headed<'a> {
-    name: Name<'a>,
+struct Headed {
+    name: Name,
     linkage: Option<Linkage>,
     constant: bool,
 }
 
 /// Reads what stands before the shape of a variable.
-fn headed_at<'a>(tokens: &mut Tokens<'_, 'a>) -> Result<Headed<'a>, ReadError>
+fn headed_at(alloc: Global, tokens: &mut Tokens) -> Result<Headed, ReadError>
     ensures { Gives (λ x. ((x.name, (x.linkage, x.constant)), tokens.new)) result (headed_at tokens.old) }
 {
-    let name = variable_name_at(tokens)?;
+    let name = variable_name_at(alloc, tokens)?;
     expect(Head::Equals, tokens)?;
     let linkage = linked_at(tokens)?;
     let constant = kind_at(tokens)?;
@@ -283,12 +283,8 @@ fn headed_at<'a>(tokens: &mut Tokens<'_, 'a>) -> Result<Headed<'a>, ReadError>
 
 /// Reads what stands behind `global` or `constant`: the rest of the variable that is headed so.
 #[tactic(auto, unfolding(crate::specs::VariablesAt::behind_kind_at))]
-fn behind_kind_at<'a>(
-    alloc: Global,
-    headed: Headed<'a>,
-    tokens: &mut Tokens<'_, 'a>,
-) -> Result<Variable<'a>, ReadError>
-    ensures { Gives (λ x. (items.Variable x, tokens.new)) result (behind_kind_at headed.entry.name headed.entry.linkage headed.entry.constant tokens.old) }
+fn behind_kind_at(alloc: Global, headed: Headed, tokens: &mut Tokens) -> Result<Variable, ReadError>
+    ensures { Gives (λ x. (items.Variable x, tokens.new)) result (behind_kind_at headed.name headed.linkage headed.constant tokens.old) }
 {
     let typed = shape_at(alloc, tokens)?;
     let init = value_at(
@@ -315,14 +311,14 @@ fn behind_kind_at<'a>(
 /// An initialiser stands exactly where `external` isn't written. Words of visibility, comdats and
 /// metadata are dropped, and of several alignments the last one stands.
 #[tactic(auto, using(crate::proofs::Grouping::variable_line_is))]
-pub fn variable_line_into<'a>(
+pub fn variable_line_into(
     alloc: Global,
-    items: &mut Vec<Item<'a>>,
-    tokens: &mut Tokens<'_, 'a>,
+    items: &mut Vec<Item>,
+    tokens: &mut Tokens,
 ) -> Result<(), ReadError>
     ensures { Gives (λ _. (items.new.items, tokens.new)) result (pushed_at items.old.items variable_line_at tokens.old) }
 {
-    let headed = headed_at(tokens)?;
+    let headed = headed_at(alloc, tokens)?;
     let variable = behind_kind_at(alloc, headed, tokens)?;
     push_item(items, Item::Variable(variable))
 }

@@ -24,21 +24,21 @@ use std::alloc::{AllocError, Global};
 
 /// What is kept of an attribute.
 #[derive(Drop)]
-pub enum Attribute<'a> {
+pub enum Attribute {
     Dropped,
     Noinline,
     Optnone,
     /// The attributes of a group, which may stand anywhere in the module.
-    Group(Name<'a>),
+    Group(Name),
 }
 
 /// What is kept of the attributes of a function: whether these two are among them, and the groups
 /// that are named, in order.
 #[derive(Drop)]
-pub struct Kept<'a> {
+pub struct Kept {
     pub noinline: bool,
     pub optnone: bool,
-    pub groups: Rows<Name<'a>>,
+    pub groups: Rows<Name>,
 }
 
 /// Where an attribute that is one word stands.
@@ -132,7 +132,7 @@ fn is_word_of(place: Place, head: Head) -> bool
     }
 }
 
-fn kept_of<'a>(head: Head) -> Attribute<'a>
+fn kept_of(head: Head) -> Attribute
     ensures { result ≡ kept_of head }
 {
     match head {
@@ -208,7 +208,7 @@ fn word_tail_at(alloc: Global, tokens: &mut Tokens) -> Result<(), ReadError>
 }
 
 #[tactic(auto, unfolding(lto_forms::specs::Rules::is_among))]
-fn word_at<'a>(place: Place, tokens: &mut Tokens<'_, 'a>) -> Result<Attribute<'a>, ReadError>
+fn word_at(place: Place, tokens: &mut Tokens) -> Result<Attribute, ReadError>
     ensures { Gives (λ x. (x, tokens.new)) result (one_of_at (words_of place) word_kept tokens.old) }
 {
     let left = tokens.left();
@@ -231,11 +231,11 @@ fn word_at<'a>(place: Place, tokens: &mut Tokens<'_, 'a>) -> Result<Attribute<'a
 }
 
 #[tactic(auto, unfolding(crate::specs::AttributesAt::word_attribute_at))]
-fn word_attribute_at<'a>(
+fn word_attribute_at(
     alloc: Global,
     place: Place,
-    tokens: &mut Tokens<'_, 'a>,
-) -> Result<Attribute<'a>, ReadError>
+    tokens: &mut Tokens,
+) -> Result<Attribute, ReadError>
     ensures { Gives (λ x. (x, tokens.new)) result (word_attribute_at (words_of place) tokens.old) }
 {
     let kept = word_at(place, tokens)?;
@@ -252,7 +252,7 @@ fn string_value_at(tokens: &mut Tokens) -> Result<(), ReadError>
 }
 
 #[tactic(auto, unfolding(crate::specs::AttributesAt::string_attribute_at))]
-fn string_attribute_at<'a>(tokens: &mut Tokens<'_, 'a>) -> Result<Attribute<'a>, ReadError>
+fn string_attribute_at(tokens: &mut Tokens) -> Result<Attribute, ReadError>
     ensures { Gives (λ x. (x, tokens.new)) result (string_attribute_at tokens.old) }
 {
     expect(Head::Str, tokens)?;
@@ -263,11 +263,11 @@ fn string_attribute_at<'a>(tokens: &mut Tokens<'_, 'a>) -> Result<Attribute<'a>,
 }
 
 #[tactic(auto, unfolding(crate::specs::AttributesAt::function_attribute_at))]
-fn function_attribute_at<'a>(
+fn function_attribute_at(
     alloc: Global,
     place: Place,
-    tokens: &mut Tokens<'_, 'a>,
-) -> Result<Attribute<'a>, ReadError>
+    tokens: &mut Tokens,
+) -> Result<Attribute, ReadError>
     ensures { Gives (λ x. (x, tokens.new)) result (function_attribute_at (words_of place) tokens.old) }
 {
     if tokens.comes(Head::Str) {
@@ -278,21 +278,21 @@ fn function_attribute_at<'a>(
 }
 
 #[tactic(auto, unfolding(lto_forms::specs::Rules::is_valued))]
-fn group_means<'a>(t: &Token<'a>) -> Result<Name<'a>, FaultKind>
-    ensures { result ≡ is_valued tokens refusal GROUP group_named (tok t.now) }
+fn group_means(alloc: Global, t: &Token) -> Result<Result<Name, FaultKind>, AllocError>
+    ensures { IfOk result (λ x. x ≡ is_valued tokens refusal GROUP group_named (tok t.now)) }
 {
     if t.head.is(Head::Group) {
-        match group_named(t) {
-            None => Err(FaultKind::Number),
-            Some(name) => Ok(name),
+        match group_named(alloc, t)? {
+            None => Ok(Err(FaultKind::Number)),
+            Some(name) => Ok(Ok(name)),
         }
     } else {
-        Err(refusal(t.head))
+        Ok(Err(refusal(t.head)))
     }
 }
 
 /// Takes the name of an attribute group.
-fn group_name_at<'a>(tokens: &mut Tokens<'_, 'a>) -> Result<Name<'a>, ReadError>
+fn group_name_at(alloc: Global, tokens: &mut Tokens) -> Result<Name, ReadError>
     ensures { Gives (λ x. (x, tokens.new)) result (group_name_at tokens.old) }
 {
     let left = tokens.left();
@@ -301,7 +301,7 @@ fn group_name_at<'a>(tokens: &mut Tokens<'_, 'a>) -> Result<Name<'a>, ReadError>
             left,
             kind: FaultKind::Syntax,
         })),
-        Some(t) => match group_means(&t) {
+        Some(t) => match group_means(alloc, &t)? {
             Ok(x) => Ok(x),
             Err(kind) => Err(ReadError::Fault(Fault { left, kind })),
         },
@@ -309,22 +309,19 @@ fn group_name_at<'a>(tokens: &mut Tokens<'_, 'a>) -> Result<Name<'a>, ReadError>
 }
 
 #[tactic(auto, unfolding(crate::specs::AttributesAt::group_attribute_at))]
-fn group_attribute_at<'a>(tokens: &mut Tokens<'_, 'a>) -> Result<Attribute<'a>, ReadError>
+fn group_attribute_at(alloc: Global, tokens: &mut Tokens) -> Result<Attribute, ReadError>
     ensures { Gives (λ x. (x, tokens.new)) result (group_attribute_at tokens.old) }
 {
-    let name = group_name_at(tokens)?;
+    let name = group_name_at(alloc, tokens)?;
     Ok(Attribute::Group(name))
 }
 
 #[tactic(auto, unfolding(crate::specs::AttributesAt::call_attribute_at))]
-fn call_attribute_at<'a>(
-    alloc: Global,
-    tokens: &mut Tokens<'_, 'a>,
-) -> Result<Attribute<'a>, ReadError>
+fn call_attribute_at(alloc: Global, tokens: &mut Tokens) -> Result<Attribute, ReadError>
     ensures { Gives (λ x. (x, tokens.new)) result (call_attribute_at tokens.old) }
 {
     if tokens.comes(Head::Group) {
-        group_attribute_at(tokens)
+        group_attribute_at(alloc, tokens)
     } else {
         function_attribute_at(alloc, Place::Call, tokens)
     }
@@ -358,10 +355,7 @@ pub fn call_attributes_at(alloc: Global, tokens: &mut Tokens) -> Result<(), Read
 }
 
 #[tactic(auto, unfolding(crate::specs::AttributesAt::head_alignment_at))]
-fn head_alignment_at<'a>(
-    alloc: Global,
-    tokens: &mut Tokens<'_, 'a>,
-) -> Result<Attribute<'a>, ReadError>
+fn head_alignment_at(alloc: Global, tokens: &mut Tokens) -> Result<Attribute, ReadError>
     ensures { Gives (λ x. (x, tokens.new)) result (head_alignment_at tokens.old) }
 {
     expect(Head::Align, tokens)?;
@@ -374,14 +368,11 @@ fn head_alignment_at<'a>(
 }
 
 #[tactic(auto, unfolding(crate::specs::AttributesAt::head_attribute_at))]
-pub fn head_attribute_at<'a>(
-    alloc: Global,
-    tokens: &mut Tokens<'_, 'a>,
-) -> Result<Attribute<'a>, ReadError>
+pub fn head_attribute_at(alloc: Global, tokens: &mut Tokens) -> Result<Attribute, ReadError>
     ensures { Gives (λ x. (x, tokens.new)) result (head_attribute_at tokens.old) }
 {
     if tokens.comes(Head::Group) {
-        group_attribute_at(tokens)
+        group_attribute_at(alloc, tokens)
     } else if tokens.comes(Head::Align) {
         head_alignment_at(alloc, tokens)
     } else {
@@ -400,10 +391,7 @@ fn comes_metadata(rest: &Tokens) -> bool
 }
 
 #[tactic(auto, unfolding(crate::specs::AttributesAt::attached_attribute_at, crate::specs::AttributesAt::definition_attribute_at))]
-fn definition_attribute_at<'a>(
-    alloc: Global,
-    tokens: &mut Tokens<'_, 'a>,
-) -> Result<Attribute<'a>, ReadError>
+fn definition_attribute_at(alloc: Global, tokens: &mut Tokens) -> Result<Attribute, ReadError>
     ensures { Gives (λ x. (x, tokens.new)) result (definition_attribute_at tokens.old) }
 {
     if comes_metadata(tokens) {
@@ -435,7 +423,7 @@ fn comes_definition_attribute(rest: &Tokens) -> bool
     }
 }
 
-impl<'a> Kept<'a> {
+impl Kept {
     /// Nothing.
     fn new(alloc: Global) -> Self
         ensures { result ≡ none_kept }
@@ -448,8 +436,8 @@ impl<'a> Kept<'a> {
     }
 
     /// What is kept with one attribute more.
-    fn with(self, attribute: Attribute<'a>) -> Result<Kept<'a>, AllocError>
-        ensures { IfOk result (λ x. x ≡ with_attribute self.entry attribute.entry) }
+    fn with(self, attribute: Attribute) -> Result<Kept, AllocError>
+        ensures { IfOk result (λ x. x ≡ with_attribute self attribute) }
     {
         match attribute {
             Attribute::Dropped => Ok(self),
@@ -476,10 +464,7 @@ impl<'a> Kept<'a> {
 
 /// Reads what stands between the head of a definition and its body, and keeps what the link needs.
 #[tactic(auto, unfolding(crate::specs::AttributesAt::definition_attributes_at))]
-pub fn definition_attributes_at<'a>(
-    alloc: Global,
-    tokens: &mut Tokens<'_, 'a>,
-) -> Result<Kept<'a>, ReadError>
+pub fn definition_attributes_at(alloc: Global, tokens: &mut Tokens) -> Result<Kept, ReadError>
     ensures { Gives (λ x. (x, tokens.new)) result (definition_attributes_at tokens.old) }
 {
     let mut kept = Kept::new(alloc);
@@ -507,7 +492,7 @@ fn comes_grouped(rest: &Tokens) -> bool
 }
 
 #[tactic(auto, unfolding(crate::specs::AttributesAt::grouped_at))]
-fn grouped_at<'a>(alloc: Global, tokens: &mut Tokens<'_, 'a>) -> Result<Kept<'a>, ReadError>
+fn grouped_at(alloc: Global, tokens: &mut Tokens) -> Result<Kept, ReadError>
     ensures { Gives (λ x. (x, tokens.new)) result (grouped_at tokens.old) }
 {
     let mut kept = Kept::new(alloc);
@@ -518,8 +503,8 @@ fn grouped_at<'a>(alloc: Global, tokens: &mut Tokens<'_, 'a>) -> Result<Kept<'a>
     Ok(kept)
 }
 
-fn group_item<'a>(group: Name<'a>, kept: Kept<'a>) -> Item<'a>
-    ensures { result ≡ group_item group.entry kept.entry }
+fn group_item(group: Name, kept: Kept) -> Item
+    ensures { result ≡ group_item group kept }
 {
     Item::Attributes {
         group,
@@ -529,24 +514,16 @@ fn group_item<'a>(group: Name<'a>, kept: Kept<'a>) -> Item<'a>
 }
 
 /// Reads what follows the attributes of a group.
-fn ended_group_at<'a>(
-    group: Name<'a>,
-    kept: Kept<'a>,
-    tokens: &mut Tokens<'_, 'a>,
-) -> Result<Item<'a>, ReadError>
-    ensures { Gives (λ x. (x, tokens.new)) result (ended_group_at group.entry kept.entry tokens.old) }
+fn ended_group_at(group: Name, kept: Kept, tokens: &mut Tokens) -> Result<Item, ReadError>
+    ensures { Gives (λ x. (x, tokens.new)) result (ended_group_at group kept tokens.old) }
 {
     expect(Head::CloseBrace, tokens)?;
     done(group_item(group, kept))
 }
 
 /// Reads what follows the name of an attribute group.
-fn named_group_at<'a>(
-    alloc: Global,
-    group: Name<'a>,
-    tokens: &mut Tokens<'_, 'a>,
-) -> Result<Item<'a>, ReadError>
-    ensures { Gives (λ x. (x, tokens.new)) result (named_group_at group.entry tokens.old) }
+fn named_group_at(alloc: Global, group: Name, tokens: &mut Tokens) -> Result<Item, ReadError>
+    ensures { Gives (λ x. (x, tokens.new)) result (named_group_at group tokens.old) }
 {
     expect(Head::Equals, tokens)?;
     expect(Head::OpenBrace, tokens)?;
@@ -556,13 +533,10 @@ fn named_group_at<'a>(
 
 /// Reads an attribute group: `attributes #0 = { nounwind "frame-pointer"="all" }`.
 #[tactic(auto, unfolding(crate::specs::AttributesAt::attribute_group_at))]
-pub fn attribute_group_at<'a>(
-    alloc: Global,
-    tokens: &mut Tokens<'_, 'a>,
-) -> Result<Item<'a>, ReadError>
+pub fn attribute_group_at(alloc: Global, tokens: &mut Tokens) -> Result<Item, ReadError>
     ensures { Gives (λ x. (x, tokens.new)) result (attribute_group_at tokens.old) }
 {
     expect(Head::Attributes, tokens)?;
-    let group = group_name_at(tokens)?;
+    let group = group_name_at(alloc, tokens)?;
     named_group_at(alloc, group, tokens)
 }

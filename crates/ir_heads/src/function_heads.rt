@@ -1,7 +1,7 @@
 //! Reads what stands before the body of a function: linkage, result, name and parameters (LangRef,
 //! "Functions", "Linkage Types").
 
-ghost use Rattle.std.specs.Prelude.{◌≡◌};
+ghost use Rattle.std.specs.Prelude.{◌≡◌, IfOk};
 ghost use Rattle.ir_lex.specs.Heads.{number};
 ghost use Rattle.ir_lex.specs.Tok.{tok};
 ghost use Rattle.lto_forms.specs.Alphabet.{contains, among};
@@ -20,7 +20,7 @@ use ir_read::{
 };
 use ir_tree::{Linkage, Rows};
 use lto_forms::{Fault, FaultKind, ReadError};
-use std::alloc::Global;
+use std::alloc::{AllocError, Global};
 
 /// Whether a function has a body.
 #[derive(Clone, Copy)]
@@ -289,25 +289,31 @@ pub fn name_refusal(head: Head) -> FaultKind
 
 /// What a token means where the name of such a function stands.
 #[tactic(auto, unfolding(lto_forms::specs::Rules::is_valued))]
-fn name_means<'a>(role: Role, linkage: Linkage, t: &Token<'a>) -> Result<Name<'a>, FaultKind>
-    ensures { result ≡ is_valued tokens name_refusal (names_of role linkage) global_named (tok t.now) }
+fn name_means(
+    alloc: Global,
+    role: Role,
+    linkage: Linkage,
+    t: &Token,
+) -> Result<Result<Name, FaultKind>, AllocError>
+    ensures { IfOk result (λ x. x ≡ is_valued tokens name_refusal (names_of role linkage) global_named (tok t.now)) }
 {
     if is_name_of(role, linkage, t.head) {
-        match global_named(t) {
-            None => Err(FaultKind::Number),
-            Some(name) => Ok(name),
+        match global_named(alloc, t)? {
+            None => Ok(Err(FaultKind::Number)),
+            Some(name) => Ok(Ok(name)),
         }
     } else {
-        Err(name_refusal(t.head))
+        Ok(Err(name_refusal(t.head)))
     }
 }
 
 /// Takes the name of a function.
-fn function_name_at<'a>(
+fn function_name_at(
+    alloc: Global,
     role: Role,
     linkage: Linkage,
-    tokens: &mut Tokens<'_, 'a>,
-) -> Result<Name<'a>, ReadError>
+    tokens: &mut Tokens,
+) -> Result<Name, ReadError>
     ensures { Gives (λ x. (x, tokens.new)) result (function_name_at role linkage tokens.old) }
 {
     let left = tokens.left();
@@ -316,7 +322,7 @@ fn function_name_at<'a>(
             left,
             kind: FaultKind::Syntax,
         })),
-        Some(t) => match name_means(role, linkage, &t) {
+        Some(t) => match name_means(alloc, role, linkage, &t)? {
             Ok(x) => Ok(x),
             Err(kind) => Err(ReadError::Fault(Fault { left, kind })),
         },
@@ -325,13 +331,13 @@ fn function_name_at<'a>(
 
 /// Reads a parameter: `ptr noundef %p`.
 #[tactic(auto, unfolding(crate::specs::FunctionHeadsAt::param_at))]
-fn param_at<'a>(alloc: Global, tokens: &mut Tokens<'_, 'a>) -> Result<Param<'a>, ReadError>
+fn param_at(alloc: Global, tokens: &mut Tokens) -> Result<Param, ReadError>
     ensures { Gives (λ x. (x, tokens.new)) result (param_at tokens.old) }
 {
     let reg = reg_at(tokens)?;
     parameter_attributes_at(alloc, tokens)?;
     if tokens.comes(Head::Local) {
-        let name = local_at(tokens)?;
+        let name = local_at(alloc, tokens)?;
         Ok(Param {
             reg,
             name: Some(name),
@@ -342,7 +348,7 @@ fn param_at<'a>(alloc: Global, tokens: &mut Tokens<'_, 'a>) -> Result<Param<'a>,
 }
 
 #[tactic(auto, unfolding(crate::specs::FunctionHeadsAt::further_param_at))]
-fn further_param_at<'a>(alloc: Global, tokens: &mut Tokens<'_, 'a>) -> Result<Param<'a>, ReadError>
+fn further_param_at(alloc: Global, tokens: &mut Tokens) -> Result<Param, ReadError>
     ensures { Gives (λ x. (x, tokens.new)) result (further_param_at tokens.old) }
 {
     expect(Head::Comma, tokens)?;
@@ -351,13 +357,13 @@ fn further_param_at<'a>(alloc: Global, tokens: &mut Tokens<'_, 'a>) -> Result<Pa
 
 /// Reads the parameters behind some, of which there may be `room`.
 #[tactic(auto, unfolding(crate::specs::FunctionHeadsAt::params_behind_at))]
-fn params_behind_at<'a>(
+fn params_behind_at(
     alloc: Global,
     room: usize,
-    front: Vec<Param<'a>>,
-    tokens: &mut Tokens<'_, 'a>,
-) -> Result<Vec<Param<'a>>, ReadError>
-    ensures { Gives (λ x. (x.items, tokens.new)) result (params_behind_at room front.entry.items tokens.old) }
+    front: Vec<Param>,
+    tokens: &mut Tokens,
+) -> Result<Vec<Param>, ReadError>
+    ensures { Gives (λ x. (x.items, tokens.new)) result (params_behind_at room front.items tokens.old) }
 {
     let mut params = front;
     let mut left = room;
@@ -376,11 +382,7 @@ fn params_behind_at<'a>(
 }
 
 #[tactic(auto, unfolding(crate::specs::FunctionHeadsAt::some_params_at))]
-fn some_params_at<'a>(
-    alloc: Global,
-    room: usize,
-    tokens: &mut Tokens<'_, 'a>,
-) -> Result<Vec<Param<'a>>, ReadError>
+fn some_params_at(alloc: Global, room: usize, tokens: &mut Tokens) -> Result<Vec<Param>, ReadError>
     ensures { Gives (λ x. (x.items, tokens.new)) result (some_params_at room tokens.old) }
 {
     let first = param_at(alloc, tokens)?;
@@ -414,11 +416,11 @@ pub fn end_of_none_at(tokens: &mut Tokens) -> Result<(), ReadError>
 }
 
 #[tactic(auto, unfolding(crate::specs::FunctionHeadsAt::listed_params_at))]
-fn listed_params_at<'a>(
+fn listed_params_at(
     alloc: Global,
     room: usize,
-    tokens: &mut Tokens<'_, 'a>,
-) -> Result<Vec<Param<'a>>, ReadError>
+    tokens: &mut Tokens,
+) -> Result<Vec<Param>, ReadError>
     ensures { Gives (λ x. (x.items, tokens.new)) result (listed_params_at room tokens.old) }
 {
     if tokens.comes_reg() {
@@ -432,11 +434,7 @@ fn listed_params_at<'a>(
 }
 
 #[tactic(auto, unfolding(crate::specs::FunctionHeadsAt::params_at))]
-fn params_at<'a>(
-    alloc: Global,
-    room: usize,
-    tokens: &mut Tokens<'_, 'a>,
-) -> Result<Vec<Param<'a>>, ReadError>
+fn params_at(alloc: Global, room: usize, tokens: &mut Tokens) -> Result<Vec<Param>, ReadError>
     ensures { Gives (λ x. (x.items, tokens.new)) result (params_at room tokens.old) }
 {
     expect(Head::OpenParen, tokens)?;
@@ -446,17 +444,17 @@ fn params_at<'a>(
 /// Reads a head up to the end of its parameters, of which `room` may stand behind the first:
 /// `internal noundef i32 @f(i32 %x, ptr)`.
 #[tactic(auto, unfolding(crate::specs::FunctionHeadsAt::head_at))]
-pub fn head_at<'a>(
+pub fn head_at(
     alloc: Global,
     role: Role,
     room: usize,
-    tokens: &mut Tokens<'_, 'a>,
-) -> Result<WrittenHead<'a>, ReadError>
+    tokens: &mut Tokens,
+) -> Result<WrittenHead, ReadError>
     ensures { Gives (λ x. (x, tokens.new)) result (head_at role room tokens.old) }
 {
     let linkage = prefix_at(alloc, role, tokens)?;
     let result = result_at(tokens)?;
-    let name = function_name_at(role, linkage, tokens)?;
+    let name = function_name_at(alloc, role, linkage, tokens)?;
     let params = params_at(alloc, room, tokens)?;
     Ok(WrittenHead {
         linkage,

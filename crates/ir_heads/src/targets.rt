@@ -9,7 +9,7 @@ ghost use Rattle.ir_heads.specs.Targets.{STRING, until, after, has_64_bits, fits
 ghost use Rattle.ir_heads.specs.TargetsAt.{layout_line_at, triple_line_at, source_line_at, comdat_line_at};
 
 use ir_lex::Head;
-use ir_read::{Name, Tokens, expect, refusal};
+use ir_read::{Name, Tokens, done, expect, refusal};
 use lto_forms::{Fault, FaultKind, ReadError};
 use std::alloc::Global;
 
@@ -78,7 +78,7 @@ fn fits_layout(text: &[u8]) -> bool
 
 /// Takes the string of a layout that is supported; another string is refused.
 #[tactic(auto, unfolding(crate::specs::Targets::is_layout))]
-fn layout_at<'a>(alloc: Global, tokens: &mut Tokens<'_, 'a>) -> Result<Name<'a>, ReadError>
+fn layout_at(alloc: Global, tokens: &mut Tokens) -> Result<Name, ReadError>
     ensures { Gives (λ x. (x, tokens.new)) result (token_at is_layout tokens.old) }
 {
     let left = tokens.left();
@@ -96,7 +96,8 @@ fn layout_at<'a>(alloc: Global, tokens: &mut Tokens<'_, 'a>) -> Result<Name<'a>,
             }
             let content = t.content(alloc)?;
             if fits_layout(&content) {
-                Ok(Name::of(t))
+                let name = Name::of(alloc, &t)?;
+                done(name)
             } else {
                 Err(ReadError::Fault(Fault {
                     left,
@@ -108,7 +109,7 @@ fn layout_at<'a>(alloc: Global, tokens: &mut Tokens<'_, 'a>) -> Result<Name<'a>,
 }
 
 #[tactic(auto, unfolding(lto_forms::specs::Rules::is_among))]
-fn string_at<'a>(tokens: &mut Tokens<'_, 'a>) -> Result<Name<'a>, ReadError>
+fn string_at(alloc: Global, tokens: &mut Tokens) -> Result<Name, ReadError>
     ensures { Gives (λ x. (x, tokens.new)) result (one_of_at STRING itself tokens.old) }
 {
     let left = tokens.left();
@@ -119,7 +120,8 @@ fn string_at<'a>(tokens: &mut Tokens<'_, 'a>) -> Result<Name<'a>, ReadError>
         })),
         Some(t) => {
             if t.head.is(Head::Str) {
-                Ok(Name::of(t))
+                let name = Name::of(alloc, &t)?;
+                done(name)
             } else {
                 Err(ReadError::Fault(Fault {
                     left,
@@ -132,7 +134,7 @@ fn string_at<'a>(tokens: &mut Tokens<'_, 'a>) -> Result<Name<'a>, ReadError>
 
 /// Reads what follows `target` where that is `datalayout`: its string.
 #[tactic(auto, unfolding(crate::specs::TargetsAt::layout_line_at))]
-pub fn layout_line_at<'a>(alloc: Global, tokens: &mut Tokens<'_, 'a>) -> Result<Name<'a>, ReadError>
+pub fn layout_line_at(alloc: Global, tokens: &mut Tokens) -> Result<Name, ReadError>
     ensures { Gives (λ x. (items.Datalayout x, tokens.new)) result (layout_line_at tokens.old) }
 {
     expect(Head::Datalayout, tokens)?;
@@ -143,12 +145,12 @@ pub fn layout_line_at<'a>(alloc: Global, tokens: &mut Tokens<'_, 'a>) -> Result<
 /// Reads what follows `target` where that is `triple`: its string, as in
 /// `target triple = "x86_64-pc-linux-gnu"`.
 #[tactic(auto, unfolding(crate::specs::TargetsAt::triple_line_at))]
-pub fn triple_line_at<'a>(tokens: &mut Tokens<'_, 'a>) -> Result<Name<'a>, ReadError>
+pub fn triple_line_at(alloc: Global, tokens: &mut Tokens) -> Result<Name, ReadError>
     ensures { Gives (λ x. (items.Triple x, tokens.new)) result (triple_line_at tokens.old) }
 {
     expect(Head::Triple, tokens)?;
     expect(Head::Equals, tokens)?;
-    string_at(tokens)
+    string_at(alloc, tokens)
 }
 
 /// Reads the name of the source, and drops it: `source_filename = "t.c"`.

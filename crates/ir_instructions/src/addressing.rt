@@ -178,10 +178,10 @@ fn slots_behind_at(alloc: Global, shape: &Measured, tokens: &mut Tokens) -> Resu
 
 /// Reads what follows `alloca`.
 #[tactic(auto, unfolding(crate::specs::AddressingAt::reserving_at))]
-pub fn reserving_into<'a>(
+pub fn reserving_into(
     alloc: Global,
-    list: &mut Listing<'a>,
-    tokens: &mut Tokens<'_, 'a>,
+    list: &mut Listing,
+    tokens: &mut Tokens,
 ) -> Result<(), ReadError>
     ensures { Gives (λ _. (list.new.lines.items, tokens.new)) result (put_at list.old reserving_at tokens.old) }
 {
@@ -197,11 +197,11 @@ pub fn reserving_into<'a>(
 /// Reads what follows a comma behind an index, or behind an attachment: an index, which is added, or an
 /// attachment, behind which only attachments follow. Gives whether it is an attachment.
 #[tactic(auto, unfolding(crate::specs::AddressingAt::attaching_at, crate::specs::AddressingAt::indexing_at))]
-fn behind_comma_into<'a>(
+fn behind_comma_into(
     alloc: Global,
     attached: bool,
-    indices: &mut Vec<Argument<'a>>,
-    tokens: &mut Tokens<'_, 'a>,
+    indices: &mut Vec<Argument>,
+    tokens: &mut Tokens,
 ) -> Result<bool, ReadError>
     ensures { Gives (λ attached. ((indices.new.items, attached), tokens.new)) result (gathered_at keep indices.old.items (behind_comma_at attached) tokens.old) }
 {
@@ -220,11 +220,11 @@ fn behind_comma_into<'a>(
 }
 
 #[tactic(auto, unfolding(crate::specs::AddressingAt::further_at))]
-fn further_into<'a>(
+fn further_into(
     alloc: Global,
     attached: bool,
-    indices: &mut Vec<Argument<'a>>,
-    tokens: &mut Tokens<'_, 'a>,
+    indices: &mut Vec<Argument>,
+    tokens: &mut Tokens,
 ) -> Result<bool, ReadError>
     ensures { Gives (λ attached. ((indices.new.items, attached), tokens.new)) result (gathered_at keep indices.old.items (further_at attached) tokens.old) }
 {
@@ -234,10 +234,7 @@ fn further_into<'a>(
 
 /// Reads the indices, and the attachments.
 #[tactic(auto, unfolding(crate::specs::AddressingAt::indices_at))]
-fn indices_at<'a>(
-    alloc: Global,
-    tokens: &mut Tokens<'_, 'a>,
-) -> Result<Vec<Argument<'a>>, ReadError>
+fn indices_at(alloc: Global, tokens: &mut Tokens) -> Result<Vec<Argument>, ReadError>
     ensures { Gives (λ x. (x.items, tokens.new)) result (indices_at tokens.old) }
 {
     let mut indices = Vec::new(alloc);
@@ -250,14 +247,14 @@ fn indices_at<'a>(
 
 /// The address that a `getelementptr` steps from, and the indices that it steps by.
 #[derive(Drop)]
-struct Steps<'a> {
-    base: Operand<'a>,
-    indices: Vec<Argument<'a>>,
+struct Steps {
+    base: Operand,
+    indices: Vec<Argument>,
 }
 
 /// Reads `, ptr operand` and the indices, behind a shape.
 #[tactic(auto, unfolding(crate::specs::AddressingAt::steps_at))]
-fn steps_at<'a>(alloc: Global, tokens: &mut Tokens<'_, 'a>) -> Result<Steps<'a>, ReadError>
+fn steps_at(alloc: Global, tokens: &mut Tokens) -> Result<Steps, ReadError>
     ensures { Gives (λ x. ((x.base, x.indices.items), tokens.new)) result (steps_at tokens.old) }
 {
     let base = pointed_at(alloc, tokens)?;
@@ -266,10 +263,10 @@ fn steps_at<'a>(alloc: Global, tokens: &mut Tokens<'_, 'a>) -> Result<Steps<'a>,
 }
 
 /// Reads what follows `getelementptr`.
-pub fn addressing_into<'a>(
+pub fn addressing_into(
     alloc: Global,
-    list: &mut Listing<'a>,
-    tokens: &mut Tokens<'_, 'a>,
+    list: &mut Listing,
+    tokens: &mut Tokens,
 ) -> Result<(), ReadError>
     ensures { Gives (λ _. (list.new.lines.items, tokens.new)) result (put_at list.old addressing_at tokens.old) }
 {

@@ -82,11 +82,7 @@ fn wraps_at(tokens: &mut Tokens) -> Result<Flags, ReadError>
 
 /// Reads `, operand`.
 #[tactic(auto, unfolding(crate::specs::InstructionsAt::second_at))]
-fn second_at<'a>(
-    alloc: Global,
-    reg: Reg,
-    tokens: &mut Tokens<'_, 'a>,
-) -> Result<Operand<'a>, ReadError>
+fn second_at(alloc: Global, reg: Reg, tokens: &mut Tokens) -> Result<Operand, ReadError>
     requires { IsReg reg }
     ensures { Gives (λ x. (x, tokens.new)) result (second_at reg tokens.old) }
 {
@@ -95,12 +91,12 @@ fn second_at<'a>(
 }
 
 /// Reads `iN operand , operand`.
-pub fn on_two_into<'a>(
+pub fn on_two_into(
     alloc: Global,
     op: BinaryOp,
     flags: Flags,
-    list: &mut Listing<'a>,
-    tokens: &mut Tokens<'_, 'a>,
+    list: &mut Listing,
+    tokens: &mut Tokens,
 ) -> Result<(), ReadError>
     ensures { Gives (λ _. (list.new.lines.items, tokens.new)) result (put_at list.old (on_two_at op flags) tokens.old) }
 {
@@ -118,11 +114,11 @@ pub fn on_two_into<'a>(
 
 /// Reads what follows `add`, `sub`, `mul` or `shl`.
 #[tactic(auto, unfolding(crate::specs::InstructionsAt::wrapping_at))]
-pub fn wrapping_into<'a>(
+pub fn wrapping_into(
     alloc: Global,
     op: BinaryOp,
-    list: &mut Listing<'a>,
-    tokens: &mut Tokens<'_, 'a>,
+    list: &mut Listing,
+    tokens: &mut Tokens,
 ) -> Result<(), ReadError>
     ensures { Gives (λ _. (list.new.lines.items, tokens.new)) result (put_at list.old (wrapping_at op) tokens.old) }
 {
@@ -132,11 +128,11 @@ pub fn wrapping_into<'a>(
 
 /// Reads what follows `udiv`, `sdiv`, `lshr` or `ashr`.
 #[tactic(auto, unfolding(crate::specs::InstructionsAt::dividing_at))]
-pub fn dividing_into<'a>(
+pub fn dividing_into(
     alloc: Global,
     op: BinaryOp,
-    list: &mut Listing<'a>,
-    tokens: &mut Tokens<'_, 'a>,
+    list: &mut Listing,
+    tokens: &mut Tokens,
 ) -> Result<(), ReadError>
     ensures { Gives (λ _. (list.new.lines.items, tokens.new)) result (put_at list.old (dividing_at op) tokens.old) }
 {
@@ -151,11 +147,7 @@ pub fn dividing_into<'a>(
 
 /// Reads what follows `or`.
 #[tactic(auto, unfolding(crate::specs::InstructionsAt::joining_at))]
-pub fn joining_into<'a>(
-    alloc: Global,
-    list: &mut Listing<'a>,
-    tokens: &mut Tokens<'_, 'a>,
-) -> Result<(), ReadError>
+pub fn joining_into(alloc: Global, list: &mut Listing, tokens: &mut Tokens) -> Result<(), ReadError>
     ensures { Gives (λ _. (list.new.lines.items, tokens.new)) result (put_at list.old joining_at tokens.old) }
 {
     maybe_at(Head::Disjoint, tokens)?;
@@ -204,10 +196,10 @@ fn predicate_at(tokens: &mut Tokens) -> Result<Predicate, ReadError>
 }
 
 /// Reads what follows `icmp`.
-pub fn comparing_into<'a>(
+pub fn comparing_into(
     alloc: Global,
-    list: &mut Listing<'a>,
-    tokens: &mut Tokens<'_, 'a>,
+    list: &mut Listing,
+    tokens: &mut Tokens,
 ) -> Result<(), ReadError>
     ensures { Gives (λ _. (list.new.lines.items, tokens.new)) result (put_at list.old comparing_at tokens.old) }
 {
@@ -226,11 +218,11 @@ pub fn comparing_into<'a>(
 
 /// Reads `reg operand to reg`.
 #[tactic(auto, unfolding(crate::specs::InstructionsAt::casting_at))]
-pub fn casting_into<'a>(
+pub fn casting_into(
     alloc: Global,
     op: CastOp,
-    list: &mut Listing<'a>,
-    tokens: &mut Tokens<'_, 'a>,
+    list: &mut Listing,
+    tokens: &mut Tokens,
 ) -> Result<(), ReadError>
     ensures { Gives (λ _. (list.new.lines.items, tokens.new)) result (put_at list.old (casting_at op) tokens.old) }
 {
@@ -248,11 +240,11 @@ pub fn casting_into<'a>(
 
 /// Reads what follows `zext`.
 #[tactic(auto, unfolding(crate::specs::InstructionsAt::extending_at))]
-pub fn extending_into<'a>(
+pub fn extending_into(
     alloc: Global,
     op: CastOp,
-    list: &mut Listing<'a>,
-    tokens: &mut Tokens<'_, 'a>,
+    list: &mut Listing,
+    tokens: &mut Tokens,
 ) -> Result<(), ReadError>
     ensures { Gives (λ _. (list.new.lines.items, tokens.new)) result (put_at list.old (extending_at op) tokens.old) }
 {
@@ -262,11 +254,11 @@ pub fn extending_into<'a>(
 
 /// Reads what follows `trunc`.
 #[tactic(auto, unfolding(crate::specs::InstructionsAt::narrowing_at))]
-pub fn narrowing_into<'a>(
+pub fn narrowing_into(
     alloc: Global,
     op: CastOp,
-    list: &mut Listing<'a>,
-    tokens: &mut Tokens<'_, 'a>,
+    list: &mut Listing,
+    tokens: &mut Tokens,
 ) -> Result<(), ReadError>
     ensures { Gives (λ _. (list.new.lines.items, tokens.new)) result (put_at list.old (narrowing_at op) tokens.old) }
 {
@@ -276,10 +268,7 @@ pub fn narrowing_into<'a>(
 
 /// Reads `reg operand`.
 #[tactic(auto, unfolding(ir_operands::specs::ValuesAt::argument_at))]
-pub fn argument_at<'a>(
-    alloc: Global,
-    tokens: &mut Tokens<'_, 'a>,
-) -> Result<Argument<'a>, ReadError>
+pub fn argument_at(alloc: Global, tokens: &mut Tokens) -> Result<Argument, ReadError>
     ensures { Gives (λ x. (x, tokens.new)) result (argument_at tokens.old) }
 {
     let reg = reg_at(tokens)?;
@@ -289,7 +278,7 @@ pub fn argument_at<'a>(
 
 /// Reads `, reg operand`.
 #[tactic(auto, unfolding(crate::specs::InstructionsAt::arm_at))]
-fn arm_at<'a>(alloc: Global, tokens: &mut Tokens<'_, 'a>) -> Result<Argument<'a>, ReadError>
+fn arm_at(alloc: Global, tokens: &mut Tokens) -> Result<Argument, ReadError>
     ensures { Gives (λ x. (x, tokens.new)) result (arm_at tokens.old) }
 {
     expect(Head::Comma, tokens)?;
@@ -297,10 +286,10 @@ fn arm_at<'a>(alloc: Global, tokens: &mut Tokens<'_, 'a>) -> Result<Argument<'a>
 }
 
 /// Reads what follows `select`.
-pub fn selecting_into<'a>(
+pub fn selecting_into(
     alloc: Global,
-    list: &mut Listing<'a>,
-    tokens: &mut Tokens<'_, 'a>,
+    list: &mut Listing,
+    tokens: &mut Tokens,
 ) -> Result<(), ReadError>
     ensures { Gives (λ _. (list.new.lines.items, tokens.new)) result (put_at list.old selecting_at tokens.old) }
 {
@@ -317,10 +306,10 @@ pub fn selecting_into<'a>(
 
 /// Reads what follows `freeze`.
 #[tactic(auto, unfolding(crate::specs::InstructionsAt::freezing_at))]
-pub fn freezing_into<'a>(
+pub fn freezing_into(
     alloc: Global,
-    list: &mut Listing<'a>,
-    tokens: &mut Tokens<'_, 'a>,
+    list: &mut Listing,
+    tokens: &mut Tokens,
 ) -> Result<(), ReadError>
     ensures { Gives (λ _. (list.new.lines.items, tokens.new)) result (put_at list.old freezing_at tokens.old) }
 {
@@ -361,7 +350,7 @@ pub fn align_at(alloc: Global, tokens: &mut Tokens) -> Result<Option<u64>, ReadE
 
 /// Reads `, ptr operand`.
 #[tactic(auto, unfolding(crate::specs::InstructionsAt::pointed_at))]
-pub fn pointed_at<'a>(alloc: Global, tokens: &mut Tokens<'_, 'a>) -> Result<Operand<'a>, ReadError>
+pub fn pointed_at(alloc: Global, tokens: &mut Tokens) -> Result<Operand, ReadError>
     ensures { Gives (λ x. (x, tokens.new)) result (pointed_at tokens.old) }
 {
     expect(Head::Comma, tokens)?;
@@ -370,11 +359,7 @@ pub fn pointed_at<'a>(alloc: Global, tokens: &mut Tokens<'_, 'a>) -> Result<Oper
 }
 
 /// Reads what follows `load`.
-pub fn loading_into<'a>(
-    alloc: Global,
-    list: &mut Listing<'a>,
-    tokens: &mut Tokens<'_, 'a>,
-) -> Result<(), ReadError>
+pub fn loading_into(alloc: Global, list: &mut Listing, tokens: &mut Tokens) -> Result<(), ReadError>
     ensures { Gives (λ _. (list.new.lines.items, tokens.new)) result (put_at list.old loading_at tokens.old) }
 {
     let reg = scalar_at(tokens)?;
@@ -388,11 +373,7 @@ pub fn loading_into<'a>(
 }
 
 /// Reads what follows `store`.
-pub fn storing_into<'a>(
-    alloc: Global,
-    list: &mut Listing<'a>,
-    tokens: &mut Tokens<'_, 'a>,
-) -> Result<(), ReadError>
+pub fn storing_into(alloc: Global, list: &mut Listing, tokens: &mut Tokens) -> Result<(), ReadError>
     ensures { Gives (λ _. (list.new.lines.items, tokens.new)) result (put_at list.old storing_at tokens.old) }
 {
     let reg = scalar_at(tokens)?;

@@ -17,18 +17,14 @@ use std::alloc::Global;
 
 /// Reads `[ operand , Local ]`.
 #[tactic(auto, unfolding(crate::specs::PhisAt::incoming_at))]
-fn incoming_at<'a>(
-    alloc: Global,
-    reg: Reg,
-    tokens: &mut Tokens<'_, 'a>,
-) -> Result<Incoming<'a>, ReadError>
+fn incoming_at(alloc: Global, reg: Reg, tokens: &mut Tokens) -> Result<Incoming, ReadError>
     requires { IsReg reg }
     ensures { Gives (λ x. (x, tokens.new)) result (incoming_at reg tokens.old) }
 {
     expect(Head::OpenBracket, tokens)?;
     let value = operand_at(alloc, reg, tokens)?;
     expect(Head::Comma, tokens)?;
-    let from = local_at(tokens)?;
+    let from = local_at(alloc, tokens)?;
     expect(Head::CloseBracket, tokens)?;
     done(Incoming { value, from })
 }
@@ -36,12 +32,12 @@ fn incoming_at<'a>(
 /// Reads what follows a comma behind an entry, or behind an attachment: an entry, which is added, or an
 /// attachment, behind which only attachments follow. Gives whether it is an attachment.
 #[tactic(auto, unfolding(crate::specs::PhisAt::attaching_at, crate::specs::PhisAt::entering_at))]
-fn behind_comma_into<'a>(
+fn behind_comma_into(
     alloc: Global,
     reg: Reg,
     attached: bool,
-    entries: &mut Vec<Incoming<'a>>,
-    tokens: &mut Tokens<'_, 'a>,
+    entries: &mut Vec<Incoming>,
+    tokens: &mut Tokens,
 ) -> Result<bool, ReadError>
     requires { IsReg reg }
     ensures { Gives (λ attached. ((entries.new.items, attached), tokens.new)) result (gathered_at keep entries.old.items (behind_comma_at reg attached) tokens.old) }
@@ -61,12 +57,12 @@ fn behind_comma_into<'a>(
 }
 
 #[tactic(auto, unfolding(crate::specs::PhisAt::further_at))]
-fn further_into<'a>(
+fn further_into(
     alloc: Global,
     reg: Reg,
     attached: bool,
-    entries: &mut Vec<Incoming<'a>>,
-    tokens: &mut Tokens<'_, 'a>,
+    entries: &mut Vec<Incoming>,
+    tokens: &mut Tokens,
 ) -> Result<bool, ReadError>
     requires { IsReg reg }
     ensures { Gives (λ attached. ((entries.new.items, attached), tokens.new)) result (gathered_at keep entries.old.items (further_at reg attached) tokens.old) }
@@ -77,11 +73,7 @@ fn further_into<'a>(
 
 /// Reads the entries, at least one, and the attachments.
 #[tactic(auto, unfolding(crate::specs::PhisAt::entries_at))]
-fn all_entries_at<'a>(
-    alloc: Global,
-    reg: Reg,
-    tokens: &mut Tokens<'_, 'a>,
-) -> Result<Vec<Incoming<'a>>, ReadError>
+fn all_entries_at(alloc: Global, reg: Reg, tokens: &mut Tokens) -> Result<Vec<Incoming>, ReadError>
     requires { IsReg reg }
     ensures { Gives (λ x. (x.items, tokens.new)) result (all_entries_at reg tokens.old) }
 {
@@ -97,11 +89,7 @@ fn all_entries_at<'a>(
 
 /// Reads what follows `phi`.
 #[tactic(auto, unfolding(crate::specs::PhisAt::phi_at, crate::specs::PhisAt::phi_of_at), using(crate::proofs::Grouping::phi_of_is))]
-pub fn phi_into<'a>(
-    alloc: Global,
-    list: &mut Listing<'a>,
-    tokens: &mut Tokens<'_, 'a>,
-) -> Result<(), ReadError>
+pub fn phi_into(alloc: Global, list: &mut Listing, tokens: &mut Tokens) -> Result<(), ReadError>
     ensures { Gives (λ _. (list.new.lines.items, tokens.new)) result (put_at list.old phi_at tokens.old) }
 {
     let reg = reg_at(tokens)?;

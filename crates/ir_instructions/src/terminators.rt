@@ -12,12 +12,13 @@ ghost use Rattle.ir_instructions.specs.TerminatorsAt.{branch_at, bracketed_cases
 use ir_lex::{Head, Token};
 use ir_operands::operand_at;
 use ir_read::{
-    Argument, BlockEnd, Case, Name, Terminator, Tokens, attachments_at, bit_at, done, expect,
-    integer_at, literal, local_at, refusal, reg_at, result_at, type_refusal,
+    Argument, Case, Name, Terminator, Tokens, attachments_at, bit_at, done, expect, integer_at,
+    literal, local_at, refusal, reg_at, result_at, type_refusal,
 };
 use ir_tree::{Reg, Rows};
 use lto_forms::{Fault, FaultKind, ReadError};
 use std::alloc::Global;
+use std::mem::replace;
 
 /// What a terminator begins with.
 #[derive(Clone, Copy)]
@@ -37,8 +38,8 @@ pub struct Ending {
 
 /// A terminator, and the line of its first token.
 #[derive(Drop)]
-pub struct Ended<'a> {
-    pub terminator: BlockEnd<'a>,
+pub struct Ended {
+    pub terminator: Terminator,
     pub line: u32,
 }
 
@@ -49,23 +50,30 @@ pub struct Matched {
     pub bits: u64,
 }
 
+/// Puts a terminator in the place of what stood there.
+fn put(place: &mut Terminator, terminator: Terminator)
+    ensures { place.new ≡ terminator }
+{
+    drop(replace(place, terminator));
+}
+
 /// Reads what follows `ret`.
 #[tactic(auto, unfolding(crate::specs::TerminatorsAt::returning_at))]
-fn returning_into<'a>(
+fn returning_into(
     alloc: Global,
-    place: &mut BlockEnd<'a>,
-    tokens: &mut Tokens<'_, 'a>,
+    place: &mut Terminator,
+    tokens: &mut Tokens,
 ) -> Result<(), ReadError>
     ensures { Gives (λ _. (place.new, tokens.new)) result (returning_at tokens.old) }
 {
     match result_at(tokens)? {
         None => {
-            place.set(Terminator::Return(None));
+            put(place, Terminator::Return(None));
             Ok(())
         }
         Some(reg) => {
             let operand = operand_at(alloc, reg, tokens)?;
-            place.set(Terminator::Return(Some(Argument { reg, operand })));
+            put(place, Terminator::Return(Some(Argument { reg, operand })));
             Ok(())
         }
     }
@@ -73,54 +81,57 @@ fn returning_into<'a>(
 
 /// Reads `label Local`.
 #[tactic(auto, unfolding(crate::specs::TerminatorsAt::target_at))]
-pub fn target_at<'a>(tokens: &mut Tokens<'_, 'a>) -> Result<Name<'a>, ReadError>
+pub fn target_at(alloc: Global, tokens: &mut Tokens) -> Result<Name, ReadError>
     ensures { Gives (λ x. (x, tokens.new)) result (target_at tokens.old) }
 {
     expect(Head::LabelType, tokens)?;
-    local_at(tokens)
+    local_at(alloc, tokens)
 }
 
 /// Reads `, label Local`.
 #[tactic(auto, unfolding(crate::specs::TerminatorsAt::branch_at))]
-fn branch_at<'a>(tokens: &mut Tokens<'_, 'a>) -> Result<Name<'a>, ReadError>
+fn branch_at(alloc: Global, tokens: &mut Tokens) -> Result<Name, ReadError>
     ensures { Gives (λ x. (x, tokens.new)) result (branch_at tokens.old) }
 {
     expect(Head::Comma, tokens)?;
-    target_at(tokens)
+    target_at(alloc, tokens)
 }
 
 /// Reads `i1 operand , label Local , label Local`.
-fn choosing_into<'a>(
+fn choosing_into(
     alloc: Global,
-    place: &mut BlockEnd<'a>,
-    tokens: &mut Tokens<'_, 'a>,
+    place: &mut Terminator,
+    tokens: &mut Tokens,
 ) -> Result<(), ReadError>
     ensures { Gives (λ _. (place.new, tokens.new)) result (choosing_at tokens.old) }
 {
     let width = bit_at(tokens)?;
     let condition = operand_at(alloc, Reg::Int(width), tokens)?;
-    let if_true = branch_at(tokens)?;
-    let if_false = branch_at(tokens)?;
-    place.set(Terminator::Branch {
-        condition,
-        if_true,
-        if_false,
-    });
+    let if_true = branch_at(alloc, tokens)?;
+    let if_false = branch_at(alloc, tokens)?;
+    put(
+        place,
+        Terminator::Branch {
+            condition,
+            if_true,
+            if_false,
+        },
+    );
     Ok(())
 }
 
 /// Reads what follows `br`.
 #[tactic(auto, unfolding(crate::specs::TerminatorsAt::branching_at))]
-fn branching_into<'a>(
+fn branching_into(
     alloc: Global,
-    place: &mut BlockEnd<'a>,
-    tokens: &mut Tokens<'_, 'a>,
+    place: &mut Terminator,
+    tokens: &mut Tokens,
 ) -> Result<(), ReadError>
     ensures { Gives (λ _. (place.new, tokens.new)) result (branching_at tokens.old) }
 {
     if tokens.comes(Head::LabelType) {
-        let to = target_at(tokens)?;
-        place.set(Terminator::Jump(to));
+        let to = target_at(alloc, tokens)?;
+        put(place, Terminator::Jump(to));
         Ok(())
     } else {
         choosing_into(alloc, place, tokens)
@@ -173,13 +184,13 @@ pub fn constant_at(reg: Reg, tokens: &mut Tokens) -> Result<Matched, ReadError>
 
 /// Reads a case: a type, a number of it, and a target.
 #[tactic(auto, unfolding(crate::specs::TerminatorsAt::case_at, crate::specs::TerminatorsAt::case_of_at))]
-fn case_at<'a>(tokens: &mut Tokens<'_, 'a>) -> Result<Case<'a>, ReadError>
+fn case_at(alloc: Global, tokens: &mut Tokens) -> Result<Case, ReadError>
     ensures { Gives (λ x. (x, tokens.new)) result (case_at tokens.old) }
 {
     let reg = reg_at(tokens)?;
     let matched = constant_at(reg, tokens)?;
     expect(Head::Comma, tokens)?;
-    let target = target_at(tokens)?;
+    let target = target_at(alloc, tokens)?;
     done(Case {
         reg,
         width: matched.width,
@@ -189,12 +200,12 @@ fn case_at<'a>(tokens: &mut Tokens<'_, 'a>) -> Result<Case<'a>, ReadError>
 }
 
 /// Reads all cases that stand here.
-fn cases_at<'a>(alloc: Global, tokens: &mut Tokens<'_, 'a>) -> Result<Vec<Case<'a>>, ReadError>
+fn cases_at(alloc: Global, tokens: &mut Tokens) -> Result<Vec<Case>, ReadError>
     ensures { Gives (λ x. (x.items, tokens.new)) result (cases_at tokens.old) }
 {
     let mut cases = Vec::new(alloc);
     'each: while tokens.comes_reg() {
-        let case = case_at(tokens)?;
+        let case = case_at(alloc, tokens)?;
         cases.push(case)?;
     }
     Ok(cases)
@@ -226,10 +237,7 @@ fn end_of_cases_at(tokens: &mut Tokens) -> Result<(), ReadError>
 
 /// Reads the cases of a `switch`, in their brackets.
 #[tactic(auto, unfolding(crate::specs::TerminatorsAt::bracketed_cases_at))]
-fn bracketed_cases_at<'a>(
-    alloc: Global,
-    tokens: &mut Tokens<'_, 'a>,
-) -> Result<Vec<Case<'a>>, ReadError>
+fn bracketed_cases_at(alloc: Global, tokens: &mut Tokens) -> Result<Vec<Case>, ReadError>
     ensures { Gives (λ x. (x.items, tokens.new)) result (bracketed_cases_at tokens.old) }
 {
     expect(Head::OpenBracket, tokens)?;
@@ -239,23 +247,26 @@ fn bracketed_cases_at<'a>(
 }
 
 /// Reads what follows `switch`.
-fn switching_into<'a>(
+fn switching_into(
     alloc: Global,
-    place: &mut BlockEnd<'a>,
-    tokens: &mut Tokens<'_, 'a>,
+    place: &mut Terminator,
+    tokens: &mut Tokens,
 ) -> Result<(), ReadError>
     ensures { Gives (λ _. (place.new, tokens.new)) result (switching_at tokens.old) }
 {
     let width = integer_at(tokens)?;
     let value = operand_at(alloc, Reg::Int(width), tokens)?;
-    let default = branch_at(tokens)?;
+    let default = branch_at(alloc, tokens)?;
     let cases = bracketed_cases_at(alloc, tokens)?;
-    place.set(Terminator::Switch {
-        width,
-        value,
-        default,
-        cases: Rows::of(cases),
-    });
+    put(
+        place,
+        Terminator::Switch {
+            width,
+            value,
+            default,
+            cases: Rows::of(cases),
+        },
+    );
     Ok(())
 }
 
@@ -298,11 +309,11 @@ fn ending_at(tokens: &mut Tokens) -> Result<Ending, ReadError>
     }
 }
 
-fn behind_end_into<'a>(
+fn behind_end_into(
     alloc: Global,
     end: End,
-    place: &mut BlockEnd<'a>,
-    tokens: &mut Tokens<'_, 'a>,
+    place: &mut Terminator,
+    tokens: &mut Tokens,
 ) -> Result<(), ReadError>
     ensures { Gives (λ _. (place.new, tokens.new)) result (behind_end_at end tokens.old) }
 {
@@ -311,7 +322,7 @@ fn behind_end_into<'a>(
         End::Br => branching_into(alloc, place, tokens),
         End::Switch => switching_into(alloc, place, tokens),
         End::Unreachable => {
-            place.set(Terminator::Unreachable);
+            put(place, Terminator::Unreachable);
             Ok(())
         }
     }
@@ -319,10 +330,10 @@ fn behind_end_into<'a>(
 
 /// Reads a terminator and its attachments, into the place of what stood there.
 #[tactic(auto, unfolding(crate::specs::TerminatorsAt::terminator_at))]
-pub fn terminator_into<'a>(
+pub fn terminator_into(
     alloc: Global,
-    place: &mut Ended<'a>,
-    tokens: &mut Tokens<'_, 'a>,
+    place: &mut Ended,
+    tokens: &mut Tokens,
 ) -> Result<(), ReadError>
     ensures { Gives (λ _. (place.new, tokens.new)) result (terminator_at tokens.old) }
 {

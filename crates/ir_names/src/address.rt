@@ -100,11 +100,7 @@ fn offset_in(shape: &Tree, indices: &[Index]) -> Result<u64, ResolveError>
 
 /// The offset that one level of a constant address adds: its first index counts whole shapes.
 #[tactic(auto, unfolding(crate::specs::Addresses::level_offset))]
-fn level_offset<'t, 'a>(
-    alloc: Global,
-    types: &Types<'t, 'a>,
-    level: &'t Level<'a>,
-) -> Result<u64, ResolveError>
+fn level_offset<'t>(alloc: Global, types: &Types<'t>, level: &'t Level) -> Result<u64, ResolveError>
     ensures { Settles (λ n. n) result (level_offset types.now level.now) }
 {
     let shape = expanded(alloc, types, &level.typed)?;
@@ -126,10 +122,10 @@ fn offset_of(shape: &Tree, indices: &[Index]) -> Result<u64, ResolveError>
 }
 
 /// The offset of all levels of a constant address.
-pub fn address_offset<'t, 'a>(
+pub fn address_offset<'t>(
     alloc: Global,
-    types: &Types<'t, 'a>,
-    levels: &'t [Level<'a>],
+    types: &Types<'t>,
+    levels: &'t [Level],
 ) -> Result<u64, ResolveError>
     ensures { Settles (λ n. n) result (offset_behind 0 types.now levels.now) }
 {

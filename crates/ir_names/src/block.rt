@@ -73,12 +73,12 @@ fn place(body: &mut Body, local: Option<u32>, instr: Instr) -> Result<(), Resolv
 }
 
 /// Resolves one more line of a body, which takes this number, where it takes one.
-fn line_into<'t, 'a>(
+fn line_into<'t>(
     alloc: Global,
-    types: &Types<'t, 'a>,
-    locals: &Locals<'a>,
+    types: &Types<'t>,
+    locals: &Locals<'t>,
     number: u32,
-    line: &'t WrittenLine<'a>,
+    line: &'t WrittenLine,
     body: &mut Body,
 ) -> Result<(), ResolveError>
     ensures { Settles (λ _. body.new) result (line_onto types.now locals.now number line.now body.old) }
@@ -88,12 +88,12 @@ fn line_into<'t, 'a>(
 }
 
 /// The phis and the lines of a block whose first line takes this number, where it takes one.
-pub fn body_in<'t, 'a>(
+pub fn body_in<'t>(
     alloc: Global,
-    types: &Types<'t, 'a>,
-    locals: &Locals<'a>,
+    types: &Types<'t>,
+    locals: &Locals<'t>,
     first: u32,
-    lines: &'t [WrittenLine<'a>],
+    lines: &'t [WrittenLine],
 ) -> Result<Body, ResolveError>
     ensures { Settles (λ b. b) result (body_in types.now locals.now first lines.now) }
 {
@@ -122,13 +122,13 @@ pub fn behind_lines(first: u32, lines: &[WrittenLine]) -> Result<u32, ResolveErr
 
 /// The block of these lines and this end, under a number.
 #[tactic(auto, unfolding(crate::specs::Blocks::block_of))]
-pub fn block_of<'t, 'a>(
+pub fn block_of<'t>(
     alloc: Global,
-    types: &Types<'t, 'a>,
-    locals: &Locals<'a>,
+    types: &Types<'t>,
+    locals: &Locals<'t>,
     number: u32,
-    lines: &'t [WrittenLine<'a>],
-    end: &'t WrittenEnd<'a>,
+    lines: &'t [WrittenLine],
+    end: &'t WrittenEnd,
 ) -> Result<Block, ResolveError>
     ensures { Settles (λ b. b) result (block_of types.now locals.now number lines.now end.now) }
 {

@@ -166,12 +166,12 @@ fn without_parts(line: u32, head: &Shape) -> Result<Tree, ResolveError>
 /// The shape as its names expand, with at most so many levels of arrays and structures. A limit is
 /// passed on the line of the shape's first token.
 #[cycle(expansion)]
-fn expand<'t, 'a>(
+fn expand<'t>(
     alloc: Global,
-    types: &Types<'t, 'a>,
+    types: &Types<'t>,
     nesting: u32,
     line: u32,
-    shape: &'t Shape<'a>,
+    shape: &'t Shape,
 ) -> Result<Tree, ResolveError>
     ensures given { Settles (λ s. s) result (typing.expand nesting types.now line shape.now) }
     ensures laid { IfOk result (λ s. IsLaidOut s) }
@@ -196,13 +196,13 @@ fn expand<'t, 'a>(
 
 /// The structure of these parts, expanded.
 #[cycle(expansion)]
-fn expand_struct<'t, 'a>(
+fn expand_struct<'t>(
     alloc: Global,
-    types: &Types<'t, 'a>,
+    types: &Types<'t>,
     nesting: u32,
     line: u32,
     packed: bool,
-    shapes: &'t [Shape<'a>],
+    shapes: &'t [Shape],
 ) -> Result<Tree, ResolveError>
     ensures given { Settles (λ s. s) result (structure_of line packed (each (typing.expand nesting types.now line) (list_of (parts_of shapes.now)))) }
     ensures laid { IfOk result (λ s. IsLaidOut s) }
@@ -214,12 +214,12 @@ fn expand_struct<'t, 'a>(
 /// Each of these shapes, expanded.
 #[cycle(expansion)]
 #[tactic(auto, using(ir_read::specs::Shapes::list_of_parts))]
-fn expand_all<'t, 'a>(
+fn expand_all<'t>(
     alloc: Global,
-    types: &Types<'t, 'a>,
+    types: &Types<'t>,
     nesting: u32,
     line: u32,
-    shapes: &'t [Shape<'a>],
+    shapes: &'t [Shape],
 ) -> Result<Vec<Tree>, ResolveError>
     ensures given { Settles (λ v. v.items) result (each (typing.expand nesting types.now line) (list_of (parts_of shapes.now))) }
     ensures laid { IfOk result (λ v. AreLaidOut (forms_of v.items)) }
@@ -234,10 +234,10 @@ fn expand_all<'t, 'a>(
 
 /// A shape as it is written somewhere, expanded within the limits.
 #[tactic(auto, unfolding(crate::specs::Types::expanded))]
-pub fn expanded<'t, 'a>(
+pub fn expanded<'t>(
     alloc: Global,
-    types: &Types<'t, 'a>,
-    typed: &'t Typed<'a>,
+    types: &Types<'t>,
+    typed: &'t Typed,
 ) -> Result<Tree, ResolveError>
     ensures given { Settles (λ s. s) result (typing.expanded types.now typed.now) }
     ensures laid { IfOk result (λ s. IsLaidOut s) }
@@ -247,10 +247,10 @@ pub fn expanded<'t, 'a>(
 
 /// An array of so many of a shape, which is a level of its own.
 #[tactic(auto, unfolding(crate::specs::Types::array_of))]
-pub fn array_of<'t, 'a>(
+pub fn array_of<'t>(
     alloc: Global,
-    types: &Types<'t, 'a>,
-    typed: &'t Typed<'a>,
+    types: &Types<'t>,
+    typed: &'t Typed,
     count: u64,
 ) -> Result<Tree, ResolveError>
     ensures given { Settles (λ s. s) result (typing.array_of types.now typed.now count) }

@@ -31,11 +31,7 @@ pub fn params_in(alloc: Global, written: &[WrittenParam]) -> Result<Rows<Param>,
 
 /// What a declaration stands for. It has no linkage but `External`, and keeps no attributes.
 #[tactic(auto, unfolding(crate::specs::Blocks::function_in))]
-pub fn declaration_in<'t, 'a>(
-    alloc: Global,
-    types: &Types<'t, 'a>,
-    head: &Head<'a>,
-) -> Result<Function, ResolveError>
+pub fn declaration_in(alloc: Global, types: &Types, head: &Head) -> Result<Function, ResolveError>
     ensures { Settles (λ f. f) result (blocks.function_in types.now head.now [] false false) }
 {
     params_of(alloc, head.params.as_slice())?;

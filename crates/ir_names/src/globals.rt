@@ -17,12 +17,12 @@ use std::marker::Model;
 
 /// The globals that are defined or declared so far, in the order of the text, and the counter.
 #[derive(Drop)]
-pub struct Globals<'a> {
-    set: IndexSet<CowSlice<'a, u8, Global>>,
+pub struct Globals<'t> {
+    set: IndexSet<CowSlice<'t, u8, Global>>,
     counter: u64,
 }
 
-impl<'a> Model for Globals<'a> {
+impl<'t> Model for Globals<'t> {
     ghost use Rattle.std.specs.Prelude.{map, ◌≤◌, ◌^◌};
     ghost use Rattle.std.specs.Cow.{cow_slice_items};
     ghost use Rattle.ir_names.specs.Globals as globals;
@@ -36,7 +36,7 @@ impl<'a> Model for Globals<'a> {
 
 /// The bytes of a global's name, borrowed where they are written without a backslash.
 #[tactic(auto, unfolding(crate::specs::Symbols::symbol_name))]
-pub fn name_of<'a>(alloc: Global, name: &Name<'a>) -> Result<CowSlice<'a, u8, Global>, AllocError>
+pub fn name_of<'t>(alloc: Global, name: &'t Name) -> Result<CowSlice<'t, u8, Global>, AllocError>
     ensures { IfOk result (λ c. cow_slice_items c ≡ symbol_name name.now) }
 {
     let digits = name.token().bare();
@@ -59,9 +59,9 @@ fn counted_by(counter: u64, number: Option<u32>) -> u64
     }
 }
 
-impl<'a> Globals<'a> {
+impl<'t> Globals<'t> {
     /// No name; the counter is 0.
-    pub fn new(alloc: Global) -> Globals<'a>
+    pub fn new(alloc: Global) -> Globals<'t>
         ensures { result ≡ no_globals }
     {
         Globals {
@@ -70,7 +70,7 @@ impl<'a> Globals<'a> {
         }
     }
 
-    fn has_name(&self, wanted: &CowSlice<'a, u8, Global>) -> bool
+    fn has_name(&self, wanted: &CowSlice<'t, u8, Global>) -> bool
         ensures { result ≡ has_name self.now.names (cow_slice_items wanted.now) }
     {
         self.set.contains(wanted)
@@ -89,7 +89,7 @@ impl<'a> Globals<'a> {
     /// One more name, which isn't there.
     fn push(
         &mut self,
-        wanted: CowSlice<'a, u8, Global>,
+        wanted: CowSlice<'t, u8, Global>,
         number: Option<u32>,
     ) -> Result<(), ResolveError>
         requires { has_name self.old.names (cow_slice_items wanted) ≡ false }
@@ -102,7 +102,7 @@ impl<'a> Globals<'a> {
     }
 
     /// One more definition or declaration, in the order of the text.
-    pub fn define(&mut self, alloc: Global, name: &Name<'a>) -> Result<(), ResolveError>
+    pub fn define(&mut self, alloc: Global, name: &'t Name) -> Result<(), ResolveError>
         ensures { Settles (λ _. self.new) result (with_global self.old name.now) }
     {
         let wanted = name_of(alloc, name)?;

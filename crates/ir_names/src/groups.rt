@@ -14,13 +14,13 @@ use std::borrow::CowSlice;
 
 /// The groups of a module that say `noinline`, and those that say `optnone`.
 #[derive(Drop)]
-pub struct Groups<'a> {
-    pub noinline: NameSet<'a>,
-    pub optnone: NameSet<'a>,
+pub struct Groups<'t> {
+    pub noinline: NameSet<'t>,
+    pub optnone: NameSet<'t>,
 }
 
 /// The digits behind the sign of a group.
-fn digits_of<'a>(text: &'a [u8]) -> &'a [u8]
+fn digits_of<'t>(text: &'t [u8]) -> &'t [u8]
     ensures { result.now ≡ drop 1 text.now }
 {
     match text {
@@ -30,7 +30,7 @@ fn digits_of<'a>(text: &'a [u8]) -> &'a [u8]
 }
 
 /// What a group is known by.
-fn group_key<'a>(name: &Name<'a>) -> CowSlice<'a, u8, Global>
+fn group_key<'t>(name: &'t Name) -> CowSlice<'t, u8, Global>
     ensures { cow_slice_items result ≡ group_key name.now }
 {
     let text = name.token().text;
@@ -38,7 +38,7 @@ fn group_key<'a>(name: &Name<'a>) -> CowSlice<'a, u8, Global>
 }
 
 /// One more name, where it is said.
-fn said<'a>(says: bool, names: &mut NameSet<'a>, name: &Name<'a>) -> Result<(), ResolveError>
+fn said<'t>(says: bool, names: &mut NameSet<'t>, name: &'t Name) -> Result<(), ResolveError>
     ensures { Settles (λ _. names.new) result (Ok (said says names.old (group_key name.now))) }
 {
     if says {
@@ -48,7 +48,7 @@ fn said<'a>(says: bool, names: &mut NameSet<'a>, name: &Name<'a>) -> Result<(), 
     }
 }
 
-fn with_group<'a>(found: &mut Groups<'a>, item: &Item<'a>) -> Result<(), ResolveError>
+fn with_group<'t>(found: &mut Groups<'t>, item: &'t Item) -> Result<(), ResolveError>
     ensures { Settles (λ _. found.new) result (Ok (with_group found.old item.now)) }
 {
     match item {
@@ -65,7 +65,7 @@ fn with_group<'a>(found: &mut Groups<'a>, item: &Item<'a>) -> Result<(), Resolve
 }
 
 /// The groups of a module. A group that stands twice says what both say.
-pub fn groups_of<'a>(alloc: Global, items: &[Item<'a>]) -> Result<Groups<'a>, ResolveError>
+pub fn groups_of<'t>(alloc: Global, items: &'t [Item]) -> Result<Groups<'t>, ResolveError>
     ensures { Settles (λ g. g) result (Ok (groups.groups_of items.now)) }
 {
     let mut found = Groups {
@@ -78,7 +78,7 @@ pub fn groups_of<'a>(alloc: Global, items: &[Item<'a>]) -> Result<Groups<'a>, Re
     Ok(found)
 }
 
-fn any_of<'a>(names: &NameSet<'a>, named: &[Name<'a>]) -> bool
+fn any_of<'t>(names: &NameSet<'t>, named: &'t [Name]) -> bool
     ensures { result ≡ any_of names.now named.now }
 {
     'each: for name in named {
@@ -90,14 +90,14 @@ fn any_of<'a>(names: &NameSet<'a>, named: &[Name<'a>]) -> bool
 }
 
 /// Whether a function's own words or a group that it names say `noinline`.
-pub fn is_noinline<'a>(found: &Groups<'a>, head: &Head<'a>) -> bool
+pub fn is_noinline<'t>(found: &Groups<'t>, head: &'t Head) -> bool
     ensures { result ≡ is_noinline found.now head.now }
 {
     head.noinline || any_of(&found.noinline, head.groups.as_slice())
 }
 
 /// Whether a function's own words or a group that it names say `optnone`.
-pub fn is_optnone<'a>(found: &Groups<'a>, head: &Head<'a>) -> bool
+pub fn is_optnone<'t>(found: &Groups<'t>, head: &'t Head) -> bool
     ensures { result ≡ is_optnone found.now head.now }
 {
     head.optnone || any_of(&found.optnone, head.groups.as_slice())

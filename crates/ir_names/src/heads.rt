@@ -14,20 +14,20 @@ use std::marker::Model;
 
 /// The shape that a chain of type names leads to, and how many names it goes on by.
 #[derive(Clone, Copy)]
-pub struct Chain<'t, 'a> {
-    pub head: &'t Shape<'a>,
+pub struct Chain<'t> {
+    pub head: &'t Shape,
     pub names: usize,
 }
 
 /// The type names of a module with their shapes, in the order of the text, each with the shape that
 /// its chain of names leads to, where it leads to one.
 #[derive(Drop)]
-pub struct Types<'t, 'a> {
-    names: TypeNames<'t, 'a>,
-    heads: Vec<Option<Chain<'t, 'a>>>,
+pub struct Types<'t> {
+    names: TypeNames<'t>,
+    heads: Vec<Option<Chain<'t>>>,
 }
 
-impl<'t, 'a> Model for Types<'t, 'a> {
+impl<'t> Model for Types<'t> {
     ghost use Rattle.std.specs.Prelude.{List, Option};
     ghost use Rattle.ir_read.specs.Shapes.{Written};
     ghost use Rattle.ir_read.specs.ShapeCode.{code_from};
@@ -47,11 +47,11 @@ impl<'t, 'a> Model for Types<'t, 'a> {
 
 /// The chain from the definition at a place, where it is found.
 #[tactic(auto, using(crate::proofs::Chains::chain_found))]
-fn chain_at<'t, 'a>(
-    names: &TypeNames<'t, 'a>,
-    heads: &[Option<Chain<'t, 'a>>],
+fn chain_at<'t>(
+    names: &TypeNames<'t>,
+    heads: &[Option<Chain<'t>>],
     place: usize,
-) -> Option<Chain<'t, 'a>>
+) -> Option<Chain<'t>>
     requires { AreHeads names.now 0 heads.now }
     ensures { IfSome result (λ c. IsChain names.now place c) }
 {
@@ -65,11 +65,11 @@ fn chain_at<'t, 'a>(
 /// The chain from a name whose definition is at a place, where it is found and no longer than the
 /// list of names.
 #[tactic(auto, using(crate::proofs::Chains::goes_one))]
-fn chain_through<'t, 'a>(
-    names: &TypeNames<'t, 'a>,
-    heads: &[Option<Chain<'t, 'a>>],
+fn chain_through<'t>(
+    names: &TypeNames<'t>,
+    heads: &[Option<Chain<'t>>],
     place: usize,
-) -> Option<Chain<'t, 'a>>
+) -> Option<Chain<'t>>
     requires { AreHeads names.now 0 heads.now }
     ensures { IfSome result (λ c. (name : Tok) → entry_in names.now name ≡ Ok (shape_at names.now place) → IsChainFrom names.now name c) }
 {
@@ -83,12 +83,12 @@ fn chain_through<'t, 'a>(
 }
 
 /// The chain from a name, where it is found.
-fn chain_from<'t, 'a>(
+fn chain_from<'t>(
     alloc: Global,
-    names: &TypeNames<'t, 'a>,
-    heads: &[Option<Chain<'t, 'a>>],
-    name: &Name<'a>,
-) -> Result<Option<Chain<'t, 'a>>, AllocError>
+    names: &TypeNames<'t>,
+    heads: &[Option<Chain<'t>>],
+    name: &Name,
+) -> Result<Option<Chain<'t>>, AllocError>
     requires { AreHeads names.now 0 heads.now }
     ensures { IfOk result (λ o. IfSome o (λ c. IsChainFrom names.now name.now c)) }
 {
@@ -101,12 +101,12 @@ fn chain_from<'t, 'a>(
 
 /// The chain from the definition at a place, by those that are found.
 #[tactic(auto, using(crate::proofs::Chains::named_chain))]
-fn next_chain<'t, 'a>(
+fn next_chain<'t>(
     alloc: Global,
-    names: &TypeNames<'t, 'a>,
-    heads: &[Option<Chain<'t, 'a>>],
+    names: &TypeNames<'t>,
+    heads: &[Option<Chain<'t>>],
     place: usize,
-) -> Result<Option<Chain<'t, 'a>>, AllocError>
+) -> Result<Option<Chain<'t>>, AllocError>
     requires { AreHeads names.now 0 heads.now }
     ensures { IfOk result (λ o. IsHead names.now place o) }
 {
@@ -124,10 +124,10 @@ fn next_chain<'t, 'a>(
 
 /// Finds the chain from the definition at a place.
 #[tactic(auto, using(crate::proofs::Chains::set_found))]
-fn find<'t, 'a>(
+fn find<'t>(
     alloc: Global,
-    names: &TypeNames<'t, 'a>,
-    heads: &mut [Option<Chain<'t, 'a>>],
+    names: &TypeNames<'t>,
+    heads: &mut [Option<Chain<'t>>],
     place: usize,
 ) -> Result<(), AllocError>
     requires { AreHeads names.now 0 heads.old }
@@ -141,9 +141,9 @@ fn find<'t, 'a>(
 }
 
 /// The place of the name that the definition at a place stands for, where it is one.
-fn next_place<'t, 'a>(
+fn next_place<'t>(
     alloc: Global,
-    names: &TypeNames<'t, 'a>,
+    names: &TypeNames<'t>,
     place: usize,
 ) -> Result<Option<usize>, AllocError> {
     match names.shape_at(place) {
@@ -159,9 +159,9 @@ fn next_place<'t, 'a>(
 }
 
 /// The places of a chain from a place on that weren't seen before.
-fn path_from<'t, 'a>(
+fn path_from<'t>(
     alloc: Global,
-    names: &TypeNames<'t, 'a>,
+    names: &TypeNames<'t>,
     seen: &mut [bool],
     start: usize,
 ) -> Result<Vec<usize>, AllocError> {
@@ -191,7 +191,7 @@ fn add_reversed(order: &mut Vec<usize>, path: &[usize]) -> Result<(), AllocError
 
 /// All places, each behind that of the name that it stands for. Only the time that is taken rests on
 /// the order.
-fn order_of<'t, 'a>(alloc: Global, names: &TypeNames<'t, 'a>) -> Result<Vec<usize>, AllocError> {
+fn order_of<'t>(alloc: Global, names: &TypeNames<'t>) -> Result<Vec<usize>, AllocError> {
     let mut seen = vec![in alloc; false; names.len()]?;
     let mut order = Vec::new(alloc);
     'each: for place in 0..names.len() {
@@ -203,10 +203,7 @@ fn order_of<'t, 'a>(alloc: Global, names: &TypeNames<'t, 'a>) -> Result<Vec<usiz
 
 /// The chain from each definition, each found once.
 #[tactic(auto, using(crate::proofs::Chains::none_found))]
-fn heads_of<'t, 'a>(
-    alloc: Global,
-    names: &TypeNames<'t, 'a>,
-) -> Result<Vec<Option<Chain<'t, 'a>>>, AllocError>
+fn heads_of<'t>(alloc: Global, names: &TypeNames<'t>) -> Result<Vec<Option<Chain<'t>>>, AllocError>
     ensures { IfOk result (λ v. AreHeads names.now 0 v.items) }
 {
     let order = order_of(alloc, names)?;
@@ -217,9 +214,9 @@ fn heads_of<'t, 'a>(
     Ok(heads)
 }
 
-impl<'t, 'a> Types<'t, 'a> {
+impl<'t> Types<'t> {
     /// These type names, with what each stands for in the end.
-    pub fn of(alloc: Global, names: TypeNames<'t, 'a>) -> Result<Types<'t, 'a>, AllocError>
+    pub fn of(alloc: Global, names: TypeNames<'t>) -> Result<Types<'t>, AllocError>
         ensures { IfOk result (λ t. t ≡ names.entry) }
     {
         let heads = heads_of(alloc, &names)?;
@@ -227,7 +224,7 @@ impl<'t, 'a> Types<'t, 'a> {
     }
 
     /// The type names.
-    pub fn names(&self) -> &TypeNames<'t, 'a>
+    pub fn names(&self) -> &TypeNames<'t>
         ensures { result.now ≡ self.now }
     {
         &self.names
@@ -235,7 +232,7 @@ impl<'t, 'a> Types<'t, 'a> {
 
     /// The shape that the chain of names from a name on leads to.
     #[tactic(auto, unfolding(crate::specs::Types::head_of), using(crate::proofs::Chains::found))]
-    fn head_behind(&self, alloc: Global, name: &Name<'a>) -> Result<&'t Shape<'a>, ResolveError>
+    fn head_behind(&self, alloc: Global, name: &Name) -> Result<&'t Shape, ResolveError>
         ensures { Settles (λ s. s.now) result (head_of self.now (named name.now)) }
     {
         let place = self.names.place_in(alloc, name)?;
@@ -249,11 +246,7 @@ impl<'t, 'a> Types<'t, 'a> {
 
     /// The shape that a shape is, or that the chain of names from it on leads to.
     #[tactic(auto, unfolding(crate::specs::Types::head_of))]
-    pub fn head_of(
-        &self,
-        alloc: Global,
-        shape: &'t Shape<'a>,
-    ) -> Result<&'t Shape<'a>, ResolveError>
+    pub fn head_of(&self, alloc: Global, shape: &'t Shape) -> Result<&'t Shape, ResolveError>
         ensures { Settles (λ s. s.now) result (head_of self.now shape.now) }
     {
         match shape.node() {

@@ -15,10 +15,10 @@ use ir_tree::{BinaryOp, Flags, Instr, Predicate, Reg, Rows, Shape, align_of};
 use std::alloc::Global;
 
 /// What an `alloca` of so many of a shape takes: a count other than 1 makes an array.
-pub fn allocated<'t, 'a>(
+pub fn allocated<'t>(
     alloc: Global,
-    types: &Types<'t, 'a>,
-    typed: &'t Typed<'a>,
+    types: &Types<'t>,
+    typed: &'t Typed,
     count: u64,
 ) -> Result<Shape, ResolveError>
     ensures given { Settles (λ s. s) result (allocated types.now typed.now count) }
@@ -51,15 +51,15 @@ fn reg_align(reg: Reg) -> u64
     }
 }
 
-fn binary_in<'t, 'a>(
+fn binary_in<'t>(
     alloc: Global,
-    types: &Types<'t, 'a>,
-    locals: &Locals<'a>,
+    types: &Types<'t>,
+    locals: &Locals<'t>,
     op: BinaryOp,
     flags: Flags,
     width: u8,
-    left: &'t Operand<'a>,
-    right: &'t Operand<'a>,
+    left: &'t Operand,
+    right: &'t Operand,
 ) -> Result<Instr, ResolveError>
     ensures { Settles (λ i. i) result (instr_in types.now locals.now (written.Binary op flags width left.now right.now)) }
 {
@@ -74,14 +74,14 @@ fn binary_in<'t, 'a>(
     })
 }
 
-fn icmp_in<'t, 'a>(
+fn icmp_in<'t>(
     alloc: Global,
-    types: &Types<'t, 'a>,
-    locals: &Locals<'a>,
+    types: &Types<'t>,
+    locals: &Locals<'t>,
     predicate: Predicate,
     reg: Reg,
-    left: &'t Operand<'a>,
-    right: &'t Operand<'a>,
+    left: &'t Operand,
+    right: &'t Operand,
 ) -> Result<Instr, ResolveError>
     ensures { Settles (λ i. i) result (instr_in types.now locals.now (written.Icmp predicate reg left.now right.now)) }
 {
@@ -95,13 +95,13 @@ fn icmp_in<'t, 'a>(
     })
 }
 
-fn select_in<'t, 'a>(
+fn select_in<'t>(
     alloc: Global,
-    types: &Types<'t, 'a>,
-    locals: &Locals<'a>,
-    condition: &'t Operand<'a>,
-    if_true: &'t Argument<'a>,
-    if_false: &'t Argument<'a>,
+    types: &Types<'t>,
+    locals: &Locals<'t>,
+    condition: &'t Operand,
+    if_true: &'t Argument,
+    if_false: &'t Argument,
 ) -> Result<Instr, ResolveError>
     ensures { Settles (λ i. i) result (instr_in types.now locals.now (written.Select condition.now if_true.now if_false.now)) }
 {
@@ -115,11 +115,11 @@ fn select_in<'t, 'a>(
     })
 }
 
-fn alloca_in<'t, 'a>(
+fn alloca_in<'t>(
     alloc: Global,
-    types: &Types<'t, 'a>,
-    locals: &Locals<'a>,
-    typed: &'t Typed<'a>,
+    types: &Types<'t>,
+    locals: &Locals<'t>,
+    typed: &'t Typed,
     count: u64,
     align: Option<u64>,
 ) -> Result<Instr, ResolveError>
@@ -130,12 +130,12 @@ fn alloca_in<'t, 'a>(
     Ok(Instr::Alloca { shape, align })
 }
 
-fn load_in<'t, 'a>(
+fn load_in<'t>(
     alloc: Global,
-    types: &Types<'t, 'a>,
-    locals: &Locals<'a>,
+    types: &Types<'t>,
+    locals: &Locals<'t>,
     reg: Reg,
-    address: &'t Operand<'a>,
+    address: &'t Operand,
     align: Option<u64>,
 ) -> Result<Instr, ResolveError>
     ensures { Settles (λ i. i) result (instr_in types.now locals.now (written.Load reg address.now align)) }
@@ -149,13 +149,13 @@ fn load_in<'t, 'a>(
     })
 }
 
-fn store_in<'t, 'a>(
+fn store_in<'t>(
     alloc: Global,
-    types: &Types<'t, 'a>,
-    locals: &Locals<'a>,
+    types: &Types<'t>,
+    locals: &Locals<'t>,
     reg: Reg,
-    value: &'t Operand<'a>,
-    address: &'t Operand<'a>,
+    value: &'t Operand,
+    address: &'t Operand,
     align: Option<u64>,
 ) -> Result<Instr, ResolveError>
     ensures { Settles (λ i. i) result (instr_in types.now locals.now (written.Store reg value.now address.now align)) }
@@ -171,14 +171,14 @@ fn store_in<'t, 'a>(
     })
 }
 
-fn address_in<'t, 'a>(
+fn address_in<'t>(
     alloc: Global,
-    types: &Types<'t, 'a>,
-    locals: &Locals<'a>,
+    types: &Types<'t>,
+    locals: &Locals<'t>,
     inbounds: bool,
-    typed: &'t Typed<'a>,
-    base: &'t Operand<'a>,
-    indices: &'t Rows<Argument<'a>>,
+    typed: &'t Typed,
+    base: &'t Operand,
+    indices: &'t Rows<Argument>,
 ) -> Result<Instr, ResolveError>
     ensures { Settles (λ i. i) result (instr_in types.now locals.now (written.Address inbounds typed.now base.now indices.now)) }
 {
@@ -193,13 +193,13 @@ fn address_in<'t, 'a>(
     })
 }
 
-fn call_in<'t, 'a>(
+fn call_in<'t>(
     alloc: Global,
-    types: &Types<'t, 'a>,
-    locals: &Locals<'a>,
+    types: &Types<'t>,
+    locals: &Locals<'t>,
     result_type: Option<Reg>,
-    callee: &'t Operand<'a>,
-    arguments: &'t Rows<Argument<'a>>,
+    callee: &'t Operand,
+    arguments: &'t Rows<Argument>,
 ) -> Result<Instr, ResolveError>
     ensures { Settles (λ i. i) result (instr_in types.now locals.now (written.Call result_type callee.now arguments.now)) }
 {
@@ -213,11 +213,11 @@ fn call_in<'t, 'a>(
 }
 
 /// What an instruction stands for.
-pub fn instr_in<'t, 'a>(
+pub fn instr_in<'t>(
     alloc: Global,
-    types: &Types<'t, 'a>,
-    locals: &Locals<'a>,
-    instr: &'t Written<'a>,
+    types: &Types<'t>,
+    locals: &Locals<'t>,
+    instr: &'t Written,
 ) -> Result<Instr, ResolveError>
     ensures { Settles (λ i. i) result (instr_in types.now locals.now instr.now) }
 {

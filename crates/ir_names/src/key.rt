@@ -11,8 +11,8 @@ use std::borrow::CowSlice;
 /// A name by its bytes, or a number. Bytes that are written without a backslash are borrowed. A number
 /// that is written is below `2^32`; one that is counted may be past that.
 #[derive(PartialEq, Eq, Hash, Drop)]
-pub enum Key<'a> {
-    Spelled(CowSlice<'a, u8, Global>),
+pub enum Key<'t> {
+    Spelled(CowSlice<'t, u8, Global>),
     Written(u64),
 }
 
@@ -31,7 +31,7 @@ pub fn number_of(name: &Name) -> Option<u32>
 
 /// What a name is known by.
 #[tactic(auto, unfolding(crate::specs::Keys::key_of))]
-pub fn key_of<'a>(alloc: Global, name: &Name<'a>) -> Result<Key<'a>, AllocError>
+pub fn key_of<'t>(alloc: Global, name: &'t Name) -> Result<Key<'t>, AllocError>
     ensures exact { IfOk result (λ k. key k ≡ key_of name.now) }
     ensures written { IfOk result (λ k. IsWritten (key k)) }
 {

@@ -34,12 +34,12 @@ fn counted(counter: u64, new_key: &Key) -> u64
 /// The definitions of a function so far, in the order of the text, and the counter. A number that is
 /// written raises the counter to `2^32` at most, and a definition without a name by one.
 #[derive(Drop)]
-pub struct Locals<'a> {
-    map: IndexMap<Key<'a>, Sort>,
+pub struct Locals<'t> {
+    map: IndexMap<Key<'t>, Sort>,
     counter: u64,
 }
 
-impl<'a> Model for Locals<'a> {
+impl<'t> Model for Locals<'t> {
     ghost use Rattle.ir_names.specs.Locals.{Known};
     ghost use Rattle.ir_names.specs.LocalsViews.{definitions};
 
@@ -53,9 +53,9 @@ impl<'a> Model for Locals<'a> {
     ghost invariant = { λ l. AreBelow l.counter (definitions l.map.entries) × (l.counter ≤ 2 ^ 32 + length (definitions l.map.entries)) };
 }
 
-impl<'a> Locals<'a> {
+impl<'t> Locals<'t> {
     /// No definition; the counter is 0.
-    pub fn new(alloc: Global) -> Locals<'a>
+    pub fn new(alloc: Global) -> Locals<'t>
         ensures { result ≡ none_known }
     {
         Locals {
@@ -65,7 +65,7 @@ impl<'a> Locals<'a> {
     }
 
     /// The place of a key among the definitions, and its sort.
-    fn place_of(&self, wanted: &Key<'a>) -> Option<(usize, Sort)>
+    fn place_of(&self, wanted: &Key<'t>) -> Option<(usize, Sort)>
         ensures place { option_map (λ p. p.0) result ≡ place_of self.now.definitions (key wanted.now) }
         ensures sort { option_map (λ p. p.1) result ≡ sort_of self.now.definitions (key wanted.now) }
     {
@@ -76,7 +76,7 @@ impl<'a> Locals<'a> {
     }
 
     /// One more definition, under a key that isn't there.
-    fn push(&mut self, new_key: Key<'a>, sort: Sort) -> Result<(), ResolveError>
+    fn push(&mut self, new_key: Key<'t>, sort: Sort) -> Result<(), ResolveError>
         requires free { stands self.old.definitions (key new_key) ≡ false }
         requires above { is_below self.old.counter (key new_key) ≡ false }
         requires next { MayFollow self.old.counter (key new_key) }
@@ -91,7 +91,7 @@ impl<'a> Locals<'a> {
     }
 
     /// Whether a definition stands under a key.
-    fn stands(&self, wanted: &Key<'a>) -> bool
+    fn stands(&self, wanted: &Key<'t>) -> bool
         ensures { result ≡ stands self.now.definitions (key wanted.now) }
     {
         match self.place_of(wanted) {
@@ -101,7 +101,7 @@ impl<'a> Locals<'a> {
     }
 
     /// Whether a key is a number below the counter.
-    fn is_below(&self, wanted: &Key<'a>) -> bool
+    fn is_below(&self, wanted: &Key<'t>) -> bool
         ensures { result ≡ is_below self.now.counter (key wanted.now) }
     {
         match wanted {
@@ -111,7 +111,7 @@ impl<'a> Locals<'a> {
     }
 
     /// A definition under a name on a line.
-    fn define_as(&mut self, line: u32, wanted: Key<'a>, sort: Sort) -> Result<(), ResolveError>
+    fn define_as(&mut self, line: u32, wanted: Key<'t>, sort: Sort) -> Result<(), ResolveError>
         requires { IsWritten (key wanted) }
         ensures { Settles (λ _. self.new) result (with_definition self.old line (key wanted.entry) sort) }
     {
@@ -136,7 +136,7 @@ impl<'a> Locals<'a> {
     pub fn define(
         &mut self,
         alloc: Global,
-        name: Option<&Name<'a>>,
+        name: Option<&'t Name>,
         sort: Sort,
     ) -> Result<(), ResolveError>
         ensures { Settles (λ _. self.new) result (with_name self.old (option_copied name.entry) sort) }
@@ -151,7 +151,7 @@ impl<'a> Locals<'a> {
     }
 
     /// The number of what a name stands for, where that is of this sort.
-    pub fn number_of(&self, alloc: Global, name: &Name<'a>, sort: Sort) -> Result<u32, ResolveError>
+    pub fn number_of(&self, alloc: Global, name: &Name, sort: Sort) -> Result<u32, ResolveError>
         ensures { Settles (λ n. n) result (number_in self.now sort name.now) }
     {
         let wanted = key_of(alloc, name)?;

@@ -13,11 +13,11 @@ use std::marker::Model;
 
 /// Names, each once.
 #[derive(Drop)]
-pub struct NameSet<'a> {
-    set: IndexSet<CowSlice<'a, u8, Global>>,
+pub struct NameSet<'t> {
+    set: IndexSet<CowSlice<'t, u8, Global>>,
 }
 
-impl<'a> Model for NameSet<'a> {
+impl<'t> Model for NameSet<'t> {
     ghost use Rattle.std.specs.Prelude.{List, ℕ, map};
     ghost use Rattle.std.specs.Cow.{cow_slice_items};
 
@@ -26,9 +26,9 @@ impl<'a> Model for NameSet<'a> {
     ghost view = { λ s. map cow_slice_items s.set.keys };
 }
 
-impl<'a> NameSet<'a> {
+impl<'t> NameSet<'t> {
     /// No name.
-    pub fn new(alloc: Global) -> NameSet<'a>
+    pub fn new(alloc: Global) -> NameSet<'t>
         ensures { result ≡ [] }
     {
         NameSet {
@@ -37,14 +37,14 @@ impl<'a> NameSet<'a> {
     }
 
     /// Whether a name is there.
-    pub fn contains(&self, wanted: &CowSlice<'a, u8, Global>) -> bool
+    pub fn contains(&self, wanted: &CowSlice<'t, u8, Global>) -> bool
         ensures { result ≡ has_name self.now (cow_slice_items wanted.now) }
     {
         self.set.contains(wanted)
     }
 
     /// One more name, which isn't there.
-    fn push(&mut self, wanted: CowSlice<'a, u8, Global>) -> Result<(), ResolveError>
+    fn push(&mut self, wanted: CowSlice<'t, u8, Global>) -> Result<(), ResolveError>
         requires { has_name self.old (cow_slice_items wanted) ≡ false }
         ensures { Settles (λ _. self.new) result (Ok (self.old ++ cow_slice_items wanted.entry ∷ [])) }
     {
@@ -53,7 +53,7 @@ impl<'a> NameSet<'a> {
     }
 
     /// One more name, where it isn't there.
-    pub fn add(&mut self, wanted: CowSlice<'a, u8, Global>) -> Result<(), ResolveError>
+    pub fn add(&mut self, wanted: CowSlice<'t, u8, Global>) -> Result<(), ResolveError>
         ensures { Settles (λ _. self.new) result (Ok (once self.old (cow_slice_items wanted.entry))) }
     {
         if self.contains(&wanted) {

@@ -27,10 +27,10 @@ pub fn is_defined(line: &Line) -> bool
     line.name.is_some() || has_result(&line.instr)
 }
 
-fn with_params<'a>(
+fn with_params<'t>(
     alloc: Global,
-    locals: &mut Locals<'a>,
-    params: &[Param<'a>],
+    locals: &mut Locals<'t>,
+    params: &'t [Param],
 ) -> Result<(), ResolveError>
     ensures { Settles (λ _. locals.new) result (with_params locals.old params.now) }
 {
@@ -40,11 +40,7 @@ fn with_params<'a>(
     Ok(())
 }
 
-fn with_line<'a>(
-    alloc: Global,
-    locals: &mut Locals<'a>,
-    line: &Line<'a>,
-) -> Result<(), ResolveError>
+fn with_line<'t>(alloc: Global, locals: &mut Locals<'t>, line: &'t Line) -> Result<(), ResolveError>
     ensures { Settles (λ _. locals.new) result (with_line locals.old line.now) }
 {
     if is_defined(line) {
@@ -54,10 +50,10 @@ fn with_line<'a>(
     }
 }
 
-fn with_lines<'a>(
+fn with_lines<'t>(
     alloc: Global,
-    locals: &mut Locals<'a>,
-    lines: &[Line<'a>],
+    locals: &mut Locals<'t>,
+    lines: &'t [Line],
 ) -> Result<(), ResolveError>
     ensures { Settles (λ _. locals.new) result (with_lines locals.old lines.now) }
 {
@@ -68,10 +64,10 @@ fn with_lines<'a>(
 }
 
 #[tactic(auto, unfolding(crate::specs::Numbering::with_block))]
-fn with_block<'a>(
+fn with_block<'t>(
     alloc: Global,
-    locals: &mut Locals<'a>,
-    block: &Block<'a>,
+    locals: &mut Locals<'t>,
+    block: &'t Block,
 ) -> Result<(), ResolveError>
     ensures { Settles (λ _. locals.new) result (with_block locals.old block.now) }
 {
@@ -79,10 +75,10 @@ fn with_block<'a>(
     with_lines(alloc, locals, block.lines.as_slice())
 }
 
-fn with_blocks<'a>(
+fn with_blocks<'t>(
     alloc: Global,
-    locals: &mut Locals<'a>,
-    blocks: &[Block<'a>],
+    locals: &mut Locals<'t>,
+    blocks: &'t [Block],
 ) -> Result<(), ResolveError>
     ensures { Settles (λ _. locals.new) result (with_blocks locals.old blocks.now) }
 {
@@ -94,7 +90,7 @@ fn with_blocks<'a>(
 
 /// The definitions of a declaration: its parameters.
 #[tactic(auto, unfolding(crate::specs::Numbering::locals_of))]
-pub fn params_of<'a>(alloc: Global, params: &[Param<'a>]) -> Result<Locals<'a>, ResolveError>
+pub fn params_of<'t>(alloc: Global, params: &'t [Param]) -> Result<Locals<'t>, ResolveError>
     ensures { Settles (λ k. k) result (numbering.locals_of params.now []) }
 {
     let mut locals = Locals::new(alloc);
@@ -104,11 +100,11 @@ pub fn params_of<'a>(alloc: Global, params: &[Param<'a>]) -> Result<Locals<'a>, 
 
 /// The definitions of a function: its parameters, and each block before its results.
 #[tactic(auto, unfolding(crate::specs::Numbering::locals_of))]
-pub fn locals_of<'a>(
+pub fn locals_of<'t>(
     alloc: Global,
-    params: &[Param<'a>],
-    blocks: &[Block<'a>],
-) -> Result<Locals<'a>, ResolveError>
+    params: &'t [Param],
+    blocks: &'t [Block],
+) -> Result<Locals<'t>, ResolveError>
     ensures { Settles (λ k. k) result (numbering.locals_of params.now blocks.now) }
 {
     let mut locals = Locals::new(alloc);

@@ -13,11 +13,11 @@ use ir_tree::{Argument, Incoming, Operand, Rows};
 use std::alloc::Global;
 
 /// What an operand stands for.
-pub fn operand_in<'t, 'a>(
+pub fn operand_in<'t>(
     alloc: Global,
-    types: &Types<'t, 'a>,
-    locals: &Locals<'a>,
-    operand: &'t WrittenOperand<'a>,
+    types: &Types<'t>,
+    locals: &Locals<'t>,
+    operand: &'t WrittenOperand,
 ) -> Result<Operand, ResolveError>
     ensures { Settles (λ o. o) result (operand_in types.now locals.now operand.now) }
 {
@@ -46,11 +46,11 @@ pub fn operand_in<'t, 'a>(
 }
 
 /// What an operand with its type stands for.
-pub fn argument_in<'t, 'a>(
+pub fn argument_in<'t>(
     alloc: Global,
-    types: &Types<'t, 'a>,
-    locals: &Locals<'a>,
-    argument: &'t Written<'a>,
+    types: &Types<'t>,
+    locals: &Locals<'t>,
+    argument: &'t Written,
 ) -> Result<Argument, ResolveError>
     ensures { Settles (λ a. a) result (argument_in types.now locals.now argument.now) }
 {
@@ -62,11 +62,11 @@ pub fn argument_in<'t, 'a>(
 }
 
 /// What each of these stands for.
-pub fn arguments_in<'t, 'a>(
+pub fn arguments_in<'t>(
     alloc: Global,
-    types: &Types<'t, 'a>,
-    locals: &Locals<'a>,
-    arguments: &'t [Written<'a>],
+    types: &Types<'t>,
+    locals: &Locals<'t>,
+    arguments: &'t [Written],
 ) -> Result<Rows<Argument>, ResolveError>
     ensures { Settles (λ v. v) result (each (argument_in types.now locals.now) arguments.now) }
 {
@@ -79,11 +79,11 @@ pub fn arguments_in<'t, 'a>(
 }
 
 /// What an entry of a phi stands for.
-fn incoming_in<'t, 'a>(
+fn incoming_in<'t>(
     alloc: Global,
-    types: &Types<'t, 'a>,
-    locals: &Locals<'a>,
-    incoming: &'t WrittenIncoming<'a>,
+    types: &Types<'t>,
+    locals: &Locals<'t>,
+    incoming: &'t WrittenIncoming,
 ) -> Result<Incoming, ResolveError>
     ensures { Settles (λ i. i) result (incoming_in types.now locals.now incoming.now) }
 {
@@ -93,11 +93,11 @@ fn incoming_in<'t, 'a>(
 }
 
 /// What each entry of a phi stands for.
-pub fn entries_in<'t, 'a>(
+pub fn entries_in<'t>(
     alloc: Global,
-    types: &Types<'t, 'a>,
-    locals: &Locals<'a>,
-    entries: &'t [WrittenIncoming<'a>],
+    types: &Types<'t>,
+    locals: &Locals<'t>,
+    entries: &'t [WrittenIncoming],
 ) -> Result<Rows<Incoming>, ResolveError>
     ensures { Settles (λ v. v) result (each (incoming_in types.now locals.now) entries.now) }
 {

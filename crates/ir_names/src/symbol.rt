@@ -19,7 +19,7 @@ fn is_padded(digits: &[u8]) -> bool
 
 /// Decimal digits without zeros in front.
 #[tactic(auto, using(crate::proofs::Trimming::trimmed_padded, crate::proofs::Trimming::trimmed_done, crate::proofs::Trimming::padded_some))]
-pub fn trimmed<'a>(digits: &'a [u8]) -> &'a [u8]
+pub fn trimmed<'t>(digits: &'t [u8]) -> &'t [u8]
     ensures { result.now ≡ trimmed digits.now }
 {
     let mut rest = digits;

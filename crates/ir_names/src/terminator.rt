@@ -12,11 +12,7 @@ use ir_read::{Argument, Case as WrittenCase, Name, Operand, Terminator as Writte
 use ir_tree::{Case, Rows, Terminator};
 use std::alloc::Global;
 
-fn case_in<'a>(
-    alloc: Global,
-    locals: &Locals<'a>,
-    case: &WrittenCase<'a>,
-) -> Result<Case, ResolveError>
+fn case_in(alloc: Global, locals: &Locals, case: &WrittenCase) -> Result<Case, ResolveError>
     ensures { Settles (λ c. c) result (case_in locals.now case.now) }
 {
     let target = locals.number_of(alloc, &case.target, Sort::Block)?;
@@ -28,10 +24,10 @@ fn case_in<'a>(
     })
 }
 
-fn cases_in<'a>(
+fn cases_in(
     alloc: Global,
-    locals: &Locals<'a>,
-    cases: &[WrittenCase<'a>],
+    locals: &Locals,
+    cases: &[WrittenCase],
 ) -> Result<Rows<Case>, ResolveError>
     ensures { Settles (λ v. v) result (each (case_in locals.now) cases.now) }
 {
@@ -43,11 +39,11 @@ fn cases_in<'a>(
     Ok(out)
 }
 
-fn return_in<'t, 'a>(
+fn return_in<'t>(
     alloc: Global,
-    types: &Types<'t, 'a>,
-    locals: &Locals<'a>,
-    value: &'t Argument<'a>,
+    types: &Types<'t>,
+    locals: &Locals<'t>,
+    value: &'t Argument,
 ) -> Result<Terminator, ResolveError>
     ensures { Settles (λ e. e) result (end_in types.now locals.now (written.Return (Some value.now))) }
 {
@@ -55,13 +51,13 @@ fn return_in<'t, 'a>(
     Ok(Terminator::Return(Some(value)))
 }
 
-fn branch_in<'t, 'a>(
+fn branch_in<'t>(
     alloc: Global,
-    types: &Types<'t, 'a>,
-    locals: &Locals<'a>,
-    condition: &'t Operand<'a>,
-    if_true: &Name<'a>,
-    if_false: &Name<'a>,
+    types: &Types<'t>,
+    locals: &Locals<'t>,
+    condition: &'t Operand,
+    if_true: &Name,
+    if_false: &Name,
 ) -> Result<Terminator, ResolveError>
     ensures { Settles (λ e. e) result (end_in types.now locals.now (written.Branch condition.now if_true.now if_false.now)) }
 {
@@ -75,14 +71,14 @@ fn branch_in<'t, 'a>(
     })
 }
 
-fn switch_in<'t, 'a>(
+fn switch_in<'t>(
     alloc: Global,
-    types: &Types<'t, 'a>,
-    locals: &Locals<'a>,
+    types: &Types<'t>,
+    locals: &Locals<'t>,
     width: u8,
-    value: &'t Operand<'a>,
-    default: &Name<'a>,
-    cases: &'t Rows<WrittenCase<'a>>,
+    value: &'t Operand,
+    default: &Name,
+    cases: &'t Rows<WrittenCase>,
 ) -> Result<Terminator, ResolveError>
     ensures { Settles (λ e. e) result (end_in types.now locals.now (written.Switch width value.now default.now cases.now)) }
 {
@@ -98,11 +94,11 @@ fn switch_in<'t, 'a>(
 }
 
 /// What a terminator stands for.
-pub fn end_in<'t, 'a>(
+pub fn end_in<'t>(
     alloc: Global,
-    types: &Types<'t, 'a>,
-    locals: &Locals<'a>,
-    end: &'t Written<'a>,
+    types: &Types<'t>,
+    locals: &Locals<'t>,
+    end: &'t Written,
 ) -> Result<Terminator, ResolveError>
     ensures { Settles (λ e. e) result (end_in types.now locals.now end.now) }
 {

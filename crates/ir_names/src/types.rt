@@ -19,11 +19,11 @@ use std::marker::Model;
 
 /// The type names of a module with their shapes, in the order of the text.
 #[derive(Drop)]
-pub struct TypeNames<'t, 'a> {
-    map: IndexMap<Key<'a>, Option<&'t Shape<'a>>>,
+pub struct TypeNames<'t> {
+    map: IndexMap<Key<'t>, Option<&'t Shape>>,
 }
 
-impl<'t, 'a> Model for TypeNames<'t, 'a> {
+impl<'t> Model for TypeNames<'t> {
     ghost use Rattle.std.specs.Prelude.{List, Option};
     ghost use Rattle.ir_read.specs.Shapes.{Written};
     ghost use Rattle.ir_read.specs.ShapeCode.{code_from};
@@ -38,9 +38,9 @@ impl<'t, 'a> Model for TypeNames<'t, 'a> {
     ghost view = { λ t. types t.map.entries };
 }
 
-impl<'t, 'a> TypeNames<'t, 'a> {
+impl<'t> TypeNames<'t> {
     /// No name.
-    pub fn new(alloc: Global) -> TypeNames<'t, 'a>
+    pub fn new(alloc: Global) -> TypeNames<'t>
         ensures { result ≡ [] }
     {
         TypeNames {
@@ -52,8 +52,8 @@ impl<'t, 'a> TypeNames<'t, 'a> {
     pub fn define(
         &mut self,
         alloc: Global,
-        name: &Name<'a>,
-        shape: Option<&'t Shape<'a>>,
+        name: &'t Name,
+        shape: Option<&'t Shape>,
     ) -> Result<(), ResolveError>
         ensures { Settles (λ _. self.new) result (with_type self.old name.now (option_copied shape.entry)) }
     {
@@ -71,8 +71,8 @@ impl<'t, 'a> TypeNames<'t, 'a> {
     pub fn add(
         &mut self,
         alloc: Global,
-        name: &Name<'a>,
-        shape: Option<&'t Shape<'a>>,
+        name: &'t Name,
+        shape: Option<&'t Shape>,
     ) -> Result<(), ResolveError>
         ensures { Settles (λ _. self.new) result (Ok (if is_some (entry_of self.old (key_of name.now)) then self.old else self.old ++ (key_of name.now, option_copied shape.entry) ∷ [])) }
     {
@@ -84,7 +84,7 @@ impl<'t, 'a> TypeNames<'t, 'a> {
     }
 
     /// One more definition, under a key that isn't there.
-    fn push(&mut self, wanted: Key<'a>, shape: Option<&'t Shape<'a>>) -> Result<(), ResolveError>
+    fn push(&mut self, wanted: Key<'t>, shape: Option<&'t Shape>) -> Result<(), ResolveError>
         requires { is_some (entry_of self.old (key wanted)) ≡ false }
         ensures { Settles (λ _. self.new) result (Ok (self.old ++ (key wanted.entry, option_copied shape.entry) ∷ [])) }
     {
@@ -100,7 +100,7 @@ impl<'t, 'a> TypeNames<'t, 'a> {
     }
 
     /// The place of a type name among the definitions.
-    pub fn place_in(&self, alloc: Global, name: &Name<'a>) -> Result<usize, ResolveError>
+    pub fn place_in(&self, alloc: Global, name: &Name) -> Result<usize, ResolveError>
         ensures { Settles (λ p. shape_at self.now p) result (entry_in self.now name.now) }
     {
         let wanted = key_of(alloc, name)?;
@@ -111,11 +111,7 @@ impl<'t, 'a> TypeNames<'t, 'a> {
     }
 
     /// The place of a type name among the definitions, where it is there.
-    pub fn place_of_name(
-        &self,
-        alloc: Global,
-        name: &Name<'a>,
-    ) -> Result<Option<usize>, ResolveError>
+    pub fn place_of_name(&self, alloc: Global, name: &Name) -> Result<Option<usize>, ResolveError>
         ensures { Settles (λ p. p) result (Ok (place_of self.now (key_of name.now))) }
     {
         let wanted = key_of(alloc, name)?;
@@ -123,7 +119,7 @@ impl<'t, 'a> TypeNames<'t, 'a> {
     }
 
     /// What a type name that is used is defined as.
-    pub fn shape_in(&self, alloc: Global, name: &Name<'a>) -> Result<&'t Shape<'a>, ResolveError>
+    pub fn shape_in(&self, alloc: Global, name: &Name) -> Result<&'t Shape, ResolveError>
         ensures { Settles (λ s. s.now) result (shape_in self.now name.now) }
     {
         let place = self.place_in(alloc, name)?;
@@ -134,7 +130,7 @@ impl<'t, 'a> TypeNames<'t, 'a> {
     }
 
     /// The place of a key among the definitions.
-    fn place_of(&self, wanted: &Key<'a>) -> Option<usize>
+    fn place_of(&self, wanted: &Key<'t>) -> Option<usize>
         ensures place { result ≡ place_of self.now (key wanted.now) }
         ensures shape { option_map (λ p. shape_at self.now p) result ≡ entry_of self.now (key wanted.now) }
     {
@@ -142,7 +138,7 @@ impl<'t, 'a> TypeNames<'t, 'a> {
     }
 
     /// What the definition at a place says.
-    pub fn shape_at(&self, place: usize) -> Option<&'t Shape<'a>>
+    pub fn shape_at(&self, place: usize) -> Option<&'t Shape>
         ensures { option_copied result ≡ shape_at self.now place }
     {
         match self.map.get_index(place) {
@@ -159,7 +155,7 @@ impl<'t, 'a> TypeNames<'t, 'a> {
         first: usize,
         first_line: u32,
         most: usize,
-    ) -> Result<&'t Shape<'a>, ResolveError>
+    ) -> Result<&'t Shape, ResolveError>
         ensures { Settles (λ s. s.now) result (chased most self.now first_line (shape_at self.now first)) }
     {
         let mut place = first;
@@ -185,7 +181,7 @@ impl<'t, 'a> TypeNames<'t, 'a> {
 }
 
 /// The shape of a type name that isn't opaque.
-pub fn shape_if<'t, 'a>(typed: &'t Option<Typed<'a>>) -> Option<&'t Shape<'a>>
+pub fn shape_if<'t>(typed: &'t Option<Typed>) -> Option<&'t Shape>
     ensures { option_copied result ≡ shape_if typed.now }
 {
     match typed {

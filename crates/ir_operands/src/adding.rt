@@ -21,8 +21,8 @@ pub fn push<T: Drop>(list: &mut Vec<T>, value: T) -> Result<(), ReadError>
 /// Adds an item, or says that memory ran out.
 ///
 /// One call for all readers of items, so that what is proved of a list of items is proved once.
-pub fn push_item<'a>(items: &mut Vec<Item<'a>>, item: Item<'a>) -> Result<(), ReadError>
-    ensures pushed { OnOk result (items.new.items ≡ items.old.items ++ item.entry ∷ []) }
+pub fn push_item(items: &mut Vec<Item>, item: Item) -> Result<(), ReadError>
+    ensures pushed { OnOk result (items.new.items ≡ items.old.items ++ item ∷ []) }
     ensures memory { IfErr result (λ e. e ≡ NoMemory) }
 {
     push(items, item)

@@ -13,16 +13,16 @@ use lto_forms::ReadError;
 ///
 /// The readers of instructions put them here, so that none is handed from reader to reader.
 #[derive(Drop)]
-pub struct Listing<'a> {
-    pub lines: Vec<Line<'a>>,
-    pub name: Option<Name<'a>>,
+pub struct Listing {
+    pub lines: Vec<Line>,
+    pub name: Option<Name>,
     pub line: u32,
 }
 
-impl<'a> Listing<'a> {
+impl Listing {
     /// Adds the line of this instruction. The name before it is used up.
-    pub fn put(&mut self, instr: Instr<'a>) -> Result<(), ReadError>
-        ensures put { OnOk result (self.new.lines.items ≡ put self.old instr.entry) }
+    pub fn put(&mut self, instr: Instr) -> Result<(), ReadError>
+        ensures put { OnOk result (self.new.lines.items ≡ put self.old instr) }
         ensures memory { IfErr result (λ e. e ≡ NoMemory) }
     {
         let name = self.name.take();

@@ -21,17 +21,17 @@ use ir_read::{
     Shape, Tokens, Typed, decimal, expect, literal, memory_refusal, named, refusal, width,
 };
 use lto_forms::{Fault, FaultKind, ReadError};
-use std::alloc::Global;
+use std::alloc::{AllocError, Global};
 
 /// A shape with the line of its first token, and its extent, to which type names add no bytes.
 #[derive(Drop)]
-pub struct Measured<'a> {
-    pub typed: Typed<'a>,
+pub struct Measured {
+    pub typed: Typed,
     pub extent: Extent,
 }
 
 /// The scalar that a token writes.
-fn scalar_of<'a>(t: &Token<'a>) -> Measured<'a>
+fn scalar_of(t: &Token) -> Measured
     ensures exact { result.typed ≡ scalar_typed (tok t.now) }
     ensures align { result.extent ≡ scalar_extent (scalar_align (tok t.now)) }
     ensures measured { result.extent ≡ extent_of result.typed.shape }
@@ -59,37 +59,41 @@ fn scalar_of<'a>(t: &Token<'a>) -> Measured<'a>
 
 /// What a token means where a scalar or a type name may stand.
 #[tactic(auto, unfolding(crate::specs::ShapeForms::leaf_means, crate::specs::ShapeForms::is_leaf, lto_forms::specs::Rules::is_valued))]
-fn leaf_means<'a>(room: Room, t: &Token<'a>) -> Result<Measured<'a>, FaultKind>
+fn leaf_means(
+    alloc: Global,
+    room: Room,
+    t: &Token,
+) -> Result<Result<Measured, FaultKind>, AllocError>
     requires { IsRoom room }
-    ensures exact { view_result (λ x. x.typed) result ≡ leaf_means room (tok t.now) }
-    ensures measured { IfOk result (λ x. x.extent ≡ extent_of x.typed.shape) }
-    ensures fits { IfOk result (λ x. Fits room x.extent) }
+    ensures exact { IfOk result (λ means. view_result (λ x. x.typed) means ≡ leaf_means room (tok t.now)) }
+    ensures measured { IfOk result (λ means. IfOk means (λ x. x.extent ≡ extent_of x.typed.shape)) }
+    ensures fits { IfOk result (λ means. IfOk means (λ x. Fits room x.extent)) }
 {
     match t.head {
         Head::MemoryInteger | Head::Ptr => {
             let scalar = scalar_of(t);
             if room.room_for(scalar.extent.align) > 1 {
-                Ok(scalar)
+                Ok(Ok(scalar))
             } else {
-                Err(FaultKind::Limit)
+                Ok(Err(FaultKind::Limit))
             }
         }
-        Head::Local => match named(t) {
-            None => Err(FaultKind::Number),
-            Some(name) => Ok(Measured {
+        Head::Local => match named(alloc, t)? {
+            None => Ok(Err(FaultKind::Number)),
+            Some(name) => Ok(Ok(Measured {
                 typed: Typed {
                     shape: Shape::named(name),
                     line: t.line,
                 },
                 extent: Extent::no_bytes(),
-            }),
+            })),
         },
-        head => Err(memory_refusal(head)),
+        head => Ok(Err(memory_refusal(head))),
     }
 }
 
 /// Takes a scalar or a type name.
-pub fn leaf_at<'a>(room: Room, tokens: &mut Tokens<'_, 'a>) -> Result<Measured<'a>, ReadError>
+pub fn leaf_at(alloc: Global, room: Room, tokens: &mut Tokens) -> Result<Measured, ReadError>
     requires { IsRoom room }
     ensures exact { Gives (λ x. (x.typed, tokens.new)) result (leaf_at room tokens.old) }
     ensures measured { IfOk result (λ x. x.extent ≡ extent_of x.typed.shape) }
@@ -101,7 +105,7 @@ pub fn leaf_at<'a>(room: Room, tokens: &mut Tokens<'_, 'a>) -> Result<Measured<'
             left,
             kind: FaultKind::Syntax,
         })),
-        Some(t) => match leaf_means(room, &t) {
+        Some(t) => match leaf_means(alloc, room, &t)? {
             Ok(x) => Ok(x),
             Err(kind) => Err(ReadError::Fault(Fault { left, kind })),
         },
@@ -110,7 +114,7 @@ pub fn leaf_at<'a>(room: Room, tokens: &mut Tokens<'_, 'a>) -> Result<Measured<'
 
 /// Takes a scalar or a type name where no array and no structure may begin.
 #[tactic(auto, unfolding(crate::specs::ShapeFormsAt::innermost_at))]
-fn innermost_at<'a>(room: Room, tokens: &mut Tokens<'_, 'a>) -> Result<Measured<'a>, ReadError>
+fn innermost_at(alloc: Global, room: Room, tokens: &mut Tokens) -> Result<Measured, ReadError>
     requires { IsRoom room }
     ensures exact { Gives (λ x. (x.typed, tokens.new)) result (innermost_at room tokens.old) }
     ensures measured { IfOk result (λ x. x.extent ≡ extent_of x.typed.shape) }
@@ -122,7 +126,7 @@ fn innermost_at<'a>(room: Room, tokens: &mut Tokens<'_, 'a>) -> Result<Measured<
             kind: FaultKind::Limit,
         }))
     } else {
-        leaf_at(room, tokens)
+        leaf_at(alloc, room, tokens)
     }
 }
 
@@ -232,15 +236,15 @@ pub fn brace_behind_angle_at(tokens: &mut Tokens) -> Result<(), ReadError>
 
 /// The members of a structure, and their extent without the padding behind them.
 #[derive(Drop)]
-struct Members<'a> {
-    shapes: Vec<Shape<'a>>,
+struct Members {
+    shapes: Vec<Shape>,
     extent: Extent,
 }
 
 /// A member of a structure, and the extent of the members up to it.
 #[derive(Drop)]
-struct Member<'a> {
-    shape: Shape<'a>,
+struct Member {
+    shape: Shape,
     extent: Extent,
 }
 
@@ -256,18 +260,18 @@ fn array_head_at(tokens: &mut Tokens) -> Result<(u32, u64), ReadError>
 }
 
 /// Reads the bracket behind the element of an array.
-fn closed_array_at<'a>(
+fn closed_array_at(
     alloc: Global,
     count: u64,
     line: u32,
-    element: Measured<'a>,
-    tokens: &mut Tokens<'_, 'a>,
-) -> Result<Measured<'a>, ReadError>
+    element: Measured,
+    tokens: &mut Tokens,
+) -> Result<Measured, ReadError>
     requires size { count * element.extent.size ≤ 2147483648 }
     requires measured { element.extent ≡ extent_of element.typed.shape }
-    ensures exact { Gives (λ x. (x.typed, tokens.new)) result (closed_array_at count line element.entry.typed.shape tokens.old) }
+    ensures exact { Gives (λ x. (x.typed, tokens.new)) result (closed_array_at count line element.typed.shape tokens.old) }
     ensures measured { IfOk result (λ x. x.extent ≡ extent_of x.typed.shape) }
-    ensures fits { (room : Room) → Fits room (extent (count * element.entry.extent.size) element.entry.extent.align) → IfOk result (λ x. Fits room x.extent) }
+    ensures fits { (room : Room) → Fits room (extent (count * element.extent.size) element.extent.align) → IfOk result (λ x. Fits room x.extent) }
 {
     expect(Head::CloseBracket, tokens)?;
     let extent = element.extent.repeated(count);
@@ -279,12 +283,12 @@ fn closed_array_at<'a>(
 }
 
 /// The structure of these members.
-fn structure_of<'a>(packed: bool, line: u32, members: Members<'a>) -> Measured<'a>
+fn structure_of(packed: bool, line: u32, members: Members) -> Measured
     requires size { members.extent.size ≤ 2147483648 }
     requires measured { members.extent ≡ members_extent packed no_bytes (parts_of members.shapes.items) }
-    ensures exact { result.typed ≡ typed (structure packed (parts_of members.entry.shapes.items)) line }
+    ensures exact { result.typed ≡ typed (structure packed (parts_of members.shapes.items)) line }
     ensures measured { result.extent ≡ extent_of result.typed.shape }
-    ensures extent { result.extent ≡ padded members.entry.extent }
+    ensures extent { result.extent ≡ padded members.extent }
 {
     Measured {
         typed: Typed {
@@ -308,12 +312,12 @@ fn packed_head_at(tokens: &mut Tokens) -> Result<u32, ReadError>
 /// Reads `[ N x shape ]`, the elements of at most so many levels.
 #[cycle(shapes)]
 #[tactic(auto, using(crate::proofs::Heads::array_is, crate::proofs::ExtentLaws::elements_fit))]
-fn array_at<'a>(
+fn array_at(
     alloc: Global,
     depth: u8,
     room: Room,
-    tokens: &mut Tokens<'_, 'a>,
-) -> Result<Measured<'a>, ReadError>
+    tokens: &mut Tokens,
+) -> Result<Measured, ReadError>
     requires { IsRoom room }
     ensures exact { Gives (λ x. (x.typed, tokens.new)) result (array_at (λ n. shape_at depth (shared n room)) tokens.old) }
     ensures measured { IfOk result (λ x. x.extent ≡ extent_of x.typed.shape) }
@@ -327,14 +331,14 @@ fn array_at<'a>(
 /// Reads a comma and a member of a structure behind others.
 #[cycle(shapes)]
 #[tactic(auto, unfolding(crate::specs::ShapeFormsAt::further_at), using(crate::proofs::ExtentLaws::grown_fits, crate::proofs::ExtentLaws::fits_most))]
-fn member_at<'a>(
+fn member_at(
     alloc: Global,
     packed: bool,
     depth: u8,
     room: Room,
     before: Extent,
-    tokens: &mut Tokens<'_, 'a>,
-) -> Result<Member<'a>, ReadError>
+    tokens: &mut Tokens,
+) -> Result<Member, ReadError>
     requires room { IsRoom room }
     requires before { Fits room before }
     ensures exact { Gives (λ x. ((x.shape, x.extent), tokens.new)) result (further_at packed (λ s. shape_at depth (left packed room s)) before tokens.old) }
@@ -352,18 +356,18 @@ fn member_at<'a>(
 /// Reads the members behind the first, and the brace behind them.
 #[cycle(shapes)]
 #[tactic(auto, unfolding(crate::specs::ShapeFormsAt::more_members_at), using(crate::proofs::ExtentLaws::grown_fits, crate::proofs::ExtentLaws::fits_most))]
-fn more_members_at<'a>(
+fn more_members_at(
     alloc: Global,
     packed: bool,
     depth: u8,
     room: Room,
-    first: Member<'a>,
-    tokens: &mut Tokens<'_, 'a>,
-) -> Result<Members<'a>, ReadError>
+    first: Member,
+    tokens: &mut Tokens,
+) -> Result<Members, ReadError>
     requires room { IsRoom room }
     requires measured { first.extent ≡ grown packed no_bytes (extent_of first.shape) }
     requires fits { Fits room first.extent }
-    ensures exact { Gives (λ x. (x.shapes.items, tokens.new)) result (more_members_at packed (λ s. shape_at depth (left packed room s)) first.entry.shape tokens.old) }
+    ensures exact { Gives (λ x. (x.shapes.items, tokens.new)) result (more_members_at packed (λ s. shape_at depth (left packed room s)) first.shape tokens.old) }
     ensures measured { IfOk result (λ x. x.extent ≡ members_extent packed no_bytes (parts_of x.shapes.items)) }
     ensures fits { IfOk result (λ x. Fits room x.extent) }
 {
@@ -382,13 +386,13 @@ fn more_members_at<'a>(
 /// Reads the members of a structure, and the brace behind them.
 #[cycle(shapes)]
 #[tactic(auto, unfolding(crate::specs::ShapeFormsAt::members_at), using(crate::proofs::ExtentLaws::grown_fits, crate::proofs::ExtentLaws::fits_most))]
-fn members_at<'a>(
+fn members_at(
     alloc: Global,
     packed: bool,
     depth: u8,
     room: Room,
-    tokens: &mut Tokens<'_, 'a>,
-) -> Result<Members<'a>, ReadError>
+    tokens: &mut Tokens,
+) -> Result<Members, ReadError>
     requires { IsRoom room }
     ensures exact { Gives (λ x. (x.shapes.items, tokens.new)) result (members_at packed (λ s. shape_at depth (left packed room s)) tokens.old) }
     ensures measured { IfOk result (λ x. x.extent ≡ members_extent packed no_bytes (parts_of x.shapes.items)) }
@@ -413,12 +417,12 @@ fn members_at<'a>(
 /// Reads `{ .. }`, the members of at most so many levels.
 #[cycle(shapes)]
 #[tactic(auto, unfolding(crate::specs::ShapeFormsAt::structure_at))]
-fn structure_at<'a>(
+fn structure_at(
     alloc: Global,
     depth: u8,
     room: Room,
-    tokens: &mut Tokens<'_, 'a>,
-) -> Result<Measured<'a>, ReadError>
+    tokens: &mut Tokens,
+) -> Result<Measured, ReadError>
     requires { IsRoom room }
     ensures exact { Gives (λ x. (x.typed, tokens.new)) result (structure_at (λ s. shape_at depth (left false room s)) tokens.old) }
     ensures measured { IfOk result (λ x. x.extent ≡ extent_of x.typed.shape) }
@@ -432,12 +436,12 @@ fn structure_at<'a>(
 /// Reads `< { .. } >`, the members of at most so many levels.
 #[cycle(shapes)]
 #[tactic(auto, using(crate::proofs::Heads::packed_is))]
-fn packed_at<'a>(
+fn packed_at(
     alloc: Global,
     depth: u8,
     room: Room,
-    tokens: &mut Tokens<'_, 'a>,
-) -> Result<Measured<'a>, ReadError>
+    tokens: &mut Tokens,
+) -> Result<Measured, ReadError>
     requires { IsRoom room }
     ensures exact { Gives (λ x. (x.typed, tokens.new)) result (packed_at (λ s. shape_at depth (left true room s)) tokens.old) }
     ensures measured { IfOk result (λ x. x.extent ≡ extent_of x.typed.shape) }
@@ -452,12 +456,12 @@ fn packed_at<'a>(
 /// Reads a shape whose parts have at most so many levels.
 #[cycle(shapes)]
 #[tactic(auto, unfolding(crate::specs::ShapeFormsAt::shape_over_at))]
-fn outer_at<'a>(
+fn outer_at(
     alloc: Global,
     depth: u8,
     room: Room,
-    tokens: &mut Tokens<'_, 'a>,
-) -> Result<Measured<'a>, ReadError>
+    tokens: &mut Tokens,
+) -> Result<Measured, ReadError>
     requires { IsRoom room }
     ensures exact { Gives (λ x. (x.typed, tokens.new)) result (shape_over_at (λ n. shape_at depth (shared n room)) (λ packed s. shape_at depth (left packed room s)) (leaf_at room) tokens.old) }
     ensures measured { IfOk result (λ x. x.extent ≡ extent_of x.typed.shape) }
@@ -470,25 +474,25 @@ fn outer_at<'a>(
     } else if tokens.comes(Head::OpenAngle) {
         packed_at(alloc, depth, room, tokens)
     } else {
-        leaf_at(room, tokens)
+        leaf_at(alloc, room, tokens)
     }
 }
 
 /// Reads a shape of at most so many levels.
 #[cycle(shapes)]
-fn shape_at<'a>(
+fn shape_at(
     alloc: Global,
     depth: u8,
     room: Room,
-    tokens: &mut Tokens<'_, 'a>,
-) -> Result<Measured<'a>, ReadError>
+    tokens: &mut Tokens,
+) -> Result<Measured, ReadError>
     requires { IsRoom room }
     ensures exact { Gives (λ x. (x.typed, tokens.new)) result (shape_at depth room tokens.old) }
     ensures measured { IfOk result (λ x. x.extent ≡ extent_of x.typed.shape) }
     ensures fits { IfOk result (λ x. Fits room x.extent) }
 {
     if depth == 0 {
-        innermost_at(room, tokens)
+        innermost_at(alloc, room, tokens)
     } else {
         outer_at(alloc, depth - 1, room, tokens)
     }
@@ -496,10 +500,7 @@ fn shape_at<'a>(
 
 /// Reads a shape of at most 32 levels and `2^31` bytes, where type names count as neither.
 #[tactic(auto, unfolding(crate::specs::ShapeFormsAt::memory_shape_at))]
-pub fn memory_shape_at<'a>(
-    alloc: Global,
-    tokens: &mut Tokens<'_, 'a>,
-) -> Result<Measured<'a>, ReadError>
+pub fn memory_shape_at(alloc: Global, tokens: &mut Tokens) -> Result<Measured, ReadError>
     ensures exact { Gives (λ x. (x.typed, tokens.new)) result (memory_shape_at tokens.old) }
     ensures measured { IfOk result (λ x. x.extent ≡ extent_of x.typed.shape) }
     ensures fits { IfOk result (λ x. Fits whole x.extent) }

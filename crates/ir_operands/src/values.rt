@@ -1,7 +1,7 @@
 //! Reads operands, with constant addresses among them (LangRef, "Constant Expressions"), which nest
 //! as deep as the text does: the levels that are open are kept in a list.
 
-ghost use Rattle.std.specs.Prelude.{◌≡◌, reverse};
+ghost use Rattle.std.specs.Prelude.{◌≡◌, reverse, IfOk};
 ghost use Rattle.ir_lex.specs.Tok.{tok};
 ghost use Rattle.lto_forms.specs.Alphabet.{among};
 ghost use Rattle.lto_forms.specs.Readers.{Gives};
@@ -23,7 +23,7 @@ use ir_read::{
 };
 use ir_tree::{Reg, Rows};
 use lto_forms::{Fault, FaultKind, ReadError};
-use std::alloc::Global;
+use std::alloc::{AllocError, Global};
 
 /// Takes `ptr`.
 #[tactic(auto, unfolding(lto_forms::specs::Rules::is_class))]
@@ -150,12 +150,8 @@ fn indices_at(alloc: Global, tokens: &mut Tokens) -> Result<Vec<Index>, ReadErro
 
 /// Reads the indices of a level, and the parenthesis behind them.
 #[tactic(auto, unfolding(crate::specs::ValuesAt::closing_one_at))]
-fn closing_one_at<'a>(
-    alloc: Global,
-    typed: Typed<'a>,
-    tokens: &mut Tokens<'_, 'a>,
-) -> Result<Level<'a>, ReadError>
-    ensures { Gives (λ x. (x, tokens.new)) result (closing_one_at typed.entry tokens.old) }
+fn closing_one_at(alloc: Global, typed: Typed, tokens: &mut Tokens) -> Result<Level, ReadError>
+    ensures { Gives (λ x. (x, tokens.new)) result (closing_one_at typed tokens.old) }
 {
     let indices = indices_at(alloc, tokens)?;
     expect(Head::CloseParen, tokens)?;
@@ -167,11 +163,11 @@ fn closing_one_at<'a>(
 
 /// Reads what closes the levels that are open, the outermost first; the answer has the innermost
 /// first.
-fn closing_at<'a>(
+fn closing_at(
     alloc: Global,
-    outer: &mut Vec<Typed<'a>>,
-    tokens: &mut Tokens<'_, 'a>,
-) -> Result<Vec<Level<'a>>, ReadError>
+    outer: &mut Vec<Typed>,
+    tokens: &mut Tokens,
+) -> Result<Vec<Level>, ReadError>
     ensures { Gives (λ x. (x.items, tokens.new)) result (closing_at (reverse outer.old.items) tokens.old) }
 {
     let mut levels = Vec::new(alloc);
@@ -184,10 +180,10 @@ fn closing_at<'a>(
 
 /// Reads the beginning of a level, and adds it.
 #[tactic(auto, unfolding(crate::specs::ValuesAt::opening_at, crate::specs::ValuesAt::opened_at))]
-fn opening_into<'a>(
+fn opening_into(
     alloc: Global,
-    levels: &mut Vec<Typed<'a>>,
-    tokens: &mut Tokens<'_, 'a>,
+    levels: &mut Vec<Typed>,
+    tokens: &mut Tokens,
 ) -> Result<(), ReadError>
     ensures { Gives (λ _. (levels.new.items, tokens.new)) result (pushed_at levels.old.items opening_at tokens.old) }
 {
@@ -201,10 +197,7 @@ fn opening_into<'a>(
 }
 
 /// Reads the beginnings of levels, at least one.
-fn all_openings_at<'a>(
-    alloc: Global,
-    tokens: &mut Tokens<'_, 'a>,
-) -> Result<Vec<Typed<'a>>, ReadError>
+fn all_openings_at(alloc: Global, tokens: &mut Tokens) -> Result<Vec<Typed>, ReadError>
     ensures { Gives (λ x. (x.items, tokens.new)) result (all_openings_at tokens.old) }
 {
     let mut levels = Vec::new(alloc);
@@ -216,20 +209,22 @@ fn all_openings_at<'a>(
 }
 
 #[tactic(auto, unfolding(lto_forms::specs::Rules::is_valued))]
-fn global_means<'a>(t: &Token<'a>) -> Result<Name<'a>, FaultKind>
-    ensures { result ≡ is_valued tokens refusal GLOBAL global_named (tok t.now) }
+fn global_means(alloc: Global, t: &Token) -> Result<Result<Name, FaultKind>, AllocError>
+    ensures { IfOk result (λ x. x ≡ is_valued tokens refusal GLOBAL global_named (tok t.now)) }
 {
     match t.head {
-        Head::Global | Head::NumberedGlobal | Head::NumberedDefinition => match global_named(t) {
-            None => Err(FaultKind::Number),
-            Some(name) => Ok(name),
-        },
-        head => Err(refusal(head)),
+        Head::Global | Head::NumberedGlobal | Head::NumberedDefinition => {
+            match global_named(alloc, t)? {
+                None => Ok(Err(FaultKind::Number)),
+                Some(name) => Ok(Ok(name)),
+            }
+        }
+        head => Ok(Err(refusal(head))),
     }
 }
 
 /// Takes the name of a global.
-pub fn global_at<'a>(tokens: &mut Tokens<'_, 'a>) -> Result<Name<'a>, ReadError>
+pub fn global_at(alloc: Global, tokens: &mut Tokens) -> Result<Name, ReadError>
     ensures { Gives (λ x. (x, tokens.new)) result (global_at tokens.old) }
 {
     let left = tokens.left();
@@ -238,7 +233,7 @@ pub fn global_at<'a>(tokens: &mut Tokens<'_, 'a>) -> Result<Name<'a>, ReadError>
             left,
             kind: FaultKind::Syntax,
         })),
-        Some(t) => match global_means(&t) {
+        Some(t) => match global_means(alloc, &t)? {
             Ok(x) => Ok(x),
             Err(kind) => Err(ReadError::Fault(Fault { left, kind })),
         },
@@ -247,11 +242,11 @@ pub fn global_at<'a>(tokens: &mut Tokens<'_, 'a>) -> Result<Name<'a>, ReadError>
 
 /// Reads a constant address.
 #[tactic(auto, unfolding(crate::specs::ValuesAt::reached_at), using(crate::proofs::Grouping::address_is))]
-pub fn address_at<'a>(alloc: Global, tokens: &mut Tokens<'_, 'a>) -> Result<Operand<'a>, ReadError>
+pub fn address_at(alloc: Global, tokens: &mut Tokens) -> Result<Operand, ReadError>
     ensures { Gives (λ x. (x, tokens.new)) result (address_at tokens.old) }
 {
     let mut outer = all_openings_at(alloc, tokens)?;
-    let name = global_at(tokens)?;
+    let name = global_at(alloc, tokens)?;
     let levels = closing_at(alloc, &mut outer, tokens)?;
     let steps = Steps {
         name,
@@ -263,17 +258,13 @@ pub fn address_at<'a>(alloc: Global, tokens: &mut Tokens<'_, 'a>) -> Result<Oper
 
 /// Reads an operand of a type. A number is a literal of it; `true` and `false` are those of `i1`.
 #[tactic(auto, unfolding(crate::specs::ValuesAt::operand_at))]
-pub fn operand_at<'a>(
-    alloc: Global,
-    reg: Reg,
-    tokens: &mut Tokens<'_, 'a>,
-) -> Result<Operand<'a>, ReadError>
+pub fn operand_at(alloc: Global, reg: Reg, tokens: &mut Tokens) -> Result<Operand, ReadError>
     requires { IsReg reg }
     ensures { Gives (λ x. (x, tokens.new)) result (operand_at reg tokens.old) }
 {
     if tokens.comes(Head::GetElementPtr) {
         address_at(alloc, tokens)
     } else {
-        simple_at(reg, tokens)
+        simple_at(alloc, reg, tokens)
     }
 }

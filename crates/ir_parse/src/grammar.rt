@@ -24,11 +24,7 @@ const GLOBAL_NAMES: usize = 65535;
 
 /// Reads these tokens as items, into an empty list.
 #[tactic(auto, unfolding(crate::specs::Modules::module_of, crate::specs::Modules::FURTHER_PARAMETERS, crate::specs::Modules::GLOBAL_NAMES))]
-fn items_of<'a>(
-    alloc: Global,
-    all: &[Token<'a>],
-    items: &mut Vec<Item<'a>>,
-) -> Result<(), GrammarError>
+fn items_of(alloc: Global, all: &[Token], items: &mut Vec<Item>) -> Result<(), GrammarError>
     requires { items.now.items ≡ [] }
     ensures { Gives (λ x. items.new.items) result (module_of (toks all.now)) }
 {
@@ -111,7 +107,7 @@ fn fault_of(alloc: Global, lexed: &Lexed, refusal: Refusal) -> Result<ReadFault,
 pub(crate) fn items_in<'a>(
     alloc: Global,
     lexed: &Lexed<'a>,
-    items: &mut Vec<Item<'a>>,
+    items: &mut Vec<Item>,
 ) -> Result<(), ReadError>
     requires { items.now.items ≡ [] }
     ensures found { OnOk result ((lexed.now.whole ≡ true) × whole_module (toks lexed.now.tokens.items) items.new.items) }

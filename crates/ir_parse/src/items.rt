@@ -33,10 +33,10 @@ use std::alloc::Global;
 
 /// Reads the layout of the target, and adds it.
 #[tactic(auto, unfolding(crate::specs::Putting::behind_at, crate::specs::ItemFormsAt::kept_at))]
-fn layout_into<'a>(
+fn layout_into(
     alloc: Global,
-    items: &mut Vec<Item<'a>>,
-    tokens: &mut Tokens<'_, 'a>,
+    items: &mut Vec<Item>,
+    tokens: &mut Tokens,
 ) -> Result<Before, ReadError>
     ensures { Gives (λ b. ((items.new.items, b), tokens.new)) result (behind_at items.old.items (kept_at layout_line_at) tokens.old) }
 {
@@ -46,22 +46,23 @@ fn layout_into<'a>(
 
 /// Reads the triple of the target, and adds it.
 #[tactic(auto, unfolding(crate::specs::Putting::behind_at, crate::specs::ItemFormsAt::kept_at))]
-fn triple_into<'a>(
-    items: &mut Vec<Item<'a>>,
-    tokens: &mut Tokens<'_, 'a>,
+fn triple_into(
+    alloc: Global,
+    items: &mut Vec<Item>,
+    tokens: &mut Tokens,
 ) -> Result<Before, ReadError>
     ensures { Gives (λ b. ((items.new.items, b), tokens.new)) result (behind_at items.old.items (kept_at triple_line_at) tokens.old) }
 {
-    triple_line_into(items, tokens)?;
+    triple_line_into(alloc, items, tokens)?;
     Ok(Before::Item)
 }
 
 /// Reads a line on the target, and adds it: `target triple = "x86_64-pc-linux-gnu"`.
 #[tactic(auto, unfolding(crate::specs::Putting::behind_at, crate::specs::ItemFormsAt::kept_at, ir_heads::specs::TargetsAt::target_line_at))]
-fn target_into<'a>(
+fn target_into(
     alloc: Global,
-    items: &mut Vec<Item<'a>>,
-    tokens: &mut Tokens<'_, 'a>,
+    items: &mut Vec<Item>,
+    tokens: &mut Tokens,
 ) -> Result<Before, ReadError>
     ensures { Gives (λ b. ((items.new.items, b), tokens.new)) result (behind_at items.old.items (kept_at target_line_at) tokens.old) }
 {
@@ -69,17 +70,13 @@ fn target_into<'a>(
     if tokens.comes(Head::Datalayout) {
         layout_into(alloc, items, tokens)
     } else {
-        triple_into(items, tokens)
+        triple_into(alloc, items, tokens)
     }
 }
 
 /// Reads the definition of a type, and adds it.
 #[tactic(auto, unfolding(crate::specs::Putting::behind_at, crate::specs::ItemFormsAt::kept_at))]
-fn type_into<'a>(
-    alloc: Global,
-    items: &mut Vec<Item<'a>>,
-    tokens: &mut Tokens<'_, 'a>,
-) -> Result<Before, ReadError>
+fn type_into(alloc: Global, items: &mut Vec<Item>, tokens: &mut Tokens) -> Result<Before, ReadError>
     ensures { Gives (λ b. ((items.new.items, b), tokens.new)) result (behind_at items.old.items (kept_at type_line_at) tokens.old) }
 {
     type_line_into(alloc, items, tokens)?;
@@ -88,10 +85,10 @@ fn type_into<'a>(
 
 /// Reads a group of attributes, and adds it.
 #[tactic(auto, unfolding(crate::specs::Putting::behind_at, crate::specs::ItemFormsAt::kept_at))]
-fn group_into<'a>(
+fn group_into(
     alloc: Global,
-    items: &mut Vec<Item<'a>>,
-    tokens: &mut Tokens<'_, 'a>,
+    items: &mut Vec<Item>,
+    tokens: &mut Tokens,
 ) -> Result<Before, ReadError>
     ensures { Gives (λ b. ((items.new.items, b), tokens.new)) result (behind_at items.old.items (kept_at attribute_group_at) tokens.old) }
 {
@@ -101,10 +98,10 @@ fn group_into<'a>(
 
 /// Reads a variable, and adds it.
 #[tactic(auto, unfolding(crate::specs::Putting::behind_at, crate::specs::ItemFormsAt::kept_at))]
-fn variable_into<'a>(
+fn variable_into(
     alloc: Global,
-    items: &mut Vec<Item<'a>>,
-    tokens: &mut Tokens<'_, 'a>,
+    items: &mut Vec<Item>,
+    tokens: &mut Tokens,
 ) -> Result<Before, ReadError>
     ensures { Gives (λ b. ((items.new.items, b), tokens.new)) result (behind_at items.old.items (kept_at variable_line_at) tokens.old) }
 {
@@ -114,11 +111,11 @@ fn variable_into<'a>(
 
 /// Reads the definition of a function, and adds it.
 #[tactic(auto, unfolding(crate::specs::Putting::behind_at, crate::specs::ItemFormsAt::kept_at))]
-fn definition_into<'a>(
+fn definition_into(
     alloc: Global,
     room: usize,
-    items: &mut Vec<Item<'a>>,
-    tokens: &mut Tokens<'_, 'a>,
+    items: &mut Vec<Item>,
+    tokens: &mut Tokens,
 ) -> Result<Before, ReadError>
     ensures { Gives (λ b. ((items.new.items, b), tokens.new)) result (behind_at items.old.items (kept_at (definition_at room)) tokens.old) }
 {
@@ -129,10 +126,10 @@ fn definition_into<'a>(
 /// Reads an item that defines and declares no global name, and is no metadata; it is added, where it
 /// is kept.
 #[tactic(auto, unfolding(crate::specs::Putting::behind_at, crate::specs::ItemFormsAt::unnamed_at, crate::specs::ItemFormsAt::left_out_at))]
-fn unnamed_at<'a>(
+fn unnamed_at(
     alloc: Global,
-    items: &mut Vec<Item<'a>>,
-    tokens: &mut Tokens<'_, 'a>,
+    items: &mut Vec<Item>,
+    tokens: &mut Tokens,
 ) -> Result<Before, ReadError>
     ensures { Gives (λ b. ((items.new.items, b), tokens.new)) result (behind_at items.old.items unnamed_at tokens.old) }
 {
@@ -198,11 +195,11 @@ fn metadata_there_at(
 /// Reads an item that defines and declares no global name and is no metadata, or an attribute behind
 /// the head of a declaration.
 #[tactic(auto, unfolding(crate::specs::Putting::behind_at))]
-fn plainly_at<'a>(
+fn plainly_at(
     alloc: Global,
     before: Before,
-    items: &mut Vec<Item<'a>>,
-    tokens: &mut Tokens<'_, 'a>,
+    items: &mut Vec<Item>,
+    tokens: &mut Tokens,
 ) -> Result<Before, ReadError>
     ensures { Gives (λ b. ((items.new.items, b), tokens.new)) result (behind_at items.old.items (plainly_at before) tokens.old) }
 {
@@ -221,11 +218,11 @@ fn plainly_at<'a>(
 
 /// Reads what defines and declares no global name, by what stands before it.
 #[tactic(auto, unfolding(crate::specs::Putting::behind_at, crate::specs::ItemFormsAt::beside_at))]
-fn beside_at<'a>(
+fn beside_at(
     alloc: Global,
     before: Before,
-    items: &mut Vec<Item<'a>>,
-    tokens: &mut Tokens<'_, 'a>,
+    items: &mut Vec<Item>,
+    tokens: &mut Tokens,
 ) -> Result<Before, ReadError>
     ensures { Gives (λ b. ((items.new.items, b), tokens.new)) result (behind_at items.old.items (beside_at before) tokens.old) }
 {
@@ -248,8 +245,8 @@ fn attached_before_at(alloc: Global, tokens: &mut Tokens) -> Result<(), ReadErro
 }
 
 /// Adds what a head declares; a lifetime marker isn't kept.
-fn push_declared<'a>(items: &mut Vec<Item<'a>>, head: ir_read::Head<'a>) -> Result<(), ReadError>
-    ensures pushed { OnOk result (items.new.items ≡ keep items.old.items (declared head.entry)) }
+fn push_declared(items: &mut Vec<Item>, head: ir_read::Head) -> Result<(), ReadError>
+    ensures pushed { OnOk result (items.new.items ≡ keep items.old.items (declared head)) }
     ensures memory { IfErr result (λ e. e ≡ NoMemory) }
 {
     if head.name.token().head.is(Head::LifetimeMarker) {
@@ -261,11 +258,11 @@ fn push_declared<'a>(items: &mut Vec<Item<'a>>, head: ir_read::Head<'a>) -> Resu
 
 /// Reads a declaration up to the end of its parameters: `declare !dbg !5 i32 @f(ptr)`.
 #[tactic(auto, unfolding(crate::specs::Putting::behind_at, crate::specs::ItemFormsAt::declaration_at))]
-fn declaration_at<'a>(
+fn declaration_at(
     alloc: Global,
     room: usize,
-    items: &mut Vec<Item<'a>>,
-    tokens: &mut Tokens<'_, 'a>,
+    items: &mut Vec<Item>,
+    tokens: &mut Tokens,
 ) -> Result<Before, ReadError>
     ensures { Gives (λ b. ((items.new.items, b), tokens.new)) result (behind_at items.old.items (declaration_at room) tokens.old) }
 {
@@ -315,11 +312,11 @@ fn comes_naming(rest: &Tokens) -> bool
 
 /// Reads an item that defines or declares a global name.
 #[tactic(auto, unfolding(crate::specs::Putting::behind_at))]
-fn naming_at<'a>(
+fn naming_at(
     alloc: Global,
     room: usize,
-    items: &mut Vec<Item<'a>>,
-    tokens: &mut Tokens<'_, 'a>,
+    items: &mut Vec<Item>,
+    tokens: &mut Tokens,
 ) -> Result<Before, ReadError>
     ensures { Gives (λ b. ((items.new.items, b), tokens.new)) result (behind_at items.old.items (naming_at room) tokens.old) }
 {
@@ -332,12 +329,12 @@ fn naming_at<'a>(
     }
 }
 
-fn named_at<'a>(
+fn named_at(
     alloc: Global,
     room: usize,
     names: usize,
-    items: &mut Vec<Item<'a>>,
-    tokens: &mut Tokens<'_, 'a>,
+    items: &mut Vec<Item>,
+    tokens: &mut Tokens,
 ) -> Result<Position, ReadError>
     ensures { Gives (λ at. ((items.new.items, at), tokens.new)) result (behind_at items.old.items (named_within_at room names) tokens.old) }
 {
@@ -355,12 +352,12 @@ fn named_at<'a>(
 }
 
 /// Reads an item at its place. Behind the first parameter of a function `room` others may stand.
-fn piece_at<'a>(
+fn piece_at(
     alloc: Global,
     room: usize,
     at: Position,
-    items: &mut Vec<Item<'a>>,
-    tokens: &mut Tokens<'_, 'a>,
+    items: &mut Vec<Item>,
+    tokens: &mut Tokens,
 ) -> Result<Position, ReadError>
     ensures { Gives (λ next. ((items.new.items, next), tokens.new)) result (behind_at items.old.items (there_at room at) tokens.old) }
 {
@@ -417,12 +414,12 @@ fn comes_there(before: Before, rest: &Tokens) -> bool
 
 /// Reads items one behind another: of global names `names` at most, and behind the first parameter of
 /// each function `room` at most. The list is empty before.
-pub(crate) fn items_into<'a>(
+pub(crate) fn items_into(
     alloc: Global,
     room: usize,
     names: usize,
-    items: &mut Vec<Item<'a>>,
-    tokens: &mut Tokens<'_, 'a>,
+    items: &mut Vec<Item>,
+    tokens: &mut Tokens,
 ) -> Result<(), ReadError>
     requires { items.now.items ≡ [] }
     ensures { Gives (λ x. (items.new.items, tokens.new)) result (items_at room names tokens.old) }

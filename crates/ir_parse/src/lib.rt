@@ -13,8 +13,8 @@
 //! [`one_reading`]), and what is read is formed ([`read_is_parsed`]).
 //!
 //! **Cost.** Linear in the text, and in its shapes with their type names expanded, which may be exponentially longer.
-//! Tokens and items borrow the text; recursion goes as deep as a shape, 32 levels. A text of `2^32 - 1` bytes or more
-//! is answered as want of memory.
+//! Tokens borrow the text, items hold copies of its names; recursion goes as deep as a shape, 32 levels. A text of
+//! `2^32 - 1` bytes or more is answered as want of memory.
 //!
 //! **Not shown.** That memory is found. That the grammar is LLVM's within the profile: `text_tests` tries it on texts.
 #![tactic(auto)]

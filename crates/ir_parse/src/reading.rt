@@ -22,7 +22,7 @@ use ir_tree::{Module, Parsed, Rows};
 use std::alloc::Global;
 
 /// The module that items stand for, and a fault of names as one of reading.
-fn module_of<'t, 'a>(items: &'t [Item<'a>], alloc: Global) -> Result<Module, ReadError>
+fn module_of<'t>(items: &'t [Item], alloc: Global) -> Result<Module, ReadError>
     ensures { Answers (module_in items.now) result }
 {
     match module_in(items, alloc) {
@@ -45,8 +45,8 @@ fn parsed_from(bytes: &[u8], tree: Module, lines: Rows<Rows<u32>>) -> Parsed
 }
 
 /// The module that items stand for, with the lines of its parts.
-fn tree_and_lines<'t, 'a>(
-    items: &'t [Item<'a>],
+fn tree_and_lines<'t>(
+    items: &'t [Item],
     alloc: Global,
 ) -> Result<(Module, Rows<Rows<u32>>), ReadError>
     ensures found { IfOk result (λ p. (module_in items.now ≡ Ok p.0) × (p.1 ≡ lines_of items.now)) }

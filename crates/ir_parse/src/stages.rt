@@ -15,10 +15,10 @@ use ir_tree::{GlobalValue, Module, Rows};
 use std::alloc::Global;
 
 /// The global values of these items, whose attribute groups are found first.
-fn values_of<'t, 'a>(
-    items: &'t [Item<'a>],
+fn values_of<'t>(
+    items: &'t [Item],
     alloc: Global,
-    types: &Types<'t, 'a>,
+    types: &Types<'t>,
 ) -> Result<Rows<GlobalValue>, ResolveError>
     ensures { Settles (λ vs. vs) result (values_in types.now (groups_of items.now) items.now) }
 {
@@ -29,10 +29,10 @@ fn values_of<'t, 'a>(
 /// The module of these items, whose type names are these: its target lines, and its global values one by
 /// one.
 #[tactic(auto, unfolding(crate::specs::Stages::module_with))]
-fn module_with<'t, 'a>(
-    items: &'t [Item<'a>],
+fn module_with<'t>(
+    items: &'t [Item],
     alloc: Global,
-    types: &Types<'t, 'a>,
+    types: &Types<'t>,
 ) -> Result<Module, ResolveError>
     ensures { Settles (λ m. m) result (module_with types.now items.now) }
 {
@@ -48,11 +48,11 @@ fn module_with<'t, 'a>(
 
 /// The module of items that have these marks and type names: its shapes and names of globals are looked
 /// at over the whole text, and then its functions one by one.
-fn module_behind<'t, 'a>(
-    items: &'t [Item<'a>],
+fn module_behind<'t>(
+    items: &'t [Item],
     alloc: Global,
-    marks: &Marks<'t, 'a>,
-    types: &Types<'t, 'a>,
+    marks: &Marks<'t>,
+    types: &Types<'t>,
 ) -> Result<Module, ResolveError>
     requires { marks.now ≡ marks_of items.now }
     ensures { Settles (λ m. m) result (module_behind types.now items.now) }
@@ -65,7 +65,7 @@ fn module_behind<'t, 'a>(
 /// The module that items stand for: its type names, shapes and names of globals are looked at in this
 /// order over the whole text, and then its functions one by one.
 #[tactic(auto, unfolding(crate::specs::Stages::module_in))]
-pub fn module_in<'t, 'a>(items: &'t [Item<'a>], alloc: Global) -> Result<Module, ResolveError>
+pub fn module_in<'t>(items: &'t [Item], alloc: Global) -> Result<Module, ResolveError>
     ensures { Settles (λ m. m) result (module_in items.now) }
 {
     let mut marks = Marks::new(alloc);

@@ -8,7 +8,7 @@ use ir_tree::Text;
 use std::alloc::{AllocError, Global};
 
 /// The string of an item that names the data layout.
-fn layout_string<'t, 'a>(item: &'t Item<'a>) -> Option<&'t Name<'a>>
+fn layout_string<'t>(item: &'t Item) -> Option<&'t Name>
     ensures { option_copied result ≡ layout_string item.now }
 {
     match item {
@@ -18,7 +18,7 @@ fn layout_string<'t, 'a>(item: &'t Item<'a>) -> Option<&'t Name<'a>>
 }
 
 /// The string of an item that names the triple.
-fn triple_string<'t, 'a>(item: &'t Item<'a>) -> Option<&'t Name<'a>>
+fn triple_string<'t>(item: &'t Item) -> Option<&'t Name>
     ensures { option_copied result ≡ triple_string item.now }
 {
     match item {
@@ -28,7 +28,7 @@ fn triple_string<'t, 'a>(item: &'t Item<'a>) -> Option<&'t Name<'a>>
 }
 
 /// The last string that names the data layout.
-fn last_layout<'t, 'a>(items: &'t [Item<'a>]) -> Option<&'t Name<'a>>
+fn last_layout<'t>(items: &'t [Item]) -> Option<&'t Name>
     ensures { option_copied result ≡ last_or None (filter_map layout_string items.now) }
 {
     let mut last = None;
@@ -41,7 +41,7 @@ fn last_layout<'t, 'a>(items: &'t [Item<'a>]) -> Option<&'t Name<'a>>
 }
 
 /// The last string that names the triple.
-fn last_triple<'t, 'a>(items: &'t [Item<'a>]) -> Option<&'t Name<'a>>
+fn last_triple<'t>(items: &'t [Item]) -> Option<&'t Name>
     ensures { option_copied result ≡ last_or None (filter_map triple_string items.now) }
 {
     let mut last = None;

@@ -12,10 +12,10 @@ use ir_tree::{GlobalValue, Rows};
 use std::alloc::Global;
 
 /// The global value that a variable is.
-fn variable_value<'t, 'a>(
-    variable: &'t Variable<'a>,
+fn variable_value<'t>(
+    variable: &'t Variable,
     alloc: Global,
-    types: &Types<'t, 'a>,
+    types: &Types<'t>,
 ) -> Result<Option<GlobalValue>, ResolveError>
     ensures { Settles (λ v. v) result (value_in types.now no_groups (items.Variable variable.now)) }
 {
@@ -24,10 +24,10 @@ fn variable_value<'t, 'a>(
 }
 
 /// The global value that a declaration is.
-fn declared_value<'t, 'a>(
-    head: &'t Head<'a>,
+fn declared_value<'t>(
+    head: &'t Head,
     alloc: Global,
-    types: &Types<'t, 'a>,
+    types: &Types<'t>,
 ) -> Result<Option<GlobalValue>, ResolveError>
     ensures { Settles (λ v. v) result (value_in types.now no_groups (items.Declaration head.now)) }
 {
@@ -36,12 +36,12 @@ fn declared_value<'t, 'a>(
 }
 
 /// The global value that a definition is, with the attributes that its head and its groups say.
-fn defined_value<'t, 'a>(
-    blocks: &'t [Block<'a>],
-    head: &'t Head<'a>,
+fn defined_value<'t>(
+    blocks: &'t [Block],
+    head: &'t Head,
     alloc: Global,
-    types: &Types<'t, 'a>,
-    groups: &Groups<'a>,
+    types: &Types<'t>,
+    groups: &Groups<'t>,
 ) -> Result<Option<GlobalValue>, ResolveError>
     ensures { Settles (λ v. v) result (value_in types.now groups.now (items.Definition head.now blocks.now)) }
 {
@@ -52,11 +52,11 @@ fn defined_value<'t, 'a>(
 }
 
 /// The global value that an item is, where it is one.
-fn value_in<'t, 'a>(
-    item: &'t Item<'a>,
+fn value_in<'t>(
+    item: &'t Item,
     alloc: Global,
-    types: &Types<'t, 'a>,
-    groups: &Groups<'a>,
+    types: &Types<'t>,
+    groups: &Groups<'t>,
 ) -> Result<Option<GlobalValue>, ResolveError>
     ensures { Settles (λ v. v) result (value_in types.now groups.now item.now) }
 {
@@ -74,11 +74,11 @@ fn value_in<'t, 'a>(
 
 /// The global values of a module, one for each variable, declaration and definition, in the order of
 /// the text.
-pub fn values_in<'t, 'a>(
-    items: &'t [Item<'a>],
+pub fn values_in<'t>(
+    items: &'t [Item],
     alloc: Global,
-    types: &Types<'t, 'a>,
-    groups: &Groups<'a>,
+    types: &Types<'t>,
+    groups: &Groups<'t>,
 ) -> Result<Rows<GlobalValue>, ResolveError>
     ensures { Settles (λ vs. vs) result (values_in types.now groups.now items.now) }
 {

@@ -17,25 +17,25 @@ pub struct Index {
 
 /// One `getelementptr` of a constant address: the shape that it steps through, and its indices.
 #[derive(Drop)]
-pub struct Level<'a> {
-    pub typed: Typed<'a>,
+pub struct Level {
+    pub typed: Typed,
     pub indices: Rows<Index>,
 }
 
 /// The name of a global, and the levels of `getelementptr` around it, the innermost first.
 #[derive(Drop)]
-pub struct Steps<'a> {
-    pub name: Name<'a>,
-    pub levels: Rows<Level<'a>>,
+pub struct Steps {
+    pub name: Name,
+    pub levels: Rows<Level>,
 }
 
 /// A constant address that has levels, which contracts see as its steps.
 #[derive(Drop)]
-pub struct Address<'a> {
-    steps: Box<Steps<'a>>,
+pub struct Address {
+    steps: Box<Steps>,
 }
 
-impl<'a> Model for Address<'a> {
+impl Model for Address {
     ghost use Rattle.ir_read.specs.declared.address.Steps.{Steps};
     ghost use Rattle.ir_read.specs.ShapeCode.{code_from};
     ghost use Rattle.std.specs.Coded.{codes};
@@ -47,17 +47,17 @@ impl<'a> Model for Address<'a> {
     ghost view = { λ a. a.steps.value };
 }
 
-impl<'a> Address<'a> {
+impl Address {
     /// The address of these steps.
-    pub fn of(alloc: Global, steps: Steps<'a>) -> Result<Address<'a>, AllocError>
-        ensures { IfOk result (λ address. address ≡ steps.entry) }
+    pub fn of(alloc: Global, steps: Steps) -> Result<Address, AllocError>
+        ensures { IfOk result (λ address. address ≡ steps) }
     {
         let steps = Box::new(alloc, steps)?;
         Ok(Address { steps })
     }
 
     /// Its steps.
-    pub fn steps(&self) -> &Steps<'a>
+    pub fn steps(&self) -> &Steps
         ensures { self.now ≡ result.now }
     {
         &self.steps

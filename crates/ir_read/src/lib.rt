@@ -4,7 +4,7 @@
 //! written tree of a whole module ([`Item`]), and readers of what the grammar is put together from: single tokens
 //! ([`expect`]), names, types, operands of one token, numbers and literals, groups in brackets however deep, and
 //! metadata, which is dropped. Attributes and heads of functions are read in `ir_heads`, shapes and longer operands in
-//! `ir_operands`. The tree borrows the text: a name is its token, so it knows its line. Nothing is resolved: a type
+//! `ir_operands`. A name is its token with a copy of the bytes, so it knows its line and the tree borrows nothing. Nothing is resolved: a type
 //! name may have no definition, and a local may stand for nothing.
 //!
 //! **Promise.** A reader gives what the reader on lists of its name gives, as [`simple_at`] (`specs/OperandsAt`) and
@@ -20,7 +20,6 @@
 #![tactic(auto)]
 
 mod address;
-mod block_end;
 mod brackets;
 mod finished;
 mod literals;
@@ -36,7 +35,6 @@ mod terminals;
 mod tokens;
 
 pub use address::{Address, Index, Level, Steps};
-pub use block_end::BlockEnd;
 pub use brackets::{Bracket, BracketMove, group_at, move_of};
 pub use finished::done;
 pub use literals::literal;

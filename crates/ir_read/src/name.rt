@@ -1,43 +1,64 @@
 //! Names and strings as they are written (LangRef, "Identifiers").
-ghost use Rattle.std.specs.Prelude.{◌≡◌};
+ghost use Rattle.std.specs.Prelude.{◌≡◌, IfOk};
 ghost use Rattle.ir_lex.specs.Tok.{tok};
 
-use ir_lex::Token;
+use ir_lex::{Head, Kind, Token};
+use ir_tree::Text;
+use std::alloc::{AllocError, Global};
 use std::marker::Model;
 
 /// A name, or a string, as it is written: its token, which contracts see without its place.
+///
+/// It keeps a copy of its bytes, so that a written tree borrows nothing.
 #[derive(Drop)]
-pub struct Name<'a> {
-    token: Token<'a>,
+pub struct Name {
+    text: Text,
+    line: u32,
+    kind: Kind,
+    head: Head,
+    ends_line: bool,
 }
 
-impl<'a> Model for Name<'a> {
-    ghost use Rattle.ir_lex.specs.Tok.{Tok, tok};
+impl Model for Name {
+    ghost use Rattle.ir_lex.specs.Tok.{Tok};
 
     ghost Value = { Tok };
 
-    ghost view = { λ n. tok n.token };
+    ghost view = { λ n. record { kind = n.kind; text = n.text; line = n.line; head = n.head; ends_line = n.ends_line } };
 }
 
-impl<'a> Name<'a> {
+impl Name {
     /// The name that this token writes.
-    pub fn of(token: Token<'a>) -> Name<'a>
-        ensures { result ≡ tok token.entry }
+    pub fn of(alloc: Global, token: &Token) -> Result<Name, AllocError>
+        ensures { IfOk result (λ n. n ≡ tok token.now) }
     {
-        Name { token }
+        let text = Text::copied(alloc, token.text)?;
+        Ok(Name {
+            text,
+            line: token.line,
+            kind: token.kind,
+            head: token.head,
+            ends_line: token.ends_line,
+        })
     }
 
     /// The token that writes it.
-    pub fn token(&self) -> Token<'a>
+    pub fn token(&self) -> Token<'_>
         ensures { self.now ≡ tok result }
     {
-        self.token
+        Token {
+            text: self.text.as_slice(),
+            line: self.line,
+            kind: self.kind,
+            head: self.head,
+            ends_line: self.ends_line,
+        }
     }
 
     /// The line that it stands on, counted from 1.
     pub fn line(&self) -> u32
         ensures { result ≡ self.now.line }
     {
-        self.token.line
+        self.line
     }
 }

@@ -1,6 +1,6 @@
 //! Reads types of registers, names and operands.
 
-ghost use Rattle.std.specs.Prelude.{◌≡◌, IfOk, IfSome};
+ghost use Rattle.std.specs.Prelude.{◌≡◌, ◌&&◌, not, nat_lt, Ok, IfOk, IfSome};
 ghost use Rattle.std.specs.Char.{is_ascii_digit};
 ghost use Rattle.std.specs.List.{list_all};
 ghost use Rattle.ir_lex.specs.Heads.{number};
@@ -9,6 +9,8 @@ ghost use Rattle.lto_forms.specs.Readers.{Gives};
 ghost use Rattle.lto_forms.specs.Rules.{is_among, is_exact, is_valued};
 ghost use Rattle.ir_read.specs.Classes.{tokens, refusal};
 ghost use Rattle.ir_read.specs.Literals.{IsWidth};
+ghost use Rattle.ir_read.specs.Decimals.{decimal};
+ghost use Rattle.ir_read.specs.declared.raw.Operand.TheVariants as operands;
 ghost use Rattle.ir_read.specs.Operands.{INTEGER, REG, SCALAR, RESULT, LOCAL, IsReg, type_refusal, memory_refusal, width, reg_of, is_bit, result_of, is_numeral, named_by, named, group_named, global_named, number_means, local_value, global_value, classes_of, operand_of};
 ghost use Rattle.ir_read.specs.OperandsAt.{reg_at, integer_at, bit_at, scalar_at, result_at, local_at, simple_at, maybe_at};
 
@@ -21,6 +23,7 @@ use crate::tokens::Tokens;
 use ir_lex::{Head, Token};
 use ir_tree::Reg;
 use lto_forms::{Fault, FaultKind, ReadError};
+use std::alloc::{AllocError, Global};
 
 /// Why a token can't stand where a type may.
 pub fn type_refusal(head: Head) -> FaultKind
@@ -231,55 +234,67 @@ fn is_numeral(bare: &[u8]) -> bool
     }
 }
 
-/// The name that a token writes by these bytes, unless they are a number from `2^32` on.
-fn named_by<'a>(t: &Token<'a>, bare: &[u8]) -> Option<Name<'a>>
-    ensures { result ≡ named_by (tok t.now) bare.now }
+/// Whether a name may be written by these bytes: they are no number from `2^32` on.
+fn may_name(bare: &[u8]) -> bool
+    ensures { result ≡ not (is_numeral bare.now && not (nat_lt (decimal bare.now) 4294967296)) }
 {
     if is_numeral(bare) {
         match decimal(bare) {
-            Some(n) if n < 4294967296 => Some(Name::of(*t)),
-            _ => None,
+            Some(n) => n < 4294967296,
+            None => false,
         }
     } else {
-        Some(Name::of(*t))
+        true
+    }
+}
+
+/// The name that a token writes by these bytes, unless they are a number from `2^32` on.
+fn named_by(alloc: Global, t: &Token, bare: &[u8]) -> Result<Option<Name>, AllocError>
+    ensures { IfOk result (λ x. x ≡ named_by (tok t.now) bare.now) }
+{
+    if may_name(bare) {
+        let name = Name::of(alloc, t)?;
+        Ok(Some(name))
+    } else {
+        Ok(None)
     }
 }
 
 /// The name that a token writes, unless that is a number from `2^32` on.
 #[tactic(auto, unfolding(crate::specs::Operands::named))]
-pub fn named<'a>(t: &Token<'a>) -> Option<Name<'a>>
-    ensures { result ≡ named (tok t.now) }
+pub fn named(alloc: Global, t: &Token) -> Result<Option<Name>, AllocError>
+    ensures { IfOk result (λ x. x ≡ named (tok t.now)) }
 {
-    named_by(t, t.bare())
+    named_by(alloc, t, t.bare())
 }
 
 /// The name of an attribute group that a token writes, unless its number is `2^32` or more.
 #[tactic(auto, unfolding(crate::specs::Operands::group_named))]
-pub fn group_named<'a>(t: &Token<'a>) -> Option<Name<'a>>
-    ensures { result ≡ group_named (tok t.now) }
+pub fn group_named(alloc: Global, t: &Token) -> Result<Option<Name>, AllocError>
+    ensures { IfOk result (λ x. x ≡ group_named (tok t.now)) }
 {
     match t.text {
-        [] => named_by(t, &[]),
-        [_mark, digits @ ..] => named_by(t, digits),
+        [] => named_by(alloc, t, &[]),
+        [_mark, digits @ ..] => named_by(alloc, t, digits),
     }
 }
 
 #[tactic(auto, unfolding(lto_forms::specs::Rules::is_valued))]
-fn local_means<'a>(t: &Token<'a>) -> Result<Name<'a>, FaultKind>
-    ensures { result ≡ is_valued tokens refusal LOCAL named (tok t.now) }
+fn local_means(alloc: Global, t: &Token) -> Result<Result<Name, FaultKind>, AllocError>
+    ensures { IfOk result (λ x. x ≡ is_valued tokens refusal LOCAL named (tok t.now)) }
 {
     if t.head.is(Head::Local) {
-        match named(t) {
-            None => Err(FaultKind::Number),
-            Some(name) => Ok(name),
+        match named(alloc, t)? {
+            None => Ok(Err(FaultKind::Number)),
+            Some(name) => Ok(Ok(name)),
         }
     } else {
-        Err(refusal(t.head))
+        Ok(Err(refusal(t.head)))
     }
 }
 
 /// Takes the name of a local.
-pub fn local_at<'a>(tokens: &mut Tokens<'_, 'a>) -> Result<Name<'a>, ReadError>
+pub fn local_at(alloc: Global, tokens: &mut Tokens) -> Result<Name, ReadError>
     ensures { Gives (λ x. (x, tokens.new)) result (local_at tokens.old) }
 {
     let left = tokens.left();
@@ -288,7 +303,7 @@ pub fn local_at<'a>(tokens: &mut Tokens<'_, 'a>) -> Result<Name<'a>, ReadError>
             left,
             kind: FaultKind::Syntax,
         })),
-        Some(t) => match local_means(&t) {
+        Some(t) => match local_means(alloc, &t)? {
             Ok(x) => Ok(x),
             Err(kind) => Err(ReadError::Fault(Fault { left, kind })),
         },
@@ -296,16 +311,19 @@ pub fn local_at<'a>(tokens: &mut Tokens<'_, 'a>) -> Result<Name<'a>, ReadError>
 }
 
 /// The name that a token of a global's class writes, unless that is a number from `2^32` on.
-pub fn global_named<'a>(t: &Token<'a>) -> Option<Name<'a>>
-    ensures { result ≡ global_named (tok t.now) }
+pub fn global_named(alloc: Global, t: &Token) -> Result<Option<Name>, AllocError>
+    ensures { IfOk result (λ x. x ≡ global_named (tok t.now)) }
 {
     match t.head {
-        Head::NumberedGlobal | Head::NumberedDefinition => named(t),
-        _ => Some(Name::of(*t)),
+        Head::NumberedGlobal | Head::NumberedDefinition => named(alloc, t),
+        _ => {
+            let name = Name::of(alloc, t)?;
+            Ok(Some(name))
+        }
     }
 }
 
-fn number_means<'a>(reg: Reg, t: &Token<'a>) -> Result<Operand<'a>, FaultKind>
+fn number_means(reg: Reg, t: &Token) -> Result<Operand, FaultKind>
     requires { IsReg reg }
     ensures { result ≡ number_means reg (tok t.now) }
 {
@@ -318,47 +336,59 @@ fn number_means<'a>(reg: Reg, t: &Token<'a>) -> Result<Operand<'a>, FaultKind>
     }
 }
 
-fn local_value<'a>(t: &Token<'a>) -> Result<Operand<'a>, FaultKind>
-    ensures { result ≡ local_value (tok t.now) }
+fn local_value(alloc: Global, t: &Token) -> Result<Result<Operand, FaultKind>, AllocError>
+    ensures { IfOk result (λ x. x ≡ local_value (tok t.now)) }
 {
-    match named(t) {
-        None => Err(FaultKind::Number),
-        Some(name) => Ok(Operand::Local(name)),
+    match named(alloc, t)? {
+        None => Ok(Err(FaultKind::Number)),
+        Some(name) => Ok(Ok(Operand::Local(name))),
     }
 }
 
 /// A global that is written by its number.
-fn global_value<'a>(t: &Token<'a>) -> Result<Operand<'a>, FaultKind>
-    ensures { result ≡ global_value (tok t.now) }
+fn global_value(alloc: Global, t: &Token) -> Result<Result<Operand, FaultKind>, AllocError>
+    ensures { IfOk result (λ x. x ≡ global_value (tok t.now)) }
 {
-    match named(t) {
-        None => Err(FaultKind::Number),
-        Some(name) => Ok(Operand::Global(name)),
+    match named(alloc, t)? {
+        None => Ok(Err(FaultKind::Number)),
+        Some(name) => Ok(Ok(Operand::Global(name))),
     }
+}
+
+/// A global that is written by a name.
+fn global_spelled(alloc: Global, t: &Token) -> Result<Result<Operand, FaultKind>, AllocError>
+    ensures { IfOk result (λ x. x ≡ Ok (operands.Global (tok t.now))) }
+{
+    let name = Name::of(alloc, t)?;
+    Ok(Ok(Operand::Global(name)))
 }
 
 /// What a token means where an operand of a type may stand.
 #[tactic(auto, unfolding(lto_forms::specs::Rules::is_valued))]
-pub fn operand_means<'a>(reg: Reg, t: &Token<'a>) -> Result<Operand<'a>, FaultKind>
+pub fn operand_means(
+    alloc: Global,
+    reg: Reg,
+    t: &Token,
+) -> Result<Result<Operand, FaultKind>, AllocError>
     requires { IsReg reg }
-    ensures { result ≡ is_valued tokens refusal (classes_of reg) (operand_of reg) (tok t.now) }
+    ensures { IfOk result (λ x. x ≡ is_valued tokens refusal (classes_of reg) (operand_of reg) (tok t.now)) }
 {
     match t.head {
-        Head::Number => number_means(reg, t),
-        Head::Local => local_value(t),
-        Head::True => Ok(Operand::Number { width: 1, bits: 1 }),
-        Head::False => Ok(Operand::Number { width: 1, bits: 0 }),
-        Head::Null => Ok(Operand::Null),
-        Head::Poison => Ok(Operand::Poison(reg)),
-        Head::Global => Ok(Operand::Global(Name::of(*t))),
-        Head::NumberedGlobal | Head::NumberedDefinition => global_value(t),
-        head => Err(refusal(head)),
+        Head::Number => Ok(number_means(reg, t)),
+        Head::Local => local_value(alloc, t),
+        Head::True => Ok(Ok(Operand::Number { width: 1, bits: 1 })),
+        Head::False => Ok(Ok(Operand::Number { width: 1, bits: 0 })),
+        Head::Null => Ok(Ok(Operand::Null)),
+        Head::Poison => Ok(Ok(Operand::Poison(reg))),
+        Head::Global => global_spelled(alloc, t),
+        Head::NumberedGlobal | Head::NumberedDefinition => global_value(alloc, t),
+        head => Ok(Err(refusal(head))),
     }
 }
 
 /// Takes an operand of a type that is one token. A number is a literal of the type; `true` and
 /// `false` are those of `i1`.
-pub fn simple_at<'a>(reg: Reg, tokens: &mut Tokens<'_, 'a>) -> Result<Operand<'a>, ReadError>
+pub fn simple_at(alloc: Global, reg: Reg, tokens: &mut Tokens) -> Result<Operand, ReadError>
     requires { IsReg reg }
     ensures { Gives (λ x. (x, tokens.new)) result (simple_at reg tokens.old) }
 {
@@ -368,7 +398,7 @@ pub fn simple_at<'a>(reg: Reg, tokens: &mut Tokens<'_, 'a>) -> Result<Operand<'a
             left,
             kind: FaultKind::Syntax,
         })),
-        Some(t) => match operand_means(reg, &t) {
+        Some(t) => match operand_means(alloc, reg, &t)? {
             Ok(x) => Ok(x),
             Err(kind) => Err(ReadError::Fault(Fault { left, kind })),
         },

@@ -4,7 +4,6 @@
 //! and the levels of constant addresses nest as deep as the text does, and lie one behind the other.
 
 use crate::address::Address;
-use crate::block_end::BlockEnd;
 use crate::name::Name;
 use crate::shape::Typed;
 use ir_tree::{BinaryOp, CastOp, Flags, Linkage, Predicate, Reg, Rows};
@@ -12,17 +11,17 @@ use ir_tree::{BinaryOp, CastOp, Flags, Linkage, Predicate, Reg, Rows};
 /// What an instruction, a terminator or an initialiser reads.
 ///
 /// A number has the width of its type; `true` and `false` are numbers of width 1.
-pub enum Operand<'a> {
-    Local(Name<'a>),
-    Global(Name<'a>),
+pub enum Operand {
+    Local(Name),
+    Global(Name),
     Number { width: u8, bits: u64 },
     Null,
     Poison(Reg),
-    Address(Address<'a>),
+    Address(Address),
 }
 
 // Written out, so that it is one call wherever an operand is dropped.
-impl<'a> Drop for Operand<'a> {
+impl Drop for Operand {
     fn drop(self) {
         match self {
             Operand::Local(name) => drop(name),
@@ -37,19 +36,19 @@ impl<'a> Drop for Operand<'a> {
 
 /// An operand with the type that is written before it.
 #[derive(Drop)]
-pub struct Argument<'a> {
+pub struct Argument {
     pub reg: Reg,
-    pub operand: Operand<'a>,
+    pub operand: Operand,
 }
 
 /// An entry of a phi: a value, and the block that it comes from.
-pub struct Incoming<'a> {
-    pub value: Operand<'a>,
-    pub from: Name<'a>,
+pub struct Incoming {
+    pub value: Operand,
+    pub from: Name,
 }
 
 // Written out, so that it is one call wherever an entry is dropped.
-impl<'a> Drop for Incoming<'a> {
+impl Drop for Incoming {
     fn drop(self) {
         let Incoming { value, from } = self;
         drop(value);
@@ -59,70 +58,70 @@ impl<'a> Drop for Incoming<'a> {
 
 /// An instruction that is no terminator. Widths are in bits, alignments in bytes; an alignment that
 /// isn't written is `None`, and the count of an `alloca` that isn't is 1.
-pub enum Instr<'a> {
+pub enum Instr {
     Binary {
         op: BinaryOp,
         flags: Flags,
         width: u8,
-        left: Operand<'a>,
-        right: Operand<'a>,
+        left: Operand,
+        right: Operand,
     },
     Icmp {
         predicate: Predicate,
         reg: Reg,
-        left: Operand<'a>,
-        right: Operand<'a>,
+        left: Operand,
+        right: Operand,
     },
     Cast {
         op: CastOp,
         from: Reg,
-        value: Operand<'a>,
+        value: Operand,
         to: Reg,
     },
     Select {
-        condition: Operand<'a>,
-        if_true: Argument<'a>,
-        if_false: Argument<'a>,
+        condition: Operand,
+        if_true: Argument,
+        if_false: Argument,
     },
     Freeze {
         reg: Reg,
-        value: Operand<'a>,
+        value: Operand,
     },
     Phi {
         reg: Reg,
-        incoming: Rows<Incoming<'a>>,
+        incoming: Rows<Incoming>,
     },
     Alloca {
-        typed: Typed<'a>,
+        typed: Typed,
         count: u64,
         align: Option<u64>,
     },
     Load {
         reg: Reg,
-        address: Operand<'a>,
+        address: Operand,
         align: Option<u64>,
     },
     Store {
         reg: Reg,
-        value: Operand<'a>,
-        address: Operand<'a>,
+        value: Operand,
+        address: Operand,
         align: Option<u64>,
     },
     Address {
         inbounds: bool,
-        typed: Typed<'a>,
-        base: Operand<'a>,
-        indices: Rows<Argument<'a>>,
+        typed: Typed,
+        base: Operand,
+        indices: Rows<Argument>,
     },
     Call {
         result: Option<Reg>,
-        callee: Operand<'a>,
-        arguments: Rows<Argument<'a>>,
+        callee: Operand,
+        arguments: Rows<Argument>,
     },
 }
 
 // Written out, so that it is one call wherever an instruction is dropped.
-impl<'a> Drop for Instr<'a> {
+impl Drop for Instr {
     fn drop(self) {
         match self {
             Instr::Binary {
@@ -203,14 +202,14 @@ impl<'a> Drop for Instr<'a> {
 }
 
 /// An instruction, the name that its result is given, and the line of its first token.
-pub struct Line<'a> {
-    pub name: Option<Name<'a>>,
-    pub instr: Instr<'a>,
+pub struct Line {
+    pub name: Option<Name>,
+    pub instr: Instr,
     pub line: u32,
 }
 
 // Written out, so that it is one call wherever a line is dropped.
-impl<'a> Drop for Line<'a> {
+impl Drop for Line {
     fn drop(self) {
         let Line {
             name,
@@ -224,33 +223,33 @@ impl<'a> Drop for Line<'a> {
 
 /// A case of a `switch`: the type that is written, a number of `width` bits, and its target.
 #[derive(Drop)]
-pub struct Case<'a> {
+pub struct Case {
     pub reg: Reg,
     pub width: u8,
     pub bits: u64,
-    pub target: Name<'a>,
+    pub target: Name,
 }
 
 /// How a block ends.
-pub enum Terminator<'a> {
-    Return(Option<Argument<'a>>),
-    Jump(Name<'a>),
+pub enum Terminator {
+    Return(Option<Argument>),
+    Jump(Name),
     Branch {
-        condition: Operand<'a>,
-        if_true: Name<'a>,
-        if_false: Name<'a>,
+        condition: Operand,
+        if_true: Name,
+        if_false: Name,
     },
     Switch {
         width: u8,
-        value: Operand<'a>,
-        default: Name<'a>,
-        cases: Rows<Case<'a>>,
+        value: Operand,
+        default: Name,
+        cases: Rows<Case>,
     },
     Unreachable,
 }
 
 // Written out, so that it is one call wherever a terminator is dropped.
-impl<'a> Drop for Terminator<'a> {
+impl Drop for Terminator {
     fn drop(self) {
         match self {
             Terminator::Return(argument) => drop(argument),
@@ -281,15 +280,15 @@ impl<'a> Drop for Terminator<'a> {
 
 /// A basic block: its label, where it has one, its instructions, its terminator, and the line of the
 /// terminator's first token.
-pub struct Block<'a> {
-    pub label: Option<Name<'a>>,
-    pub lines: Rows<Line<'a>>,
-    pub end: BlockEnd<'a>,
+pub struct Block {
+    pub label: Option<Name>,
+    pub lines: Rows<Line>,
+    pub end: Terminator,
     pub end_line: u32,
 }
 
 // Written out, so that it is one call wherever a block is dropped.
-impl<'a> Drop for Block<'a> {
+impl Drop for Block {
     fn drop(self) {
         let Block {
             label,
@@ -305,47 +304,44 @@ impl<'a> Drop for Block<'a> {
 
 /// A parameter: its type and its name.
 #[derive(Drop)]
-pub struct Param<'a> {
+pub struct Param {
     pub reg: Reg,
-    pub name: Option<Name<'a>>,
+    pub name: Option<Name>,
 }
 
 /// What stands before the blocks of a function. The linkage is the one that is written, or
 /// `External`; `result` is `None` for `void`; `groups` are the attribute groups that it names.
 #[derive(Drop)]
-pub struct Head<'a> {
+pub struct Head {
     pub linkage: Linkage,
     pub result: Option<Reg>,
-    pub name: Name<'a>,
-    pub params: Rows<Param<'a>>,
+    pub name: Name,
+    pub params: Rows<Param>,
     pub noinline: bool,
     pub optnone: bool,
-    pub groups: Rows<Name<'a>>,
+    pub groups: Rows<Name>,
 }
 
 /// An initialiser without parts, or the beginning of one with parts. `Bytes` has the string, and
 /// `Number` a number behind a shape that is no scalar as it is written: a type name may stand for one.
 #[derive(Drop)]
-pub enum InitHead<'a> {
-    Plain(Operand<'a>),
+pub enum InitHead {
+    Plain(Operand),
     Zeros,
-    Bytes(Name<'a>),
-    Number(Name<'a>),
+    Bytes(Name),
+    Number(Name),
     Array,
     Struct { packed: bool },
 }
 
 /// A part of an initialiser with its shape, or the end of the parts of one that began before.
-pub enum InitPart<'a> {
-    Typed {
-        typed: Typed<'a>,
-        head: InitHead<'a>,
-    },
+pub enum InitPart {
+    Typed { typed: Typed, head: InitHead },
     End,
 }
 
 // Written out, so that it is one call wherever a part is dropped.
-impl<'a> Drop for InitPart<'a> {
+impl Drop for InitPart {
     fn drop(self) {
         match self {
             InitPart::Typed { typed, head } => {
@@ -360,24 +356,24 @@ impl<'a> Drop for InitPart<'a> {
 /// An initialiser: its beginning, and its parts in the order of the text, each before its own parts,
 /// which an `End` closes.
 #[derive(Drop)]
-pub struct Init<'a> {
-    pub root: InitHead<'a>,
-    pub parts: Rows<InitPart<'a>>,
+pub struct Init {
+    pub root: InitHead,
+    pub parts: Rows<InitPart>,
 }
 
 /// A global variable, and the line of its first token. One without `init` is a declaration.
-pub struct Variable<'a> {
-    pub name: Name<'a>,
+pub struct Variable {
+    pub name: Name,
     pub linkage: Linkage,
     pub constant: bool,
-    pub typed: Typed<'a>,
-    pub init: Option<Init<'a>>,
+    pub typed: Typed,
+    pub init: Option<Init>,
     pub align: Option<u64>,
     pub line: u32,
 }
 
 // Written out, so that it is one call wherever a variable is dropped.
-impl<'a> Drop for Variable<'a> {
+impl Drop for Variable {
     fn drop(self) {
         let Variable {
             name,
@@ -396,22 +392,22 @@ impl<'a> Drop for Variable<'a> {
 
 /// What a module is made of. Metadata, comdats and the name of the source are read and not kept; a
 /// type without a shape is opaque.
-pub enum Item<'a> {
-    Datalayout(Name<'a>),
-    Triple(Name<'a>),
+pub enum Item {
+    Datalayout(Name),
+    Triple(Name),
     Attributes {
-        group: Name<'a>,
+        group: Name,
         noinline: bool,
         optnone: bool,
     },
-    Type(Name<'a>, Option<Typed<'a>>),
-    Variable(Variable<'a>),
-    Declaration(Head<'a>),
-    Definition(Head<'a>, Rows<Block<'a>>),
+    Type(Name, Option<Typed>),
+    Variable(Variable),
+    Declaration(Head),
+    Definition(Head, Rows<Block>),
 }
 
 // Written out, so that it is one call wherever an item is dropped.
-impl<'a> Drop for Item<'a> {
+impl Drop for Item {
     fn drop(self) {
         match self {
             Item::Datalayout(text) => drop(text),

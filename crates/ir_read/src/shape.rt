@@ -13,26 +13,26 @@ use std::marker::Model;
 /// A reader makes none that nests deeper than 32 arrays and structures.
 #[cycle(shape)]
 #[derive(Drop)]
-pub struct Shape<'a> {
-    node: ShapeNode<'a>,
+pub struct Shape {
+    node: ShapeNode,
 }
 
 /// What a shape is, with its parts as they are kept.
 #[cycle(shape)]
 #[derive(Drop)]
-pub enum ShapeNode<'a> {
+pub enum ShapeNode {
     /// An integer of so many bits.
     Int(u8),
     Ptr,
     /// A count of elements of a shape.
-    Array(u64, Box<Shape<'a>>),
+    Array(u64, Box<Shape>),
     /// A structure, whether it is packed, and its members.
-    Struct(bool, Vec<Shape<'a>>),
+    Struct(bool, Vec<Shape>),
     /// The shape that a type name stands for.
-    Named(Name<'a>),
+    Named(Name),
 }
 
-impl<'a> Model for Shape<'a> {
+impl Model for Shape {
     ghost use Rattle.ir_read.specs.Shapes.{Written};
     ghost use Rattle.ir_read.specs.ShapeCode.{code_from};
     ghost use Rattle.std.specs.Coded.{codes};
@@ -55,14 +55,14 @@ impl<'a> Model for Shape<'a> {
 
 /// A shape, and the line of its first token.
 #[derive(Drop)]
-pub struct Typed<'a> {
-    pub shape: Shape<'a>,
+pub struct Typed {
+    pub shape: Shape,
     pub line: u32,
 }
 
-impl<'a> Shape<'a> {
+impl Shape {
     /// An integer of `width` bits.
-    pub fn int(width: u8) -> Shape<'a>
+    pub fn int(width: u8) -> Shape
         ensures { result ≡ int width }
     {
         Shape {
@@ -71,7 +71,7 @@ impl<'a> Shape<'a> {
     }
 
     /// A pointer.
-    pub fn ptr() -> Shape<'a>
+    pub fn ptr() -> Shape
         ensures { result ≡ pointer }
     {
         Shape {
@@ -80,8 +80,8 @@ impl<'a> Shape<'a> {
     }
 
     /// `[count x of]`.
-    pub fn array(alloc: Global, count: u64, of: Shape<'a>) -> Result<Shape<'a>, AllocError>
-        ensures { IfOk result (λ shape. shape ≡ array count of.entry) }
+    pub fn array(alloc: Global, count: u64, of: Shape) -> Result<Shape, AllocError>
+        ensures { IfOk result (λ shape. shape ≡ array count of) }
     {
         let of = Box::new(alloc, of)?;
         Ok(Shape {
@@ -90,8 +90,8 @@ impl<'a> Shape<'a> {
     }
 
     /// `{ parts }`, or `<{ parts }>` where it is packed.
-    pub fn structure(packed: bool, parts: Vec<Shape<'a>>) -> Shape<'a>
-        ensures { result ≡ structure packed (parts_of parts.entry.items) }
+    pub fn structure(packed: bool, parts: Vec<Shape>) -> Shape
+        ensures { result ≡ structure packed (parts_of parts.items) }
     {
         Shape {
             node: ShapeNode::Struct(packed, parts),
@@ -99,8 +99,8 @@ impl<'a> Shape<'a> {
     }
 
     /// The shape that a type name stands for.
-    pub fn named(name: Name<'a>) -> Shape<'a>
-        ensures { result ≡ named name.entry }
+    pub fn named(name: Name) -> Shape
+        ensures { result ≡ named name }
     {
         Shape {
             node: ShapeNode::Named(name),
@@ -108,7 +108,7 @@ impl<'a> Shape<'a> {
     }
 
     /// What the shape is.
-    pub fn node(&self) -> &ShapeNode<'a>
+    pub fn node(&self) -> &ShapeNode
         ensures { self.now ≡ written_of result.now }
     {
         &self.node

@@ -12,7 +12,7 @@ use ir_tree::{Block, Function, Rows};
 use std::alloc::Global;
 
 /// The lines of a block, without its terminator.
-pub fn lines_in<'t, 'a>(block: &'t WrittenBlock<'a>) -> &'t [Line<'a>]
+pub fn lines_in(block: &WrittenBlock) -> &[Line]
     ensures { result.now ≡ block.now.lines }
 {
     block.lines.as_slice()
@@ -27,31 +27,24 @@ fn behind_block(number: u32, block: &WrittenBlock) -> Result<u32, ResolveError>
 }
 
 /// A block with this number.
-fn block_in<'t, 'a>(
-    block: &'t WrittenBlock<'a>,
+fn block_in<'t>(
+    block: &'t WrittenBlock,
     alloc: Global,
-    types: &Types<'t, 'a>,
-    locals: &Locals<'a>,
+    types: &Types<'t>,
+    locals: &Locals<'t>,
     number: u32,
 ) -> Result<Block, ResolveError>
     ensures { Settles (λ b. b) result (block_in types.now locals.now number block.now) }
 {
-    block_of(
-        alloc,
-        types,
-        locals,
-        number,
-        lines_in(block),
-        block.end.get(),
-    )
+    block_of(alloc, types, locals, number, lines_in(block), &block.end)
 }
 
 /// The blocks of a function, the first of which takes this number, with their locals known.
-pub fn blocks_in<'t, 'a>(
-    blocks: &'t [WrittenBlock<'a>],
+pub fn blocks_in<'t>(
+    blocks: &'t [WrittenBlock],
     alloc: Global,
-    types: &Types<'t, 'a>,
-    locals: &Locals<'a>,
+    types: &Types<'t>,
+    locals: &Locals<'t>,
     first: u32,
 ) -> Result<Rows<Block>, ResolveError>
     ensures { Settles (λ bs. bs) result (blocks_in types.now locals.now first blocks.now) }
@@ -77,11 +70,11 @@ fn first_block(head: &Head) -> Result<u32, ResolveError>
 }
 
 /// The blocks of a function, whose locals are found first.
-fn blocks_of<'t, 'a>(
-    blocks: &'t [WrittenBlock<'a>],
+fn blocks_of<'t>(
+    blocks: &'t [WrittenBlock],
     alloc: Global,
-    types: &Types<'t, 'a>,
-    head: &Head<'a>,
+    types: &Types<'t>,
+    head: &'t Head,
 ) -> Result<Rows<Block>, ResolveError>
     ensures { Settles (λ bs. bs) result (definitions.blocks_of types.now head.now.params blocks.now) }
 {
@@ -94,11 +87,11 @@ fn blocks_of<'t, 'a>(
 /// What a definition stands for: parameters are numbered from 0 on, then each block is followed by its
 /// results. `noinline` and `optnone` say what its attributes come to.
 #[tactic(auto, unfolding(ir_names::specs::Blocks::function_in))]
-pub fn function_in<'t, 'a>(
-    blocks: &'t [WrittenBlock<'a>],
+pub fn function_in<'t>(
+    blocks: &'t [WrittenBlock],
     alloc: Global,
-    types: &Types<'t, 'a>,
-    head: &Head<'a>,
+    types: &Types<'t>,
+    head: &'t Head,
     noinline: bool,
     optnone: bool,
 ) -> Result<Function, ResolveError>

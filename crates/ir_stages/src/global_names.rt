@@ -11,10 +11,10 @@ use ir_names::{Globals, NameSet, ResolveError, name_of, unknown};
 use ir_read::Name;
 use std::alloc::Global;
 
-fn with_name<'t, 'a>(
+fn with_name<'t>(
     alloc: Global,
-    names: &mut NameSet<'a>,
-    mark: &Mark<'t, 'a>,
+    names: &mut NameSet<'t>,
+    mark: &Mark<'t>,
 ) -> Result<(), ResolveError>
     ensures { Settles (λ _. names.new) result (Ok (stages.global_names names.old (standing mark.now))) }
 {
@@ -25,7 +25,7 @@ fn with_name<'t, 'a>(
 }
 
 /// The names of all globals of a module.
-fn global_names<'t, 'a>(rows: &[Mark<'t, 'a>], alloc: Global) -> Result<NameSet<'a>, ResolveError>
+fn global_names<'t>(rows: &[Mark<'t>], alloc: Global) -> Result<NameSet<'t>, ResolveError>
     ensures { Settles (λ s. s) result (Ok (stages.global_names [] (marks rows.now))) }
 {
     let mut names = NameSet::new(alloc);
@@ -36,7 +36,7 @@ fn global_names<'t, 'a>(rows: &[Mark<'t, 'a>], alloc: Global) -> Result<NameSet<
 }
 
 /// A global that is used: it is defined or declared.
-fn if_there<'a>(alloc: Global, names: &NameSet<'a>, name: &Name<'a>) -> Result<(), ResolveError>
+fn if_there<'t>(alloc: Global, names: &NameSet<'t>, name: &'t Name) -> Result<(), ResolveError>
     ensures { (g : globals.Globals) → Settles (λ _. g) result (stages.if_there names.now g name.now) }
 {
     if names.contains(&name_of(alloc, name)?) {
@@ -46,11 +46,11 @@ fn if_there<'a>(alloc: Global, names: &NameSet<'a>, name: &Name<'a>) -> Result<(
     }
 }
 
-fn named<'t, 'a>(
+fn named<'t>(
     alloc: Global,
-    names: &NameSet<'a>,
-    globals: &mut Globals<'a>,
-    mark: &Mark<'t, 'a>,
+    names: &NameSet<'t>,
+    globals: &mut Globals<'t>,
+    mark: &Mark<'t>,
 ) -> Result<(), ResolveError>
     ensures { Settles (λ _. globals.new) result (stages.all_named names.now globals.old (standing mark.now)) }
 {
@@ -62,11 +62,11 @@ fn named<'t, 'a>(
     }
 }
 
-fn all_named<'t, 'a>(
-    rows: &[Mark<'t, 'a>],
+fn all_named<'t>(
+    rows: &[Mark<'t>],
     alloc: Global,
-    names: &NameSet<'a>,
-) -> Result<Globals<'a>, ResolveError>
+    names: &NameSet<'t>,
+) -> Result<Globals<'t>, ResolveError>
     ensures { Settles (λ g. g) result (stages.all_named names.now no_globals (marks rows.now)) }
 {
     let mut globals = Globals::new(alloc);
@@ -79,7 +79,7 @@ fn all_named<'t, 'a>(
 /// The names of globals of a module. A fault is at the first token that defines or declares a global a second
 /// time, or as a number below the counter, or that uses one which is neither.
 #[tactic(auto, unfolding(ir_names::specs::Stages::globals_named))]
-pub fn globals_in<'t, 'a>(alloc: Global, marks: &Marks<'t, 'a>) -> Result<Globals<'a>, ResolveError>
+pub fn globals_in<'t>(alloc: Global, marks: &Marks<'t>) -> Result<Globals<'t>, ResolveError>
     ensures { Settles (λ g. g) result (stages.globals_named marks.now) }
 {
     let rows = marks.as_slice();

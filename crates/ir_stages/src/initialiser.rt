@@ -76,12 +76,12 @@ fn number_for(shape: &Shape, number: &Name) -> Operand
 
 /// What an initialiser for a shape stands for where it has no parts, or the beginning of one with
 /// parts.
-fn head_in<'t, 'a>(
+fn head_in<'t>(
     alloc: Global,
-    types: &Types<'t, 'a>,
-    locals: &Locals<'a>,
+    types: &Types<'t>,
+    locals: &Locals<'t>,
     shape: &Shape,
-    head: &'t WrittenHead<'a>,
+    head: &'t WrittenHead,
 ) -> Result<InitHead, ResolveError>
     ensures { Settles (λ h. h) result (head_in types.now locals.now shape.now head.now) }
 {
@@ -102,11 +102,11 @@ fn head_in<'t, 'a>(
 }
 
 /// What a part stands for.
-fn part_in<'t, 'a>(
+fn part_in<'t>(
     alloc: Global,
-    types: &Types<'t, 'a>,
-    locals: &Locals<'a>,
-    part: &'t WrittenPart<'a>,
+    types: &Types<'t>,
+    locals: &Locals<'t>,
+    part: &'t WrittenPart,
 ) -> Result<InitPart, ResolveError>
     ensures { Settles (λ p. p) result (part_in types.now locals.now part.now) }
 {
@@ -122,12 +122,12 @@ fn part_in<'t, 'a>(
 
 /// The parts behind the beginning of an initialiser, each of whose aggregates is closed.
 #[tactic(auto, using(crate::proofs::Closings::pushed_more))]
-fn parts_in<'t, 'a>(
+fn parts_in<'t>(
     alloc: Global,
-    types: &Types<'t, 'a>,
-    locals: &Locals<'a>,
+    types: &Types<'t>,
+    locals: &Locals<'t>,
     root: &InitHead,
-    parts: &'t [WrittenPart<'a>],
+    parts: &'t [WrittenPart],
 ) -> Result<Rows<InitPart>, ResolveError>
     ensures tree { Settles (λ ps. tree_of (root.now, ps)) result (tree_in root.now (each (part_in types.now locals.now) parts.now)) }
     ensures flat { IfOk result (λ ps. IsFlat root.now ps) }
@@ -143,12 +143,12 @@ fn parts_in<'t, 'a>(
 
 /// What an initialiser for a shape stands for, with these locals known.
 #[tactic(auto, using(crate::proofs::Closings::same_tree))]
-fn initial_in<'t, 'a>(
+fn initial_in<'t>(
     alloc: Global,
-    types: &Types<'t, 'a>,
-    locals: &Locals<'a>,
+    types: &Types<'t>,
+    locals: &Locals<'t>,
     shape: &Shape,
-    init: &'t Written<'a>,
+    init: &'t Written,
 ) -> Result<Init, ResolveError>
     ensures { Settles (λ v. v) result (initial_in types.now locals.now shape.now init.now) }
 {
@@ -158,11 +158,11 @@ fn initial_in<'t, 'a>(
 }
 
 /// What an initialiser for a shape stands for. No local is known in it.
-pub fn init_in<'t, 'a>(
+pub fn init_in<'t>(
     alloc: Global,
-    types: &Types<'t, 'a>,
+    types: &Types<'t>,
     shape: &Shape,
-    init: &'t Written<'a>,
+    init: &'t Written,
 ) -> Result<Init, ResolveError>
     ensures { Settles (λ v. v) result (definitions.init_in types.now shape.now init.now) }
 {

@@ -12,11 +12,11 @@ use named_types::Sizes;
 use std::alloc::Global;
 
 #[tactic(auto, using(crate::proofs::Within::behind))]
-fn both_within<'t, 'a>(
-    left: &'t Operand<'a>,
-    right: &'t Operand<'a>,
+fn both_within<'t>(
+    left: &'t Operand,
+    right: &'t Operand,
     alloc: Global,
-    types: &Sizes<'_, 't, 'a>,
+    types: &Sizes<'_, 't>,
 ) -> Result<(), ResolveError>
     ensures { Settles (λ u. u) result (stages.marks_within types.now (marked.both left.now right.now)) }
 {
@@ -25,10 +25,10 @@ fn both_within<'t, 'a>(
 }
 
 #[tactic(auto, using(crate::proofs::Within::behind))]
-fn entries_within<'t, 'a>(
-    incoming: &'t [Incoming<'a>],
+fn entries_within<'t>(
+    incoming: &'t [Incoming],
     alloc: Global,
-    types: &Sizes<'_, 't, 'a>,
+    types: &Sizes<'_, 't>,
 ) -> Result<(), ResolveError>
     ensures { Settles (λ u. u) result (stages.marks_within types.now (marked.all (λ i. marked.operand_marks i.value) incoming.now)) }
 {
@@ -39,10 +39,10 @@ fn entries_within<'t, 'a>(
 }
 
 #[tactic(auto, using(crate::proofs::Within::behind))]
-fn arguments_within<'t, 'a>(
-    given: &'t [Argument<'a>],
+fn arguments_within<'t>(
+    given: &'t [Argument],
     alloc: Global,
-    types: &Sizes<'_, 't, 'a>,
+    types: &Sizes<'_, 't>,
 ) -> Result<(), ResolveError>
     ensures { Settles (λ u. u) result (stages.marks_within types.now (marked.all (λ a. marked.operand_marks a.operand) given.now)) }
 {
@@ -54,10 +54,10 @@ fn arguments_within<'t, 'a>(
 
 /// The shape of an `alloca` with its count.
 #[tactic(auto, using(crate::proofs::Within::reserved_passes))]
-fn reserved_within<'t, 'a>(
-    instr: &'t Instr<'a>,
+fn reserved_within<'t>(
+    instr: &'t Instr,
     alloc: Global,
-    types: &Sizes<'_, 't, 'a>,
+    types: &Sizes<'_, 't>,
 ) -> Result<(), ResolveError>
     ensures { Settles (λ u. u) result (stages.marks_within types.now (reserved instr.now)) }
 {
@@ -68,12 +68,12 @@ fn reserved_within<'t, 'a>(
 }
 
 #[tactic(auto, using(crate::proofs::Within::behind))]
-fn choice_within<'t, 'a>(
-    condition: &'t Operand<'a>,
-    if_true: &'t Operand<'a>,
-    if_false: &'t Operand<'a>,
+fn choice_within<'t>(
+    condition: &'t Operand,
+    if_true: &'t Operand,
+    if_false: &'t Operand,
     alloc: Global,
-    types: &Sizes<'_, 't, 'a>,
+    types: &Sizes<'_, 't>,
 ) -> Result<(), ResolveError>
     ensures { Settles (λ u. u) result (stages.marks_within types.now (marked.operand_marks condition.now ++ marked.both if_true.now if_false.now)) }
 {
@@ -82,11 +82,11 @@ fn choice_within<'t, 'a>(
 }
 
 #[tactic(auto, using(crate::proofs::Within::behind))]
-fn call_within<'t, 'a>(
-    callee: &'t Operand<'a>,
-    given: &'t [Argument<'a>],
+fn call_within<'t>(
+    callee: &'t Operand,
+    given: &'t [Argument],
     alloc: Global,
-    types: &Sizes<'_, 't, 'a>,
+    types: &Sizes<'_, 't>,
 ) -> Result<(), ResolveError>
     ensures { Settles (λ u. u) result (stages.marks_within types.now (marked.operand_marks callee.now ++ marked.all (λ a. marked.operand_marks a.operand) given.now)) }
 {
@@ -96,12 +96,12 @@ fn call_within<'t, 'a>(
 
 /// A `getelementptr`: its shape, the address that it steps from, and its indices.
 #[tactic(auto, using(crate::proofs::Within::behind))]
-fn stepping_within<'t, 'a>(
-    typed: &'t Typed<'a>,
-    base: &'t Operand<'a>,
-    indices: &'t [Argument<'a>],
+fn stepping_within<'t>(
+    typed: &'t Typed,
+    base: &'t Operand,
+    indices: &'t [Argument],
     alloc: Global,
-    types: &Sizes<'_, 't, 'a>,
+    types: &Sizes<'_, 't>,
 ) -> Result<(), ResolveError>
     ensures { Settles (λ u. u) result (stages.marks_within types.now (marked.typed_marks typed.now ++ (marked.operand_marks base.now ++ marked.all (λ a. marked.operand_marks a.operand) indices.now))) }
 {
@@ -109,10 +109,10 @@ fn stepping_within<'t, 'a>(
     call_within(base, indices, alloc, types)
 }
 
-fn instr_within<'t, 'a>(
-    instr: &'t Instr<'a>,
+fn instr_within<'t>(
+    instr: &'t Instr,
     alloc: Global,
-    types: &Sizes<'_, 't, 'a>,
+    types: &Sizes<'_, 't>,
 ) -> Result<(), ResolveError>
     ensures { Settles (λ u. u) result (stages.marks_within types.now (marked.instr_marks instr.now)) }
 {
@@ -147,10 +147,10 @@ fn instr_within<'t, 'a>(
 }
 
 #[tactic(auto, using(crate::proofs::Within::behind))]
-fn lines_within<'t, 'a>(
-    rows: &'t [Line<'a>],
+fn lines_within<'t>(
+    rows: &'t [Line],
     alloc: Global,
-    types: &Sizes<'_, 't, 'a>,
+    types: &Sizes<'_, 't>,
 ) -> Result<(), ResolveError>
     ensures { Settles (λ u. u) result (stages.marks_within types.now (marked.all (λ l. marked.instr_marks l.instr) rows.now)) }
 {
@@ -160,10 +160,10 @@ fn lines_within<'t, 'a>(
     Ok(())
 }
 
-fn end_within<'t, 'a>(
-    end: &'t Terminator<'a>,
+fn end_within<'t>(
+    end: &'t Terminator,
     alloc: Global,
-    types: &Sizes<'_, 't, 'a>,
+    types: &Sizes<'_, 't>,
 ) -> Result<(), ResolveError>
     ensures { Settles (λ u. u) result (stages.marks_within types.now (marked.end_marks end.now)) }
 {
@@ -176,23 +176,23 @@ fn end_within<'t, 'a>(
 }
 
 #[tactic(auto, using(crate::proofs::Within::behind))]
-fn block_within<'t, 'a>(
-    block: &'t Block<'a>,
+fn block_within<'t>(
+    block: &'t Block,
     alloc: Global,
-    types: &Sizes<'_, 't, 'a>,
+    types: &Sizes<'_, 't>,
 ) -> Result<(), ResolveError>
     ensures { Settles (λ u. u) result (stages.marks_within types.now (marked.block_marks block.now)) }
 {
     lines_within(block.lines.as_slice(), alloc, types)?;
-    end_within(block.end.get(), alloc, types)
+    end_within(&block.end, alloc, types)
 }
 
 /// The shapes and constant addresses of the blocks of a function.
 #[tactic(auto, using(crate::proofs::Within::behind))]
-pub fn blocks_within<'t, 'a>(
-    rows: &'t [Block<'a>],
+pub fn blocks_within<'t>(
+    rows: &'t [Block],
     alloc: Global,
-    types: &Sizes<'_, 't, 'a>,
+    types: &Sizes<'_, 't>,
 ) -> Result<(), ResolveError>
     ensures { Settles (λ u. u) result (stages.marks_within types.now (marked.all marked.block_marks rows.now)) }
 {

@@ -9,10 +9,7 @@ use std::alloc::AllocError;
 
 /// A global that an operand names, or the constant address that it is.
 #[tactic(auto, using(crate::proofs::Gathering::joined))]
-pub fn operand_marks<'t, 'a>(
-    operand: &'t Operand<'a>,
-    marks: &mut Marks<'t, 'a>,
-) -> Result<(), AllocError>
+pub fn operand_marks<'t>(operand: &'t Operand, marks: &mut Marks<'t>) -> Result<(), AllocError>
     ensures { OnOk result (marks.new ≡ marks.old ++ marked.operand_marks operand.now) }
 {
     match operand {
@@ -27,21 +24,14 @@ pub fn operand_marks<'t, 'a>(
 }
 
 #[tactic(auto, using(crate::proofs::Gathering::joined))]
-fn both<'t, 'a>(
-    left: &'t Operand<'a>,
-    right: &'t Operand<'a>,
-    marks: &mut Marks<'t, 'a>,
-) -> Result<(), AllocError>
+fn both<'t>(left: &'t Operand, right: &'t Operand, marks: &mut Marks<'t>) -> Result<(), AllocError>
     ensures { OnOk result (marks.new ≡ marks.old ++ marked.both left.now right.now) }
 {
     operand_marks(left, marks)?;
     operand_marks(right, marks)
 }
 
-fn entries<'t, 'a>(
-    incoming: &'t [Incoming<'a>],
-    marks: &mut Marks<'t, 'a>,
-) -> Result<(), AllocError>
+fn entries<'t>(incoming: &'t [Incoming], marks: &mut Marks<'t>) -> Result<(), AllocError>
     ensures { OnOk result (marks.new ≡ marks.old ++ marked.all (λ i. marked.operand_marks i.value) incoming.now) }
 {
     'each: for entry in incoming {
@@ -50,7 +40,7 @@ fn entries<'t, 'a>(
     Ok(())
 }
 
-fn arguments<'t, 'a>(given: &'t [Argument<'a>], marks: &mut Marks<'t, 'a>) -> Result<(), AllocError>
+fn arguments<'t>(given: &'t [Argument], marks: &mut Marks<'t>) -> Result<(), AllocError>
     ensures { OnOk result (marks.new ≡ marks.old ++ marked.all (λ a. marked.operand_marks a.operand) given.now) }
 {
     'each: for argument in given {
@@ -61,7 +51,7 @@ fn arguments<'t, 'a>(given: &'t [Argument<'a>], marks: &mut Marks<'t, 'a>) -> Re
 
 /// The marks of an instruction.
 #[tactic(auto, using(crate::proofs::Gathering::joined))]
-fn instr_marks<'t, 'a>(instr: &'t Instr<'a>, marks: &mut Marks<'t, 'a>) -> Result<(), AllocError>
+fn instr_marks<'t>(instr: &'t Instr, marks: &mut Marks<'t>) -> Result<(), AllocError>
     ensures { OnOk result (marks.new ≡ marks.old ++ marked.instr_marks instr.now) }
 {
     match instr {
@@ -105,7 +95,7 @@ fn instr_marks<'t, 'a>(instr: &'t Instr<'a>, marks: &mut Marks<'t, 'a>) -> Resul
     }
 }
 
-fn lines<'t, 'a>(rows: &'t [Line<'a>], marks: &mut Marks<'t, 'a>) -> Result<(), AllocError>
+fn lines<'t>(rows: &'t [Line], marks: &mut Marks<'t>) -> Result<(), AllocError>
     ensures { OnOk result (marks.new ≡ marks.old ++ marked.all (λ l. marked.instr_marks l.instr) rows.now) }
 {
     'each: for line in rows {
@@ -114,7 +104,7 @@ fn lines<'t, 'a>(rows: &'t [Line<'a>], marks: &mut Marks<'t, 'a>) -> Result<(), 
     Ok(())
 }
 
-fn end_marks<'t, 'a>(end: &'t Terminator<'a>, marks: &mut Marks<'t, 'a>) -> Result<(), AllocError>
+fn end_marks<'t>(end: &'t Terminator, marks: &mut Marks<'t>) -> Result<(), AllocError>
     ensures { OnOk result (marks.new ≡ marks.old ++ marked.end_marks end.now) }
 {
     match end {
@@ -126,15 +116,15 @@ fn end_marks<'t, 'a>(end: &'t Terminator<'a>, marks: &mut Marks<'t, 'a>) -> Resu
 }
 
 #[tactic(auto, using(crate::proofs::Gathering::joined))]
-fn block_marks<'t, 'a>(block: &'t Block<'a>, marks: &mut Marks<'t, 'a>) -> Result<(), AllocError>
+fn block_marks<'t>(block: &'t Block, marks: &mut Marks<'t>) -> Result<(), AllocError>
     ensures { OnOk result (marks.new ≡ marks.old ++ marked.block_marks block.now) }
 {
     lines(block.lines.as_slice(), marks)?;
-    end_marks(block.end.get(), marks)
+    end_marks(&block.end, marks)
 }
 
 /// The marks of the blocks of a function.
-pub fn blocks<'t, 'a>(rows: &'t [Block<'a>], marks: &mut Marks<'t, 'a>) -> Result<(), AllocError>
+pub fn blocks<'t>(rows: &'t [Block], marks: &mut Marks<'t>) -> Result<(), AllocError>
     ensures { OnOk result (marks.new ≡ marks.old ++ marked.all marked.block_marks rows.now) }
 {
     'each: for block in rows {

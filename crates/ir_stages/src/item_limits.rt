@@ -12,10 +12,10 @@ use ir_read::{Init, InitHead, InitPart, Item, Variable};
 use named_types::{Sizes, order_of};
 use std::alloc::Global;
 
-fn head_within<'t, 'a>(
-    head: &'t InitHead<'a>,
+fn head_within<'t>(
+    head: &'t InitHead,
     alloc: Global,
-    types: &Sizes<'_, 't, 'a>,
+    types: &Sizes<'_, 't>,
 ) -> Result<(), ResolveError>
     ensures { Settles (λ u. u) result (stages.marks_within types.now (marked.head_marks head.now)) }
 {
@@ -26,10 +26,10 @@ fn head_within<'t, 'a>(
 }
 
 #[tactic(auto, using(crate::proofs::Within::behind))]
-fn part_within<'t, 'a>(
-    part: &'t InitPart<'a>,
+fn part_within<'t>(
+    part: &'t InitPart,
     alloc: Global,
-    types: &Sizes<'_, 't, 'a>,
+    types: &Sizes<'_, 't>,
 ) -> Result<(), ResolveError>
     ensures { Settles (λ u. u) result (stages.marks_within types.now (marked.part_marks part.now)) }
 {
@@ -43,10 +43,10 @@ fn part_within<'t, 'a>(
 }
 
 #[tactic(auto, using(crate::proofs::Within::behind))]
-fn parts_within<'t, 'a>(
-    parts: &'t [InitPart<'a>],
+fn parts_within<'t>(
+    parts: &'t [InitPart],
     alloc: Global,
-    types: &Sizes<'_, 't, 'a>,
+    types: &Sizes<'_, 't>,
 ) -> Result<(), ResolveError>
     ensures { Settles (λ u. u) result (stages.marks_within types.now (marked.all marked.part_marks parts.now)) }
 {
@@ -57,10 +57,10 @@ fn parts_within<'t, 'a>(
 }
 
 #[tactic(auto, using(crate::proofs::Within::behind))]
-fn init_within<'t, 'a>(
-    init: &'t Option<Init<'a>>,
+fn init_within<'t>(
+    init: &'t Option<Init>,
     alloc: Global,
-    types: &Sizes<'_, 't, 'a>,
+    types: &Sizes<'_, 't>,
 ) -> Result<(), ResolveError>
     ensures { Settles (λ u. u) result (stages.marks_within types.now (marked.init_marks init.now)) }
 {
@@ -74,10 +74,10 @@ fn init_within<'t, 'a>(
 }
 
 #[tactic(auto, using(crate::proofs::Within::behind))]
-fn variable_within<'t, 'a>(
-    variable: &'t Variable<'a>,
+fn variable_within<'t>(
+    variable: &'t Variable,
     alloc: Global,
-    types: &Sizes<'_, 't, 'a>,
+    types: &Sizes<'_, 't>,
 ) -> Result<(), ResolveError>
     ensures { Settles (λ u. u) result (stages.marks_within types.now (marked.variable_marks variable.now)) }
 {
@@ -85,11 +85,7 @@ fn variable_within<'t, 'a>(
     init_within(&variable.init, alloc, types)
 }
 
-fn item_within<'t, 'a>(
-    item: &'t Item<'a>,
-    alloc: Global,
-    types: &Sizes<'_, 't, 'a>,
-) -> Result<(), ResolveError>
+fn item_within<'t>(item: &'t Item, alloc: Global, types: &Sizes<'_, 't>) -> Result<(), ResolveError>
     ensures { Settles (λ u. u) result (stages.marks_within types.now (marked.item_marks item.now)) }
 {
     match item {
@@ -101,10 +97,10 @@ fn item_within<'t, 'a>(
 }
 
 #[tactic(auto, using(crate::proofs::Within::behind))]
-fn items_within<'t, 'a>(
-    items: &'t [Item<'a>],
+fn items_within<'t>(
+    items: &'t [Item],
     alloc: Global,
-    types: &Sizes<'_, 't, 'a>,
+    types: &Sizes<'_, 't>,
 ) -> Result<(), ResolveError>
     ensures { Settles (λ u. u) result (stages.marks_within types.now (marked.marks_of items.now)) }
 {
@@ -116,10 +112,10 @@ fn items_within<'t, 'a>(
 
 /// Whether each shape of a module is within the limits as it is expanded, and each index of a constant
 /// address counts a part. A fault is at the first token in the order of the text.
-pub fn shapes_within<'t, 'a>(
-    items: &'t [Item<'a>],
+pub fn shapes_within<'t>(
+    items: &'t [Item],
     alloc: Global,
-    types: &Types<'t, 'a>,
+    types: &Types<'t>,
 ) -> Result<(), ResolveError>
     ensures { Settles (λ u. u) result (stages.marks_within types.now (marked.marks_of items.now)) }
 {

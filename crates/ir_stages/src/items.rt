@@ -8,7 +8,7 @@ use crate::uses::{typed_marks, uses_if};
 use ir_read::{Init, InitHead, InitPart, Item, Variable};
 use std::alloc::AllocError;
 
-fn head_marks<'t, 'a>(head: &'t InitHead<'a>, marks: &mut Marks<'t, 'a>) -> Result<(), AllocError>
+fn head_marks<'t>(head: &'t InitHead, marks: &mut Marks<'t>) -> Result<(), AllocError>
     ensures { OnOk result (marks.new ≡ marks.old ++ marked.head_marks head.now) }
 {
     match head {
@@ -18,7 +18,7 @@ fn head_marks<'t, 'a>(head: &'t InitHead<'a>, marks: &mut Marks<'t, 'a>) -> Resu
 }
 
 #[tactic(auto, using(crate::proofs::Gathering::joined))]
-fn part_marks<'t, 'a>(part: &'t InitPart<'a>, marks: &mut Marks<'t, 'a>) -> Result<(), AllocError>
+fn part_marks<'t>(part: &'t InitPart, marks: &mut Marks<'t>) -> Result<(), AllocError>
     ensures { OnOk result (marks.new ≡ marks.old ++ marked.part_marks part.now) }
 {
     match part {
@@ -30,7 +30,7 @@ fn part_marks<'t, 'a>(part: &'t InitPart<'a>, marks: &mut Marks<'t, 'a>) -> Resu
     }
 }
 
-fn all_parts<'t, 'a>(parts: &'t [InitPart<'a>], marks: &mut Marks<'t, 'a>) -> Result<(), AllocError>
+fn all_parts<'t>(parts: &'t [InitPart], marks: &mut Marks<'t>) -> Result<(), AllocError>
     ensures { OnOk result (marks.new ≡ marks.old ++ marked.all marked.part_marks parts.now) }
 {
     'each: for part in parts {
@@ -40,10 +40,7 @@ fn all_parts<'t, 'a>(parts: &'t [InitPart<'a>], marks: &mut Marks<'t, 'a>) -> Re
 }
 
 #[tactic(auto, using(crate::proofs::Gathering::joined))]
-fn init_marks<'t, 'a>(
-    init: &'t Option<Init<'a>>,
-    marks: &mut Marks<'t, 'a>,
-) -> Result<(), AllocError>
+fn init_marks<'t>(init: &'t Option<Init>, marks: &mut Marks<'t>) -> Result<(), AllocError>
     ensures { OnOk result (marks.new ≡ marks.old ++ marked.init_marks init.now) }
 {
     match init {
@@ -56,10 +53,7 @@ fn init_marks<'t, 'a>(
 }
 
 #[tactic(auto, using(crate::proofs::Gathering::joined))]
-fn variable_marks<'t, 'a>(
-    variable: &'t Variable<'a>,
-    marks: &mut Marks<'t, 'a>,
-) -> Result<(), AllocError>
+fn variable_marks<'t>(variable: &'t Variable, marks: &mut Marks<'t>) -> Result<(), AllocError>
     ensures { OnOk result (marks.new ≡ marks.old ++ marked.variable_marks variable.now) }
 {
     marks.push(Mark::Global(&variable.name))?;
@@ -68,7 +62,7 @@ fn variable_marks<'t, 'a>(
 }
 
 #[tactic(auto, using(crate::proofs::Gathering::joined))]
-fn item_marks<'t, 'a>(item: &'t Item<'a>, marks: &mut Marks<'t, 'a>) -> Result<(), AllocError>
+fn item_marks<'t>(item: &'t Item, marks: &mut Marks<'t>) -> Result<(), AllocError>
     ensures { OnOk result (marks.new ≡ marks.old ++ marked.item_marks item.now) }
 {
     match item {
@@ -88,7 +82,7 @@ fn item_marks<'t, 'a>(item: &'t Item<'a>, marks: &mut Marks<'t, 'a>) -> Result<(
 
 /// Keeps what names a type or a global in the items of a module, and what has a shape, in the order of the
 /// text.
-pub fn gather<'t, 'a>(items: &'t [Item<'a>], marks: &mut Marks<'t, 'a>) -> Result<(), AllocError>
+pub fn gather<'t>(items: &'t [Item], marks: &mut Marks<'t>) -> Result<(), AllocError>
     ensures { OnOk result (marks.new ≡ marks.old ++ marked.marks_of items.now) }
 {
     'each: for item in items {

@@ -7,8 +7,8 @@
 //! [`types_in`] refuses a type name that is defined twice, isn't defined, is opaque or holds itself, and [`globals_in`]
 //! a global that is defined twice or isn't defined; between them [`shapes_within`] goes over the items again and
 //! refuses a shape past the limits and an index that counts no part. [`function_in`] and [`variable_in`] make trees,
-//! [`lines_of`] the lines that faults are told by. Items are lent: of two lifetimes the first is that of the loan, the
-//! second that of the text.
+//! [`lines_of`] the lines that faults are told by. Items are lent: the one lifetime is that of the loan, and
+//! names are borrowed from them.
 //!
 //! **Promise.** Each call gives what its definition says, the fault and its line among it, unless memory runs out:
 //! [`types_in`] by `ir_names/specs/TypeNames`, [`shapes_within`] by `ir_names/specs/Stages`, [`function_in`] by

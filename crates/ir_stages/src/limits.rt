@@ -10,10 +10,10 @@ use named_types::Sizes;
 use std::alloc::Global;
 
 /// The shapes of a constant address, whose outermost level is the last one and begins first.
-fn levels_within<'t, 'a>(
-    levels: &'t [Level<'a>],
+fn levels_within<'t>(
+    levels: &'t [Level],
     alloc: Global,
-    types: &Sizes<'_, 't, 'a>,
+    types: &Sizes<'_, 't>,
 ) -> Result<(), ResolveError>
     ensures { Settles (λ u. u) result (stages.levels_within types.now levels.now) }
 {
@@ -26,10 +26,10 @@ fn levels_within<'t, 'a>(
 }
 
 /// The shapes of a constant address, and then its indices.
-fn address_within<'t, 'a>(
-    steps: &'t Steps<'a>,
+fn address_within<'t>(
+    steps: &'t Steps,
     alloc: Global,
-    types: &Sizes<'_, 't, 'a>,
+    types: &Sizes<'_, 't>,
 ) -> Result<(), ResolveError>
     ensures { Settles (λ u. u) result (stages.address_within types.now steps.now) }
 {
@@ -41,10 +41,10 @@ fn address_within<'t, 'a>(
 
 /// The constant address that an operand is.
 #[tactic(auto, using(crate::proofs::Within::address_passes))]
-pub fn operand_within<'t, 'a>(
-    operand: &'t Operand<'a>,
+pub fn operand_within<'t>(
+    operand: &'t Operand,
     alloc: Global,
-    types: &Sizes<'_, 't, 'a>,
+    types: &Sizes<'_, 't>,
 ) -> Result<(), ResolveError>
     ensures { Settles (λ u. u) result (stages.marks_within types.now (marked.operand_marks operand.now)) }
 {
@@ -56,10 +56,10 @@ pub fn operand_within<'t, 'a>(
 
 /// A shape as it is written somewhere.
 #[tactic(auto, using(crate::proofs::Within::shape_passes))]
-pub fn shape_within<'t, 'a>(
-    typed: &'t Typed<'a>,
+pub fn shape_within<'t>(
+    typed: &'t Typed,
     alloc: Global,
-    types: &Sizes<'_, 't, 'a>,
+    types: &Sizes<'_, 't>,
 ) -> Result<(), ResolveError>
     ensures { Settles (λ u. u) result (stages.marks_within types.now (marked.typed_marks typed.now)) }
 {
@@ -67,10 +67,10 @@ pub fn shape_within<'t, 'a>(
 }
 
 /// The shape of a type name, where it isn't opaque.
-pub fn typed_within<'t, 'a>(
-    typed: &'t Option<Typed<'a>>,
+pub fn typed_within<'t>(
+    typed: &'t Option<Typed>,
     alloc: Global,
-    types: &Sizes<'_, 't, 'a>,
+    types: &Sizes<'_, 't>,
 ) -> Result<(), ResolveError>
     ensures { Settles (λ u. u) result (stages.typed_within types.now typed.now) }
 {

@@ -8,30 +8,30 @@ use std::marker::Model;
 
 /// A place of a module that names a type or a global, or that has a shape.
 #[derive(Clone, Copy)]
-pub enum Mark<'t, 'a> {
+pub enum Mark<'t> {
     /// A type name that is defined, and its shape where it isn't opaque.
-    TypeName(&'t Name<'a>, &'t Option<Typed<'a>>),
+    TypeName(&'t Name, &'t Option<Typed>),
     /// A type name that is used.
-    TypeUse(&'t Name<'a>),
+    TypeUse(&'t Name),
     /// A shape. The names in it stand behind it.
-    Shape(&'t Typed<'a>),
+    Shape(&'t Typed),
     /// The shape of an `alloca`, and how many of it. The names in it stand behind it.
-    Alloca(&'t Typed<'a>, u64),
+    Alloca(&'t Typed, u64),
     /// A global that is defined or declared.
-    Global(&'t Name<'a>),
+    Global(&'t Name),
     /// A global that is used.
-    Symbol(&'t Name<'a>),
+    Symbol(&'t Name),
     /// A constant address. The names in its shapes stand behind it.
-    Address(&'t Steps<'a>),
+    Address(&'t Steps),
 }
 
 /// The marks of a module, in the order of its text.
 #[derive(Drop)]
-pub struct Marks<'t, 'a> {
-    rows: Vec<Mark<'t, 'a>>,
+pub struct Marks<'t> {
+    rows: Vec<Mark<'t>>,
 }
 
-impl<'t, 'a> Model for Marks<'t, 'a> {
+impl<'t> Model for Marks<'t> {
     ghost use Rattle.std.specs.Prelude.{List};
     ghost use Rattle.ir_names.specs.Marks.{Mark};
     ghost use Rattle.ir_stages.specs.MarkCode.{mark_code};
@@ -48,9 +48,9 @@ impl<'t, 'a> Model for Marks<'t, 'a> {
     ghost view = { λ m. marks m.rows.items };
 }
 
-impl<'t, 'a> Marks<'t, 'a> {
+impl<'t> Marks<'t> {
     /// No mark.
-    pub fn new(alloc: Global) -> Marks<'t, 'a>
+    pub fn new(alloc: Global) -> Marks<'t>
         ensures { result ≡ [] }
     {
         Marks {
@@ -59,7 +59,7 @@ impl<'t, 'a> Marks<'t, 'a> {
     }
 
     /// One more mark.
-    pub fn push(&mut self, mark: Mark<'t, 'a>) -> Result<(), AllocError>
+    pub fn push(&mut self, mark: Mark<'t>) -> Result<(), AllocError>
         ensures { OnOk result (self.new ≡ self.old ++ standing mark.entry) }
     {
         self.rows.push(mark)?;
@@ -67,7 +67,7 @@ impl<'t, 'a> Marks<'t, 'a> {
     }
 
     /// The marks.
-    pub fn as_slice(&self) -> &[Mark<'t, 'a>]
+    pub fn as_slice(&self) -> &[Mark<'t>]
         ensures { marks result.now ≡ self.now }
     {
         &self.rows

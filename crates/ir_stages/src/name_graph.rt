@@ -22,11 +22,11 @@ fn put(row: &mut Vec<usize>, place: Option<usize>) -> Result<(), AllocError>
 }
 
 /// The place of the definition of a name that is used, where it is defined.
-fn with_place<'t, 'a>(
+fn with_place<'t>(
     alloc: Global,
-    types: &TypeNames<'t, 'a>,
+    types: &TypeNames<'t>,
     row: &mut Vec<usize>,
-    mark: &Mark<'t, 'a>,
+    mark: &Mark<'t>,
 ) -> Result<(), ResolveError>
     ensures { Settles (λ _. row.new.items) result (Ok (row.old.items ++ places types.now (standing mark.now))) }
 {
@@ -41,10 +41,10 @@ fn with_place<'t, 'a>(
 }
 
 /// The places of the definitions of the names that are used and defined.
-fn places<'t, 'a>(
+fn places<'t>(
     alloc: Global,
-    types: &TypeNames<'t, 'a>,
-    rows: &[Mark<'t, 'a>],
+    types: &TypeNames<'t>,
+    rows: &[Mark<'t>],
 ) -> Result<Vec<usize>, ResolveError>
     ensures { Settles (λ v. v.items) result (Ok (places types.now (marks rows.now))) }
 {
@@ -56,11 +56,7 @@ fn places<'t, 'a>(
 }
 
 /// The type names in the shape of the definition at a place.
-fn uses_at<'t, 'a>(
-    alloc: Global,
-    types: &TypeNames<'t, 'a>,
-    place: usize,
-) -> Result<Marks<'t, 'a>, AllocError>
+fn uses_at<'t>(alloc: Global, types: &TypeNames<'t>, place: usize) -> Result<Marks<'t>, AllocError>
     ensures { IfOk result (λ m. m ≡ uses_in (typing.shape_at types.now place)) }
 {
     let mut marks = Marks::new(alloc);
@@ -74,9 +70,9 @@ fn uses_at<'t, 'a>(
 }
 
 /// The places that the definition at a place leads to.
-fn row_of<'t, 'a>(
+fn row_of<'t>(
     alloc: Global,
-    types: &TypeNames<'t, 'a>,
+    types: &TypeNames<'t>,
     place: usize,
 ) -> Result<Vec<usize>, ResolveError>
     ensures { Settles (λ v. v.items) result (Ok (places types.now (uses_in (typing.shape_at types.now place)))) }
@@ -86,7 +82,7 @@ fn row_of<'t, 'a>(
 }
 
 /// The graph of type names: from each definition an edge to that of each name in its shape.
-pub fn graph_of<'t, 'a>(alloc: Global, types: &TypeNames<'t, 'a>) -> Result<Graph, ResolveError>
+pub fn graph_of<'t>(alloc: Global, types: &TypeNames<'t>) -> Result<Graph, ResolveError>
     ensures { Settles (λ g. g) result (Ok (graph_of types.now)) }
 {
     let mut graph = Graph::new(alloc);

@@ -12,10 +12,10 @@ use ir_read::Name;
 use named_types::Circles;
 use std::alloc::Global;
 
-fn with_first<'t, 'a>(
+fn with_first<'t>(
     alloc: Global,
-    types: &mut TypeNames<'t, 'a>,
-    mark: &Mark<'t, 'a>,
+    types: &mut TypeNames<'t>,
+    mark: &Mark<'t>,
 ) -> Result<(), ResolveError>
     ensures { Settles (λ _. types.new) result (Ok (first_types types.old (standing mark.now))) }
 {
@@ -26,10 +26,7 @@ fn with_first<'t, 'a>(
 }
 
 /// The first definition of each type name.
-fn first_types<'t, 'a>(
-    alloc: Global,
-    rows: &[Mark<'t, 'a>],
-) -> Result<TypeNames<'t, 'a>, ResolveError>
+fn first_types<'t>(alloc: Global, rows: &[Mark<'t>]) -> Result<TypeNames<'t>, ResolveError>
     ensures { Settles (λ t. t) result (Ok (first_types [] (marks rows.now))) }
 {
     let mut types = TypeNames::new(alloc);
@@ -40,11 +37,11 @@ fn first_types<'t, 'a>(
 }
 
 /// Whether the definition of a name holds itself.
-fn holds_itself<'t, 'a>(
+fn holds_itself<'t>(
     alloc: Global,
-    all: &TypeNames<'t, 'a>,
+    all: &TypeNames<'t>,
     circles: &Circles,
-    name: &Name<'a>,
+    name: &Name,
 ) -> Result<bool, ResolveError>
     requires { circles.now ≡ graph_of all.now }
     ensures { Settles (λ b. b) result (Ok (holds_itself all.now (key_of name.now))) }
@@ -59,11 +56,11 @@ fn holds_itself<'t, 'a>(
 }
 
 /// A type name that is used: it is defined, not opaque, and doesn't hold itself.
-fn use_in<'t, 'a>(
+fn use_in<'t>(
     alloc: Global,
-    all: &TypeNames<'t, 'a>,
+    all: &TypeNames<'t>,
     circles: &Circles,
-    name: &Name<'a>,
+    name: &Name,
 ) -> Result<(), ResolveError>
     requires { circles.now ≡ graph_of all.now }
     ensures { Settles (λ u. u) result (use_in all.now name.now) }
@@ -75,12 +72,12 @@ fn use_in<'t, 'a>(
     Ok(())
 }
 
-fn typed_by<'t, 'a>(
+fn typed_by<'t>(
     alloc: Global,
-    all: &TypeNames<'t, 'a>,
+    all: &TypeNames<'t>,
     circles: &Circles,
-    types: &mut TypeNames<'t, 'a>,
-    mark: &Mark<'t, 'a>,
+    types: &mut TypeNames<'t>,
+    mark: &Mark<'t>,
 ) -> Result<(), ResolveError>
     requires { circles.now ≡ graph_of all.now }
     ensures { Settles (λ _. types.new) result (all_typed all.now types.old (standing mark.now)) }
@@ -92,12 +89,12 @@ fn typed_by<'t, 'a>(
     }
 }
 
-fn all_typed<'t, 'a>(
+fn all_typed<'t>(
     alloc: Global,
-    all: &TypeNames<'t, 'a>,
+    all: &TypeNames<'t>,
     circles: &Circles,
-    rows: &[Mark<'t, 'a>],
-) -> Result<TypeNames<'t, 'a>, ResolveError>
+    rows: &[Mark<'t>],
+) -> Result<TypeNames<'t>, ResolveError>
     requires { circles.now ≡ graph_of all.now }
     ensures { Settles (λ t. t) result (all_typed all.now [] (marks rows.now)) }
 {
@@ -109,11 +106,11 @@ fn all_typed<'t, 'a>(
 }
 
 /// The type names of a module, given the first definition of each.
-fn types_with<'t, 'a>(
+fn types_with<'t>(
     alloc: Global,
-    all: &TypeNames<'t, 'a>,
-    rows: &[Mark<'t, 'a>],
-) -> Result<Types<'t, 'a>, ResolveError>
+    all: &TypeNames<'t>,
+    rows: &[Mark<'t>],
+) -> Result<Types<'t>, ResolveError>
     ensures { Settles (λ t. t) result (all_typed all.now [] (marks rows.now)) }
 {
     let circles = Circles::of(alloc, graph_of(alloc, all)?)?;
@@ -125,7 +122,7 @@ fn types_with<'t, 'a>(
 /// The type names of a module. A fault is at the first token that defines a name a second time, or that uses
 /// one which isn't defined, is opaque, or holds itself.
 #[tactic(auto, unfolding(ir_names::specs::TypeNames::type_names))]
-pub fn types_in<'t, 'a>(alloc: Global, marks: &Marks<'t, 'a>) -> Result<Types<'t, 'a>, ResolveError>
+pub fn types_in<'t>(alloc: Global, marks: &Marks<'t>) -> Result<Types<'t>, ResolveError>
     ensures { Settles (λ t. t) result (type_names marks.now) }
 {
     let rows = marks.as_slice();

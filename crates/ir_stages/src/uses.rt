@@ -9,7 +9,7 @@ use std::alloc::AllocError;
 
 /// The type names in a shape. Shapes nest at most 32 deep, and so does this call.
 #[cycle(shapes)]
-pub fn uses<'t, 'a>(shape: &'t Shape<'a>, marks: &mut Marks<'t, 'a>) -> Result<(), AllocError>
+pub fn uses<'t>(shape: &'t Shape, marks: &mut Marks<'t>) -> Result<(), AllocError>
     ensures { OnOk result (marks.new ≡ marks.old ++ marked.uses shape.now) }
 {
     match shape.node() {
@@ -22,7 +22,7 @@ pub fn uses<'t, 'a>(shape: &'t Shape<'a>, marks: &mut Marks<'t, 'a>) -> Result<(
 
 /// The type names in the members of a structure.
 #[cycle(shapes)]
-fn all_uses<'t, 'a>(parts: &'t [Shape<'a>], marks: &mut Marks<'t, 'a>) -> Result<(), AllocError>
+fn all_uses<'t>(parts: &'t [Shape], marks: &mut Marks<'t>) -> Result<(), AllocError>
     ensures { OnOk result (marks.new ≡ marks.old ++ marked.all_uses (parts_of parts.now)) }
 {
     'each: for part in parts {
@@ -33,10 +33,7 @@ fn all_uses<'t, 'a>(parts: &'t [Shape<'a>], marks: &mut Marks<'t, 'a>) -> Result
 
 /// A shape, and the type names in it.
 #[tactic(auto, using(crate::proofs::Gathering::joined))]
-pub fn typed_marks<'t, 'a>(
-    typed: &'t Typed<'a>,
-    marks: &mut Marks<'t, 'a>,
-) -> Result<(), AllocError>
+pub fn typed_marks<'t>(typed: &'t Typed, marks: &mut Marks<'t>) -> Result<(), AllocError>
     ensures { OnOk result (marks.new ≡ marks.old ++ marked.typed_marks typed.now) }
 {
     marks.push(Mark::Shape(typed))?;
@@ -44,10 +41,7 @@ pub fn typed_marks<'t, 'a>(
 }
 
 /// The type names in the shape of a type name, where it isn't opaque.
-pub fn uses_if<'t, 'a>(
-    typed: &'t Option<Typed<'a>>,
-    marks: &mut Marks<'t, 'a>,
-) -> Result<(), AllocError>
+pub fn uses_if<'t>(typed: &'t Option<Typed>, marks: &mut Marks<'t>) -> Result<(), AllocError>
     ensures { OnOk result (marks.new ≡ marks.old ++ marked.uses_if typed.now) }
 {
     match typed {
@@ -58,10 +52,7 @@ pub fn uses_if<'t, 'a>(
 
 /// The type names in the shapes of a constant address, whose outermost level is the last one and begins
 /// first.
-pub fn level_uses<'t, 'a>(
-    levels: &'t [Level<'a>],
-    marks: &mut Marks<'t, 'a>,
-) -> Result<(), AllocError>
+pub fn level_uses<'t>(levels: &'t [Level], marks: &mut Marks<'t>) -> Result<(), AllocError>
     ensures { OnOk result (marks.new ≡ marks.old ++ marked.level_uses levels.now) }
 {
     let mut left = levels.len();

@@ -11,11 +11,11 @@ use ir_tree::{Init, Shape, Variable, align_of};
 use std::alloc::Global;
 
 /// What an initialiser for a shape stands for, where one is written.
-fn init_if<'t, 'a>(
+fn init_if<'t>(
     alloc: Global,
-    types: &Types<'t, 'a>,
+    types: &Types<'t>,
     shape: &Shape,
-    init: &'t Option<WrittenInit<'a>>,
+    init: &'t Option<WrittenInit>,
 ) -> Result<Option<Init>, ResolveError>
     ensures { Settles (λ i. i) result (init_if types.now shape.now init.now) }
 {
@@ -30,10 +30,10 @@ fn init_if<'t, 'a>(
 
 /// What a variable stands for. Where no alignment is written it is that of its shape.
 #[tactic(auto, unfolding(ir_names::specs::Variables::variable_in))]
-pub fn variable_in<'t, 'a>(
+pub fn variable_in<'t>(
     alloc: Global,
-    types: &Types<'t, 'a>,
-    variable: &'t Written<'a>,
+    types: &Types<'t>,
+    variable: &'t Written,
 ) -> Result<Variable, ResolveError>
     ensures { Settles (λ v. v) result (definitions.variable_in types.now variable.now) }
 {

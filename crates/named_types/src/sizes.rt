@@ -17,12 +17,12 @@ use std::marker::Model;
 /// The type names of a module, and what is known of the shape that each stands for. Contracts see the
 /// type names.
 #[derive(Drop)]
-pub struct Sizes<'s, 't, 'a> {
-    types: &'s Types<'t, 'a>,
+pub struct Sizes<'s, 't> {
+    types: &'s Types<'t>,
     known: Vec<Option<Known>>,
 }
 
-impl<'s, 't, 'a> Model for Sizes<'s, 't, 'a> {
+impl<'s, 't> Model for Sizes<'s, 't> {
     ghost use Rattle.std.specs.Prelude.{List, Option};
     ghost use Rattle.ir_read.specs.Shapes.{Written};
     ghost use Rattle.ir_read.specs.ShapeCode.{code_from};
@@ -42,11 +42,11 @@ impl<'s, 't, 'a> Model for Sizes<'s, 't, 'a> {
 
 /// The measure of a shape, where it is known: `None` within for one that is past a limit.
 #[tactic(auto, using(crate::proofs::Measured::measured_by, crate::proofs::Measured::limited_by))]
-fn measured<'t, 'a>(
+fn measured<'t>(
     alloc: Global,
-    names: &TypeNames<'t, 'a>,
+    names: &TypeNames<'t>,
     known: &[Option<Known>],
-    shape: &Shape<'a>,
+    shape: &Shape,
 ) -> Result<Option<Option<Measure>>, AllocError>
     requires known { AreKnown names.now known.now }
     requires small { AreKnownSmall known.now }
@@ -64,7 +64,7 @@ fn measured<'t, 'a>(
 }
 
 /// The name that a shape is, where it is one.
-fn name_of<'t, 'a>(shape: &'t Shape<'a>) -> Option<&'t Name<'a>>
+fn name_of<'t>(shape: &'t Shape) -> Option<&'t Name>
     ensures { MatchesName result shape.now }
 {
     match shape.node() {
@@ -74,11 +74,11 @@ fn name_of<'t, 'a>(shape: &'t Shape<'a>) -> Option<&'t Name<'a>>
 }
 
 /// What is known of a definition that is a shape of its own.
-fn own_shape<'t, 'a>(
+fn own_shape<'t>(
     alloc: Global,
-    names: &TypeNames<'t, 'a>,
+    names: &TypeNames<'t>,
     known: &[Option<Known>],
-    shape: &Shape<'a>,
+    shape: &Shape,
 ) -> Result<Option<Known>, AllocError>
     requires known { AreKnown names.now known.now }
     requires small { AreKnownSmall known.now }
@@ -107,11 +107,11 @@ fn chained(most: usize, known: Option<Known>) -> Option<Known>
 
 /// What is known of a definition that is a name.
 #[tactic(auto, using(crate::proofs::Measured::name_behind))]
-fn behind<'t, 'a>(
+fn behind<'t>(
     alloc: Global,
-    names: &TypeNames<'t, 'a>,
+    names: &TypeNames<'t>,
     known: &[Option<Known>],
-    name: &Name<'a>,
+    name: &Name,
 ) -> Result<Option<Known>, AllocError>
     requires known { AreKnown names.now known.now }
     requires small { AreKnownSmall known.now }
@@ -127,9 +127,9 @@ fn behind<'t, 'a>(
 
 /// What is known of the definition at a place.
 #[tactic(auto, using(crate::proofs::Measured::own_known))]
-fn known_here<'t, 'a>(
+fn known_here<'t>(
     alloc: Global,
-    names: &TypeNames<'t, 'a>,
+    names: &TypeNames<'t>,
     known: &[Option<Known>],
     place: usize,
 ) -> Result<Option<Known>, AllocError>
@@ -148,9 +148,9 @@ fn known_here<'t, 'a>(
 }
 
 /// Finds what is known of the definition at a place.
-fn find<'t, 'a>(
+fn find<'t>(
     alloc: Global,
-    names: &TypeNames<'t, 'a>,
+    names: &TypeNames<'t>,
     known: &mut [Option<Known>],
     place: usize,
 ) -> Result<(), AllocError>
@@ -168,9 +168,9 @@ fn find<'t, 'a>(
 
 /// What is known of all definitions, which are taken in this order.
 #[tactic(auto, using(crate::proofs::Measured::none_known, crate::proofs::Measured::none_small))]
-fn known_of<'t, 'a>(
+fn known_of<'t>(
     alloc: Global,
-    names: &TypeNames<'t, 'a>,
+    names: &TypeNames<'t>,
     order: &[usize],
 ) -> Result<Vec<Option<Known>>, AllocError>
     ensures known { IfOk result (λ v. AreKnown names.now v.items) }
@@ -192,14 +192,14 @@ fn array_fits(line: u32, count: u64, of: Measure) -> Result<(), ResolveError>
     Ok(())
 }
 
-impl<'s, 't, 'a> Sizes<'s, 't, 'a> {
+impl<'s, 't> Sizes<'s, 't> {
     /// These type names, each measured. The order, in which each is to stand behind those in its
     /// definition, decides only how fast shapes are measured.
     pub fn of(
         alloc: Global,
-        types: &'s Types<'t, 'a>,
+        types: &'s Types<'t>,
         order: &[usize],
-    ) -> Result<Sizes<'s, 't, 'a>, AllocError>
+    ) -> Result<Sizes<'s, 't>, AllocError>
         ensures { IfOk result (λ s. s ≡ types.now) }
     {
         let known = known_of(alloc, types.names(), order)?;
@@ -207,18 +207,14 @@ impl<'s, 't, 'a> Sizes<'s, 't, 'a> {
     }
 
     /// The type names.
-    pub fn types(&self) -> &'s Types<'t, 'a>
+    pub fn types(&self) -> &'s Types<'t>
         ensures { result.now ≡ self.now }
     {
         self.types
     }
 
     /// The measure of a shape, where it is known: `None` within for one that is past a limit.
-    fn measured(
-        &self,
-        alloc: Global,
-        shape: &Shape<'a>,
-    ) -> Result<Option<Option<Measure>>, AllocError>
+    fn measured(&self, alloc: Global, shape: &Shape) -> Result<Option<Option<Measure>>, AllocError>
         ensures given { IfOk result (λ o. IfSome o (λ m. IsMeasured self.now shape.now m)) }
         ensures small { IfOk result (λ o. IfSome o (λ m. IsSmallIf m)) }
     {
@@ -228,7 +224,7 @@ impl<'s, 't, 'a> Sizes<'s, 't, 'a> {
     /// Whether a shape is within the limits as its names expand: as [`ir_names::expanded`] has it, but
     /// for the tree.
     #[tactic(auto, using(crate::proofs::Measured::fits, crate::proofs::Measured::fits_not))]
-    pub fn shape_within(&self, alloc: Global, typed: &'t Typed<'a>) -> Result<(), ResolveError>
+    pub fn shape_within(&self, alloc: Global, typed: &'t Typed) -> Result<(), ResolveError>
         ensures { Settles (λ u. u) result (passes (expanded self.now typed.now)) }
     {
         match self.measured(alloc, &typed.shape)? {
@@ -243,12 +239,7 @@ impl<'s, 't, 'a> Sizes<'s, 't, 'a> {
 
     /// Whether so many of a shape other than one are within the limits.
     #[tactic(auto, using(crate::proofs::Measured::many_fit, crate::proofs::Measured::many_fit_not))]
-    fn array_within(
-        &self,
-        alloc: Global,
-        typed: &'t Typed<'a>,
-        count: u64,
-    ) -> Result<(), ResolveError>
+    fn array_within(&self, alloc: Global, typed: &'t Typed, count: u64) -> Result<(), ResolveError>
         requires { nat_eq count 1 ≡ false }
         ensures { Settles (λ u. u) result (passes (allocated self.now typed.now count)) }
     {
@@ -267,7 +258,7 @@ impl<'s, 't, 'a> Sizes<'s, 't, 'a> {
     pub fn many_within(
         &self,
         alloc: Global,
-        typed: &'t Typed<'a>,
+        typed: &'t Typed,
         count: u64,
     ) -> Result<(), ResolveError>
         ensures { Settles (λ u. u) result (passes (allocated self.now typed.now count)) }

@@ -57,12 +57,12 @@ pub fn known_at(known: &[Option<Known>], place: Option<usize>) -> Option<Known>
 /// The measure of a shape, whose faults of limits are on a line.
 #[cycle(weighing)]
 #[tactic(auto, using(crate::proofs::Weighing::weighed_each))]
-pub fn weigh<'t, 'a>(
+pub fn weigh<'t>(
     alloc: Global,
-    names: &TypeNames<'t, 'a>,
+    names: &TypeNames<'t>,
     known: &[Option<Known>],
     line: u32,
-    shape: &Shape<'a>,
+    shape: &Shape,
 ) -> Result<Measure, ResolveError>
     requires { AreKnownSmall known.now }
     ensures given { Settles (λ m. m) result (measures.weigh names.now known.now line shape.now) }
@@ -89,12 +89,12 @@ pub fn weigh<'t, 'a>(
 
 /// The measures of these shapes.
 #[cycle(weighing)]
-fn weigh_all<'t, 'a>(
+fn weigh_all<'t>(
     alloc: Global,
-    names: &TypeNames<'t, 'a>,
+    names: &TypeNames<'t>,
     known: &[Option<Known>],
     line: u32,
-    shapes: &[Shape<'a>],
+    shapes: &[Shape],
 ) -> Result<Vec<Measure>, ResolveError>
     requires { AreKnownSmall known.now }
     ensures given { Settles (λ v. v.items) result (each (measures.weigh names.now known.now line) shapes.now) }
@@ -108,12 +108,12 @@ fn weigh_all<'t, 'a>(
     Ok(out)
 }
 
-fn weigh_name<'t, 'a>(
+fn weigh_name<'t>(
     alloc: Global,
-    names: &TypeNames<'t, 'a>,
+    names: &TypeNames<'t>,
     known: &[Option<Known>],
     line: u32,
-    name: &Name<'a>,
+    name: &Name,
 ) -> Result<Measure, ResolveError>
     requires { AreKnownSmall known.now }
     ensures given { Settles (λ m. m) result (known_as line name.now.line (known_at known.now (place_of names.now (key_of name.now)))) }
