@@ -7,6 +7,5 @@ pub mod Each
 mod Expanding
 mod Powers
 mod Trimming
-mod Bodies
 mod Names
 pub mod Chains

@@ -1,7 +1,5 @@
 pub mod Addresses
-pub mod Blocks
 pub mod Bodies
-pub mod BodyLaws
 pub mod Globals
 pub mod Groups
 pub mod Heads

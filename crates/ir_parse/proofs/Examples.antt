@@ -3,7 +3,7 @@ use Rattle.std.proofs.Common.{◌≡◌, refl, false, [], Ok, inl, inr, arith}
 use Rattle.std.proofs.lemmas.List.Elements.{All-from_recursion, All-nil}
 use Rattle.ir_lex.specs.Quotes.{content, unescaped}
 use Rattle.ir_tree.specs.Formed.{IsReg, IsStored, IsWidth}
-use Rattle.ir_names.specs.Blocks.{block_of, function_in}
+use Rattle.named_values.specs.Blocks.{block_of, function_in}
 use Rattle.ir_names.specs.Keys.{decimal_of, key_of, number_of}
 use Rattle.ir_names.specs.Numbering.{locals_of, with_block}
 use Rattle.ir_names.specs.Symbols.{symbol_name}

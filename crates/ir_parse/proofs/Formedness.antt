@@ -20,7 +20,7 @@ use Rattle.ir_tree.specs.declared.module.GlobalValue.TheVariants as global
 use Rattle.ir_tree.specs.declared.module.Module.{Module}
 use Rattle.ir_tree.specs.declared.operand.Symbol.{Symbol}
 use Rattle.ir_names.specs.declared.groups.Groups.{Groups}
-use Rattle.ir_names.specs.Blocks.{function_in}
+use Rattle.named_values.specs.Blocks.{function_in}
 use Rattle.ir_names.specs.Globals.{Globals, no_globals}
 use Rattle.ir_names.specs.Groups.{groups_of, is_noinline, is_optnone}
 use Rattle.ir_names.specs.Marks.{all, block_marks, item_marks, marks_of, typed_marks, init_marks}
@@ -30,8 +30,8 @@ use Rattle.ir_names.specs.Symbols.{symbol_name, symbol_of}
 use Rattle.ir_names.specs.TypeNames.{type_names}
 use Rattle.ir_names.specs.Types.{Types}
 use Rattle.ir_names.specs.Variables.{variable_in}
-use Rattle.ir_stages.specs.LineLaws.{LinesFit}
-use Rattle.ir_stages.specs.Lines.{item_lines, lines_of, block_lines}
+use Rattle.ir_parse.specs.LineLaws.{LinesFit}
+use Rattle.ir_parse.specs.Lines.{item_lines, lines_of, block_lines}
 use Rattle.ir_parse.specs.Resolved.{FunctionsAreFormed, VariablesAreFormed}
 use Rattle.ir_parse.specs.Written.{IsWritten, TypesWritten, VariableWritten}
 use Rattle.ir_parse.specs.Items.{ItemWritten}

@@ -11,7 +11,7 @@ use Rattle.ir_tree.specs.Formed.{Distinct, Formed, IsBlock, IsLocal, IsReg, numb
 use Rattle.ir_tree.specs.declared.block.Block as tree_block
 use Rattle.ir_tree.specs.declared.function.Function.{Function}
 use Rattle.ir_names.specs.declared.locals.Sort.TheVariants.{Value, Block}
-use Rattle.ir_names.specs.Blocks.{blocks_in, blocks_of, function_in, params_from}
+use Rattle.named_values.specs.Blocks.{blocks_in, blocks_of, function_in, params_from}
 use Rattle.ir_names.specs.Locals.{Known}
 use Rattle.ir_names.specs.Symbols.{symbol_of}
 use Rattle.ir_names.specs.Types.{Types}

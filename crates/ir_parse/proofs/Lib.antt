@@ -94,3 +94,4 @@ mod Leads
 mod NamedCallees
 mod ExchangedPlaces
 mod StuckTold
+pub mod Lined

@@ -13,7 +13,7 @@ use Rattle.ir_tree.specs.declared.instr.Instr.TheVariants as ti
 use Rattle.ir_tree.specs.declared.instr.Line.{Line}
 use Rattle.ir_names.specs.declared.locals.Sort.{Sort}
 use Rattle.ir_names.specs.declared.locals.Sort.TheVariants.{Value, Block}
-use Rattle.ir_names.specs.Blocks.{phi_of, phis_of, rest_of, phi_before, lines_behind, body_of, body_in, block_of, block_in, blocks_in, behind_block, params_from}
+use Rattle.named_values.specs.Blocks.{phi_of, phis_of, rest_of, phi_before, lines_behind, body_of, body_in, block_of, block_in, blocks_in, behind_block, params_from}
 use Rattle.ir_names.specs.Bodies.{instr_in, lines_in, end_in, local_at, behind_line, behind_lines}
 use Rattle.ir_names.specs.Keys.{Key, key_of, written}
 use Rattle.ir_names.specs.Locals.{Known, none_known, is_below, stands, twice, with_key, with_name}

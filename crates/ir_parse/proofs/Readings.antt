@@ -9,7 +9,7 @@ use Rattle.ir_names.specs.declared.fault.Fault as names
 use Rattle.ir_read.specs.declared.raw.Item.{Item}
 use Rattle.ir_tree.specs.declared.module.Module.{Module}
 use Rattle.ir_parse.specs.Modules.{module_of, whole_module}
-use Rattle.ir_stages.specs.Lines.{lines_of}
+use Rattle.ir_parse.specs.Lines.{lines_of}
 use Rattle.ir_parse.specs.Answers.{IfFault, IsNameFault, IsRead, IsRefused}
 use Rattle.ir_parse.specs.FirstFault.{FirstFault, GrammarFault, Stuck}
 use Rattle.ir_parse.specs.Kinds.{name_fault}

@@ -35,7 +35,7 @@ use Rattle.ir_tree.specs.declared.operand.Operand.TheVariants as to
 use Rattle.ir_tree.specs.declared.operand.Reg.{Reg}
 use Rattle.ir_names.specs.declared.locals.Sort.TheVariants.{Value, Block}
 use Rattle.ir_names.specs.Addresses.{offset_behind}
-use Rattle.ir_names.specs.Blocks.{phi_of, phis_of, rest_of, phi_before, lines_behind, body_of, block_of, block_in, blocks_in, behind_block}
+use Rattle.named_values.specs.Blocks.{phi_of, phis_of, rest_of, phi_before, lines_behind, body_of, block_of, block_in, blocks_in, behind_block}
 use Rattle.ir_names.specs.Bodies.{align_or, argument_in, behind_line, case_in, end_in, incoming_in, instr_in, lines_in, local_at, operand_in, reg_align}
 use Rattle.ir_names.specs.Locals.{Known, number_in}
 use Rattle.ir_names.specs.Numbering.{has_result}

@@ -18,3 +18,5 @@ pub mod Spelled
 pub mod Written
 pub mod Worked
 pub mod Resolved
+pub mod LineLaws
+pub mod Lines

@@ -5,7 +5,7 @@ use Rattle.ir_lex.specs.Tok.{Tok}
 use Rattle.ir_read.specs.declared.raw.Item.{Item}
 use Rattle.ir_tree.specs.declared.module.Module.{Module}
 use Rattle.ir_parse.specs.Modules.{whole_module}
-use Rattle.ir_stages.specs.Lines.{lines_of}
+use Rattle.ir_parse.specs.Lines.{lines_of}
 use Rattle.ir_parse.specs.Stages.{module_in}
 
 -- the bytes are these tokens, the grammar has them as these items, the items stand for the module, and its parts begin on these lines

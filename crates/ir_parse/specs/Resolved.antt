@@ -10,7 +10,7 @@ use Rattle.ir_tree.specs.Forms.{Form}
 use Rattle.ir_tree.specs.declared.function.Function.{Function}
 use Rattle.ir_tree.specs.declared.function.Variable.{Variable}
 use Rattle.ir_tree.specs.Wholes.{VariableFormed}
-use Rattle.ir_names.specs.Blocks.{function_in}
+use Rattle.named_values.specs.Blocks.{function_in}
 use Rattle.ir_names.specs.Types.{Types, expanded}
 use Rattle.ir_names.specs.Variables.{variable_in}
 use Rattle.ir_parse.specs.Worked.{worked, worked_blocks, worked_head}

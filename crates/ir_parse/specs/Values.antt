@@ -7,7 +7,7 @@ use Rattle.ir_tree.specs.declared.module.GlobalValue.{GlobalValue}
 use Rattle.ir_tree.specs.declared.module.GlobalValue.TheVariants as global
 use Rattle.ir_names.specs.declared.fault.Fault.{Fault}
 use Rattle.ir_names.specs.declared.groups.Groups.{Groups}
-use Rattle.ir_names.specs.Blocks.{function_in}
+use Rattle.named_values.specs.Blocks.{function_in}
 use Rattle.ir_names.specs.Groups.{is_noinline, is_optnone}
 use Rattle.ir_names.specs.Settled.{◌>>=◌}
 use Rattle.ir_names.specs.Types.{Types}

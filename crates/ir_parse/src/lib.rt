@@ -1,12 +1,13 @@
 //! Reads bytes as the one module of LLVM IR that they are, or tells their first fault.
 //!
 //! Below stand tokens (`ir_lex`), the parts of items (`ir_read`), heads and target lines (`ir_heads`), definitions of
-//! functions (`ir_bodies`), variables and type definitions (`ir_globals`), the stages with functions and variables
-//! (`ir_stages`), and names (`ir_names`). [`parse`] cuts the text into tokens, reads these as items, resolves names,
-//! shapes and numbers in stages over the whole text, and gives the module with the lines of its parts. The first place
-//! at which no reading goes on is a statement of the grammar alone, and so is why the token there is refused
-//! (`specs/Refusals`); behind it the first stage that finds a fault tells it. Beside the reader stand laws: what
-//! resolves is formed (`resolved`), and what that asks of a text holds of all that the grammar spells (`spelled`).
+//! functions (`ir_bodies`), variables and type definitions (`ir_globals`), names (`ir_names`), the stages of names and
+//! shapes (`ir_stages`), and the functions and variables that are made (`named_values`). [`parse`] cuts the text into
+//! tokens, reads these as items, resolves names, shapes and numbers in stages over the whole text, and gives the module
+//! with the lines of its parts. The first place at which no reading goes on is a statement of the grammar alone, and so
+//! is why the token there is refused (`specs/Refusals`); behind it the first stage that finds a fault tells it. Beside
+//! the reader stand laws: what resolves is formed (`resolved`), and what that asks of a text holds of all that the
+//! grammar spells (`spelled`).
 //!
 //! **Promise.** [`parse`] answers exactly what `specs/Reading` reads, and refuses each other text for its first fault
 //! (`specs/FirstFault`), unless memory runs out. Bytes are read as one module or have one first fault ([`decided`],
@@ -28,6 +29,7 @@ mod resolved;
 mod spelled;
 mod stages;
 mod targets;
+mod value_lines;
 mod values;
 
 pub use fault::{FaultKind, ReadError, ReadFault};

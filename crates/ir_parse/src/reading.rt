@@ -1,6 +1,6 @@
 //! Bytes as the one module that they are read as.
 ghost use Rattle.std.specs.Prelude.{◌≡◌, ℕ, List, IfOk, IfErr, Ok};
-ghost use Rattle.ir_stages.specs.Lines.{lines_of};
+ghost use Rattle.ir_parse.specs.Lines.{lines_of};
 ghost use Rattle.ir_lex.specs.Lexing.{IsLexed};
 ghost use Rattle.ir_lex.specs.Tok.{toks};
 ghost use Rattle.ir_tree.specs.declared.module.Module.{Module};
@@ -14,10 +14,10 @@ use crate::fault::{ReadError, ReadFault, name_fault};
 use crate::grammar::items_in;
 use crate::laws::read_is_parsed;
 use crate::stages::module_in;
+use crate::value_lines::lines_of;
 use ir_lex::{Lexed, lex};
 use ir_names::ResolveError;
 use ir_read::Item;
-use ir_stages::lines_of;
 use ir_tree::{Module, Parsed, Rows};
 use std::alloc::Global;
 

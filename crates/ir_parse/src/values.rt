@@ -5,10 +5,10 @@ ghost use Rattle.ir_names.specs.Settled.{Settles};
 ghost use Rattle.ir_parse.specs.Values.{value_in, values_in};
 ghost use Rattle.ir_read.specs.declared.raw.Item.TheVariants as items;
 
-use ir_names::{Groups, ResolveError, Types, declaration_in, is_noinline, is_optnone};
+use ir_names::{Groups, ResolveError, Types, is_noinline, is_optnone};
 use ir_read::{Block, Head, Item, Variable};
-use ir_stages::{function_in, variable_in};
 use ir_tree::{GlobalValue, Rows};
+use named_values::{declaration_in, function_in, variable_in};
 use std::alloc::Global;
 
 /// The global value that a variable is.

@@ -4,6 +4,3 @@ mod Levels
 mod Runs
 mod Marked
 mod Within
-mod Closings
-mod Initials
-pub mod Lined

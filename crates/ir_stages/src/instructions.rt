@@ -1,10 +1,10 @@
 //! The marks of instructions and blocks (LangRef, "Instruction Reference").
-ghost use Rattle.std.specs.Prelude.{◌≡◌, ◌++◌, OnOk};
+ghost use Rattle.std.specs.Prelude.{◌≡◌, ◌++◌, ◌∷◌, OnOk};
 ghost use Rattle.ir_names.specs.Marks as marked;
 
 use crate::mark::{Mark, Marks};
 use crate::uses::{level_uses, typed_marks, uses};
-use ir_read::{Argument, Block, Incoming, Instr, Line, Operand, Terminator};
+use ir_read::{Argument, Block, Incoming, Instr, Line, Operand, Terminator, Typed};
 use std::alloc::AllocError;
 
 /// A global that an operand names, or the constant address that it is.
@@ -49,8 +49,55 @@ fn arguments<'t>(given: &'t [Argument], marks: &mut Marks<'t>) -> Result<(), All
     Ok(())
 }
 
-/// The marks of an instruction.
 #[tactic(auto, using(crate::proofs::Gathering::joined))]
+fn choice<'t>(
+    condition: &'t Operand,
+    if_true: &'t Operand,
+    if_false: &'t Operand,
+    marks: &mut Marks<'t>,
+) -> Result<(), AllocError>
+    ensures { OnOk result (marks.new ≡ marks.old ++ (marked.operand_marks condition.now ++ marked.both if_true.now if_false.now)) }
+{
+    operand_marks(condition, marks)?;
+    both(if_true, if_false, marks)
+}
+
+/// The shape of an `alloca` with its count, and the type names in it.
+#[tactic(auto, using(crate::proofs::Gathering::joined))]
+fn reserved<'t>(typed: &'t Typed, count: u64, marks: &mut Marks<'t>) -> Result<(), AllocError>
+    ensures { OnOk result (marks.new ≡ marks.old ++ marked.many typed.now count ∷ marked.uses typed.now.shape) }
+{
+    marks.push(Mark::Alloca(typed, count))?;
+    uses(&typed.shape, marks)
+}
+
+#[tactic(auto, using(crate::proofs::Gathering::joined))]
+fn call<'t>(
+    callee: &'t Operand,
+    given: &'t [Argument],
+    marks: &mut Marks<'t>,
+) -> Result<(), AllocError>
+    ensures { OnOk result (marks.new ≡ marks.old ++ (marked.operand_marks callee.now ++ marked.all (λ a. marked.operand_marks a.operand) given.now)) }
+{
+    operand_marks(callee, marks)?;
+    arguments(given, marks)
+}
+
+/// A `getelementptr`: its shape, the address that it steps from, and its indices.
+#[tactic(auto, using(crate::proofs::Gathering::joined))]
+fn stepping<'t>(
+    typed: &'t Typed,
+    base: &'t Operand,
+    indices: &'t [Argument],
+    marks: &mut Marks<'t>,
+) -> Result<(), AllocError>
+    ensures { OnOk result (marks.new ≡ marks.old ++ (marked.typed_marks typed.now ++ (marked.operand_marks base.now ++ marked.all (λ a. marked.operand_marks a.operand) indices.now))) }
+{
+    typed_marks(typed, marks)?;
+    call(base, indices, marks)
+}
+
+/// The marks of an instruction.
 fn instr_marks<'t>(instr: &'t Instr, marks: &mut Marks<'t>) -> Result<(), AllocError>
     ensures { OnOk result (marks.new ≡ marks.old ++ marked.instr_marks instr.now) }
 {
@@ -63,15 +110,9 @@ fn instr_marks<'t>(instr: &'t Instr, marks: &mut Marks<'t>) -> Result<(), AllocE
             condition,
             if_true,
             if_false,
-        } => {
-            operand_marks(condition, marks)?;
-            both(&if_true.operand, &if_false.operand, marks)
-        }
+        } => choice(condition, &if_true.operand, &if_false.operand, marks),
         Instr::Phi { incoming, .. } => entries(incoming.as_slice(), marks),
-        Instr::Alloca { typed, count, .. } => {
-            marks.push(Mark::Alloca(typed, *count))?;
-            uses(&typed.shape, marks)
-        }
+        Instr::Alloca { typed, count, .. } => reserved(typed, *count, marks),
         Instr::Load { address, .. } => operand_marks(address, marks),
         Instr::Store { value, address, .. } => both(value, address, marks),
         Instr::Address {
@@ -79,19 +120,12 @@ fn instr_marks<'t>(instr: &'t Instr, marks: &mut Marks<'t>) -> Result<(), AllocE
             base,
             indices,
             ..
-        } => {
-            typed_marks(typed, marks)?;
-            operand_marks(base, marks)?;
-            arguments(indices.as_slice(), marks)
-        }
+        } => stepping(typed, base, indices.as_slice(), marks),
         Instr::Call {
             callee,
             arguments: given,
             ..
-        } => {
-            operand_marks(callee, marks)?;
-            arguments(given.as_slice(), marks)
-        }
+        } => call(callee, given.as_slice(), marks),
     }
 }
 

@@ -6,7 +6,7 @@ use Rattle.std.specs.List.{cons_option}
 use Rattle.std.proofs.lemmas.List.Elements.{recursion_from_All}
 use Rattle.ir_parse.specs.Modules.{FURTHER_PARAMETERS}
 use Rattle.ir_lex.specs.Tok.{Tok}
-use Rattle.ir_names.specs.Blocks.{function_in}
+use Rattle.named_values.specs.Blocks.{function_in}
 use Rattle.ir_names.specs.Groups.{any_of, no_groups, is_optnone}
 use Rattle.ir_names.specs.Marks.{Mark, global, all, block_marks, typed_marks, init_marks, item_marks, marks_of}
 use Rattle.ir_names.specs.Settled.{◌>>=◌}

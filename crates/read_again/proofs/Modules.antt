@@ -2,7 +2,7 @@
 use Rattle.std.proofs.Common.{◌≡◌, ℕ, None, Ok, List, [], ◌∷◌, ◌++◌, map, refl, sym, ap, subst, ◌∙◌}
 use Rattle.std.specs.List.{AllByRecursion as Each}
 use Rattle.std.proofs.lemmas.List.Elements.{recursion_from_All}
-use Rattle.ir_stages.specs.Lines.{lines_of}
+use Rattle.ir_parse.specs.Lines.{lines_of}
 use Rattle.ir_parse.specs.Modules.{FURTHER_PARAMETERS, whole_module}
 use Rattle.ir_lex.specs.Lexing.{AreTokens}
 use Rattle.ir_lex.specs.Quotes.{content}

@@ -1,7 +1,7 @@
 -- The functions of a module that was read are numbered along their text.
 use Rattle.std.proofs.Common.{◌≡◌, ℕ, ◌+◌, Bool, true, false, cond, Option, Some, None, Result, Ok, List, [], ◌∷◌, length, refl, sym, ap, subst, ◌∙◌, arith}
 use Rattle.std.specs.List.{AllByRecursion as Each}
-use Rattle.ir_names.specs.Blocks.{as_phi, lines_behind, rest_of, body_of, body_in, block_of, block_in, behind_block, blocks_in, params_from, blocks_of, function_in}
+use Rattle.named_values.specs.Blocks.{as_phi, lines_behind, rest_of, body_of, body_in, block_of, block_in, behind_block, blocks_in, params_from, blocks_of, function_in}
 use Rattle.ir_names.specs.Bodies.{local_at, behind_line, lines_in, behind_lines, instr_in, end_in}
 use Rattle.ir_names.specs.Groups.{groups_of, is_noinline, is_optnone}
 use Rattle.ir_names.specs.Locals.{Known}
@@ -9,7 +9,7 @@ use Rattle.ir_names.specs.Numbering.{is_defined, locals_of}
 use Rattle.ir_names.specs.Settled.{◌>>=◌}
 use Rattle.ir_names.specs.Types.{Types}
 use Rattle.ir_names.specs.Variables.{variable_in}
-use Rattle.ir_names.specs.declared.block.Body.{Body}
+use Rattle.named_values.specs.declared.block.Body.{Body}
 use Rattle.ir_names.specs.declared.fault.Fault.{Fault}
 use Rattle.ir_names.specs.declared.groups.Groups.{Groups}
 use Rattle.ir_parse.specs.Reading.{Reads}

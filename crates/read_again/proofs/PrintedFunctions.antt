@@ -1,7 +1,7 @@
 -- Printed functions resolve to themselves.
 use Rattle.std.proofs.Common.{◌≡◌, ℕ, suc, ◌+◌, Bool, true, false, ◌||◌, Option, Ok, List, [], ◌∷◌, ◌++◌, length, refl, sym, ap, subst, ◌∙◌, append_assoc, append-nil, arith}
 use Rattle.std.specs.List.{AllByRecursion as Each}
-use Rattle.ir_names.specs.Blocks.{params_from, blocks_of, function_in}
+use Rattle.named_values.specs.Blocks.{params_from, blocks_of, function_in}
 use Rattle.ir_names.specs.Groups.{any_of, is_noinline, is_optnone}
 use Rattle.ir_names.specs.Locals.{with_name}
 use Rattle.ir_names.specs.Numbering.{with_params, with_blocks, locals_of}

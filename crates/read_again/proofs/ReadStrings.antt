@@ -3,7 +3,7 @@ use Rattle.std.proofs.Common.{◌≡◌, ℕ, Bool, Option, Some, None, Result, 
 use Rattle.std.specs.List.{AllByRecursion as Each}
 use Rattle.std.specs.Prelude.{filter_map, IfSome}
 use Rattle.ir_lex.specs.Tok.{Tok}
-use Rattle.ir_names.specs.Blocks.{function_in}
+use Rattle.named_values.specs.Blocks.{function_in}
 use Rattle.ir_names.specs.Bodies.{operand_in}
 use Rattle.ir_names.specs.Groups.{groups_of, is_noinline, is_optnone}
 use Rattle.ir_names.specs.Locals.{Known, none_known}

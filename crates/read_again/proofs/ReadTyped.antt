@@ -5,7 +5,7 @@ use Rattle.std.specs.List.{AllByRecursion as Each}
 use Rattle.std.specs.Prelude.{All}
 use Rattle.std.proofs.lemmas.List.Elements.{All-from_recursion, recursion_from_All}
 use Rattle.ir_names.specs.Addresses.{offset_behind}
-use Rattle.ir_names.specs.Blocks.{blocks_of, function_in}
+use Rattle.named_values.specs.Blocks.{blocks_of, function_in}
 use Rattle.ir_names.specs.Bodies.{operand_in}
 use Rattle.ir_names.specs.Groups.{groups_of, is_noinline, is_optnone}
 use Rattle.ir_names.specs.Locals.{none_known, number_in}

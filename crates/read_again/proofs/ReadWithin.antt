@@ -7,7 +7,7 @@ use Rattle.ir_bodies.specs.Blocks.{FURTHER_BLOCKS, INSTRUCTIONS}
 use Rattle.ir_parse.specs.Modules.{FURTHER_PARAMETERS, GLOBAL_NAMES}
 use Rattle.ir_lex.specs.Quotes.{content}
 use Rattle.ir_lex.specs.Tok.{Tok}
-use Rattle.ir_names.specs.Blocks.{block_of, block_in, behind_block, blocks_in, blocks_of, body_in, body_of, function_in, params_from}
+use Rattle.named_values.specs.Blocks.{block_of, block_in, behind_block, blocks_in, blocks_of, body_in, body_of, function_in, params_from}
 use Rattle.ir_names.specs.Bodies.{behind_line, end_in, instr_in, lines_in, operand_in}
 use Rattle.ir_names.specs.Groups.{groups_of, is_noinline, is_optnone}
 use Rattle.ir_names.specs.Locals.{Known, none_known}
@@ -15,7 +15,7 @@ use Rattle.ir_names.specs.Numbering.{locals_of}
 use Rattle.ir_names.specs.Settled.{◌>>=◌, each}
 use Rattle.ir_names.specs.Types.{Types, is_width, expanded}
 use Rattle.ir_names.specs.Variables.{constant_for, head_in, literal_or, number_for, part_in, init_in, init_if, variable_in}
-use Rattle.ir_names.specs.declared.block.Body.{Body}
+use Rattle.named_values.specs.declared.block.Body.{Body}
 use Rattle.ir_names.specs.declared.fault.Fault.{Fault}
 use Rattle.ir_names.specs.declared.groups.Groups.{Groups}
 use Rattle.ir_parse.specs.Targets.{last_or, layout_string, text_of}

@@ -1,7 +1,7 @@
 -- Printed blocks resolve to themselves, under the numbers of their places.
 use Rattle.std.proofs.Common.{◌≡◌, ℕ, ◌+◌, Bool, cond, is_some, Option, Some, None, Ok, List, [], ◌∷◌, ◌++◌, map, refl, sym, ap, ◌∙◌}
 use Rattle.std.specs.List.{AllByRecursion as Each}
-use Rattle.ir_names.specs.Blocks.{phis_of, rest_of, phi_before, lines_behind, block_of, block_in, behind_block, blocks_in}
+use Rattle.named_values.specs.Blocks.{phis_of, rest_of, phi_before, lines_behind, block_of, block_in, behind_block, blocks_in}
 use Rattle.ir_names.specs.Bodies.{local_at, behind_line, lines_in, behind_lines}
 use Rattle.ir_names.specs.Numbering.{is_defined}
 use Rattle.ir_names.specs.Types.{Types}

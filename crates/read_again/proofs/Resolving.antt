@@ -4,14 +4,14 @@ use Rattle.std.proofs.Common.{◌≡◌, ℕ, suc, ◌+◌, ◌%◌, ◌<◌, �
 use Rattle.std.specs.List.{AllByRecursion as Each}
 use Rattle.std.proofs.lemmas.List.Elements.{All-from_recursion}
 use Rattle.ir_names.specs.Addresses.{level_offset, offset_behind}
-use Rattle.ir_names.specs.Blocks.{body_of, body_in, block_of, block_in, behind_block, blocks_in, blocks_of, phis_of, rest_of}
+use Rattle.named_values.specs.Blocks.{body_of, body_in, block_of, block_in, behind_block, blocks_in, blocks_of, phis_of, rest_of}
 use Rattle.ir_names.specs.Bodies.{local_at, operand_in, argument_in, incoming_in, allocated, align_or, reg_align, instr_in, lines_in, behind_line, end_in, case_in}
 use Rattle.ir_names.specs.Locals.{Known, number_in}
 use Rattle.ir_names.specs.Numbering.{locals_of}
 use Rattle.ir_names.specs.Settled.{◌>>=◌, each}
 use Rattle.ir_names.specs.Symbols.{symbol_of}
 use Rattle.ir_names.specs.Types.{Types, array_of, expanded, expand, within}
-use Rattle.ir_names.specs.declared.block.Body.{Body}
+use Rattle.named_values.specs.declared.block.Body.{Body}
 use Rattle.ir_names.specs.declared.locals.Sort.TheVariants as sorts
 use Rattle.ir_read.specs.declared.address.Level.{Level}
 use Rattle.ir_read.specs.declared.raw.Argument as raw_argument

@@ -3,7 +3,7 @@ use Rattle.std.proofs.Common.{◌≡◌, ℕ, suc, Option, Some, None, List, [],
 use Rattle.std.specs.List.{AllByRecursion as Each}
 use Rattle.std.specs.Prelude.{All}
 use Rattle.std.proofs.lemmas.List.Elements.{recursion_from_All}
-use Rattle.ir_names.specs.Blocks.{as_phi}
+use Rattle.named_values.specs.Blocks.{as_phi}
 use Rattle.ir_names.specs.declared.locals.Sort.TheVariants.{Block}
 use Rattle.ir_tree.specs.Flow.{targets}
 use Rattle.ir_tree.specs.Formed.{OperandFormed, ArgumentFormed, IsBlock, ItemFormed}

@@ -1,7 +1,7 @@
 -- Results of resolution, and the stages that a module that is read passed.
 use Rattle.std.proofs.Common.{◌≡◌, ℕ, Bool, Option, Some, None, Result, Ok, Err, List, [], ◌∷◌, ◌++◌, map, refl, sym, ap, subst, ◌∙◌}
 use Rattle.std.specs.List.{AllByRecursion as Each}
-use Rattle.ir_names.specs.Blocks.{as_phi, phi_of, phi_before, lines_behind, phis_of, rest_of, params_from}
+use Rattle.named_values.specs.Blocks.{as_phi, phi_of, phi_before, lines_behind, phis_of, rest_of, params_from}
 use Rattle.ir_names.specs.Bodies.{align_or}
 use Rattle.ir_names.specs.Groups.{groups_of}
 use Rattle.ir_names.specs.Marks.{marks_of}

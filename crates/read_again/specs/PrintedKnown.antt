@@ -2,7 +2,7 @@
 -- symbols are those of no module of their own.
 use Rattle.std.specs.Prelude.{◌≡◌, ℕ, Option, Some, None, List, [], ◌∷◌, slice_get}
 use Rattle.std.specs.List.{AllByRecursion as Each}
-use Rattle.ir_names.specs.Blocks.{as_phi}
+use Rattle.named_values.specs.Blocks.{as_phi}
 use Rattle.ir_names.specs.declared.locals.Sort.{Sort}
 use Rattle.ir_names.specs.declared.locals.Sort.TheVariants.{Value, Block}
 use Rattle.ir_tree.specs.Flow.{targets}

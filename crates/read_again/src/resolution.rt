@@ -3,7 +3,7 @@
 
 ghost use Rattle.std.specs.Prelude.{◌≡◌, [], All, List, ℕ, None, Ok};
 ghost use Rattle.ir_edit.specs.Numbered.{in_text_order};
-ghost use Rattle.ir_names.specs.Blocks.{function_in};
+ghost use Rattle.named_values.specs.Blocks.{function_in};
 ghost use Rattle.ir_names.specs.Groups.{is_noinline, is_optnone};
 ghost use Rattle.ir_names.specs.Types.{Types};
 ghost use Rattle.ir_names.specs.Variables.{variable_in};

@@ -1,5 +1,0 @@
-use Rattle.ir_stages.proofs.Lined.{function_lined}
-use Rattle.ir_stages.proofs.laws.lines_fit.Goals as goal
-
-pub returns : goal.returns
-returns c = function_lined
