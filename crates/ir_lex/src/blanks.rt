@@ -10,6 +10,16 @@ pub struct Spot {
     pub line: u32,
 }
 
+/// What stands between a token and the next: so many bytes of blanks and comments, and the line
+/// behind them.
+#[derive(Clone, Copy)]
+pub struct Gap {
+    pub at: usize,
+    pub line: u32,
+    /// Whether the token's line, or the text, ends here.
+    pub ends_line: bool,
+}
+
 /// Space, tab, carriage return and line feed.
 fn is_blank(b: u8) -> bool
     ensures { result ≡ is_blank b }
@@ -81,4 +91,22 @@ pub fn ends_before(line: u32, next_line: u32, next: &[u8]) -> bool
     ensures { result ≡ ends_before line (place next_line next.now) }
 {
     next.is_empty() || line < next_line
+}
+
+/// What stands between a token that begins on a line and the next.
+pub fn gap_behind(line: u32, text: &[u8], behind: &[u8]) -> Gap
+    requires { line + length text.now + length behind.now < 2 ^ 32 }
+    ensures exact { skip false (line_behind line text.now) behind.now ≡ place result.line (drop result.at behind.now) }
+    ensures within { result.at ≤ length behind.now }
+    ensures lines { result.line ≤ line + length text.now + result.at }
+    ensures ends { result.ends_line ≡ ends_before (line_behind line text.now) (place result.line (drop result.at behind.now)) }
+{
+    let end = line_behind(line, text);
+    let spot = skip(end, behind);
+    let (_blank, next) = behind.split_at(spot.at);
+    Gap {
+        at: spot.at,
+        line: spot.line,
+        ends_line: ends_before(end, spot.line, next),
+    }
 }

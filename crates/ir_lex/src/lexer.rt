@@ -6,7 +6,7 @@ ghost use Rattle.ir_lex.specs.Rows.{begins, best_fit, label_len};
 ghost use Rattle.ir_lex.specs.Lexing.{AreTokens, AreTokensBefore, IsLexed, IsTokens, IsFaultAt, IfFault, is_bad, opens};
 ghost use Rattle.ir_lex.specs.declared.lexer.LexError.TheVariants.{NoMemory};
 
-use crate::blanks::{ends_before, line_behind, skip};
+use crate::blanks::{gap_behind, skip};
 use crate::head::head_of;
 use crate::quotes::is_zero_name;
 use crate::rows::{Fit, best_fit, label_at, string_len};
@@ -17,7 +17,7 @@ use std::alloc::{AllocError, AllocFailed, Global};
 const BYTES_A_TOKEN: usize = 3;
 
 /// Why a text has no tokens.
-#[derive(Debug, Drop)]
+#[derive(Drop)]
 pub enum LexError {
     NoMemory,
     /// A byte that begins no token, a string that isn't closed, or a name that holds a zero byte,
@@ -42,7 +42,7 @@ impl<T: Drop> From<AllocFailed<T>> for LexError {
 }
 
 /// The tokens of a text up to its end, or up to the first place where none stands.
-#[derive(Debug, Drop)]
+#[derive(Drop)]
 pub struct Lexed<'a> {
     pub tokens: Vec<Token<'a>>,
     /// Whether the tokens are the whole text.
@@ -117,21 +117,19 @@ pub fn lex<'a>(alloc: Global, bytes: &'a [u8]) -> Result<Lexed<'a>, AllocError>
             });
         };
         let (text, behind) = rest.split_at(fit.len);
-        let end = line_behind(line, text);
-        let spot = skip(end, behind);
-        let (_blank, next) = behind.split_at(spot.at);
-        let ends_line = ends_before(end, spot.line, next);
+        let gap = gap_behind(line, text, behind);
+        let (_blank, next) = behind.split_at(gap.at);
         let head = head_of(fit.kind, text, behind);
         tokens.push(Token {
             text,
             line,
             kind: fit.kind,
             head,
-            ends_line,
+            ends_line: gap.ends_line,
         })?;
         rest = next;
-        line = spot.line;
-        free = label.free.saturating_sub(fit.len).saturating_sub(spot.at);
+        line = gap.line;
+        free = label.free.saturating_sub(fit.len).saturating_sub(gap.at);
     }
     Ok(Lexed {
         tokens,

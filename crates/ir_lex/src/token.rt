@@ -32,7 +32,7 @@ pub enum Kind {
 }
 
 /// A token: its kind, the slice of the text that it is, and where it stands in its line.
-#[derive(Clone, Copy, Debug)]
+#[derive(Clone, Copy)]
 pub struct Token<'a> {
     pub text: &'a [u8],
     /// The line of its first byte, counted from 1.
