@@ -1,6 +1,7 @@
 -- What a cache finds under the text of a task is the answer of the task.
 use mathlib.Core.Logic.{∥∥₁_elim, ∥∥₁_map}
-use Rattle.std.proofs.Common.{◌≡◌, ℕ, List, subst, sym}
+use Rattle.std.proofs.Common.{◌≡◌, ◌∙◌, ℕ, List, None, Option, Some, subst, sym}
+use Rattle.std.specs.Prelude.{IfSome, MatchOption}
 use Rattle.lto_task.specs.Tasks.{TaskView, task_text}
 use Rattle.lto_task.specs.Units.{IsUnit, UnitTextIsOne, unit_text}
 use Rattle.lto_task.specs.declared.piece.Piece.{Piece}
@@ -18,3 +19,14 @@ module _ (fits : List ℕ → List ℕ → Type 0) (makes : TaskView → List Pi
     unit = unit;
     made = λ h. ∥∥₁_elim (subst (λ (k : List ℕ). ∥ fits k (unit_text ps) ∥₁) key_is (found h)) squash₁ (made_of_fit ps unit);
   }
+
+-- what was taken of a text is the unit whose text it is
+module _ (N : Type 0) (bytes : List ℕ) where
+  pub taken_is_unit : (o : Option (List Piece)) → MatchOption o N (λ ps. IsUnit ps × (bytes ≡ unit_text ps)) → IfSome o IsUnit
+  taken_is_unit None taken = tt
+  taken_is_unit (Some ps) taken = taken.0
+
+  pub taken_fits : (text : List ℕ) → bytes ≡ text → (trusted : Type 0) (Fits : List ℕ → Type 0) → (trusted → ∥ Fits text ∥₁)
+      → (o : Option (List Piece)) → MatchOption o N (λ ps. IsUnit ps × (bytes ≡ unit_text ps)) → IfSome o (λ ps. trusted → ∥ Fits (unit_text ps) ∥₁)
+  taken_fits text same trusted Fits found None taken = tt
+  taken_fits text same trusted Fits found (Some ps) taken = λ h. subst (λ (t : List ℕ). ∥ Fits t ∥₁) (sym same ∙ taken.1) (found h)

@@ -50,6 +50,28 @@ impl<'a, D: CacheDisk + Send, S: Setting + Send + Sync, B: Backend + Sync, G: Ga
         self.gather(pass, slots, workers);
         Ok(())
     }
+
+    /// The answers of all tasks, in their order, by so many workers.
+    fn run<R: Threads + Wait + Sync>(
+        &self,
+        rt: &R,
+        alloc: Global,
+        count: u32,
+        draws: &mut ClaimPass,
+        pass: &mut CachePass<D, S>,
+    ) -> Result<Vec<Rows<Piece>>, AllocError>
+        requires tasks { All (λ t. IsReady S.keys D.fits B.makes B.takes (task_view t)) self.now.tasks.now }
+        requires draws { IsPassOf self.now.claims draws.old }
+        requires pass { IsAt self.now.cache.now.lock.table.shared.table_id pass.old.place.seat }
+        ensures pass { IsAt self.now.cache.now.lock.table.shared.table_id pass.new.place.seat }
+        ensures seen { IsPrefix (seen_by pass.old.place.seat) (seen_by pass.new.place.seat) }
+        ensures each { IfOk result (λ units. AllZip (λ t ps. IsAnswer (IsTrusted S.dir D.fits S.files) B.makes (task_view t) ps) self.now.tasks.now units.items) }
+    {
+        let mut slots = empty(alloc, self.tasks.len())?;
+        let units = Vec::with_capacity(alloc, self.tasks.len())?;
+        self.fill(rt, alloc, count, draws, pass, slots.as_mut_slice())?;
+        taken(slots, units)
+    }
 }
 
 /// The units of the tasks, in their order. Up to `jobs` workers, each on a thread, draw the numbers of the tasks: of each task
@@ -84,8 +106,6 @@ pub fn run_pool<
     ensures each { IfOk result (λ units. AllZip (λ t ps. IsAnswer (IsTrusted S.dir D.fits S.files) B.makes (task_view t) ps) tasks.now units.items) }
 {
     let (claims, mut draws) = Claims::new(alloc, tasks.len() as u32, jobs + 1)?;
-    let mut slots = empty(alloc, tasks.len())?;
-    let units = Vec::with_capacity(alloc, tasks.len())?;
     let pool = Pool {
         tasks,
         claims,
@@ -93,6 +113,5 @@ pub fn run_pool<
         cache,
         gate,
     };
-    pool.fill(rt, alloc, jobs, &mut draws, pass, slots.as_mut_slice())?;
-    taken(slots, units)
+    pool.run(rt, alloc, jobs, &mut draws, pass)
 }

@@ -1,5 +1,6 @@
 use Rattle.std.proofs.Common.{◌∙◌, List, Option, subst}
 use Rattle.std.specs.Prelude.{IfSome}
+use Rattle.std.proofs.lemmas.Result.{IfOk-weaker}
 use Rattle.lto_task.specs.Tasks.{task_view}
 use Rattle.lto_task.specs.Units.{IsUnit, unit_text}
 use Rattle.lto_task.specs.declared.piece.Piece.{Piece}
@@ -18,3 +19,6 @@ returns-in-Some-clause-answer g c =
 
 pub made-requires-clause-fits : goal.made-requires-clause-fits
 made-requires-clause-fits g c = c.requires.fits c.in_ok-key.ensures.written
+
+pub returns-clause-answer : goal.returns-clause-answer
+returns-clause-answer g c = IfOk-weaker c.made.result _ _ (λ ps made. record { unit = made.0; made = λ _. ∣ made.1 ∣₁ }) c.made.ensures.made
