@@ -1,7 +1,10 @@
 -- What a piece's text says, and that it says one thing.
-use Rattle.std.proofs.Common.{◌≡◌, ◌∙◌, ℕ, suc, ◌+◌, ◌<◌, List, [], ◌∷◌, ◌++◌, length, append_assoc, append-nil, length-append, arith, refl, sym, ap}
+use Rattle.std.proofs.Common.{◌≡◌, ◌∙◌, ℕ, ◌+◌, ◌<◌, List, [], ◌∷◌, ◌++◌, length, append_assoc, append-nil, length-append, None, Option, Some, arith, refl, subst, sym, ap}
 use Rattle.std.proofs.lemmas.Grind.{flat_map-append}
+use Rattle.std.proofs.lemmas.List.Elements.{All-head, All-tail}
 use Rattle.std.specs.List.{All, flat_map}
+use Rattle.std.specs.Prelude.{◌^◌, MatchOption}
+use Rattle.ir_tree.specs.Names.{AllBytes}
 use Rattle.lto_task.specs.Splits.{Lacks}
 use Rattle.lto_task.specs.Units.{IsWritten, UnitTextIsOne, head, name_line, piece_text, unit_text}
 use Rattle.lto_task.specs.declared.piece.Piece.{Piece}
@@ -25,6 +28,27 @@ pub line_one : (p : Piece) (old line new more : List ℕ) → IsWritten p → La
 line_one p old line new more w lacks is also =
     first_split_one 10 line new (heading p) (flat_map name_line p.refs ++ (p.text ++ more)) lacks (heading_lacks p w) (sym is ∙ also ∙ piece_is p more)
 
+-- what stands behind a heading is the rest of its piece
+pub piece_read : (old line mid new n : List ℕ) (r b : ℕ) → Lacks 10 line → old ≡ line ++ (10 ∷ mid) → AllBytes n × (r < 2 ^ 64) × (b < 2 ^ 64) × (line ≡ head n r b)
+    → (o : Option Piece)
+    → MatchOption o ((refs : List (List ℕ)) (text more : List ℕ) → All AllBytes refs → length refs ≡ r → length text ≡ b → mid ≡ flat_map name_line refs ++ (text ++ more) → ⊥)
+    (λ p. (p.name ≡ n) × All AllBytes p.refs × (length p.refs ≡ r) × (length p.text ≡ b) × (mid ≡ flat_map name_line p.refs ++ (p.text ++ new)))
+    → MatchOption o ((p : Piece) (more : List ℕ) → IsWritten p → old ≡ piece_text p ++ more → ⊥) (λ p. IsWritten p × (old ≡ piece_text p ++ new))
+piece_read old line mid new n r b lacks is told None h = λ p more w also.
+    let parts = line_one p old line mid more w lacks is also in
+    let heads = head_one n p.name r (length p.refs) b (length p.text) told.0 w.name told.1 w.count told.2 w.bytes (sym told.3 ∙ parts.0) in
+    h p.refs p.text more w.refs (sym heads.1) (sym heads.2) parts.1
+piece_read old line mid new n r b lacks is told (Some p) h =
+    let heads : head n r b ≡ heading p = λ i. head (sym h.0 i) (sym h.2 i) (sym h.3 i) in (
+      record {
+        name = subst AllBytes (sym h.0) told.0;
+        refs = h.1;
+        count = subst (λ (k : ℕ). k < 2 ^ 64) (sym h.2) told.1;
+        bytes = subst (λ (k : ℕ). k < 2 ^ 64) (sym h.3) told.2;
+      },
+      is ∙ ap (λ (l : List ℕ). l ++ (10 ∷ mid)) (told.3 ∙ heads) ∙ ap (λ (l : List ℕ). heading p ++ (10 ∷ l)) h.4 ∙ sym (piece_is p new),
+    )
+
 pub piece_one : (p q : Piece) (xs ys : List ℕ) → IsWritten p → IsWritten q → piece_text p ++ xs ≡ piece_text q ++ ys → (p ≡ q) × (xs ≡ ys)
 piece_one p q xs ys v w same =
     let lines = line_one q (piece_text p ++ xs) (heading p) (flat_map name_line p.refs ++ (p.text ++ xs)) ys w (heading_lacks p v) (piece_is p xs) same in
@@ -37,19 +61,19 @@ piece_one p q xs ys v w same =
 pub next_piece : (qs : List Piece) (rest : List ℕ) (ps : List Piece) → All IsWritten qs → All IsWritten ps → (rest ≡ [] → ⊥) → unit_text qs ++ rest ≡ unit_text ps
     → (p : Piece) × (more : List ℕ) × IsWritten p × (rest ≡ piece_text p ++ more)
 next_piece [] rest [] all also some same = absurd (some same)
-next_piece [] rest (p ∷ ps) all also some same = (p, unit_text ps, also 0 p (omega arith), same)
+next_piece [] rest (p ∷ ps) all also some same = (p, unit_text ps, All-head IsWritten p ps also, same)
 next_piece (q ∷ qs) rest [] all also some same = absurd (cc same)
 next_piece (q ∷ qs) rest (p ∷ ps) all also some same =
-    let parts = piece_one q p (unit_text qs ++ rest) (unit_text ps) (all 0 q (omega arith)) (also 0 p (omega arith)) (sym (append_assoc (piece_text q) (unit_text qs) rest) ∙ same) in
-    next_piece qs rest ps (λ k d lt. all (suc k) d (omega (arith, lt))) (λ k d lt. also (suc k) d (omega (arith, lt))) some parts.1
+    let parts = piece_one q p (unit_text qs ++ rest) (unit_text ps) (All-head IsWritten q qs all) (All-head IsWritten p ps also) (sym (append_assoc (piece_text q) (unit_text qs) rest) ∙ same) in
+    next_piece qs rest ps (All-tail IsWritten q qs all) (All-tail IsWritten p ps also) some parts.1
 
 pub pieces_one : (ps qs : List Piece) → All IsWritten ps → All IsWritten qs → unit_text ps ≡ unit_text qs → ps ≡ qs
 pieces_one [] [] all also same = refl
 pieces_one [] (q ∷ qs) all also same = absurd (cc same)
 pieces_one (p ∷ ps) [] all also same = absurd (cc same)
 pieces_one (p ∷ ps) (q ∷ qs) all also same =
-    let parts = piece_one p q (unit_text ps) (unit_text qs) (all 0 p (omega arith)) (also 0 q (omega arith)) same in
-    let rest = pieces_one ps qs (λ k d lt. all (suc k) d (omega (arith, lt))) (λ k d lt. also (suc k) d (omega (arith, lt))) parts.1 in
+    let parts = piece_one p q (unit_text ps) (unit_text qs) (All-head IsWritten p ps all) (All-head IsWritten q qs also) same in
+    let rest = pieces_one ps qs (All-tail IsWritten p ps all) (All-tail IsWritten q qs also) parts.1 in
     λ i. parts.0 i ∷ rest i
 
 pub text_is_one : UnitTextIsOne

@@ -1,5 +1,6 @@
 -- What the lines of a unit's text say, and that they say one thing.
-use Rattle.std.proofs.Common.{◌≡◌, ◌∙◌, ℕ, suc, ◌/◌, ◌%◌, ◌<◌, ◌^◌, Bool, true, false, cond, List, [], ◌∷◌, ◌++◌, length, Option, Some, None, append_assoc, codes, arith, refl, sym, ap, ap₂, subst}
+use Rattle.std.proofs.Common.{◌≡◌, ◌∙◌, ℕ, ◌/◌, ◌%◌, ◌<◌, ◌^◌, Bool, true, false, cond, List, [], ◌∷◌, ◌++◌, length, Option, Some, None, append_assoc, codes, arith, refl, sym, ap, ap₂, subst}
+use Rattle.std.proofs.lemmas.List.Elements.{All-head, All-tail}
 use Rattle.std.proofs.lemmas.Bool.{and_parts, false≢true}
 use Rattle.std.proofs.lemmas.List.{append_cancel_left}
 use Rattle.std.proofs.lemmas.Fmt.{decimal_injective}
@@ -120,13 +121,13 @@ Names = flat_map name_line
 pub next_name : (ms : List (List ℕ)) (rest : List ℕ) (ns : List (List ℕ)) (more : List ℕ) → All AllBytes ms → All AllBytes ns → length ms < length ns → Names ms ++ rest ≡ Names ns ++ more
     → (n left : List ℕ) × AllBytes n × (rest ≡ name_line n ++ left)
 next_name [] rest [] more all also less same = absurd (omega (arith, less))
-next_name [] rest (n ∷ ns) more all also less same = (n, Names ns ++ more, also 0 n (omega arith), same ∙ append_assoc (name_line n) (Names ns) more)
+next_name [] rest (n ∷ ns) more all also less same = (n, Names ns ++ more, All-head AllBytes n ns also, same ∙ append_assoc (name_line n) (Names ns) more)
 next_name (m ∷ ms) rest [] more all also less same = absurd (omega (arith, less))
 next_name (m ∷ ms) rest (n ∷ ns) more all also less same =
     let parts =
-    name_line_one m n (Names ms ++ rest) (Names ns ++ more) (all 0 m (omega arith)) (also 0 n (omega arith))
+    name_line_one m n (Names ms ++ rest) (Names ns ++ more) (All-head AllBytes m ms all) (All-head AllBytes n ns also)
     (sym (append_assoc (name_line m) (Names ms) rest) ∙ same ∙ append_assoc (name_line n) (Names ns) more) in
-    next_name ms rest ns more (λ k d lt. all (suc k) d (omega (arith, lt))) (λ k d lt. also (suc k) d (omega (arith, lt))) (omega (arith, less)) parts.1
+    next_name ms rest ns more (All-tail AllBytes m ms all) (All-tail AllBytes n ns also) (omega (arith, less)) parts.1
 
 pub names_one : (ms : List (List ℕ)) (rest : List ℕ) (ns : List (List ℕ)) (more : List ℕ) → All AllBytes ms → All AllBytes ns → length ms ≡ length ns → Names ms ++ rest ≡ Names ns ++ more → (ms ≡ ns) × (rest ≡ more)
 names_one [] rest [] more all also even same = (refl, same)
@@ -134,9 +135,9 @@ names_one [] rest (n ∷ ns) more all also even same = absurd (omega (arith, eve
 names_one (m ∷ ms) rest [] more all also even same = absurd (omega (arith, even))
 names_one (m ∷ ms) rest (n ∷ ns) more all also even same =
     let parts =
-    name_line_one m n (Names ms ++ rest) (Names ns ++ more) (all 0 m (omega arith)) (also 0 n (omega arith))
+    name_line_one m n (Names ms ++ rest) (Names ns ++ more) (All-head AllBytes m ms all) (All-head AllBytes n ns also)
     (sym (append_assoc (name_line m) (Names ms) rest) ∙ same ∙ append_assoc (name_line n) (Names ns) more) in
-    let others = names_one ms rest ns more (λ k d lt. all (suc k) d (omega (arith, lt))) (λ k d lt. also (suc k) d (omega (arith, lt))) (omega (arith, even)) parts.1 in
+    let others = names_one ms rest ns more (All-tail AllBytes m ms all) (All-tail AllBytes n ns also) (omega (arith, even)) parts.1 in
     (ap₂ (λ (x : List ℕ). λ (xs : List (List ℕ)). x ∷ xs) parts.0 others.0, others.1)
 
 -- ---- bytes of a length

@@ -1,5 +1,5 @@
 //! The pieces of definitions.
-ghost use Rattle.std.specs.Prelude.{◌≡◌, ◌↔◌, ◌∷◌, [], ℕ, List, Contains, IfOk};
+ghost use Rattle.std.specs.Prelude.{◌≡◌, ◌↔◌, ◌++◌, ◌∷◌, [], ℕ, List, Contains, IfOk, OnOk};
 ghost use Rattle.ir_print.specs.Modules.{global_value, text_of};
 ghost use Rattle.ir_summary.specs.Once.{texts};
 ghost use Rattle.ir_summary.specs.References.{global_names};
@@ -40,13 +40,20 @@ fn sort_names(names: &mut Vec<&[u8]>)
     names.dedup();
 }
 
+fn push_copy(alloc: Global, rows: &mut Rows<Text>, name: &[u8]) -> Result<(), AllocError>
+    ensures { OnOk result (rows.new ≡ rows.old ++ name.now ∷ []) }
+{
+    rows.push(Text::copied(alloc, name)?)?;
+    Ok(())
+}
+
 #[tactic(auto, using(ir_summary::proofs::Onces::text_more))]
 fn copies(alloc: Global, names: &[&[u8]]) -> Result<Rows<Text>, AllocError>
     ensures { IfOk result (λ rows. rows ≡ texts names.now) }
 {
     let mut rows = Rows::new(alloc);
     for name in names {
-        rows.push(Text::copied(alloc, name)?)?;
+        push_copy(alloc, &mut rows, name)?;
     }
     Ok(rows)
 }

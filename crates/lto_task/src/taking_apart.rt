@@ -151,10 +151,7 @@ impl<'a> Reader<'a> {
         let Some(heading) = first_line(alloc, line)? else {
             return Ok(None);
         };
-        let Some(piece) = self.content(alloc, heading)? else {
-            return Ok(None);
-        };
-        Ok(Some(piece))
+        self.content(alloc, heading)
     }
 }
 

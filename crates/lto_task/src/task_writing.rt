@@ -1,6 +1,6 @@
 //! Writes the text of a task.
-ghost use Rattle.std.specs.Prelude.{◌≡◌, ◌<◌, ◌^◌, ◌++◌, All, IfOk, OnOk, codes, flat_map, length, map};
-ghost use Rattle.ir_print.specs.Modules.{global_values, module_text, text_of};
+ghost use Rattle.std.specs.Prelude.{◌≡◌, ◌<◌, ◌^◌, ◌++◌, ◌∷◌, [], All, IfOk, OnOk, codes, flat_map, length, map};
+ghost use Rattle.ir_print.specs.Modules.{global_value, global_values, module_text, text_of};
 ghost use Rattle.ir_summary.specs.Once.{texts};
 ghost use Rattle.ir_tree.specs.Names.{AllBytes};
 ghost use Rattle.lto_task.specs.Tasks as tasks;
@@ -33,12 +33,18 @@ fn push_borrowed_names(alloc: Global, out: &mut Text, names: &[&[u8]]) -> Result
     Ok(())
 }
 
+fn push_global(alloc: Global, out: &mut Text, global: &GlobalValue) -> Result<(), AllocError>
+    ensures { OnOk result (out.new ≡ out.old ++ text_of (global_value global.now ∷ [])) }
+{
+    let text = text_of(alloc, global)?;
+    out.append(text.as_slice())
+}
+
 fn push_defined(alloc: Global, out: &mut Text, defined: &[&GlobalValue]) -> Result<(), AllocError>
     ensures { OnOk result (out.new ≡ out.old ++ text_of (global_values (map (λ g. g.now) defined.now))) }
 {
     for global in defined {
-        let text = text_of(alloc, global)?;
-        out.append(text.as_slice())?;
+        push_global(alloc, out, global)?;
     }
     Ok(())
 }
@@ -47,8 +53,7 @@ fn push_declared(alloc: Global, out: &mut Text, declared: &[GlobalValue]) -> Res
     ensures { OnOk result (out.new ≡ out.old ++ text_of (global_values declared.now)) }
 {
     for global in declared {
-        let text = text_of(alloc, global)?;
-        out.append(text.as_slice())?;
+        push_global(alloc, out, global)?;
     }
     Ok(())
 }

@@ -4,7 +4,7 @@ use Rattle.std.proofs.lemmas.Bool.{false≢true}
 use Rattle.std.proofs.lemmas.List.Elements.{All-push}
 use Rattle.lto_task.specs.Units.{IsWritten}
 use Rattle.lto_task.specs.declared.piece.Piece.{Piece}
-use Rattle.lto_task.proofs.Apart.{next_piece, text_more}
+use Rattle.lto_task.proofs.Apart.{next_piece, shorter, text_more}
 use Rattle.lto_task.proofs.taking_apart.all_pieces.Goals as goal
 
 pub returns-in_default : goal.returns-in_default
@@ -18,3 +18,8 @@ loop-reader-preserved c =
       written = subst (λ (ps : List Piece). All IsWritten ps) (sym c.in_ok-push.ensures.ok) (All-push IsWritten c.loop-reader.pieces c.in-Some.piece c.loop-reader.invariant.written read.0);
       read = text_more c.args.bytes.now c.loop-reader.pieces c.push.new.self c.in-Some.piece c.loop-reader.reader.rest.now c.piece.new.self.rest.now c.loop-reader.invariant.read read.1 c.in_ok-push.ensures.ok;
     }
+
+pub loop-reader-smaller : goal.loop-reader-smaller
+loop-reader-smaller c =
+    let read = rw c.in-Some.is at c.in_ok-piece.ensures in
+    shorter c.in-Some.piece c.loop-reader.reader.rest.now c.piece.new.self.rest.now read.1
