@@ -94,6 +94,27 @@ fn decided(
     Ok((live, imports))
 }
 
+/// The index of modules whose symbols are resolved so, and what is decided by it.
+fn decided_by_index(
+    alloc: Global,
+    files: &[Text],
+    modules: &[Verified],
+    resolution: &Resolution,
+    exports: &[Text],
+    import_limit: u32,
+) -> Result<(Index, Live, Vec<Vec<u32>>), Refusal>
+    requires clash { NoClash modules.now }
+    requires resolved { resolution.now ≡ symbols modules.now }
+    ensures done { IfOk result (λ d. IsThinLink modules.now exports.now import_limit d.0 d.1 (rows d.2.items)) }
+    ensures refused { IfErr result (λ why. why ≢ NoMemory → IsLack files.now modules.now exports.now why) }
+{
+    let Ok(index) = indexed(alloc, modules, resolution) else {
+        return Err(Refusal::NoMemory);
+    };
+    let (live, imports) = decided(alloc, files, modules, &index, exports, import_limit)?;
+    Ok((index, live, imports))
+}
+
 /// What the thin link of these modules decides, where these names are exported and a module imports
 /// functions of at most `import_limit` instructions that it calls, and smaller ones that those call.
 /// There is a file for each module, in command order.
@@ -117,10 +138,14 @@ pub fn thin_link<'a>(
     ensures refused { IfErr result (λ why. why ≢ NoMemory → IsRefused files.now modules.entry.now exports.now why) }
 {
     let resolution = resolved(alloc, files, modules)?;
-    let Ok(index) = indexed(alloc, modules, &resolution) else {
-        return Err(Refusal::NoMemory);
-    };
-    let (live, imports) = decided(alloc, files, modules, &index, exports, import_limit)?;
+    let (index, live, imports) = decided_by_index(
+        alloc,
+        files,
+        modules,
+        &resolution,
+        exports,
+        import_limit,
+    )?;
     Ok(ThinLink {
         resolution,
         index,

@@ -30,8 +30,7 @@ fn push_defined(
 {
     let mut entries = entries(alloc, index.symbols(), number, definitions)?;
     sort_entries(&mut entries)?;
-    push_definitions(out, live, &entries)?;
-    Ok(())
+    push_definitions(out, live, &entries)
 }
 
 /// The lines of a module's imports, by name and then by module.
@@ -45,8 +44,7 @@ fn push_imported(
 {
     let mut entries = of_symbols(alloc, table, imports)?;
     sort_entries(&mut entries)?;
-    push_imports(out, &entries)?;
-    Ok(())
+    push_imports(out, &entries)
 }
 
 /// What a link decides, as text: for each module, in command order, the line `module K NAME`, K its

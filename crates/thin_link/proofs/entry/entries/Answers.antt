@@ -1,4 +1,4 @@
-use Rattle.std.proofs.Common.{◌∙◌, ◌<◌, ◌++◌, ◌∷◌, [], ℕ, List, length, take, ap, subst, sym}
+use Rattle.std.proofs.Common.{◌∙◌, ◌<◌, ◌++◌, ◌∷◌, [], ℕ, List, length, take, take_all, ap, arith, subst, sym}
 use Rattle.std.proofs.lemmas.List.{map_more, map_push}
 use Rattle.std.proofs.lemmas.List.Elements.{All-push}
 use Rattle.combined_index.specs.declared.definition.Definition.{Definition}
@@ -21,3 +21,8 @@ loop-definition-preserved c = record {
       (subst (λ (n : ℕ). n < length c.args.symbols.now) (sym (ap (λ (l : Listed). l.definition.symbol) c.entry_of.ensures ∙ ap (λ (d : Definition). d.symbol) c.definition-item.is))
       (c.requires c.loop-definition.definition-index c.definition-item.result c.loop-definition-test.true).symbol));
 }
+
+pub returns-clause-entries : goal.returns-clause-entries
+returns-clause-entries c =
+    c.loop-definition.invariant.entries
+    ∙ ap (λ (ds : List Definition). all_listed c.args.symbols.now c.args.number ds) (take_all c.loop-definition.definition-index c.args.definitions.now (omega (arith, c.loop-definition-test.false)))

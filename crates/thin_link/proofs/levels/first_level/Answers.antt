@@ -1,4 +1,5 @@
-use Rattle.std.proofs.Common.{[], ℕ, List, subst, take}
+use Rattle.std.proofs.Common.{[], ℕ, List, arith, subst, take, take_all}
+use Rattle.combined_index.specs.declared.definition.Definition.{Definition}
 use Rattle.thin_link.specs.Chains.{is_importable}
 use Rattle.thin_link.specs.Walking.{Grown, called, live_calls}
 use Rattle.thin_link.proofs.Growing.{grown-more}
@@ -12,3 +13,8 @@ loop-definition-preserved c =
     (grown-more (is_importable c.args.index.now c.args.most) c.args.seen.now c.loop-definition.seen c.reach_from.new.seen [] c.loop-definition.level.items c.reach_from.new.level.items
     (called c.args.live.now (take c.loop-definition.definition-index c.args.definitions.now)) (live_calls c.args.live.now c.definition-item.result) c.loop-definition.invariant
     c.in_ok-reach_from.ensures)
+
+pub returns : goal.returns
+returns c =
+    subst (λ (ds : List Definition). Grown (is_importable c.args.index.now c.args.most) c.args.seen.now [] (called c.args.live.now ds) c.loop-definition.seen c.loop-definition.level.items)
+    (take_all c.loop-definition.definition-index c.args.definitions.now (omega (arith, c.loop-definition-test.false))) c.loop-definition.invariant

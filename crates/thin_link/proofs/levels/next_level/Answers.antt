@@ -1,4 +1,4 @@
-use Rattle.std.proofs.Common.{[], ℕ, List, get_or, subst, take}
+use Rattle.std.proofs.Common.{[], ℕ, List, arith, get_or, subst, take, take_all}
 use Rattle.std.proofs.lemmas.List.{get_or_default}
 use Rattle.thin_link.specs.Chains.{callees, is_importable}
 use Rattle.thin_link.specs.Walking.{Grown, called_by}
@@ -14,3 +14,8 @@ loop-function-preserved c =
     (grown-more (is_importable c.args.index.now c.args.most) c.args.seen.now c.loop-function.seen c.reach_through.new.seen [] c.loop-function.next.items c.reach_through.new.level.items
     (called_by c.args.index.now (take c.loop-function.function-index c.args.level.now)) (callees c.args.index.now (get_or c.args.level.now c.loop-function.function-index 0))
     c.loop-function.invariant c.in_ok-reach_through.ensures)
+
+pub returns : goal.returns
+returns c =
+    subst (λ (ns : List ℕ). Grown (is_importable c.args.index.now c.args.most) c.args.seen.now [] (called_by c.args.index.now ns) c.loop-function.seen c.loop-function.next.items)
+    (take_all c.loop-function.function-index c.args.level.now (omega (arith, c.loop-function-test.false))) c.loop-function.invariant

@@ -1,5 +1,6 @@
 use Rattle.std.proofs.Common.{◌≡◌, ◌∙◌, ◌+◌, [], ℕ, List, Vec, Global, length, ap, get_or, subst, sym, slice_index_or, arith}
 use Rattle.std.proofs.lemmas.List.{get_or_read, length-map, length_push}
+use Rattle.ir_tree.specs.declared.operand.Symbol.{Symbol}
 use Rattle.combined_index.specs.declared.definition.Definition.{Definition}
 use Rattle.thin_link.specs.Plans.{Imports, definitions_at}
 use Rattle.thin_link.specs.Views.{rows}
@@ -28,4 +29,13 @@ returns c =
     record {
       modules = length-map c.loop-definitions.lists.items (λ (v : Vec ℕ Global). v.items) ∙ c.loop-definitions.invariant.modules ∙ all;
       imports = λ m h. c.loop-definitions.invariant.imports m (omega (arith, h, all));
+    }
+
+pub loop-definitions-init : goal.loop-definitions-init
+loop-definitions-init c =
+    let symbols = ap (λ (ss : List Symbol). length ss) c.symbols.ensures.symbols in
+    record {
+      size = omega (arith, symbols, c.in_ok-seen.ensures);
+      modules = ap length c.new-lists.ensures.items;
+      imports = λ m h. absurd (omega (arith, h));
     }

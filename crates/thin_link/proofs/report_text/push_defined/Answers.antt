@@ -1,5 +1,6 @@
 use Rattle.std.proofs.Common.{◌∙◌, ◌<◌, ◌++◌, ℕ, List, length, map, ap, subst, sym}
 use Rattle.std.proofs.lemmas.List.Sorted.{All-permutation}
+use Rattle.std.proofs.lemmas.Result.{IfOk-weaker}
 use Rattle.ir_tree.specs.declared.operand.Symbol.{Symbol}
 use Rattle.thin_link.specs.Lines.{definition_line, text_of}
 use Rattle.thin_link.specs.Listed.{IsInOrder, Listed, all_listed}
@@ -15,11 +16,12 @@ push_definitions-requires c =
     (subst (λ (n : ℕ). AreBelow n c.in_ok-entries.entries.items) (ap length c.symbols.ensures.symbols) c.in_ok-entries.ensures.below)))
 
 pub returns : goal.returns
-returns c = record {
-  order = all_shown c.sort_entries.new.entries.items;
-  sorted = subst (λ (ls : List Listed). IsInOrder ls (all_shown c.sort_entries.new.entries.items))
-      (c.in_ok-entries.ensures.entries ∙ ap (λ (ss : List Symbol). all_listed ss c.args.number c.args.definitions.now) c.symbols.ensures.symbols) c.in_ok-sort_entries.ensures.order;
-  added =
-      c.in_ok-push_definitions.ensures
-      ∙ ap (λ (es : List Entry). c.args.out.now.items ++ text_of (map (definition_line c.args.live.now) (all_shown es))) c.deref.ensures.value;
-}
+returns c =
+    IfOk-weaker c.push_definitions.result _ _
+    (λ _ is. record {
+      order = all_shown c.sort_entries.new.entries.items;
+      sorted = subst (λ (ls : List Listed). IsInOrder ls (all_shown c.sort_entries.new.entries.items))
+          (c.in_ok-entries.ensures.entries ∙ ap (λ (ss : List Symbol). all_listed ss c.args.number c.args.definitions.now) c.symbols.ensures.symbols) c.in_ok-sort_entries.ensures.order;
+      added = is ∙ ap (λ (es : List Entry). c.args.out.now.items ++ text_of (map (definition_line c.args.live.now) (all_shown es))) c.deref.ensures.value;
+    })
+    c.push_definitions.ensures

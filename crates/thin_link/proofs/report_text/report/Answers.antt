@@ -34,3 +34,8 @@ loop-number-preserved c =
     imports
     (c.in_ok-push_imported.ensures (listed_from c.args.index.now.symbols 0 c.args.index.now.modules)
     (subst (λ (t : List (Option Entry)). IsTable t (listed_from c.args.index.now.symbols 0 c.args.index.now.modules)) (sym c.deref.ensures.value) c.in_ok-table.ensures)))
+
+pub bounds-imports-number : goal.bounds-imports-number
+bounds-imports-number c =
+    let modules = ap (λ (ms : List (List Definition)). length ms) c.modules-definitions-items.ensures.modules in
+    omega (arith, modules, c.loop-number-test.true, c.requires.imports)
