@@ -11,8 +11,9 @@ use Rattle.thin_link.specs.Views.{rows}
 use Rattle.merge_meaning.specs.Lives.{parts}
 use Rattle.lto_task.specs.Tasks.{TaskView}
 use Rattle.lto_task.specs.declared.piece.Piece.{Piece}
+use Rattle.lto_task.specs.declared.task.Task.{Task}
 use Rattle.emit.specs.Joins.{IsJoin}
-use Rattle.importer.specs.ModuleTasks.{IsTaskOfNumber}
+use Rattle.importer.specs.ModuleTasks.{AreTasks, IsTaskOfNumber}
 use Rattle.link_one.specs.ModuleUnits.{AreUnits}
 use Rattle.link_one.specs.declared.prepare.Prepared.{Prepared}
 
@@ -33,6 +34,10 @@ pub record IsTaskPrepared (exports : List (List ℕ)) (limit : ℕ) (suffixes : 
   pub number : ℕ
   pub within : number < length p.parts.items
   pub task : IsTaskOfNumber exports limit p.index.symbols suffixes (rows p.imports.items) (rows p.promoted.items) p.parts.items number t
+
+-- the tasks of the parts, in their order
+abbrev pub AreTasksPrepared : List (List ℕ) → ℕ → List (List ℕ) → Prepared → List Task → Type 0
+AreTasksPrepared exports limit suffixes p tasks = AreTasks exports limit p.index.symbols suffixes (rows p.imports.items) (rows p.promoted.items) p.parts.items tasks
 
 -- units of the parts
 abbrev pub AreUnitsPrepared : List (List ℕ) → ℕ → List (List ℕ) → Prepared → List (List Piece) → Type 0

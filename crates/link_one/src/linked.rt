@@ -4,7 +4,7 @@ ghost use mathlib.Core.List.{IsPrefix};
 ghost use Rattle.cache_slot.specs.Places.{IsAt, seen_by};
 ghost use Rattle.lto_task.specs.Tasks.{TaskView};
 ghost use Rattle.back_pool.specs.Making.{IsReady, IsTrusted};
-ghost use Rattle.link_one.specs.Preparing.{AreUnitsPrepared, IsJoined, IsTaskPrepared};
+ghost use Rattle.link_one.specs.Preparing.{AreTasksPrepared, AreUnitsPrepared, IsJoined, IsTaskPrepared};
 ghost use Rattle.link_one.specs.TaskUnits.{HasVerifiedModules, IsTaskUnit};
 
 use crate::pool::Pool;
@@ -14,10 +14,32 @@ use emit::emit;
 use importer::tasks_of;
 use ir_tree::{Rows, Text};
 use lto_outside::{CacheDisk, Gate};
-use lto_task::Piece;
+use lto_task::{Piece, Task};
 use std::alloc::{AllocError, Global};
 use std::sync::Wait;
 use std::thread::Threads;
+
+/// The tasks of the parts, in their order.
+fn tasks_prepared<'a>(
+    alloc: Global,
+    prepared: &'a Prepared,
+    suffixes: &'a [Text],
+    exports: &'a [Text],
+    inline_limit: u32,
+) -> Result<Vec<Task<'a>>, AllocError>
+    ensures { IfOk result (λ tasks. AreTasksPrepared exports.entry.now inline_limit suffixes.entry.now prepared.entry.now tasks.items) }
+{
+    tasks_of(
+        alloc,
+        &prepared.parts,
+        prepared.index.symbols(),
+        suffixes,
+        &prepared.imports,
+        &prepared.promoted,
+        inline_limit,
+        exports,
+    )
+}
 
 /// The units as pieces: the task of each part, done by the pool.
 fn compiled<
@@ -41,16 +63,7 @@ fn compiled<
     ensures seen { IsPrefix (seen_by pass.old.place.seat) (seen_by pass.new.place.seat) }
     ensures units { IfOk result (λ units. IsTrusted S.dir D.fits S.files → ∥ AreUnitsPrepared exports.now inline_limit suffixes.now prepared.now units.items ∥₁) }
 {
-    let tasks = tasks_of(
-        alloc,
-        &prepared.parts,
-        prepared.index.symbols(),
-        suffixes,
-        &prepared.imports,
-        &prepared.promoted,
-        inline_limit,
-        exports,
-    )?;
+    let tasks = tasks_prepared(alloc, prepared, suffixes, exports, inline_limit)?;
     pool.units(alloc, pass, &tasks)
 }
 
