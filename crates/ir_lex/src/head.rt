@@ -12,7 +12,7 @@ use crate::words::listed_head;
 /// number and string. Words that the grammar never tells apart share a class.
 ///
 /// LangRef, "Identifiers", "Linkage Types", "Parameter Attributes", "Instruction Reference".
-#[derive(Clone, Copy, Debug, PartialEq, Eq)]
+#[derive(Clone, Copy, PartialEq, Eq)]
 pub enum Head {
     /// A decimal integer: `-12`.
     Number,
