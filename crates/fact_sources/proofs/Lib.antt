@@ -7,3 +7,5 @@ pub mod Kept
 pub mod Standing
 pub mod KeptEdges
 pub mod Placed
+pub mod Staying
+pub mod Walking

@@ -9,3 +9,4 @@ pub mod Laws
 pub mod Settled
 pub mod Above
 pub mod Places
+pub mod AtPoints

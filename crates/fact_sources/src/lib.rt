@@ -21,8 +21,10 @@
 //! **Not shown.** Here, that a candidate is right: `ir_facts` has the laws.
 #![tactic(auto)]
 
+mod at_points;
 mod choices;
 mod entered;
+mod fact;
 mod naming;
 mod placing;
 mod sources;
@@ -37,3 +39,5 @@ pub use placing::{places, places_by_number};
 pub use sources::{candidates, is_local, is_phi, phi_locals, push_block, push_blocks, push_phis};
 pub use substitution::Substitution;
 pub use unreached::{apart, defined, firm, resting, set_of};
+pub use at_points::function_at;
+pub use fact::Fact;

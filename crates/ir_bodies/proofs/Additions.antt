@@ -1,13 +1,13 @@
 -- What is read, put behind what was read before.
 use Rattle.std.proofs.Common.{◌≡◌, Bool, true, false, cond, Option, Some, None, List, [], ◌∷◌, ◌++◌, Result, Ok, Err, refl, sym, ap, ◌∙◌, append_assoc}
 use Rattle.ir_lex.specs.Tok.{Tok}
-use Rattle.lto_forms.specs.declared.fault.Fault.{Fault}
-use Rattle.lto_forms.specs.declared.fault.ReadError.{ReadError}
-use Rattle.lto_forms.specs.declared.fault.ReadError.TheVariants as errors
-use Rattle.lto_forms.specs.Readers.{Reader, Fails, done, follow, ◌>>=◌, optional_at, pick, folded}
-use Rattle.lto_forms.proofs.Composed.{reads_is}
-use Rattle.lto_forms.proofs.Loops.{with_front}
-use Rattle.lto_forms.proofs.Stars.{behind}
+use Rattle.ir_read.specs.declared.fault.Fault.{Fault}
+use Rattle.ir_read.specs.declared.fault.ReadError.{ReadError}
+use Rattle.ir_read.specs.declared.fault.ReadError.TheVariants as errors
+use Rattle.ir_read.specs.Readers.{Reader, Fails, done, follow, ◌>>=◌, optional_at, pick, folded}
+use Rattle.ir_read.proofs.Composed.{reads_is}
+use Rattle.ir_read.proofs.Loops.{with_front}
+use Rattle.ir_read.proofs.Stars.{behind}
 use Rattle.ir_operands.proofs.Levels.{fold_behind}
 use Rattle.ir_bodies.specs.Blocks.{keep}
 

@@ -7,14 +7,14 @@ use Rattle.ir_lex.specs.declared.head.Head.TheVariants as heads
 use Rattle.ir_lex.specs.declared.token.Kind.TheVariants as kinds
 use Rattle.ir_lex.specs.Heads.{number}
 use Rattle.ir_lex.specs.Tok.{Tok}
-use Rattle.lto_forms.specs.Alphabet.{among, contains}
-use Rattle.lto_forms.specs.Chained.{Chain}
-use Rattle.lto_forms.specs.Forms as form
-use Rattle.lto_forms.specs.Forms.{Form, Star}
-use Rattle.lto_forms.specs.Rules.{Rule, Opens, IsWithin}
-use Rattle.lto_forms.proofs.Composed.{widened, with_wide}
-use Rattle.lto_forms.proofs.Rules as rules
-use Rattle.lto_forms.proofs.Rules.{apart_from, contains-append}
+use Rattle.ir_read.specs.Alphabet.{among, contains}
+use Rattle.ir_read.specs.Chained.{Chain}
+use Rattle.ir_read.specs.Forms as form
+use Rattle.ir_read.specs.Forms.{Form, Star}
+use Rattle.ir_read.specs.Rules.{Rule, Opens, IsWithin}
+use Rattle.ir_read.proofs.Composed.{widened, with_wide}
+use Rattle.ir_read.proofs.Rules as rules
+use Rattle.ir_read.proofs.Rules.{apart_from, contains-append}
 use Rattle.ir_instructions.specs.Addressing.{any_slots}
 use Rattle.ir_read.specs.Classes.{tokens, NUMERALS, refusal, the, itself}
 use Rattle.ir_heads.specs.declared.function_heads.Role.TheVariants as roles

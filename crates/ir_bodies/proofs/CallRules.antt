@@ -6,10 +6,10 @@ use Rattle.ir_lex.specs.Heads.{number}
 use Rattle.ir_lex.specs.Tok.{Tok}
 use Rattle.ir_tree.specs.declared.operand.Reg.{Reg}
 use Rattle.ir_tree.specs.declared.operand.Reg.TheVariants.{Ptr}
-use Rattle.lto_forms.specs.declared.fault.FaultKind.{FaultKind}
-use Rattle.lto_forms.specs.declared.fault.FaultKind.TheVariants.{Syntax, Number, Limit}
-use Rattle.lto_forms.specs.Rules.{Rule, Opens, is_class}
-use Rattle.lto_forms.proofs.Rules as rules
+use Rattle.ir_read.specs.declared.fault.FaultKind.{FaultKind}
+use Rattle.ir_read.specs.declared.fault.FaultKind.TheVariants.{Syntax, Number, Limit}
+use Rattle.ir_read.specs.Rules.{Rule, Opens, is_class}
+use Rattle.ir_read.proofs.Rules as rules
 use Rattle.ir_heads.specs.Attributes.{parameter_attribute}
 use Rattle.ir_heads.specs.AttributesAt.{PARAMETER, CALL}
 use Rattle.ir_read.specs.Classes.{tokens, refusal, the, itself}

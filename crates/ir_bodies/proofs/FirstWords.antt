@@ -1,9 +1,9 @@
 -- The first word of an instruction, with its line.
 use Rattle.std.proofs.Common.{◌≡◌, ℕ, Bool, true, false, Result, Ok, Err, refl, ap, ◌∙◌, if◌then◌else◌}
 use Rattle.ir_lex.specs.Tok.{Tok}
-use Rattle.lto_forms.specs.Alphabet.{among}
-use Rattle.lto_forms.specs.Rules.{is_among}
-use Rattle.lto_forms.specs.declared.fault.FaultKind.{FaultKind}
+use Rattle.ir_read.specs.Alphabet.{among}
+use Rattle.ir_read.specs.Rules.{is_among}
+use Rattle.ir_read.specs.declared.fault.FaultKind.{FaultKind}
 use Rattle.ir_read.specs.Classes.{tokens, refusal}
 use Rattle.ir_bodies.specs.Lines.{OPCODES, opcode_of, begun_of}
 use Rattle.ir_bodies.specs.declared.opcodes.Begun.{Begun}

@@ -5,12 +5,12 @@ use Rattle.ir_lex.specs.declared.head.Head.TheVariants as heads
 use Rattle.ir_lex.specs.Heads.{number}
 use Rattle.ir_lex.specs.Quotes.{stripped}
 use Rattle.ir_lex.specs.Tok.{Tok}
-use Rattle.lto_forms.specs.Alphabet.{among}
-use Rattle.lto_forms.specs.declared.fault.FaultKind.{FaultKind}
-use Rattle.lto_forms.specs.Forms as form
-use Rattle.lto_forms.specs.Rules.{Rule, Opens, in_range, is_among, is_valued}
-use Rattle.lto_forms.proofs.Composed.{with_wide}
-use Rattle.lto_forms.proofs.Rules as rules
+use Rattle.ir_read.specs.Alphabet.{among}
+use Rattle.ir_read.specs.declared.fault.FaultKind.{FaultKind}
+use Rattle.ir_read.specs.Forms as form
+use Rattle.ir_read.specs.Rules.{Rule, Opens, in_range, is_among, is_valued}
+use Rattle.ir_read.proofs.Composed.{with_wide}
+use Rattle.ir_read.proofs.Rules as rules
 use Rattle.ir_instructions.specs.Addressing.{slots_fit, any_slots}
 use Rattle.ir_read.specs.Classes.{tokens, refusal, one_of, itself}
 use Rattle.ir_read.specs.Decimals.{decimal}

@@ -1,8 +1,8 @@
 -- Instructions that are put where they are read.
 use Rattle.std.proofs.Common.{◌≡◌, List, Some, Result, Ok, Err, refl}
 use Rattle.ir_lex.specs.Tok.{Tok}
-use Rattle.lto_forms.specs.declared.fault.Fault.{Fault}
-use Rattle.lto_forms.specs.Readers.{Reader, done, follow, ◌>>=◌}
+use Rattle.ir_read.specs.declared.fault.Fault.{Fault}
+use Rattle.ir_read.specs.Readers.{Reader, done, follow, ◌>>=◌}
 use Rattle.ir_read.specs.declared.raw.Instr.{Instr}
 use Rattle.ir_read.specs.declared.raw.Line.{Line}
 use Rattle.ir_read.specs.MetadataAt.{attachments_at}

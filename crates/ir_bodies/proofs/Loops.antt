@@ -2,12 +2,12 @@
 use Rattle.std.proofs.Common.{◌≡◌, ℕ, zero, suc, ◌-◌, ◌+◌, ◌<◌, Bool, true, false, List, [], ◌∷◌, ◌++◌, length, drop, get_or, Result, Ok, Err, refl, sym, ap, subst, ◌∙◌, append_assoc, add-one, drop-cons, arith}
 use Rattle.std.proofs.lemmas.List.{append-nil}
 use Rattle.std.specs.List.{fold}
-use Rattle.lto_forms.specs.declared.fault.Fault.{Fault}
-use Rattle.lto_forms.specs.declared.fault.FaultKind.TheVariants.{Limit}
-use Rattle.lto_forms.specs.declared.fault.ReadError.{ReadError}
-use Rattle.lto_forms.specs.declared.fault.ReadError.TheVariants as errors
-use Rattle.lto_forms.specs.Readers.{Reader, fault_at, done, follow, ◌>>=◌, pick, many_at, Fails, next_is}
-use Rattle.lto_forms.proofs.Loops.{with_front}
+use Rattle.ir_read.specs.declared.fault.Fault.{Fault}
+use Rattle.ir_read.specs.declared.fault.FaultKind.TheVariants.{Limit}
+use Rattle.ir_read.specs.declared.fault.ReadError.{ReadError}
+use Rattle.ir_read.specs.declared.fault.ReadError.TheVariants as errors
+use Rattle.ir_read.specs.Readers.{Reader, fault_at, done, follow, ◌>>=◌, pick, many_at, Fails, next_is}
+use Rattle.ir_read.proofs.Loops.{with_front}
 use Rattle.ir_bodies.specs.Successive.{successive_at}
 
 -- ---- the first of two readers, or the other

@@ -1,13 +1,13 @@
 -- The reader of pieces one behind another, each from the state that the one before left and at most so many, reads them.
 use Rattle.std.proofs.Common.{◌≡◌, ℕ, zero, suc, Bool, true, false, ◌||◌, ◌⊎◌, inl, inr, List, [], ◌∷◌, ◌++◌, refl, sym, ap, subst, ◌∙◌}
 use Rattle.std.proofs.lemmas.List.{append-nil}
-use Rattle.lto_forms.specs.Alphabet.{Alphabet, AllReal, is_number}
-use Rattle.lto_forms.specs.Chained.{Chain}
-use Rattle.lto_forms.specs.Forms as form
-use Rattle.lto_forms.specs.Forms.{Form}
-use Rattle.lto_forms.specs.Lawful.{Lawful}
-use Rattle.lto_forms.specs.Readers.{Reader, ◌>>=◌, done}
-use Rattle.lto_forms.proofs.Composed.{Begun, append_is_nil, cons_is, cons_not_nil, gives_lawful, both_lawful, pick_lawful, barred_lawful, same_form, widened}
+use Rattle.ir_read.specs.Alphabet.{Alphabet, AllReal, is_number}
+use Rattle.ir_read.specs.Chained.{Chain}
+use Rattle.ir_read.specs.Forms as form
+use Rattle.ir_read.specs.Forms.{Form}
+use Rattle.ir_read.specs.Lawful.{Lawful}
+use Rattle.ir_read.specs.Readers.{Reader, ◌>>=◌, done}
+use Rattle.ir_read.proofs.Composed.{Begun, append_is_nil, cons_is, cons_not_nil, gives_lawful, both_lawful, pick_lawful, barred_lawful, same_form, widened}
 use Rattle.ir_bodies.specs.Successive.{Successive, successive_at}
 
 never : false ≡ true → ⊥

@@ -13,7 +13,7 @@ use Rattle.ir_lex.specs.Rows.{best_fit, rest_fit, fit, label_len, number_len, wo
 use Rattle.ir_lex.specs.Tok.{Tok}
 use Rattle.ir_tree.specs.declared.operand.Reg.{Reg}
 use Rattle.ir_tree.specs.declared.operand.Reg.TheVariants.{Int, Ptr}
-use Rattle.lto_forms.specs.Alphabet.{among}
+use Rattle.ir_read.specs.Alphabet.{among}
 use Rattle.ir_read.specs.Classes.{tokens, IsReal}
 use Rattle.ir_read.specs.Operands.{REG, reg_of, width}
 use Rattle.ir_read.proofs.Singles.{word}

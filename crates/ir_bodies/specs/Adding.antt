@@ -1,7 +1,7 @@
 -- Lists that what is read is added to.
 use Rattle.std.specs.Prelude.{Option, List, [], ◌∷◌, ◌++◌}
 use Rattle.ir_lex.specs.Tok.{Tok}
-use Rattle.lto_forms.specs.Readers.{Reader, ◌>>=◌, done}
+use Rattle.ir_read.specs.Readers.{Reader, ◌>>=◌, done}
 use Rattle.ir_bodies.specs.Blocks.{keep}
 
 -- what is read, put behind these where it is kept

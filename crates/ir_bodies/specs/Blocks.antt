@@ -5,9 +5,9 @@ use Rattle.std.specs.List.{fold}
 use Rattle.ir_lex.specs.declared.head.Head.TheVariants as heads
 use Rattle.ir_lex.specs.Heads.{number}
 use Rattle.ir_lex.specs.Tok.{Tok}
-use Rattle.lto_forms.specs.Chained.{Chain}
-use Rattle.lto_forms.specs.Forms.{Form, ◌>>=◌, either, gives, token, Many, Star}
-use Rattle.lto_forms.specs.Rules.{is_valued}
+use Rattle.ir_read.specs.Chained.{Chain}
+use Rattle.ir_read.specs.Forms.{Form, ◌>>=◌, either, gives, token, Many, Star}
+use Rattle.ir_read.specs.Rules.{is_valued}
 use Rattle.ir_instructions.specs.Addressing.{slots_fit, any_slots}
 use Rattle.ir_heads.specs.Attributes.{definition_attributes}
 use Rattle.ir_read.specs.Classes.{tokens, refusal, the, one_of, itself}

@@ -4,9 +4,9 @@ use Rattle.std.specs.List.{fold}
 use Rattle.ir_lex.specs.declared.head.Head.TheVariants as heads
 use Rattle.ir_lex.specs.Heads.{number}
 use Rattle.ir_lex.specs.Tok.{Tok}
-use Rattle.lto_forms.specs.Alphabet.{among}
-use Rattle.lto_forms.specs.Readers.{Reader, ◌>>=◌, done, pick, many_at, optional_at, token_at}
-use Rattle.lto_forms.specs.Rules.{is_valued}
+use Rattle.ir_read.specs.Alphabet.{among}
+use Rattle.ir_read.specs.Readers.{Reader, ◌>>=◌, done, pick, many_at, optional_at, token_at}
+use Rattle.ir_read.specs.Rules.{is_valued}
 use Rattle.ir_heads.specs.AttributesAt.{definition_attributes_at}
 use Rattle.ir_read.specs.Classes.{tokens, refusal, the_at}
 use Rattle.ir_heads.specs.declared.function_heads.Role.TheVariants as roles

@@ -5,10 +5,10 @@ use Rattle.ir_lex.specs.Heads.{number}
 use Rattle.ir_lex.specs.Tok.{Tok}
 use Rattle.ir_tree.specs.declared.operand.Reg.{Reg}
 use Rattle.ir_tree.specs.declared.operand.Reg.TheVariants.{Int, Ptr}
-use Rattle.lto_forms.specs.declared.fault.FaultKind.{FaultKind}
-use Rattle.lto_forms.specs.declared.fault.FaultKind.TheVariants.{Syntax}
-use Rattle.lto_forms.specs.Forms.{Form, ◌>>=◌, either, gives, optional, Star, token}
-use Rattle.lto_forms.specs.Rules.{is_among, is_exact, is_valued}
+use Rattle.ir_read.specs.declared.fault.FaultKind.{FaultKind}
+use Rattle.ir_read.specs.declared.fault.FaultKind.TheVariants.{Syntax}
+use Rattle.ir_read.specs.Forms.{Form, ◌>>=◌, either, gives, optional, Star, token}
+use Rattle.ir_read.specs.Rules.{is_among, is_exact, is_valued}
 use Rattle.ir_heads.specs.Attributes.{parameter_attribute, parameter_attributes, call_attributes}
 use Rattle.ir_read.specs.Classes.{tokens, refusal, the, itself}
 use Rattle.ir_read.specs.declared.raw.Argument.{Argument}

@@ -5,9 +5,9 @@ use Rattle.ir_lex.specs.Heads.{number}
 use Rattle.ir_lex.specs.Tok.{Tok}
 use Rattle.ir_tree.specs.declared.operand.Reg.{Reg}
 use Rattle.ir_tree.specs.declared.operand.Reg.TheVariants.{Ptr}
-use Rattle.lto_forms.specs.Alphabet.{among}
-use Rattle.lto_forms.specs.Readers.{Reader, ◌>>=◌, done, pick, optional_at, star_at, token_at}
-use Rattle.lto_forms.specs.Rules.{is_among, is_exact, is_valued}
+use Rattle.ir_read.specs.Alphabet.{among}
+use Rattle.ir_read.specs.Readers.{Reader, ◌>>=◌, done, pick, optional_at, star_at, token_at}
+use Rattle.ir_read.specs.Rules.{is_among, is_exact, is_valued}
 use Rattle.ir_heads.specs.AttributesAt.{PARAMETER, parameter_attribute_at, parameter_attributes_at, call_attributes_at}
 use Rattle.ir_read.specs.Classes.{tokens, the_at, itself}
 use Rattle.ir_read.specs.declared.raw.Argument.{Argument}

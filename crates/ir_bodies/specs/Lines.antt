@@ -7,7 +7,7 @@ use Rattle.ir_lex.specs.Heads.{number}
 use Rattle.ir_lex.specs.Tok.{Tok}
 use Rattle.ir_tree.specs.declared.instr.BinaryOp.TheVariants as ops
 use Rattle.ir_tree.specs.declared.instr.CastOp.TheVariants as casts
-use Rattle.lto_forms.specs.Forms.{Form, ◌>>=◌, either, gives}
+use Rattle.ir_read.specs.Forms.{Form, ◌>>=◌, either, gives}
 use Rattle.ir_instructions.specs.Addressing.{reserving, addressing}
 use Rattle.ir_read.specs.Shapes.{Written}
 use Rattle.ir_read.specs.Classes.{the, one_of}

@@ -1,7 +1,7 @@
 -- Instructions that are put where they are read, but for those that are dropped.
 use Rattle.std.specs.Prelude.{Option, List}
 use Rattle.ir_lex.specs.Tok.{Tok}
-use Rattle.lto_forms.specs.Readers.{Reader, ◌>>=◌, done}
+use Rattle.ir_read.specs.Readers.{Reader, ◌>>=◌, done}
 use Rattle.ir_read.specs.declared.raw.Instr.{Instr}
 use Rattle.ir_read.specs.declared.raw.Line.{Line}
 use Rattle.ir_operands.specs.declared.listing.Listing.{Listing}

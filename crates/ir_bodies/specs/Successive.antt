@@ -1,8 +1,8 @@
 -- Pieces of a form one behind another, each from the state that the one before left, at most so many.
 use Rattle.std.specs.Prelude.{◌≡◌, ℕ, zero, suc, Bool, List, [], ◌∷◌, ◌++◌}
-use Rattle.lto_forms.specs.declared.fault.FaultKind.TheVariants.{Limit}
-use Rattle.lto_forms.specs.Forms.{Form}
-use Rattle.lto_forms.specs.Readers.{Reader, ◌>>=◌, done, fault_at, pick}
+use Rattle.ir_read.specs.declared.fault.FaultKind.TheVariants.{Limit}
+use Rattle.ir_read.specs.Forms.{Form}
+use Rattle.ir_read.specs.Readers.{Reader, ◌>>=◌, done, fault_at, pick}
 
 module _ {T S A : Type 0} where
   abbrev pub Successive : (S → Form T (A × S)) → ℕ → S → List T → List A → Type 0

@@ -3,9 +3,9 @@
 ghost use Rattle.std.specs.Prelude.{◌≡◌, [], IfOk};
 ghost use Rattle.ir_lex.specs.Heads.{number};
 ghost use Rattle.ir_lex.specs.Tok.{tok};
-ghost use Rattle.lto_forms.specs.Alphabet.{among, contains};
-ghost use Rattle.lto_forms.specs.Readers.{Gives, next_is};
-ghost use Rattle.lto_forms.specs.Rules.{is_valued};
+ghost use Rattle.ir_read.specs.Alphabet.{among, contains};
+ghost use Rattle.ir_read.specs.Readers.{Gives, next_is};
+ghost use Rattle.ir_read.specs.Rules.{is_valued};
 ghost use Rattle.ir_read.specs.Classes.{tokens, refusal};
 ghost use Rattle.ir_read.specs.Operands.{named};
 ghost use Rattle.ir_instructions.specs.Terminators.{ENDS};
@@ -20,7 +20,7 @@ use ir_lex::{Head, Token};
 use ir_operands::{Listing, push};
 use ir_read::{Block, Name, Terminator, Tokens, named, refusal};
 use ir_tree::Rows;
-use lto_forms::{Fault, FaultKind, ReadError};
+use ir_read::{Fault, FaultKind, ReadError};
 use std::alloc::{AllocError, Global};
 
 /// The blocks of a function while they are read.
@@ -94,7 +94,7 @@ impl Begun {
     }
 }
 
-#[tactic(auto, unfolding(lto_forms::specs::Rules::is_valued))]
+#[tactic(auto, unfolding(ir_read::specs::Rules::is_valued))]
 fn label_means(alloc: Global, t: &Token) -> Result<Result<Name, FaultKind>, AllocError>
     ensures { IfOk result (λ x. x ≡ is_valued tokens refusal LABEL named (tok t.now)) }
 {

@@ -2,10 +2,10 @@
 
 ghost use Rattle.std.specs.Prelude.{◌≡◌, IfErr, IfOk, OnOk};
 ghost use Rattle.ir_lex.specs.Tok.{tok};
-ghost use Rattle.lto_forms.specs.Alphabet.{among};
-ghost use Rattle.lto_forms.specs.declared.fault.ReadError.TheVariants.{NoMemory};
-ghost use Rattle.lto_forms.specs.Readers.{Gives, next_is};
-ghost use Rattle.lto_forms.specs.Rules.{is_among, is_exact, is_valued};
+ghost use Rattle.ir_read.specs.Alphabet.{among};
+ghost use Rattle.ir_read.specs.declared.fault.ReadError.TheVariants.{NoMemory};
+ghost use Rattle.ir_read.specs.Readers.{Gives, next_is};
+ghost use Rattle.ir_read.specs.Rules.{is_among, is_exact, is_valued};
 ghost use Rattle.ir_read.specs.Classes.{tokens, itself};
 ghost use Rattle.ir_read.specs.Operands.{IsReg, REG, type_refusal, reg_of, classes_of, operand_of};
 ghost use Rattle.ir_tree.specs.declared.operand.Reg.TheVariants.{Ptr};
@@ -25,7 +25,7 @@ use ir_read::{
     reg_of, result_at, type_refusal,
 };
 use ir_tree::{Reg, Rows};
-use lto_forms::{Fault, FaultKind, ReadError};
+use ir_read::{Fault, FaultKind, ReadError};
 use std::alloc::{AllocError, Global};
 
 /// Reads a calling convention, or an attribute of the result.
@@ -65,7 +65,7 @@ fn conventions_at(alloc: Global, tokens: &mut Tokens) -> Result<(), ReadError>
 }
 
 /// Takes the type of a parameter of a callee.
-#[tactic(auto, unfolding(lto_forms::specs::Rules::is_among))]
+#[tactic(auto, unfolding(ir_read::specs::Rules::is_among))]
 fn written_type_at(alloc: Global, tokens: &mut Tokens) -> Result<Name, ReadError>
     ensures { Gives (λ x. (x, tokens.new)) result (written_type_at tokens.old) }
 {
@@ -225,7 +225,7 @@ fn is_same_reg(left: Reg, right: Reg) -> bool
 }
 
 /// What a token means where the type that another writes must stand.
-#[tactic(auto, unfolding(lto_forms::specs::Rules::is_exact))]
+#[tactic(auto, unfolding(ir_read::specs::Rules::is_exact))]
 fn type_again(written: &Token, t: &Token) -> Result<Reg, FaultKind>
     ensures exact { result ≡ is_exact tokens type_refusal REG (is_type (tok written.now)) reg_of (tok t.now) }
     ensures ranged { IfOk result IsReg }
@@ -349,7 +349,7 @@ fn called_value_at(alloc: Global, tokens: &mut Tokens) -> Result<Option<Operand>
 }
 
 /// What a token means as the callee of a call that has a name and gives nothing.
-#[tactic(auto, unfolding(lto_forms::specs::Rules::is_valued))]
+#[tactic(auto, unfolding(ir_read::specs::Rules::is_valued))]
 fn unmarked_means(alloc: Global, t: &Token) -> Result<Result<Operand, FaultKind>, AllocError>
     ensures { IfOk result (λ x. x ≡ is_valued tokens marker_refusal (classes_of Ptr) (operand_of Ptr) (tok t.now)) }
 {

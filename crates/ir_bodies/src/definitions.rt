@@ -1,7 +1,7 @@
 //! Reads definitions of functions (LangRef, "Functions").
 
 ghost use Rattle.std.specs.Prelude.{◌≡◌, []};
-ghost use Rattle.lto_forms.specs.Readers.{Gives};
+ghost use Rattle.ir_read.specs.Readers.{Gives};
 ghost use Rattle.ir_operands.specs.Adding.{pushed_at};
 ghost use Rattle.ir_bodies.specs.Adding.{joined_at};
 ghost use Rattle.ir_bodies.specs.Blocks.{FURTHER_BLOCKS, INSTRUCTIONS, with_kept};
@@ -13,7 +13,7 @@ use ir_lex::Head;
 use ir_operands::push_item;
 use ir_read::{Block, Item, Tokens, done, expect};
 use ir_tree::Rows;
-use lto_forms::ReadError;
+use ir_read::ReadError;
 use std::alloc::Global;
 
 /// How many blocks may stand behind the first of a function.

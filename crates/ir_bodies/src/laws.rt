@@ -1,7 +1,7 @@
 //! What ties the reader of definitions to their form.
 
 ghost use Rattle.std.specs.Prelude.{ℕ, [], false};
-ghost use Rattle.lto_forms.specs.Rules.{Opens, Rule};
+ghost use Rattle.ir_read.specs.Rules.{Opens, Rule};
 ghost use Rattle.ir_read.specs.Classes.{tokens};
 ghost use Rattle.ir_bodies.specs.Blocks.{definition, any_definition};
 ghost use Rattle.ir_bodies.specs.BlocksAt.{DEFINE, definition_at};

@@ -1,7 +1,7 @@
 //! Reads instructions with the names of their results (LangRef, "Instruction Reference").
 
 ghost use Rattle.std.specs.Prelude.{◌≡◌};
-ghost use Rattle.lto_forms.specs.Readers.{Gives};
+ghost use Rattle.ir_read.specs.Readers.{Gives};
 ghost use Rattle.ir_operands.specs.Listing.{put_at};
 ghost use Rattle.ir_bodies.specs.Adding.{kept_at};
 ghost use Rattle.ir_bodies.specs.LinesAt.{operation_at, attended_at, behind_at, line_behind_at, named_line_at, plain_line_at, line_at};
@@ -18,7 +18,7 @@ use ir_lex::Head;
 use ir_operands::Listing;
 use ir_read::{Name, Tokens, attachments_at, expect, local_at};
 use ir_tree::{CastOp, Flags};
-use lto_forms::ReadError;
+use ir_read::ReadError;
 use std::alloc::Global;
 
 /// Reads what follows the first word of an operation on values, but for its attachments.

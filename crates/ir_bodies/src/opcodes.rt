@@ -2,15 +2,15 @@
 
 ghost use Rattle.std.specs.Prelude.{◌≡◌};
 ghost use Rattle.ir_lex.specs.Tok.{tok};
-ghost use Rattle.lto_forms.specs.Readers.{Gives};
-ghost use Rattle.lto_forms.specs.Rules.{is_among};
+ghost use Rattle.ir_read.specs.Readers.{Gives};
+ghost use Rattle.ir_read.specs.Rules.{is_among};
 ghost use Rattle.ir_read.specs.Classes.{tokens, refusal, one_of_at};
 ghost use Rattle.ir_bodies.specs.Lines.{GIVING, OPCODES, opcode_of, begun_of};
 
 use ir_lex::{Head, Token};
 use ir_read::{Tokens, refusal};
 use ir_tree::BinaryOp;
-use lto_forms::{Fault, FaultKind, ReadError};
+use ir_read::{Fault, FaultKind, ReadError};
 
 /// An operation on values. Its attachments follow it.
 #[derive(Clone, Copy)]
@@ -51,7 +51,7 @@ pub struct Begun {
     pub line: u32,
 }
 
-#[tactic(auto, unfolding(lto_forms::specs::Rules::is_among))]
+#[tactic(auto, unfolding(ir_read::specs::Rules::is_among))]
 fn opcode_means(t: &Token) -> Result<Opcode, FaultKind>
     ensures { result ≡ is_among tokens refusal OPCODES opcode_of (tok t.now) }
 {
@@ -87,7 +87,7 @@ fn opcode_means(t: &Token) -> Result<Opcode, FaultKind>
 }
 
 /// What a token means as the first word of an instruction that may give a result.
-#[tactic(auto, unfolding(lto_forms::specs::Rules::is_among))]
+#[tactic(auto, unfolding(ir_read::specs::Rules::is_among))]
 fn giving_means(t: &Token) -> Result<Opcode, FaultKind>
     ensures { result ≡ is_among tokens refusal GIVING opcode_of (tok t.now) }
 {

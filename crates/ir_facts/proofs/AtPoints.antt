@@ -26,10 +26,10 @@ use Rattle.ir_meaning.specs.Needed.{AllKept, EndReads, IsKept, Reads}
 use Rattle.ir_tree.specs.Edited.{argument_edited, edited, end_edited, incoming_edited, instr_edited, line_edited, phi_edited, with_operands}
 use Rattle.ir_edit.specs.Substituted.{operand_replaced, or_local}
 use Rattle.ir_facts.specs.Agreement.{marks_of}
-use Rattle.point_edit.specs.AtPoints.{block_at, blocks_at, edges_at, end_at, function_at, last_point, lines_at, phis_at, standing, standing_behind}
+use Rattle.fact_sources.specs.AtPoints.{block_at, blocks_at, edges_at, end_at, function_at, last_point, lines_at, phis_at, standing, standing_behind}
 use Rattle.ir_facts.specs.Points.{EachIsFact, IsFact, held_along, held_behind}
 use Rattle.ir_facts.specs.Steps.{IsSolution, IsStep, end_of, ends_of, substituted_by}
-use Rattle.point_edit.specs.declared.fact.Fact.{Fact}
+use Rattle.fact_sources.specs.declared.fact.Fact.{Fact}
 use Rattle.ir_facts.proofs.Agreeing.{AreMarks, Flows, Marks, along_marks, are_marks, behind_marks, flow_of, solves}
 use Rattle.ir_facts.proofs.Blocks.{find_at}
 use Rattle.ir_facts.proofs.Covers.{BlockCovered, Covers, EdgesCovered, LinesCovered, PhisCovered, TakenAt, behind, closing, closing_is, opening, with_named}
@@ -38,7 +38,7 @@ use Rattle.ir_facts.proofs.Holding.{AreSafe, Held, Known, LinesSafe, SafeFrom, f
 use Rattle.ir_facts.proofs.OneFunction.{AreIn, both, both_solve, edge_in, left_in, right_in, without_in}
 use Rattle.ir_facts.proofs.Places.{base, base_next, last_of, last_same, long_as, point_of}
 use Rattle.ir_facts.proofs.RightSources.{AreSources}
-use Rattle.point_edit.proofs.Staying.{cases_stay, local_stays}
+use Rattle.fact_sources.proofs.Staying.{cases_stay, local_stays}
 use Rattle.ir_facts.proofs.Substituting.{one_place}
 
 abbrev pub pairs : List Fact → Facts

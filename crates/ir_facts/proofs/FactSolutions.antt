@@ -16,7 +16,7 @@ use Rattle.ir_flow.proofs.Solved.{at_end, at_ends}
 use Rattle.ir_facts.specs.FactFlow.{earlier, fact_flow, flow_points, members_out, none_at, opened, opened_at, phi_in, phi_of, taken_from}
 use Rattle.ir_facts.specs.FlowLaws.{Less, along_less, entry_less}
 use Rattle.ir_facts.specs.Points.{EachIsFact, IsFact, IsFactFlow, entry_holds, held_along, line_points, points_from}
-use Rattle.point_edit.specs.declared.fact.Fact.{Fact}
+use Rattle.fact_sources.specs.declared.fact.Fact.{Fact}
 use Rattle.ir_facts.proofs.Holding.{phi_held}
 use Rattle.ir_facts.proofs.Matching.{Once, apart_left, locals_once, not_held, once_right}
 use Rattle.ir_facts.proofs.Substituting.{at_place, holds_left, in_blocks}

@@ -5,7 +5,7 @@ use Rattle.ir_tree.specs.declared.function.Function.{Function}
 use Rattle.ir_tree.specs.declared.operand.Operand.{Operand}
 use Rattle.ir_meaning.proofs.Names.Moved.{both}
 use Rattle.ir_facts.specs.Points.{EachIsFact, FactsAreOne, IsFact, line_points, points_from}
-use Rattle.point_edit.specs.declared.fact.Fact.{Fact}
+use Rattle.fact_sources.specs.declared.fact.Fact.{Fact}
 
 -- points rest on the marks of the blocks alone
 points_same : (x : ℕ) (v : Operand) (s t : ℕ → Bool) (p : ℕ) (bs : List Block) → ((q : ℕ) → q < p + length bs → s q ≡ t q) → points_from x v s p bs ≡ points_from x v t p bs

@@ -15,13 +15,13 @@ use Rattle.ir_tree.specs.declared.operand.Operand.TheVariants.{Local, Null, Numb
 use Rattle.ir_meaning.specs.Facts.{Facts, Has}
 use Rattle.ir_edit.specs.Substituted.{replacement, substituted}
 use Rattle.fact_sources.specs.Apart.{IsApart, defined, firm, resting}
-use Rattle.point_edit.specs.AtPoints.{function_at}
+use Rattle.fact_sources.specs.AtPoints.{function_at}
 use Rattle.fact_sources.specs.Candidates.{block_candidates, candidates, line_candidates, phi_candidates}
 use Rattle.ir_facts.specs.Clear.{IsClear, is_barred, is_over, stands_over}
 use Rattle.fact_sources.specs.Membership.{is_member}
 use Rattle.ir_facts.specs.Points.{EachIsFact}
 use Rattle.ir_facts.specs.Steps.{IsStep, candidate_of, step_of}
-use Rattle.point_edit.specs.declared.fact.Fact.{Fact}
+use Rattle.fact_sources.specs.declared.fact.Fact.{Fact}
 use Rattle.ir_facts.proofs.AtPoints.{OwnAll, made_step, pairs}
 use Rattle.ir_facts.proofs.Covering.{covered, or_mono}
 use Rattle.ir_facts.proofs.Covers.{Covers, opening}

@@ -9,7 +9,7 @@ use Rattle.ir_tree.specs.declared.instr.Line.{Line}
 use Rattle.ir_tree.specs.declared.operand.Operand.{Operand}
 use Rattle.ir_tree.specs.Edited.{line_edited}
 use Rattle.ir_edit.specs.Numbered.{later_or}
-use Rattle.point_edit.specs.AtPoints.{last_point}
+use Rattle.fact_sources.specs.AtPoints.{last_point}
 use Rattle.ir_facts.specs.Points.{held_along, held_behind, line_points, points_from}
 use Rattle.ir_facts.proofs.Editing.{block_by}
 

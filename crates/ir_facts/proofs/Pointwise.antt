@@ -8,7 +8,7 @@ use Rattle.ir_meaning.specs.Facts.{Facts, Has}
 use Rattle.ir_tree.specs.Edited.{edited}
 use Rattle.ir_edit.specs.Substituted.{operand_replaced, replacement}
 use Rattle.ir_facts.specs.Agreement.{FactsMakeSteps}
-use Rattle.point_edit.specs.AtPoints.{function_at}
+use Rattle.fact_sources.specs.AtPoints.{function_at}
 use Rattle.fact_sources.specs.Candidates.{candidates}
 use Rattle.ir_facts.specs.Steps.{IsStep}
 use Rattle.ir_facts.proofs.AtPoints.{made_step}

@@ -21,7 +21,7 @@ use Rattle.fact_sources.specs.Naming.{arguments_name, block_names, blocks_name, 
 use Rattle.fact_sources.proofs.Neither.{neither}
 use Rattle.ir_facts.proofs.Editing.{block_by}
 use Rattle.ir_facts.proofs.Holding.{params_kept}
-use Rattle.point_edit.proofs.Staying.{cases_stay, local_stays}
+use Rattle.fact_sources.proofs.Staying.{cases_stay, local_stays}
 
 pub no_key : (fs : Facts) (x : ℕ) → is_key x fs ≡ false → replacement fs x ≡ None
 no_key [] x h = refl

@@ -6,11 +6,11 @@ use Rattle.ir_tree.specs.declared.block.Block.{Block}
 use Rattle.ir_tree.specs.declared.function.Function.{Function}
 use Rattle.ir_tree.specs.declared.operand.Operand.{Operand}
 use Rattle.ir_meaning.specs.Facts.{Facts, Has}
-use Rattle.point_edit.specs.AtPoints.{function_at}
+use Rattle.fact_sources.specs.AtPoints.{function_at}
 use Rattle.fact_sources.specs.Naming.{is_key}
 use Rattle.ir_facts.specs.Points.{AreFacts, IsFactFlow}
 use Rattle.ir_facts.specs.Steps.{IsSolution, IsStep, candidate_of}
-use Rattle.point_edit.specs.declared.fact.Fact.{Fact}
+use Rattle.fact_sources.specs.declared.fact.Fact.{Fact}
 
 -- the facts at the start of the block at a place
 abbrev pub starting : (ℕ → Facts) → Option Block → Facts

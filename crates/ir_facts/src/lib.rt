@@ -36,6 +36,6 @@ pub use laws::{
     formed_functions_have_widths, line_sources_right, phi_sources_are_sole, phi_sources_right,
     rounds_are_better, settled_is_better, steps_are_better, steps_are_sound,
 };
-pub use point_edit::{Fact, function_at};
+pub use fact_sources::{Fact, function_at};
 pub use points::facts;
 pub use rounds::{apply, into_applied};

@@ -12,7 +12,7 @@ use fact_sources::candidates;
 use ir_flow::{Edges, greatest, preds};
 use ir_tree::{Block, Duplicate, Function, Line, Operand};
 use lto_sets::Bits;
-use point_edit::Fact;
+use fact_sources::Fact;
 use std::alloc::{AllocError, Global};
 
 /// The set of the places that are marked. Beside want of memory, `2^32` marks or more are refused as too many for it.

@@ -18,7 +18,7 @@ use crate::points::facts_of;
 use fact_sources::{Substitution, any_choice_in, apart, candidates, firm, resting, settled};
 use ir_edit::substitute;
 use ir_tree::{Block, Duplicate, Function, Operand, Rows};
-use point_edit::function_at;
+use fact_sources::function_at;
 use std::alloc::{AllocError, Global};
 use std::collections::HashSet;
 use std::mem::replace;

@@ -2,9 +2,9 @@
 use Rattle.std.proofs.Common.{◌≡◌, Bool, Option, List, Ok, Err, refl, subst}
 use Rattle.ir_lex.specs.Tok.{Tok}
 use Rattle.ir_tree.specs.declared.operand.Reg.{Reg}
-use Rattle.lto_forms.specs.declared.fault.ReadError.{ReadError}
-use Rattle.lto_forms.specs.declared.fault.ReadError.TheVariants as errors
-use Rattle.lto_forms.specs.Readers.{Fails}
+use Rattle.ir_read.specs.declared.fault.ReadError.{ReadError}
+use Rattle.ir_read.specs.declared.fault.ReadError.TheVariants as errors
+use Rattle.ir_read.specs.Readers.{Fails}
 use Rattle.ir_read.specs.declared.raw.InitHead.{InitHead}
 use Rattle.ir_read.specs.declared.raw.InitPart.TheVariants as init_parts
 use Rattle.ir_read.specs.declared.shape.Typed.{Typed}

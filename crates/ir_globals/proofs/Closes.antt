@@ -2,8 +2,8 @@
 use Rattle.std.proofs.Common.{◌≡◌, ℕ, suc, Bool, true, false, Option, Some, None, List, [], ◌∷◌, ◌++◌, length, refl, sym, ap, subst, inl, inr}
 use Rattle.ir_lex.specs.Tok.{Tok}
 use Rattle.ir_tree.specs.declared.operand.Reg.{Reg}
-use Rattle.lto_forms.specs.Chained.{Chain}
-use Rattle.lto_forms.specs.Forms as form
+use Rattle.ir_read.specs.Chained.{Chain}
+use Rattle.ir_read.specs.Forms as form
 use Rattle.ir_read.specs.declared.raw.Init.{Init}
 use Rattle.ir_read.specs.declared.raw.InitPart.{InitPart}
 use Rattle.ir_read.specs.declared.raw.InitPart.TheVariants as init_parts

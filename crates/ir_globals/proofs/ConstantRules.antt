@@ -8,9 +8,9 @@ use Rattle.ir_lex.specs.Heads.{number}
 use Rattle.ir_lex.specs.Tok.{Tok}
 use Rattle.ir_tree.specs.declared.operand.Reg.{Reg}
 use Rattle.ir_tree.specs.declared.operand.Reg.TheVariants.{Int, Ptr}
-use Rattle.lto_forms.specs.Alphabet.{contains}
-use Rattle.lto_forms.specs.Rules.{Rule, IsWithin}
-use Rattle.lto_forms.proofs.Rules as rules
+use Rattle.ir_read.specs.Alphabet.{contains}
+use Rattle.ir_read.specs.Rules.{Rule, IsWithin}
+use Rattle.ir_read.proofs.Rules as rules
 use Rattle.ir_read.specs.Classes.{tokens, refusal, NUMERALS}
 use Rattle.ir_read.specs.declared.raw.Operand.TheVariants as operands
 use Rattle.ir_read.specs.Literals.{literal}

@@ -12,15 +12,15 @@ use Rattle.ir_lex.specs.Quotes.{is_zero_name}
 use Rattle.ir_lex.specs.Rows.{best_fit, rest_fit, label_len, number_len, word_len, name_len, meta_len, dots_len, other_len, string_len}
 use Rattle.ir_lex.specs.Tok.{Tok}
 use Rattle.ir_tree.specs.declared.operand.Reg.{Reg}
-use Rattle.lto_forms.specs.Alphabet.{among, contains, AllReal}
-use Rattle.lto_forms.specs.Chained.{Chain}
-use Rattle.lto_forms.specs.declared.fault.FaultKind.TheVariants.{Number, Limit}
-use Rattle.lto_forms.specs.Forms as form
-use Rattle.lto_forms.specs.Rules.{Rule, is_class}
-use Rattle.lto_forms.proofs.Chains.{chain_lawful}
-use Rattle.lto_forms.proofs.Composed.{all_real}
-use Rattle.lto_forms.proofs.Rules as rules
-use Rattle.lto_forms.proofs.Rules.{apart_from, within_of}
+use Rattle.ir_read.specs.Alphabet.{among, contains, AllReal}
+use Rattle.ir_read.specs.Chained.{Chain}
+use Rattle.ir_read.specs.declared.fault.FaultKind.TheVariants.{Number, Limit}
+use Rattle.ir_read.specs.Forms as form
+use Rattle.ir_read.specs.Rules.{Rule, is_class}
+use Rattle.ir_read.proofs.Chains.{chain_lawful}
+use Rattle.ir_read.proofs.Composed.{all_real}
+use Rattle.ir_read.proofs.Rules as rules
+use Rattle.ir_read.proofs.Rules.{apart_from, within_of}
 use Rattle.ir_read.specs.Ahead.{BRACKETS}
 use Rattle.ir_read.specs.Classes.{tokens, IsReal, the, the_at}
 use Rattle.ir_read.specs.declared.raw.InitHead.TheVariants as inits

@@ -1,7 +1,7 @@
 -- A list that isn't empty has an innermost aggregate, from either end.
 use Rattle.std.proofs.Common.{◌≡◌, false, List, [], ◌∷◌, ◌++◌, reverse, refl, ap, ◌∙◌}
 use Rattle.std.proofs.lemmas.List.{reverse-append}
-use Rattle.lto_forms.specs.Balanced.{none_open}
+use Rattle.ir_read.specs.Balanced.{none_open}
 use Rattle.ir_globals.specs.declared.initialisers.Aggregate.{Aggregate}
 
 last_open : (xs : List Aggregate) (x : Aggregate) → none_open (xs ++ x ∷ []) ≡ false

@@ -3,10 +3,10 @@ use Rattle.std.proofs.Common.{◌≡◌, ℕ, zero, suc, ◌<◌, ◌≤◌, Boo
 use Rattle.std.specs.Prelude.{IfSome}
 use Rattle.ir_lex.specs.Heads.{number}
 use Rattle.ir_lex.specs.Tok.{Tok}
-use Rattle.lto_forms.specs.Alphabet.{among}
-use Rattle.lto_forms.specs.declared.fault.FaultKind.{FaultKind}
-use Rattle.lto_forms.specs.Forms as form
-use Rattle.lto_forms.specs.Rules.{in_range, is_valued}
+use Rattle.ir_read.specs.Alphabet.{among}
+use Rattle.ir_read.specs.declared.fault.FaultKind.{FaultKind}
+use Rattle.ir_read.specs.Forms as form
+use Rattle.ir_read.specs.Rules.{in_range, is_valued}
 use Rattle.ir_read.specs.Classes.{tokens}
 use Rattle.ir_operands.specs.declared.extents.Extent.{Extent}
 use Rattle.ir_operands.specs.declared.extents.Room.{Room}

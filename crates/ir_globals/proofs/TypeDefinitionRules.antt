@@ -7,8 +7,8 @@ use Rattle.ir_lex.specs.Heads.{number, head_of, word_head, listed_head, words_4,
 use Rattle.ir_lex.specs.Lexing.{is_bad}
 use Rattle.ir_lex.specs.Quotes.{is_zero_name}
 use Rattle.ir_lex.specs.Rows.{best_fit, rest_fit, label_len, number_len, word_len, name_len, meta_len, dots_len, other_len, string_len}
-use Rattle.lto_forms.specs.Rules.{Rule, is_class}
-use Rattle.lto_forms.proofs.Rules as rules
+use Rattle.ir_read.specs.Rules.{Rule, is_class}
+use Rattle.ir_read.proofs.Rules as rules
 use Rattle.ir_read.specs.Classes.{tokens, IsReal, the, the_at}
 use Rattle.ir_read.specs.Operands.{LOCAL}
 use Rattle.ir_operands.specs.ShapeForms.{any_shape, memory_shape}

@@ -1,6 +1,6 @@
 -- What is read one behind the other.
 use Rattle.std.specs.Prelude.{◌≡◌, Result, Ok, Err}
-use Rattle.lto_forms.specs.declared.fault.ReadError.{ReadError}
+use Rattle.ir_read.specs.declared.fault.ReadError.{ReadError}
 
 -- a value, and what was read behind it
 abbrev pub IsBeside : {A B : Type 0} → A → Result B ReadError → Result (A × B) ReadError → Type 0

@@ -2,9 +2,9 @@
 use Rattle.std.specs.Prelude.{Option}
 use Rattle.ir_lex.specs.Tok.{Tok}
 use Rattle.ir_tree.specs.declared.operand.Reg.{Reg}
-use Rattle.lto_forms.specs.Alphabet.{among}
-use Rattle.lto_forms.specs.Readers.{Reader, ◌>>=◌, done, pick, token_at}
-use Rattle.lto_forms.specs.Rules.{is_valued}
+use Rattle.ir_read.specs.Alphabet.{among}
+use Rattle.ir_read.specs.Readers.{Reader, ◌>>=◌, done, pick, token_at}
+use Rattle.ir_read.specs.Rules.{is_valued}
 use Rattle.ir_read.specs.Classes.{tokens, refusal}
 use Rattle.ir_read.specs.declared.raw.InitHead.{InitHead}
 use Rattle.ir_operands.specs.ValuesAt.{ADDRESS, address_at}

@@ -2,7 +2,7 @@
 use Rattle.std.specs.Prelude.{Option, Some, None}
 use Rattle.ir_lex.specs.declared.head.Head.TheVariants as heads
 use Rattle.ir_lex.specs.Tok.{Tok}
-use Rattle.lto_forms.specs.Forms.{Form, ◌>>=◌, either, gives}
+use Rattle.ir_read.specs.Forms.{Form, ◌>>=◌, either, gives}
 use Rattle.ir_read.specs.Classes.{the}
 use Rattle.ir_read.specs.declared.raw.Item.{Item}
 use Rattle.ir_read.specs.declared.raw.Item.TheVariants as items

@@ -7,8 +7,8 @@ use Rattle.ir_lex.specs.Tok.{Tok}
 use Rattle.ir_tree.specs.declared.function.Linkage.{Linkage}
 use Rattle.ir_tree.specs.declared.function.Linkage.TheVariants as linkages
 use Rattle.ir_tree.specs.declared.operand.Reg.{Reg}
-use Rattle.lto_forms.specs.Forms.{Form, ◌>>=◌, either, gives, optional, Star, token}
-use Rattle.lto_forms.specs.Rules.{is_among, is_valued}
+use Rattle.ir_read.specs.Forms.{Form, ◌>>=◌, either, gives, optional, Star, token}
+use Rattle.ir_read.specs.Rules.{is_among, is_valued}
 use Rattle.ir_read.specs.Classes.{tokens, the, one_of, itself}
 use Rattle.ir_read.specs.Decimals.{is_alignment}
 use Rattle.ir_read.specs.declared.raw.Init.{Init}

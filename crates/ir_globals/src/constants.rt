@@ -2,8 +2,8 @@
 
 ghost use Rattle.std.specs.Prelude.{◌≡◌, option_map, Ok, IfOk, IfSome};
 ghost use Rattle.ir_lex.specs.Tok.{tok};
-ghost use Rattle.lto_forms.specs.Readers.{Gives};
-ghost use Rattle.lto_forms.specs.Rules.{in_range, is_valued};
+ghost use Rattle.ir_read.specs.Readers.{Gives};
+ghost use Rattle.ir_read.specs.Rules.{in_range, is_valued};
 ghost use Rattle.ir_read.specs.Classes.{tokens, refusal};
 ghost use Rattle.ir_read.specs.Operands.{IsReg, named};
 ghost use Rattle.ir_read.specs.declared.raw.Operand.TheVariants as operands;
@@ -14,7 +14,7 @@ use ir_lex::{Head, Token};
 use ir_operands::address_at;
 use ir_read::{InitHead, Name, Operand, Tokens, done, literal, named, refusal};
 use ir_tree::Reg;
-use lto_forms::{Fault, FaultKind, ReadError};
+use ir_read::{Fault, FaultKind, ReadError};
 use std::alloc::{AllocError, Global};
 
 /// The type of a constant: `i1`, which nothing in memory has, where it is of no scalar.
@@ -69,7 +69,7 @@ fn spelled_means(alloc: Global, t: &Token) -> Result<Result<InitHead, FaultKind>
 }
 
 /// What a token means where a constant may stand.
-#[tactic(auto, unfolding(lto_forms::specs::Rules::is_valued))]
+#[tactic(auto, unfolding(ir_read::specs::Rules::is_valued))]
 fn constant_means(
     alloc: Global,
     scalar: Option<Reg>,

@@ -3,9 +3,9 @@
 
 ghost use Rattle.std.specs.Prelude.{◌≡◌, List, not, reverse, IfOk, IfSome};
 ghost use Rattle.ir_lex.specs.Heads.{number};
-ghost use Rattle.lto_forms.specs.Alphabet.{contains, among};
-ghost use Rattle.lto_forms.specs.Chained.{stops_here};
-ghost use Rattle.lto_forms.specs.Readers.{Gives, next_is};
+ghost use Rattle.ir_read.specs.Alphabet.{contains, among};
+ghost use Rattle.ir_read.specs.Chained.{stops_here};
+ghost use Rattle.ir_read.specs.Readers.{Gives, next_is};
 ghost use Rattle.ir_read.specs.Classes.{tokens};
 ghost use Rattle.ir_read.specs.Operands.{IsReg};
 ghost use Rattle.ir_operands.specs.ShapeFormsAt.{memory_shape_at};
@@ -22,7 +22,7 @@ use ir_read::{
     refusal,
 };
 use ir_tree::{Reg, Rows};
-use lto_forms::{Fault, FaultKind, ReadError};
+use ir_read::{Fault, FaultKind, ReadError};
 use std::alloc::{AllocFailed, Global};
 
 /// What an initialiser with parts is of.
@@ -76,7 +76,7 @@ fn aggregate_of(head: &InitHead) -> Option<Aggregate>
 }
 
 /// Takes a string of bytes.
-#[tactic(auto, unfolding(lto_forms::specs::Rules::is_among, crate::specs::InitialisersAt::bytes_at))]
+#[tactic(auto, unfolding(ir_read::specs::Rules::is_among, crate::specs::InitialisersAt::bytes_at))]
 fn bytes_at(alloc: Global, tokens: &mut Tokens) -> Result<InitHead, ReadError>
     ensures { Gives (λ x. (x, tokens.new)) result (bytes_at tokens.old) }
 {
@@ -170,7 +170,7 @@ fn closing_refusal(none: bool, head: Head) -> FaultKind
     }
 }
 
-#[tactic(auto, unfolding(lto_forms::specs::Rules::is_class))]
+#[tactic(auto, unfolding(ir_read::specs::Rules::is_class))]
 fn mark_at(none: bool, wanted: Head, tokens: &mut Tokens) -> Result<(), ReadError>
     ensures { Gives (λ x. (tt, tokens.new)) result (mark_at none wanted tokens.old) }
 {

@@ -1,6 +1,6 @@
 //! Reads target lines and attribute groups (LangRef, "Data Layout", "Target Triple", "Attribute Groups").
 
-ghost use Rattle.lto_forms.specs.Readers.{Gives};
+ghost use Rattle.ir_read.specs.Readers.{Gives};
 ghost use Rattle.ir_operands.specs.Adding.{pushed_at};
 ghost use Rattle.ir_heads.specs.AttributesAt.{attribute_group_at};
 ghost use Rattle.ir_heads.specs.TargetsAt.{layout_line_at, triple_line_at};
@@ -8,7 +8,7 @@ ghost use Rattle.ir_heads.specs.TargetsAt.{layout_line_at, triple_line_at};
 use ir_heads::{attribute_group_at, layout_line_at, triple_line_at};
 use ir_operands::push_item;
 use ir_read::{Item, Tokens};
-use lto_forms::ReadError;
+use ir_read::ReadError;
 use std::alloc::Global;
 
 /// Reads the layout of the target behind `target`, and adds it.

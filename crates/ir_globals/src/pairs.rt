@@ -5,7 +5,7 @@
 
 ghost use Rattle.ir_globals.specs.Beside.{IsBeside};
 
-use lto_forms::ReadError;
+use ir_read::ReadError;
 
 /// A value, and what was read behind it.
 pub fn beside<A: Drop, B: Drop>(first: A, read: Result<B, ReadError>) -> Result<(A, B), ReadError>

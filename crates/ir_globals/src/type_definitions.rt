@@ -1,14 +1,14 @@
 //! Reads type definitions (LangRef, "Structure Type", "Opaque Structure Types").
 
 ghost use Rattle.std.specs.Prelude.{◌≡◌};
-ghost use Rattle.lto_forms.specs.Readers.{Gives};
+ghost use Rattle.ir_read.specs.Readers.{Gives};
 ghost use Rattle.ir_operands.specs.Adding.{pushed_at};
 ghost use Rattle.ir_globals.specs.TypeDefinitionsAt.{defined_at, type_line_at, type_name_at};
 
 use ir_lex::Head;
 use ir_operands::{memory_shape_at, push_item};
 use ir_read::{Item, Name, Tokens, Typed, done, expect, local_at};
-use lto_forms::ReadError;
+use ir_read::ReadError;
 use std::alloc::Global;
 
 /// Reads what a type name stands for: a shape, or nothing where it is opaque.

@@ -3,9 +3,9 @@
 ghost use Rattle.std.specs.Prelude.{◌≡◌, IfSome, IfOk};
 ghost use Rattle.ir_lex.specs.Heads.{number};
 ghost use Rattle.ir_lex.specs.Tok.{tok};
-ghost use Rattle.lto_forms.specs.Alphabet.{contains, among};
-ghost use Rattle.lto_forms.specs.Readers.{Gives, next_is};
-ghost use Rattle.lto_forms.specs.Rules.{is_valued};
+ghost use Rattle.ir_read.specs.Alphabet.{contains, among};
+ghost use Rattle.ir_read.specs.Readers.{Gives, next_is};
+ghost use Rattle.ir_read.specs.Rules.{is_valued};
 ghost use Rattle.ir_read.specs.Classes.{tokens, one_of_at};
 ghost use Rattle.ir_heads.specs.FunctionHeads.{LINKAGES, linkage_word, name_refusal};
 ghost use Rattle.ir_read.specs.declared.raw.Item.TheVariants as items;
@@ -23,11 +23,11 @@ use ir_read::{
     refusal,
 };
 use ir_tree::{Linkage, Reg};
-use lto_forms::{Fault, FaultKind, ReadError};
+use ir_read::{Fault, FaultKind, ReadError};
 use std::alloc::{AllocError, Global};
 
 /// What a token means where the name of a variable stands.
-#[tactic(auto, unfolding(lto_forms::specs::Rules::is_valued))]
+#[tactic(auto, unfolding(ir_read::specs::Rules::is_valued))]
 fn name_means(alloc: Global, t: &Token) -> Result<Result<Name, FaultKind>, AllocError>
     ensures { IfOk result (λ x. x ≡ is_valued tokens name_refusal NAMES global_named (tok t.now)) }
 {
@@ -84,7 +84,7 @@ fn comes_linkage(rest: &Tokens) -> bool
     }
 }
 
-#[tactic(auto, unfolding(lto_forms::specs::Rules::is_among))]
+#[tactic(auto, unfolding(ir_read::specs::Rules::is_among))]
 fn linkage_word_at(tokens: &mut Tokens) -> Result<Linkage, ReadError>
     ensures { Gives (λ x. (x, tokens.new)) result (one_of_at LINKAGES linkage_word tokens.old) }
 {
@@ -141,7 +141,7 @@ fn linked_at(tokens: &mut Tokens) -> Result<Option<Linkage>, ReadError>
 }
 
 /// Takes `global` or `constant`; the answer is whether it is `constant`.
-#[tactic(auto, unfolding(lto_forms::specs::Rules::is_among))]
+#[tactic(auto, unfolding(ir_read::specs::Rules::is_among))]
 fn kind_at(tokens: &mut Tokens) -> Result<bool, ReadError>
     ensures { Gives (λ x. (x, tokens.new)) result (one_of_at KINDS is_constant tokens.old) }
 {

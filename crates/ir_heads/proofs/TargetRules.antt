@@ -9,15 +9,15 @@ use Rattle.ir_lex.specs.Lexing.{is_bad}
 use Rattle.ir_lex.specs.Quotes.{is_zero_name, content, unescaped}
 use Rattle.ir_lex.specs.Rows.{best_fit, rest_fit, label_len, number_len, word_len, name_len, meta_len, dots_len, other_len, string_len}
 use Rattle.ir_lex.specs.Tok.{Tok}
-use Rattle.lto_forms.specs.Alphabet.{contains, among, is_number}
-use Rattle.lto_forms.specs.declared.fault.FaultKind.{FaultKind}
-use Rattle.lto_forms.specs.declared.fault.FaultKind.TheVariants.{Syntax, Profile, Number, Limit}
-use Rattle.lto_forms.specs.Forms as form
-use Rattle.lto_forms.specs.Lawful.{IsRanged, SameRefusal}
-use Rattle.lto_forms.specs.Readers.{token_at}
-use Rattle.lto_forms.specs.Rules.{Rule, is_class}
-use Rattle.lto_forms.proofs.Composed.{token_lawful}
-use Rattle.lto_forms.proofs.Rules as rules
+use Rattle.ir_read.specs.Alphabet.{contains, among, is_number}
+use Rattle.ir_read.specs.declared.fault.FaultKind.{FaultKind}
+use Rattle.ir_read.specs.declared.fault.FaultKind.TheVariants.{Syntax, Profile, Number, Limit}
+use Rattle.ir_read.specs.Forms as form
+use Rattle.ir_read.specs.Lawful.{IsRanged, SameRefusal}
+use Rattle.ir_read.specs.Readers.{token_at}
+use Rattle.ir_read.specs.Rules.{Rule, is_class}
+use Rattle.ir_read.proofs.Composed.{token_lawful}
+use Rattle.ir_read.proofs.Rules as rules
 use Rattle.ir_read.specs.Classes.{tokens, IsReal, refusal, the, the_at, one_of, one_of_at, itself}
 use Rattle.ir_heads.specs.Targets.{STRING, fits_item, has_64_bits, fits_layout, is_layout, layout_line, triple_line, target_line, source_line, comdat_line}
 use Rattle.ir_heads.specs.TargetsAt.{LAYOUT, layout_line_at, triple_line_at, target_line_at, source_line_at, comdat_line_at}

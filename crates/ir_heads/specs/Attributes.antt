@@ -6,8 +6,8 @@ use Rattle.ir_lex.specs.declared.head.Head.TheVariants as heads
 use Rattle.ir_lex.specs.declared.head.Head.{Head}
 use Rattle.ir_lex.specs.Heads.{number}
 use Rattle.ir_lex.specs.Tok.{Tok}
-use Rattle.lto_forms.specs.Forms.{Form, ◌>>=◌, either, gives, optional, Star, token}
-use Rattle.lto_forms.specs.Rules.{is_valued}
+use Rattle.ir_read.specs.Forms.{Form, ◌>>=◌, either, gives, optional, Star, token}
+use Rattle.ir_read.specs.Rules.{is_valued}
 use Rattle.ir_read.specs.Brackets.{group}
 use Rattle.ir_read.specs.Classes.{tokens, refusal, the, one_of}
 use Rattle.ir_read.specs.Decimals.{is_alignment}

@@ -9,12 +9,12 @@ use Rattle.ir_lex.specs.Tok.{Tok}
 use Rattle.ir_tree.specs.declared.function.Linkage.{Linkage}
 use Rattle.ir_tree.specs.declared.function.Linkage.TheVariants as linkages
 use Rattle.ir_tree.specs.declared.operand.Reg.{Reg}
-use Rattle.lto_forms.specs.Alphabet.{contains}
-use Rattle.lto_forms.specs.Chained.{Chain}
-use Rattle.lto_forms.specs.declared.fault.FaultKind.{FaultKind}
-use Rattle.lto_forms.specs.declared.fault.FaultKind.TheVariants.{Profile}
-use Rattle.lto_forms.specs.Forms.{Form, ◌>>=◌, either, gives, optional, Many, Star, token}
-use Rattle.lto_forms.specs.Rules.{is_class, is_valued}
+use Rattle.ir_read.specs.Alphabet.{contains}
+use Rattle.ir_read.specs.Chained.{Chain}
+use Rattle.ir_read.specs.declared.fault.FaultKind.{FaultKind}
+use Rattle.ir_read.specs.declared.fault.FaultKind.TheVariants.{Profile}
+use Rattle.ir_read.specs.Forms.{Form, ◌>>=◌, either, gives, optional, Many, Star, token}
+use Rattle.ir_read.specs.Rules.{is_class, is_valued}
 use Rattle.ir_heads.specs.Attributes.{parameter_attribute, parameter_attributes}
 use Rattle.ir_heads.specs.AttributesAt.{PARAMETER}
 use Rattle.ir_read.specs.Classes.{tokens, refusal, the, one_of}

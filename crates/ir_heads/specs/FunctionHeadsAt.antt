@@ -6,10 +6,10 @@ use Rattle.ir_lex.specs.Heads.{number}
 use Rattle.ir_lex.specs.Tok.{Tok}
 use Rattle.ir_tree.specs.declared.function.Linkage.{Linkage}
 use Rattle.ir_tree.specs.declared.function.Linkage.TheVariants as linkages
-use Rattle.lto_forms.specs.Alphabet.{among}
-use Rattle.lto_forms.specs.Chained.{chain_at}
-use Rattle.lto_forms.specs.Readers.{Reader, ◌>>=◌, done, pick, many_at, optional_at, token_at}
-use Rattle.lto_forms.specs.Rules.{is_class, is_valued}
+use Rattle.ir_read.specs.Alphabet.{among}
+use Rattle.ir_read.specs.Chained.{chain_at}
+use Rattle.ir_read.specs.Readers.{Reader, ◌>>=◌, done, pick, many_at, optional_at, token_at}
+use Rattle.ir_read.specs.Rules.{is_class, is_valued}
 use Rattle.ir_heads.specs.AttributesAt.{PARAMETER, parameter_attribute_at, parameter_attributes_at}
 use Rattle.ir_read.specs.Classes.{tokens, the_at, one_of_at}
 use Rattle.ir_heads.specs.FunctionHeads.{linkages_of, linkage_word, QUALIFIERS, nothing_of, at_will, with_linkage, names_of, name_refusal, head_of}

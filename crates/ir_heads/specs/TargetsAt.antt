@@ -3,8 +3,8 @@ use Rattle.std.specs.Prelude.{ℕ, List, [], ◌∷◌}
 use Rattle.ir_lex.specs.declared.head.Head.TheVariants as heads
 use Rattle.ir_lex.specs.Heads.{number}
 use Rattle.ir_lex.specs.Tok.{Tok}
-use Rattle.lto_forms.specs.Alphabet.{among}
-use Rattle.lto_forms.specs.Readers.{Reader, ◌>>=◌, done, pick, token_at}
+use Rattle.ir_read.specs.Alphabet.{among}
+use Rattle.ir_read.specs.Readers.{Reader, ◌>>=◌, done, pick, token_at}
 use Rattle.ir_read.specs.Classes.{tokens, the_at, one_of_at, itself}
 use Rattle.ir_heads.specs.Targets.{STRING, is_layout}
 use Rattle.ir_read.specs.declared.raw.Item.{Item}

@@ -4,9 +4,9 @@
 ghost use Rattle.std.specs.Prelude.{◌≡◌, IfOk};
 ghost use Rattle.ir_lex.specs.Heads.{number};
 ghost use Rattle.ir_lex.specs.Tok.{tok};
-ghost use Rattle.lto_forms.specs.Alphabet.{contains, among};
-ghost use Rattle.lto_forms.specs.Readers.{Gives, next_is};
-ghost use Rattle.lto_forms.specs.Rules.{is_valued};
+ghost use Rattle.ir_read.specs.Alphabet.{contains, among};
+ghost use Rattle.ir_read.specs.Readers.{Gives, next_is};
+ghost use Rattle.ir_read.specs.Rules.{is_valued};
 ghost use Rattle.ir_heads.specs.Attributes.{WORDS, GROUP, words_of, kept_of, word_kept, none_kept, with_attribute, group_item};
 ghost use Rattle.ir_heads.specs.AttributesAt.{PARAMETER, CALL, DEFINITION, GROUPED, head_alignment_at, head_attribute_at, definition_attribute_at, definition_attributes_at, grouped_at, ended_group_at, named_group_at, attribute_group_at, aligned_at, parameter_attribute_at, parameter_attributes_at, word_tail_at, word_attribute_at, string_value_at, string_attribute_at, function_attribute_at, group_name_at, group_attribute_at, call_attribute_at, call_attributes_at};
 ghost use Rattle.ir_read.specs.Classes.{tokens, refusal, one_of_at};
@@ -19,7 +19,7 @@ use ir_read::{
     refusal,
 };
 use ir_tree::Rows;
-use lto_forms::{Fault, FaultKind, ReadError};
+use ir_read::{Fault, FaultKind, ReadError};
 use std::alloc::{AllocError, Global};
 
 /// What is kept of an attribute.
@@ -207,7 +207,7 @@ fn word_tail_at(alloc: Global, tokens: &mut Tokens) -> Result<(), ReadError>
     }
 }
 
-#[tactic(auto, unfolding(lto_forms::specs::Rules::is_among))]
+#[tactic(auto, unfolding(ir_read::specs::Rules::is_among))]
 fn word_at(place: Place, tokens: &mut Tokens) -> Result<Attribute, ReadError>
     ensures { Gives (λ x. (x, tokens.new)) result (one_of_at (words_of place) word_kept tokens.old) }
 {
@@ -277,7 +277,7 @@ fn function_attribute_at(
     }
 }
 
-#[tactic(auto, unfolding(lto_forms::specs::Rules::is_valued))]
+#[tactic(auto, unfolding(ir_read::specs::Rules::is_valued))]
 fn group_means(alloc: Global, t: &Token) -> Result<Result<Name, FaultKind>, AllocError>
     ensures { IfOk result (λ x. x ≡ is_valued tokens refusal GROUP group_named (tok t.now)) }
 {

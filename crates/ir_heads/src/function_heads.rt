@@ -4,9 +4,9 @@
 ghost use Rattle.std.specs.Prelude.{◌≡◌, IfOk};
 ghost use Rattle.ir_lex.specs.Heads.{number};
 ghost use Rattle.ir_lex.specs.Tok.{tok};
-ghost use Rattle.lto_forms.specs.Alphabet.{contains, among};
-ghost use Rattle.lto_forms.specs.Readers.{Gives, next_is};
-ghost use Rattle.lto_forms.specs.Rules.{is_valued};
+ghost use Rattle.ir_read.specs.Alphabet.{contains, among};
+ghost use Rattle.ir_read.specs.Readers.{Gives, next_is};
+ghost use Rattle.ir_read.specs.Rules.{is_valued};
 ghost use Rattle.ir_read.specs.Classes.{tokens, one_of_at};
 ghost use Rattle.ir_heads.specs.FunctionHeads.{linkages_of, linkage_by, linkage_word, QUALIFIERS, nothing_of, with_linkage, is_local, names_of, name_refusal, head_of};
 ghost use Rattle.ir_heads.specs.FunctionHeadsAt.{LEADING, QUALIFYING, linking_at, qualifier_at, qualifying_at, leading_at, prefix_at, function_name_at, param_at, further_param_at, params_behind_at, some_params_at, end_of_none_at, listed_params_at, params_at, head_at};
@@ -19,7 +19,7 @@ use ir_read::{
     result_at, type_refusal,
 };
 use ir_tree::{Linkage, Rows};
-use lto_forms::{Fault, FaultKind, ReadError};
+use ir_read::{Fault, FaultKind, ReadError};
 use std::alloc::{AllocError, Global};
 
 /// Whether a function has a body.
@@ -73,7 +73,7 @@ pub fn linkage_by(head: Head) -> Linkage
 }
 
 /// Takes a linkage that such a function may have.
-#[tactic(auto, unfolding(lto_forms::specs::Rules::is_among))]
+#[tactic(auto, unfolding(ir_read::specs::Rules::is_among))]
 fn linkage_at(role: Role, tokens: &mut Tokens) -> Result<Linkage, ReadError>
     ensures { Gives (λ x. (x, tokens.new)) result (one_of_at (linkages_of role) linkage_word tokens.old) }
 {
@@ -97,7 +97,7 @@ fn linkage_at(role: Role, tokens: &mut Tokens) -> Result<Linkage, ReadError>
 }
 
 /// Takes a word of visibility, of addresses or of a calling convention.
-#[tactic(auto, unfolding(lto_forms::specs::Rules::is_among))]
+#[tactic(auto, unfolding(ir_read::specs::Rules::is_among))]
 pub fn qualifier_word_at(tokens: &mut Tokens) -> Result<(), ReadError>
     ensures { Gives (λ x. (tt, tokens.new)) result (one_of_at QUALIFIERS nothing_of tokens.old) }
 {
@@ -288,7 +288,7 @@ pub fn name_refusal(head: Head) -> FaultKind
 }
 
 /// What a token means where the name of such a function stands.
-#[tactic(auto, unfolding(lto_forms::specs::Rules::is_valued))]
+#[tactic(auto, unfolding(ir_read::specs::Rules::is_valued))]
 fn name_means(
     alloc: Global,
     role: Role,
@@ -392,7 +392,7 @@ fn some_params_at(alloc: Global, room: usize, tokens: &mut Tokens) -> Result<Vec
 }
 
 /// Takes the `)` behind a `(`, where a type might have stood.
-#[tactic(auto, unfolding(lto_forms::specs::Rules::is_class))]
+#[tactic(auto, unfolding(ir_read::specs::Rules::is_class))]
 pub fn end_of_none_at(tokens: &mut Tokens) -> Result<(), ReadError>
     ensures { Gives (λ x. (tt, tokens.new)) result (end_of_none_at tokens.old) }
 {

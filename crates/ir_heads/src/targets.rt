@@ -2,7 +2,7 @@
 //! "Source Filename", "Comdats").
 
 ghost use Rattle.std.specs.Prelude.{◌≡◌, Option, Some, None, MatchOption};
-ghost use Rattle.lto_forms.specs.Readers.{Gives, token_at};
+ghost use Rattle.ir_read.specs.Readers.{Gives, token_at};
 ghost use Rattle.ir_read.specs.Classes.{one_of_at, itself};
 ghost use Rattle.ir_read.specs.declared.raw.Item.TheVariants as items;
 ghost use Rattle.ir_heads.specs.Targets.{STRING, until, after, has_64_bits, fits_item, fits_layout, is_layout};
@@ -10,7 +10,7 @@ ghost use Rattle.ir_heads.specs.TargetsAt.{layout_line_at, triple_line_at, sourc
 
 use ir_lex::Head;
 use ir_read::{Name, Tokens, done, expect, refusal};
-use lto_forms::{Fault, FaultKind, ReadError};
+use ir_read::{Fault, FaultKind, ReadError};
 use std::alloc::Global;
 
 /// What stands before the first separator.
@@ -108,7 +108,7 @@ fn layout_at(alloc: Global, tokens: &mut Tokens) -> Result<Name, ReadError>
     }
 }
 
-#[tactic(auto, unfolding(lto_forms::specs::Rules::is_among))]
+#[tactic(auto, unfolding(ir_read::specs::Rules::is_among))]
 fn string_at(alloc: Global, tokens: &mut Tokens) -> Result<Name, ReadError>
     ensures { Gives (λ x. (x, tokens.new)) result (one_of_at STRING itself tokens.old) }
 {

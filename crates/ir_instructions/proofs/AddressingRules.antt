@@ -7,16 +7,16 @@ use Rattle.ir_lex.specs.declared.token.Kind.TheVariants as kinds
 use Rattle.ir_lex.specs.Heads.{number}
 use Rattle.ir_lex.specs.Tok.{Tok}
 use Rattle.ir_tree.specs.declared.operand.Reg.TheVariants.{Ptr}
-use Rattle.lto_forms.specs.Alphabet.{AllReal, among, contains}
-use Rattle.lto_forms.specs.Chained.{Chain, chain_at}
-use Rattle.lto_forms.specs.declared.fault.FaultKind.{FaultKind}
-use Rattle.lto_forms.specs.declared.fault.FaultKind.TheVariants.{Limit}
-use Rattle.lto_forms.specs.Readers.{Reader, fault_at, pick, token_at, token_means}
-use Rattle.lto_forms.specs.Rules.{Rule, IsWithin, in_range, is_valued}
-use Rattle.lto_forms.proofs.Composed.{Begun, widened}
-use Rattle.lto_forms.proofs.Chains.{chain_lawful}
-use Rattle.lto_forms.proofs.Rules as rules
-use Rattle.lto_forms.proofs.Rules.{apart_from, within_of}
+use Rattle.ir_read.specs.Alphabet.{AllReal, among, contains}
+use Rattle.ir_read.specs.Chained.{Chain, chain_at}
+use Rattle.ir_read.specs.declared.fault.FaultKind.{FaultKind}
+use Rattle.ir_read.specs.declared.fault.FaultKind.TheVariants.{Limit}
+use Rattle.ir_read.specs.Readers.{Reader, fault_at, pick, token_at, token_means}
+use Rattle.ir_read.specs.Rules.{Rule, IsWithin, in_range, is_valued}
+use Rattle.ir_read.proofs.Composed.{Begun, widened}
+use Rattle.ir_read.proofs.Chains.{chain_lawful}
+use Rattle.ir_read.proofs.Rules as rules
+use Rattle.ir_read.proofs.Rules.{apart_from, within_of}
 use Rattle.ir_instructions.specs.Addressing.{slots_fit, any_slots, fitting, fitting_count, is_count, count_in, many_slots, one_slot, slots_behind, reserving, indexing, attaching, behind_comma, further, indices, addressing}
 use Rattle.ir_instructions.specs.AddressingAt.{passes, too_many, count_means, begins, count_in_at, many_slots_at, one_slot_at, slots_behind_at, reserving_at, indexing_at, attaching_at, behind_comma_at, further_at, indices_at, addressing_at}
 use Rattle.ir_read.specs.Ahead.{ALIGNED}

@@ -2,10 +2,10 @@
 use Rattle.std.proofs.Common.{◌≡◌, ℕ, max, ◌<◌, Bool, true, false, cond, ◌&&◌, not, Option, Some, None, Result, Ok, Err, ap, ◌∙◌, refl, arith}
 use Rattle.ir_lex.specs.Heads.{number}
 use Rattle.ir_lex.specs.Tok.{Tok}
-use Rattle.lto_forms.specs.Alphabet.{among}
-use Rattle.lto_forms.specs.declared.fault.FaultKind.{FaultKind}
-use Rattle.lto_forms.specs.declared.fault.FaultKind.TheVariants.{Number, Limit}
-use Rattle.lto_forms.specs.Rules.{in_range, is_valued}
+use Rattle.ir_read.specs.Alphabet.{among}
+use Rattle.ir_read.specs.declared.fault.FaultKind.{FaultKind}
+use Rattle.ir_read.specs.declared.fault.FaultKind.TheVariants.{Number, Limit}
+use Rattle.ir_read.specs.Rules.{in_range, is_valued}
 use Rattle.ir_instructions.specs.Addressing.{fitting}
 use Rattle.ir_instructions.specs.AddressingAt.{passes, count_means}
 use Rattle.ir_read.specs.Classes.{tokens, refusal}

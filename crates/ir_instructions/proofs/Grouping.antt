@@ -2,7 +2,7 @@
 use Rattle.std.proofs.Common.{◌≡◌, List}
 use Rattle.ir_lex.specs.Tok.{Tok}
 use Rattle.ir_tree.specs.declared.operand.Reg.{Reg}
-use Rattle.lto_forms.specs.Readers.{done, follow}
+use Rattle.ir_read.specs.Readers.{done, follow}
 use Rattle.ir_read.specs.declared.raw.Instr.TheVariants as instrs
 use Rattle.ir_instructions.specs.PhisAt.{incoming_at, entries_at, all_entries_at, phi_of_at}
 use Rattle.ir_operands.proofs.Grouping.{grouped}

@@ -7,8 +7,8 @@ use Rattle.ir_tree.specs.declared.instr.BinaryOp.{BinaryOp}
 use Rattle.ir_tree.specs.declared.instr.CastOp.{CastOp}
 use Rattle.ir_tree.specs.declared.instr.Flags.{Flags}
 use Rattle.ir_tree.specs.declared.operand.Reg.TheVariants.{Int}
-use Rattle.lto_forms.specs.Rules.{Rule}
-use Rattle.lto_forms.proofs.Rules as rules
+use Rattle.ir_read.specs.Rules.{Rule}
+use Rattle.ir_read.proofs.Rules as rules
 use Rattle.ir_read.specs.Ahead.{WRAPS}
 use Rattle.ir_read.specs.Classes.{tokens, one_of, one_of_at}
 use Rattle.ir_instructions.specs.Instructions.{is_nuw, PREDICATES, predicate_of, wraps, on_two, wrapping, dividing, joining, comparing, casting, extending, narrowing, selecting, freezing}

@@ -3,8 +3,8 @@ use Rattle.std.proofs.Common.{ℕ, true, false, None, List, [], ◌∷◌, refl}
 use Rattle.ir_lex.specs.declared.head.Head.TheVariants as heads
 use Rattle.ir_lex.specs.Heads.{number}
 use Rattle.ir_tree.specs.declared.operand.Reg.TheVariants.{Ptr}
-use Rattle.lto_forms.specs.Rules.{Rule}
-use Rattle.lto_forms.proofs.Rules as rules
+use Rattle.ir_read.specs.Rules.{Rule}
+use Rattle.ir_read.proofs.Rules as rules
 use Rattle.ir_read.specs.Classes.{tokens}
 use Rattle.ir_instructions.specs.Instructions.{aligned, align, loading, storing}
 use Rattle.ir_instructions.specs.InstructionsAt.{ALIGN, aligned_at, align_at, loading_at, storing_at}

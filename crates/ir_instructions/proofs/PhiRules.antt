@@ -3,12 +3,12 @@ use Rattle.std.proofs.Common.{ℕ, Bool, true, false, List, [], ◌∷◌, refl,
 use Rattle.ir_lex.specs.declared.head.Head.TheVariants as heads
 use Rattle.ir_lex.specs.Heads.{number}
 use Rattle.ir_tree.specs.declared.operand.Reg.{Reg}
-use Rattle.lto_forms.specs.Alphabet.{among, contains}
-use Rattle.lto_forms.specs.Chained.{Chain, chain_at}
-use Rattle.lto_forms.specs.Rules.{Rule}
-use Rattle.lto_forms.proofs.Chains.{chain_lawful}
-use Rattle.lto_forms.proofs.Rules as rules
-use Rattle.lto_forms.proofs.Rules.{apart_from, within_of}
+use Rattle.ir_read.specs.Alphabet.{among, contains}
+use Rattle.ir_read.specs.Chained.{Chain, chain_at}
+use Rattle.ir_read.specs.Rules.{Rule}
+use Rattle.ir_read.proofs.Chains.{chain_lawful}
+use Rattle.ir_read.proofs.Rules as rules
+use Rattle.ir_read.proofs.Rules.{apart_from, within_of}
 use Rattle.ir_read.specs.Classes.{tokens}
 use Rattle.ir_read.specs.declared.raw.Incoming.{Incoming}
 use Rattle.ir_read.specs.Metadata.{META}

@@ -12,10 +12,10 @@ use Rattle.ir_lex.specs.Rows.{best_fit, rest_fit, label_len, number_len, word_le
 use Rattle.ir_lex.specs.Tok.{Tok}
 use Rattle.ir_tree.specs.declared.operand.Reg.{Reg}
 use Rattle.ir_tree.specs.declared.operand.Reg.TheVariants.{Int, Ptr}
-use Rattle.lto_forms.specs.Alphabet.{contains}
-use Rattle.lto_forms.specs.Forms.{Star}
-use Rattle.lto_forms.specs.Rules.{Rule, Opens, IsWithin, is_class}
-use Rattle.lto_forms.proofs.Rules as rules
+use Rattle.ir_read.specs.Alphabet.{contains}
+use Rattle.ir_read.specs.Forms.{Star}
+use Rattle.ir_read.specs.Rules.{Rule, Opens, IsWithin, is_class}
+use Rattle.ir_read.proofs.Rules as rules
 use Rattle.ir_read.specs.Classes.{tokens, refusal, NUMERALS, IsReal, one_of}
 use Rattle.ir_instructions.specs.declared.terminators.End.{End}
 use Rattle.ir_instructions.specs.declared.terminators.End.TheVariants as end

@@ -4,10 +4,10 @@ use Rattle.std.specs.List.{fold}
 use Rattle.ir_lex.specs.declared.head.Head.TheVariants as heads
 use Rattle.ir_lex.specs.Tok.{Tok}
 use Rattle.ir_tree.specs.declared.operand.Reg.TheVariants.{Ptr}
-use Rattle.lto_forms.specs.Chained.{Chain}
-use Rattle.lto_forms.specs.declared.fault.FaultKind.{FaultKind}
-use Rattle.lto_forms.specs.Forms.{Form, ◌>>=◌, either, gives, token}
-use Rattle.lto_forms.specs.Rules.{is_valued}
+use Rattle.ir_read.specs.Chained.{Chain}
+use Rattle.ir_read.specs.declared.fault.FaultKind.{FaultKind}
+use Rattle.ir_read.specs.Forms.{Form, ◌>>=◌, either, gives, token}
+use Rattle.ir_read.specs.Rules.{is_valued}
 use Rattle.ir_read.specs.Classes.{tokens, refusal, the}
 use Rattle.ir_instructions.specs.declared.addressing.Slots.{Slots}
 use Rattle.ir_read.specs.declared.raw.Argument.{Argument}

@@ -13,7 +13,7 @@ use Rattle.ir_tree.specs.declared.instr.Flags.{Flags}
 use Rattle.ir_tree.specs.declared.instr.Predicate.{Predicate}
 use Rattle.ir_tree.specs.declared.instr.Predicate.TheVariants as predicates
 use Rattle.ir_tree.specs.declared.operand.Reg.TheVariants.{Int, Ptr}
-use Rattle.lto_forms.specs.Forms.{Form, ◌>>=◌, either, gives, token, Star}
+use Rattle.ir_read.specs.Forms.{Form, ◌>>=◌, either, gives, token, Star}
 use Rattle.ir_read.specs.Ahead.{WRAPS}
 use Rattle.ir_read.specs.Classes.{the, one_of}
 use Rattle.ir_read.specs.Decimals.{is_alignment}

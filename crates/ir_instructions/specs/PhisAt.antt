@@ -4,9 +4,9 @@ use Rattle.std.specs.List.{fold}
 use Rattle.ir_lex.specs.declared.head.Head.TheVariants as heads
 use Rattle.ir_lex.specs.Tok.{Tok}
 use Rattle.ir_tree.specs.declared.operand.Reg.{Reg}
-use Rattle.lto_forms.specs.Alphabet.{among}
-use Rattle.lto_forms.specs.Chained.{chain_at}
-use Rattle.lto_forms.specs.Readers.{Reader, ◌>>=◌, done, pick}
+use Rattle.ir_read.specs.Alphabet.{among}
+use Rattle.ir_read.specs.Chained.{chain_at}
+use Rattle.ir_read.specs.Readers.{Reader, ◌>>=◌, done, pick}
 use Rattle.ir_read.specs.Classes.{tokens, the_at}
 use Rattle.ir_read.specs.declared.raw.Incoming.{Incoming}
 use Rattle.ir_read.specs.declared.raw.Instr.{Instr}

@@ -6,10 +6,10 @@ use Rattle.ir_lex.specs.Heads.{number}
 use Rattle.ir_lex.specs.Tok.{Tok}
 use Rattle.ir_tree.specs.declared.operand.Reg.{Reg}
 use Rattle.ir_tree.specs.declared.operand.Reg.TheVariants.{Int, Ptr}
-use Rattle.lto_forms.specs.declared.fault.FaultKind.{FaultKind}
-use Rattle.lto_forms.specs.declared.fault.FaultKind.TheVariants.{Syntax}
-use Rattle.lto_forms.specs.Forms.{Form, ◌>>=◌, either, gives, token, Star}
-use Rattle.lto_forms.specs.Rules.{in_range, is_class, is_valued}
+use Rattle.ir_read.specs.declared.fault.FaultKind.{FaultKind}
+use Rattle.ir_read.specs.declared.fault.FaultKind.TheVariants.{Syntax}
+use Rattle.ir_read.specs.Forms.{Form, ◌>>=◌, either, gives, token, Star}
+use Rattle.ir_read.specs.Rules.{in_range, is_class, is_valued}
 use Rattle.ir_read.specs.Classes.{tokens, refusal, the, one_of}
 use Rattle.ir_read.specs.declared.raw.Case.{Case}
 use Rattle.ir_read.specs.declared.raw.Terminator.{Terminator}

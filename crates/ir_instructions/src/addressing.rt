@@ -2,8 +2,8 @@
 
 ghost use Rattle.std.specs.Prelude.{◌≡◌, ◌*◌, nat_le, true};
 ghost use Rattle.ir_lex.specs.Tok.{tok};
-ghost use Rattle.lto_forms.specs.Alphabet.{among};
-ghost use Rattle.lto_forms.specs.Readers.{Gives};
+ghost use Rattle.ir_read.specs.Alphabet.{among};
+ghost use Rattle.ir_read.specs.Readers.{Gives};
 ghost use Rattle.ir_operands.specs.Adding.{gathered_at};
 ghost use Rattle.ir_instructions.specs.Addressing.{keep, slots_fit};
 ghost use Rattle.ir_instructions.specs.AddressingAt.{addressing_at, behind_comma_at, count_in_at, count_means, further_at, indices_at, many_slots_at, one_slot_at, reserving_at, slots_at, slots_behind_at, steps_at};
@@ -22,7 +22,7 @@ use ir_read::{
     refusal,
 };
 use ir_tree::Rows;
-use lto_forms::{Fault, FaultKind, ReadError};
+use ir_read::{Fault, FaultKind, ReadError};
 use std::alloc::Global;
 
 /// How many of a shape an `alloca` takes, and their alignment in bytes, where it is written.
@@ -95,7 +95,7 @@ fn fitting_count(shape: &Measured, width: u8, t: &Token) -> Result<u64, FaultKin
     }
 }
 
-#[tactic(auto, unfolding(crate::specs::AddressingAt::count_means, lto_forms::specs::Rules::is_valued))]
+#[tactic(auto, unfolding(crate::specs::AddressingAt::count_means, ir_read::specs::Rules::is_valued))]
 fn count_means(shape: &Measured, width: u8, t: &Token) -> Result<u64, FaultKind>
     requires measured { shape.now.extent ≡ extent_of shape.now.typed.shape }
     requires ranged { IsWidth width }

@@ -1,10 +1,10 @@
 //! Reads instructions (LangRef, "Instruction Reference").
 
 ghost use Rattle.std.specs.Prelude.{◌≡◌};
-ghost use Rattle.lto_forms.specs.Alphabet.{among};
-ghost use Rattle.lto_forms.specs.Readers.{Gives, next_is};
+ghost use Rattle.ir_read.specs.Alphabet.{among};
+ghost use Rattle.ir_read.specs.Readers.{Gives, next_is};
 ghost use Rattle.ir_lex.specs.Tok.{tok};
-ghost use Rattle.lto_forms.specs.Rules.{is_among};
+ghost use Rattle.ir_read.specs.Rules.{is_among};
 ghost use Rattle.ir_read.specs.Ahead.{WRAPS};
 ghost use Rattle.ir_read.specs.Classes.{tokens, refusal, one_of_at};
 ghost use Rattle.ir_read.specs.Operands.{IsReg};
@@ -20,11 +20,11 @@ use ir_read::{
     expect, integer_at, maybe_at, refusal, reg_at, scalar_at,
 };
 use ir_tree::{BinaryOp, CastOp, Flags, Predicate, Reg};
-use lto_forms::{Fault, FaultKind, ReadError};
+use ir_read::{Fault, FaultKind, ReadError};
 use std::alloc::Global;
 
 /// Takes `nuw` or `nsw`; the answer is whether it is `nuw`.
-#[tactic(auto, unfolding(lto_forms::specs::Rules::is_among))]
+#[tactic(auto, unfolding(ir_read::specs::Rules::is_among))]
 fn wrap_at(tokens: &mut Tokens) -> Result<bool, ReadError>
     ensures { Gives (λ x. (x, tokens.new)) result (one_of_at WRAPS is_nuw tokens.old) }
 {
@@ -159,7 +159,7 @@ pub fn joining_into(alloc: Global, list: &mut Listing, tokens: &mut Tokens) -> R
     on_two_into(alloc, BinaryOp::Or, flags, list, tokens)
 }
 
-#[tactic(auto, unfolding(lto_forms::specs::Rules::is_among))]
+#[tactic(auto, unfolding(ir_read::specs::Rules::is_among))]
 fn predicate_means(t: &Token) -> Result<Predicate, FaultKind>
     ensures { result ≡ is_among tokens refusal PREDICATES predicate_of (tok t.now) }
 {

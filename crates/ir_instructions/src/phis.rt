@@ -1,7 +1,7 @@
 //! Reads phis (LangRef, "phi Instruction").
 
 ghost use Rattle.std.specs.Prelude.{◌≡◌};
-ghost use Rattle.lto_forms.specs.Readers.{Gives};
+ghost use Rattle.ir_read.specs.Readers.{Gives};
 ghost use Rattle.ir_read.specs.Operands.{IsReg};
 ghost use Rattle.ir_operands.specs.Adding.{gathered_at};
 ghost use Rattle.ir_operands.specs.Listing.{put_at};
@@ -12,7 +12,7 @@ use ir_lex::Head;
 use ir_operands::{Listing, operand_at, push};
 use ir_read::{Incoming, Instr, Tokens, attached_at, done, expect, local_at, reg_at};
 use ir_tree::{Reg, Rows};
-use lto_forms::ReadError;
+use ir_read::ReadError;
 use std::alloc::Global;
 
 /// Reads `[ operand , Local ]`.

@@ -2,8 +2,8 @@
 
 ghost use Rattle.std.specs.Prelude.{◌≡◌};
 ghost use Rattle.ir_lex.specs.Tok.{tok};
-ghost use Rattle.lto_forms.specs.Readers.{Gives};
-ghost use Rattle.lto_forms.specs.Rules.{is_among, is_valued};
+ghost use Rattle.ir_read.specs.Readers.{Gives};
+ghost use Rattle.ir_read.specs.Rules.{is_among, is_valued};
 ghost use Rattle.ir_read.specs.Classes.{tokens, refusal, one_of_at};
 ghost use Rattle.ir_read.specs.Operands.{IsReg};
 ghost use Rattle.ir_instructions.specs.Terminators.{case_classes, matched_of, number_matched, ENDS, ending_of};
@@ -16,7 +16,7 @@ use ir_read::{
     literal, local_at, refusal, reg_at, result_at, type_refusal,
 };
 use ir_tree::{Reg, Rows};
-use lto_forms::{Fault, FaultKind, ReadError};
+use ir_read::{Fault, FaultKind, ReadError};
 use std::alloc::Global;
 use std::mem::replace;
 
@@ -151,7 +151,7 @@ fn number_matched(reg: Reg, t: &Token) -> Result<Matched, FaultKind>
     }
 }
 
-#[tactic(auto, unfolding(lto_forms::specs::Rules::is_valued))]
+#[tactic(auto, unfolding(ir_read::specs::Rules::is_valued))]
 fn constant_means(reg: Reg, t: &Token) -> Result<Matched, FaultKind>
     requires { IsReg reg }
     ensures { result ≡ is_valued tokens refusal (case_classes reg) (matched_of reg) (tok t.now) }
@@ -212,7 +212,7 @@ fn cases_at(alloc: Global, tokens: &mut Tokens) -> Result<Vec<Case>, ReadError>
 }
 
 /// Takes the bracket behind the cases of a `switch`.
-#[tactic(auto, unfolding(lto_forms::specs::Rules::is_class))]
+#[tactic(auto, unfolding(ir_read::specs::Rules::is_class))]
 fn end_of_cases_at(tokens: &mut Tokens) -> Result<(), ReadError>
     ensures { Gives (λ x. (tt, tokens.new)) result (end_of_cases_at tokens.old) }
 {
@@ -270,7 +270,7 @@ fn switching_into(
     Ok(())
 }
 
-#[tactic(auto, unfolding(lto_forms::specs::Rules::is_among))]
+#[tactic(auto, unfolding(ir_read::specs::Rules::is_among))]
 fn ending_means(t: &Token) -> Result<Ending, FaultKind>
     ensures { result ≡ is_among tokens refusal ENDS ending_of (tok t.now) }
 {

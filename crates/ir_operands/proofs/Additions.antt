@@ -1,12 +1,12 @@
 -- What is read, added to what was read before.
 use Rattle.std.proofs.Common.{◌≡◌, Bool, false, List, [], ◌∷◌, ◌++◌, Result, Ok, Err, refl, sym, ap, ◌∙◌}
 use Rattle.ir_lex.specs.Tok.{Tok}
-use Rattle.lto_forms.specs.Chained.{chain_at, stops_here}
-use Rattle.lto_forms.specs.declared.fault.Fault.{Fault}
-use Rattle.lto_forms.specs.declared.fault.ReadError.{ReadError}
-use Rattle.lto_forms.specs.declared.fault.ReadError.TheVariants as errors
-use Rattle.lto_forms.specs.Readers.{Reader, Fails, done, follow, folded}
-use Rattle.lto_forms.proofs.Composed.{reads_is}
+use Rattle.ir_read.specs.Chained.{chain_at, stops_here}
+use Rattle.ir_read.specs.declared.fault.Fault.{Fault}
+use Rattle.ir_read.specs.declared.fault.ReadError.{ReadError}
+use Rattle.ir_read.specs.declared.fault.ReadError.TheVariants as errors
+use Rattle.ir_read.specs.Readers.{Reader, Fails, done, follow, folded}
+use Rattle.ir_read.proofs.Composed.{reads_is}
 
 -- what fails first fails
 pub first_fails : {A B : Type 0} (e : ReadError) (r : Result (A × List Tok) Fault) (h : A → Reader Tok B) → Fails e r → Fails e (follow r h)

@@ -1,12 +1,12 @@
 -- A reading that is barred by a limit before a token that begins none.
 use Rattle.std.proofs.Common.{◌≡◌, Bool, true, false, ◌&&◌, ◌||◌, not, List, [], ◌∷◌, ◌++◌, Result, Ok, refl, sym, subst, ◌∙◌, ◌⊎◌, inl, inr}
-use Rattle.lto_forms.specs.declared.fault.Fault.{Fault}
-use Rattle.lto_forms.specs.declared.fault.FaultKind.TheVariants.{Limit}
-use Rattle.lto_forms.specs.Alphabet.{Alphabet, AllReal, is_literal, is_number}
-use Rattle.lto_forms.specs.Forms.{Form}
-use Rattle.lto_forms.specs.Lawful.{Lawful, Stops, UpTo}
-use Rattle.lto_forms.specs.Readers.{Reader, fault_at, pick}
-use Rattle.lto_forms.proofs.Composed.{Begun, barred_lawful, limit_up}
+use Rattle.ir_read.specs.declared.fault.Fault.{Fault}
+use Rattle.ir_read.specs.declared.fault.FaultKind.TheVariants.{Limit}
+use Rattle.ir_read.specs.Alphabet.{Alphabet, AllReal, is_literal, is_number}
+use Rattle.ir_read.specs.Forms.{Form}
+use Rattle.ir_read.specs.Lawful.{Lawful, Stops, UpTo}
+use Rattle.ir_read.specs.Readers.{Reader, fault_at, pick}
+use Rattle.ir_read.proofs.Composed.{Begun, barred_lawful, limit_up}
 
 differ : false ≡ true → ⊥
 differ e = cc

@@ -1,8 +1,8 @@
 -- Readers one behind another, grouped otherwise.
 use Rattle.std.proofs.Common.{◌≡◌, List, ◌∷◌, Result, Ok, Err, refl}
 use Rattle.ir_lex.specs.Tok.{Tok}
-use Rattle.lto_forms.specs.declared.fault.Fault.{Fault}
-use Rattle.lto_forms.specs.Readers.{Reader, done, follow, ◌>>=◌}
+use Rattle.ir_read.specs.declared.fault.Fault.{Fault}
+use Rattle.ir_read.specs.Readers.{Reader, done, follow, ◌>>=◌}
 use Rattle.ir_read.specs.declared.shape.Typed.{Typed}
 use Rattle.ir_operands.specs.ValuesAt.{address_at, address_behind_at, all_openings_at, opening_at, openings_at, reached_at}
 

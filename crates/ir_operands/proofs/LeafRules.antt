@@ -9,15 +9,15 @@ use Rattle.ir_lex.specs.Lexing.{is_bad}
 use Rattle.ir_lex.specs.Quotes.{is_zero_name}
 use Rattle.ir_lex.specs.Rows.{best_fit, rest_fit, label_len, number_len, word_len, name_len, meta_len, dots_len, other_len, string_len}
 use Rattle.ir_lex.specs.Tok.{Tok}
-use Rattle.lto_forms.specs.Alphabet.{among, contains, is_number, AllReal}
-use Rattle.lto_forms.specs.declared.fault.FaultKind.{FaultKind}
-use Rattle.lto_forms.specs.declared.fault.FaultKind.TheVariants.{Syntax, Profile, Number, Limit}
-use Rattle.lto_forms.specs.Lawful.{Lawful, SameRefusal}
-use Rattle.lto_forms.specs.Readers.{Reader, fault_at, pick, token_at, token_means}
-use Rattle.lto_forms.specs.Rules.{Rule, IsWithin, in_range, is_class, is_valued}
-use Rattle.lto_forms.proofs.Composed.{Begun, token_lawful, widened}
-use Rattle.lto_forms.proofs.Rules as rules
-use Rattle.lto_forms.proofs.Rules.{apart_from, within_of}
+use Rattle.ir_read.specs.Alphabet.{among, contains, is_number, AllReal}
+use Rattle.ir_read.specs.declared.fault.FaultKind.{FaultKind}
+use Rattle.ir_read.specs.declared.fault.FaultKind.TheVariants.{Syntax, Profile, Number, Limit}
+use Rattle.ir_read.specs.Lawful.{Lawful, SameRefusal}
+use Rattle.ir_read.specs.Readers.{Reader, fault_at, pick, token_at, token_means}
+use Rattle.ir_read.specs.Rules.{Rule, IsWithin, in_range, is_class, is_valued}
+use Rattle.ir_read.proofs.Composed.{Begun, token_lawful, widened}
+use Rattle.ir_read.proofs.Rules as rules
+use Rattle.ir_read.proofs.Rules.{apart_from, within_of}
 use Rattle.ir_read.specs.Classes.{tokens, IsReal, refusal, NUMERALS, the, the_at}
 use Rattle.ir_operands.specs.declared.extents.Align.{Align}
 use Rattle.ir_operands.specs.declared.extents.Align.TheVariants.{One, Two, Four, Eight}

@@ -2,13 +2,13 @@
 use Rattle.std.proofs.Common.{◌≡◌, List, [], ◌∷◌, ◌++◌, Result, Ok, Err, refl, sym, ap, subst, ◌∙◌, append_assoc}
 use Rattle.std.specs.List.{fold}
 use Rattle.std.proofs.lemmas.List.{append-nil}
-use Rattle.lto_forms.specs.declared.fault.Fault.{Fault}
-use Rattle.lto_forms.specs.declared.fault.ReadError.{ReadError}
-use Rattle.lto_forms.specs.declared.fault.ReadError.TheVariants as errors
-use Rattle.lto_forms.specs.Readers.{Reader, done, follow, ◌>>=◌, folded, Fails, Gives}
-use Rattle.lto_forms.proofs.Composed.{reads_is}
-use Rattle.lto_forms.proofs.Loops.{with_front}
-use Rattle.lto_forms.proofs.Stars.{behind}
+use Rattle.ir_read.specs.declared.fault.Fault.{Fault}
+use Rattle.ir_read.specs.declared.fault.ReadError.{ReadError}
+use Rattle.ir_read.specs.declared.fault.ReadError.TheVariants as errors
+use Rattle.ir_read.specs.Readers.{Reader, done, follow, ◌>>=◌, folded, Fails, Gives}
+use Rattle.ir_read.proofs.Composed.{reads_is}
+use Rattle.ir_read.proofs.Loops.{with_front}
+use Rattle.ir_read.proofs.Stars.{behind}
 
 pub fold_behind : {A : Type 0} (front as' : List A) → fold behind front as' ≡ front ++ as'
 fold_behind front [] = sym (append-nil front)

@@ -4,16 +4,16 @@ use Rattle.std.specs.Prelude.{codes}
 use Rattle.ir_lex.specs.declared.head.Head.TheVariants as heads
 use Rattle.ir_lex.specs.Heads.{number}
 use Rattle.ir_lex.specs.Tok.{Tok}
-use Rattle.lto_forms.specs.Alphabet.{among, contains}
-use Rattle.lto_forms.specs.Chained.{Chain, chain_at}
-use Rattle.lto_forms.specs.Forms as form
-use Rattle.lto_forms.specs.Forms.{Form, either}
-use Rattle.lto_forms.specs.Readers.{Reader}
-use Rattle.lto_forms.specs.Rules.{Rule, Opens, is_among, subset}
-use Rattle.lto_forms.proofs.Chains.{chain_lawful}
-use Rattle.lto_forms.proofs.Composed.{Begun, same_form, widened}
-use Rattle.lto_forms.proofs.Rules as rules
-use Rattle.lto_forms.proofs.Rules.{apart_from, within_of}
+use Rattle.ir_read.specs.Alphabet.{among, contains}
+use Rattle.ir_read.specs.Chained.{Chain, chain_at}
+use Rattle.ir_read.specs.Forms as form
+use Rattle.ir_read.specs.Forms.{Form, either}
+use Rattle.ir_read.specs.Readers.{Reader}
+use Rattle.ir_read.specs.Rules.{Rule, Opens, is_among, subset}
+use Rattle.ir_read.proofs.Chains.{chain_lawful}
+use Rattle.ir_read.proofs.Composed.{Begun, same_form, widened}
+use Rattle.ir_read.proofs.Rules as rules
+use Rattle.ir_read.proofs.Rules.{apart_from, within_of}
 use Rattle.ir_read.specs.Ahead.{BRACKETS}
 use Rattle.ir_read.specs.Classes.{tokens, refusal, one_of}
 use Rattle.ir_operands.specs.declared.extents.Extent.{Extent}

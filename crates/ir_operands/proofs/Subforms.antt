@@ -1,6 +1,6 @@
 -- A form within another, part by part.
 use Rattle.std.proofs.Common.{List, inl, inr}
-use Rattle.lto_forms.specs.Forms.{Form, ◌>>=◌, either}
+use Rattle.ir_read.specs.Forms.{Form, ◌>>=◌, either}
 
 -- what the first spells the second spells
 abbrev pub Sub : {T A : Type 0} → Form T A → Form T A → Type 0

@@ -10,10 +10,10 @@ use Rattle.ir_lex.specs.Quotes.{is_zero_name, content}
 use Rattle.ir_lex.specs.Rows.{best_fit, rest_fit, label_len, number_len, word_len, name_len, meta_len, dots_len, other_len, string_len}
 use Rattle.ir_lex.specs.Tok.{Tok}
 use Rattle.ir_tree.specs.declared.operand.Reg.{Reg}
-use Rattle.lto_forms.specs.Alphabet.{among, contains}
-use Rattle.lto_forms.specs.Forms.{Star}
-use Rattle.lto_forms.specs.Rules.{Rule, Opens, IsWithin, is_class}
-use Rattle.lto_forms.proofs.Rules as rules
+use Rattle.ir_read.specs.Alphabet.{among, contains}
+use Rattle.ir_read.specs.Forms.{Star}
+use Rattle.ir_read.specs.Rules.{Rule, Opens, IsWithin, is_class}
+use Rattle.ir_read.proofs.Rules as rules
 use Rattle.ir_read.specs.Ahead.{STEPPING}
 use Rattle.ir_read.specs.Classes.{tokens, IsReal, refusal, NUMERALS, the, the_at, one_of, one_of_at}
 use Rattle.ir_read.specs.declared.address.Index.{Index}

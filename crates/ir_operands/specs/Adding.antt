@@ -1,7 +1,7 @@
 -- What is read, added to what was read before.
 use Rattle.std.specs.Prelude.{List, [], ◌∷◌, ◌++◌}
 use Rattle.ir_lex.specs.Tok.{Tok}
-use Rattle.lto_forms.specs.Readers.{Reader, ◌>>=◌, done}
+use Rattle.ir_read.specs.Readers.{Reader, ◌>>=◌, done}
 
 -- what is read, behind these
 abbrev pub pushed_at : {A : Type 0} → List A → Reader Tok A → Reader Tok (List A)

@@ -5,12 +5,12 @@ use Rattle.ir_lex.specs.declared.head.Head.TheVariants as heads
 use Rattle.ir_lex.specs.Heads.{number}
 use Rattle.ir_lex.specs.Rows.{begins}
 use Rattle.ir_lex.specs.Tok.{Tok}
-use Rattle.lto_forms.specs.Alphabet.{among}
-use Rattle.lto_forms.specs.Chained.{Chain}
-use Rattle.lto_forms.specs.declared.fault.FaultKind.{FaultKind}
-use Rattle.lto_forms.specs.declared.fault.FaultKind.TheVariants.{Profile, Limit}
-use Rattle.lto_forms.specs.Forms.{Form, ◌>>=◌, either, gives, token}
-use Rattle.lto_forms.specs.Rules.{is_class, is_valued}
+use Rattle.ir_read.specs.Alphabet.{among}
+use Rattle.ir_read.specs.Chained.{Chain}
+use Rattle.ir_read.specs.declared.fault.FaultKind.{FaultKind}
+use Rattle.ir_read.specs.declared.fault.FaultKind.TheVariants.{Profile, Limit}
+use Rattle.ir_read.specs.Forms.{Form, ◌>>=◌, either, gives, token}
+use Rattle.ir_read.specs.Rules.{is_class, is_valued}
 use Rattle.ir_read.specs.Classes.{tokens, refusal, the, one_of}
 use Rattle.ir_read.specs.Decimals.{decimal}
 use Rattle.ir_operands.specs.declared.extents.Align.{Align}

@@ -3,11 +3,11 @@ use Rattle.std.specs.Prelude.{ℕ, zero, suc, Bool, true, false, List, [], ◌�
 use Rattle.ir_lex.specs.declared.head.Head.TheVariants as heads
 use Rattle.ir_lex.specs.Heads.{number}
 use Rattle.ir_lex.specs.Tok.{Tok}
-use Rattle.lto_forms.specs.Alphabet.{among}
-use Rattle.lto_forms.specs.Chained.{chain_at}
-use Rattle.lto_forms.specs.declared.fault.FaultKind.TheVariants.{Limit}
-use Rattle.lto_forms.specs.Readers.{Reader, ◌>>=◌, done, fault_at, pick, token_at}
-use Rattle.lto_forms.specs.Rules.{is_class, is_valued}
+use Rattle.ir_read.specs.Alphabet.{among}
+use Rattle.ir_read.specs.Chained.{chain_at}
+use Rattle.ir_read.specs.declared.fault.FaultKind.TheVariants.{Limit}
+use Rattle.ir_read.specs.Readers.{Reader, ◌>>=◌, done, fault_at, pick, token_at}
+use Rattle.ir_read.specs.Rules.{is_class, is_valued}
 use Rattle.ir_read.specs.Ahead.{BRACKETS}
 use Rattle.ir_read.specs.Classes.{tokens, refusal, the_at, one_of_at}
 use Rattle.ir_operands.specs.declared.extents.Extent.{Extent}

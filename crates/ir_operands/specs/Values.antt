@@ -5,8 +5,8 @@ use Rattle.ir_lex.specs.declared.head.Head.TheVariants as heads
 use Rattle.ir_lex.specs.Heads.{number}
 use Rattle.ir_lex.specs.Tok.{Tok}
 use Rattle.ir_tree.specs.declared.operand.Reg.{Reg}
-use Rattle.lto_forms.specs.Forms.{Form, ◌>>=◌, either, gives, token, Star}
-use Rattle.lto_forms.specs.Rules.{is_class, is_valued}
+use Rattle.ir_read.specs.Forms.{Form, ◌>>=◌, either, gives, token, Star}
+use Rattle.ir_read.specs.Rules.{is_class, is_valued}
 use Rattle.ir_read.specs.Ahead.{STEPPING}
 use Rattle.ir_read.specs.Classes.{tokens, refusal, the, one_of}
 use Rattle.ir_read.specs.declared.address.Index.{Index}

@@ -4,10 +4,10 @@
 //! field of an instruction.
 
 ghost use Rattle.std.specs.Prelude.{◌≡◌, ◌++◌, ◌∷◌, [], IfErr, OnOk};
-ghost use Rattle.lto_forms.specs.declared.fault.ReadError.TheVariants.{NoMemory};
+ghost use Rattle.ir_read.specs.declared.fault.ReadError.TheVariants.{NoMemory};
 
 use ir_read::Item;
-use lto_forms::ReadError;
+use ir_read::ReadError;
 
 /// Adds a value, or says that memory ran out.
 pub fn push<T: Drop>(list: &mut Vec<T>, value: T) -> Result<(), ReadError>

@@ -1,12 +1,12 @@
 //! The lines of a block while they are read.
 
 ghost use Rattle.std.specs.Prelude.{◌≡◌, IfErr, OnOk};
-ghost use Rattle.lto_forms.specs.declared.fault.ReadError.TheVariants.{NoMemory};
+ghost use Rattle.ir_read.specs.declared.fault.ReadError.TheVariants.{NoMemory};
 ghost use Rattle.ir_operands.specs.Listing.{put};
 
 use crate::adding::push;
 use ir_read::{Instr, Line, Name};
-use lto_forms::ReadError;
+use ir_read::ReadError;
 
 /// The lines of a block so far, and what stands before the next instruction: the name of its result,
 /// where it has one, and the line of its first token.

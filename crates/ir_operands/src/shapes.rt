@@ -5,8 +5,8 @@
 ghost use Rattle.std.specs.Prelude.{◌≡◌, ◌*◌, ◌≤◌, [], ◌∷◌, IfOk, true, false};
 ghost use Rattle.ir_lex.specs.Heads.{number};
 ghost use Rattle.ir_lex.specs.Tok.{tok};
-ghost use Rattle.lto_forms.specs.Readers.{Gives, view_result};
-ghost use Rattle.lto_forms.specs.Rules.{is_valued};
+ghost use Rattle.ir_read.specs.Readers.{Gives, view_result};
+ghost use Rattle.ir_read.specs.Rules.{is_valued};
 ghost use Rattle.ir_read.specs.Classes.{tokens, refusal, one_of_at};
 ghost use Rattle.ir_operands.specs.declared.extents.Room.{Room};
 ghost use Rattle.ir_operands.specs.Extents.{Fits, IsRoom, extent, extent_of, grown, left, members_extent, no_bytes, padded, scalar_extent, shared, whole};
@@ -20,7 +20,7 @@ use ir_lex::{Head, Token};
 use ir_read::{
     Shape, Tokens, Typed, decimal, expect, literal, memory_refusal, named, refusal, width,
 };
-use lto_forms::{Fault, FaultKind, ReadError};
+use ir_read::{Fault, FaultKind, ReadError};
 use std::alloc::{AllocError, Global};
 
 /// A shape with the line of its first token, and its extent, to which type names add no bytes.
@@ -58,7 +58,7 @@ fn scalar_of(t: &Token) -> Measured
 }
 
 /// What a token means where a scalar or a type name may stand.
-#[tactic(auto, unfolding(crate::specs::ShapeForms::leaf_means, crate::specs::ShapeForms::is_leaf, lto_forms::specs::Rules::is_valued))]
+#[tactic(auto, unfolding(crate::specs::ShapeForms::leaf_means, crate::specs::ShapeForms::is_leaf, ir_read::specs::Rules::is_valued))]
 fn leaf_means(
     alloc: Global,
     room: Room,
@@ -145,7 +145,7 @@ pub fn counted(width: u8, text: &[u8]) -> Option<u64>
     }
 }
 
-#[tactic(auto, unfolding(lto_forms::specs::Rules::is_valued))]
+#[tactic(auto, unfolding(ir_read::specs::Rules::is_valued))]
 fn count_means(t: &Token) -> Result<u64, FaultKind>
     ensures { result ≡ is_valued tokens refusal NUMBER (count_of 64) (tok t.now) }
 {
@@ -177,7 +177,7 @@ pub fn count_at(tokens: &mut Tokens) -> Result<u64, ReadError>
 }
 
 /// Takes a token of this class; the answer is its line.
-#[tactic(auto, unfolding(lto_forms::specs::Rules::is_among))]
+#[tactic(auto, unfolding(ir_read::specs::Rules::is_among))]
 pub fn line_at(wanted: Head, tokens: &mut Tokens) -> Result<u32, ReadError>
     ensures { Gives (λ x. (x, tokens.new)) result (one_of_at (number wanted ∷ []) line_of tokens.old) }
 {
@@ -211,7 +211,7 @@ pub fn angle_refusal(head: Head) -> FaultKind
 }
 
 /// Takes the `{` behind a `<`.
-#[tactic(auto, unfolding(lto_forms::specs::Rules::is_class))]
+#[tactic(auto, unfolding(ir_read::specs::Rules::is_class))]
 pub fn brace_behind_angle_at(tokens: &mut Tokens) -> Result<(), ReadError>
     ensures { Gives (λ x. (tt, tokens.new)) result (brace_behind_angle_at tokens.old) }
 {

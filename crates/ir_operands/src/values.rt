@@ -3,9 +3,9 @@
 
 ghost use Rattle.std.specs.Prelude.{◌≡◌, reverse, IfOk};
 ghost use Rattle.ir_lex.specs.Tok.{tok};
-ghost use Rattle.lto_forms.specs.Alphabet.{among};
-ghost use Rattle.lto_forms.specs.Readers.{Gives};
-ghost use Rattle.lto_forms.specs.Rules.{is_valued};
+ghost use Rattle.ir_read.specs.Alphabet.{among};
+ghost use Rattle.ir_read.specs.Readers.{Gives};
+ghost use Rattle.ir_read.specs.Rules.{is_valued};
 ghost use Rattle.ir_read.specs.Ahead.{STEPPING};
 ghost use Rattle.ir_read.specs.Classes.{tokens, refusal, one_of_at};
 ghost use Rattle.ir_read.specs.Literals.{IsWidth};
@@ -22,11 +22,11 @@ use ir_read::{
     integer_at, literal, refusal, simple_at, type_refusal,
 };
 use ir_tree::{Reg, Rows};
-use lto_forms::{Fault, FaultKind, ReadError};
+use ir_read::{Fault, FaultKind, ReadError};
 use std::alloc::{AllocError, Global};
 
 /// Takes `ptr`.
-#[tactic(auto, unfolding(lto_forms::specs::Rules::is_class))]
+#[tactic(auto, unfolding(ir_read::specs::Rules::is_class))]
 pub fn pointer_at(tokens: &mut Tokens) -> Result<(), ReadError>
     ensures { Gives (λ x. (tt, tokens.new)) result (pointer_at tokens.old) }
 {
@@ -50,7 +50,7 @@ pub fn pointer_at(tokens: &mut Tokens) -> Result<(), ReadError>
 }
 
 /// Takes a flag of `getelementptr`; the answer is whether it is `inbounds`.
-#[tactic(auto, unfolding(lto_forms::specs::Rules::is_among))]
+#[tactic(auto, unfolding(ir_read::specs::Rules::is_among))]
 fn flag_at(tokens: &mut Tokens) -> Result<bool, ReadError>
     ensures { Gives (λ x. (x, tokens.new)) result (one_of_at STEPPING is_inbounds tokens.old) }
 {
@@ -90,7 +90,7 @@ pub fn stepping_at(tokens: &mut Tokens) -> Result<bool, ReadError>
     Ok(inbounds)
 }
 
-#[tactic(auto, unfolding(lto_forms::specs::Rules::is_valued))]
+#[tactic(auto, unfolding(ir_read::specs::Rules::is_valued))]
 fn index_means(width: u8, t: &Token) -> Result<Index, FaultKind>
     requires { IsWidth width }
     ensures { result ≡ is_valued tokens refusal NUMBER (index_of width) (tok t.now) }
@@ -208,7 +208,7 @@ fn all_openings_at(alloc: Global, tokens: &mut Tokens) -> Result<Vec<Typed>, Rea
     Ok(levels)
 }
 
-#[tactic(auto, unfolding(lto_forms::specs::Rules::is_valued))]
+#[tactic(auto, unfolding(ir_read::specs::Rules::is_valued))]
 fn global_means(alloc: Global, t: &Token) -> Result<Result<Name, FaultKind>, AllocError>
     ensures { IfOk result (λ x. x ≡ is_valued tokens refusal GLOBAL global_named (tok t.now)) }
 {

@@ -5,9 +5,9 @@ use Rattle.std.proofs.lemmas.Bool.{and_parts, eqb-true, or_cases}
 use Rattle.ir_lex.specs.Heads.{number}
 use Rattle.ir_lex.specs.Rows.{begins}
 use Rattle.ir_lex.specs.declared.head.Head.TheVariants as heads
-use Rattle.lto_forms.specs.Alphabet.{contains}
-use Rattle.lto_forms.specs.Forms as form
-use Rattle.lto_forms.specs.declared.fault.FaultKind.TheVariants.{Number}
+use Rattle.ir_read.specs.Alphabet.{contains}
+use Rattle.ir_read.specs.Forms as form
+use Rattle.ir_read.specs.declared.fault.FaultKind.TheVariants.{Number}
 use Rattle.ir_read.specs.Classes.{refusal}
 use Rattle.ir_read.specs.Decimals.{ALIGNMENTS, alignment_of, decimal, is_alignment}
 use Rattle.ir_instructions.specs.Instructions as instructions

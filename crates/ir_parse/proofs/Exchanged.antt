@@ -6,17 +6,17 @@ use Rattle.ir_lex.specs.Heads.{number}
 use Rattle.ir_lex.specs.Tok.{Tok}
 use Rattle.ir_lex.specs.declared.head.Head.TheVariants as heads
 use Rattle.ir_lex.specs.declared.head.Head.{Head}
-use Rattle.lto_forms.proofs.Composed.{all_real, cut_is, reads, reads_is, wrong, wrong_is}
-use Rattle.lto_forms.proofs.Rules.{apart_from, within_of}
-use Rattle.lto_forms.specs.Alphabet.{AllReal, among, contains}
-use Rattle.lto_forms.specs.Forms as form
-use Rattle.lto_forms.specs.Forms.{Form, Star}
-use Rattle.lto_forms.specs.Lawful.{IsBound, ends}
-use Rattle.lto_forms.specs.Readers.{Reader, fault_at, done, follow, ◌>>=◌, token_means, token_at, pick, many_at, star_at, optional_at}
-use Rattle.lto_forms.specs.Rules.{Rule, disjoint, subset}
-use Rattle.lto_forms.specs.declared.fault.Fault.{Fault}
-use Rattle.lto_forms.specs.declared.fault.FaultKind.TheVariants.{Syntax, Profile, Number, Limit}
-use Rattle.lto_forms.specs.declared.fault.FaultKind.{FaultKind}
+use Rattle.ir_read.proofs.Composed.{all_real, cut_is, reads, reads_is, wrong, wrong_is}
+use Rattle.ir_read.proofs.Rules.{apart_from, within_of}
+use Rattle.ir_read.specs.Alphabet.{AllReal, among, contains}
+use Rattle.ir_read.specs.Forms as form
+use Rattle.ir_read.specs.Forms.{Form, Star}
+use Rattle.ir_read.specs.Lawful.{IsBound, ends}
+use Rattle.ir_read.specs.Readers.{Reader, fault_at, done, follow, ◌>>=◌, token_means, token_at, pick, many_at, star_at, optional_at}
+use Rattle.ir_read.specs.Rules.{Rule, disjoint, subset}
+use Rattle.ir_read.specs.declared.fault.Fault.{Fault}
+use Rattle.ir_read.specs.declared.fault.FaultKind.TheVariants.{Syntax, Profile, Number, Limit}
+use Rattle.ir_read.specs.declared.fault.FaultKind.{FaultKind}
 use Rattle.ir_read.specs.Classes.{tokens, IsReal}
 use Rattle.ir_heads.specs.FunctionHeads.{GLOBAL}
 use Rattle.ir_read.specs.Operands.{REG}

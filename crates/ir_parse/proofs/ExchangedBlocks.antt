@@ -6,11 +6,11 @@ use Rattle.std.specs.Prelude.{codes}
 use Rattle.ir_lex.specs.Tok.{Tok}
 use Rattle.ir_lex.specs.declared.head.Head.TheVariants as heads
 use Rattle.ir_lex.specs.declared.token.Kind.TheVariants as kinds
-use Rattle.lto_forms.specs.Chained.{Chain}
-use Rattle.lto_forms.specs.Forms as form
-use Rattle.lto_forms.specs.Forms.{Form}
-use Rattle.lto_forms.specs.Readers.{Reader, ◌>>=◌}
-use Rattle.lto_forms.specs.Rules.{in_range, is_valued}
+use Rattle.ir_read.specs.Chained.{Chain}
+use Rattle.ir_read.specs.Forms as form
+use Rattle.ir_read.specs.Forms.{Form}
+use Rattle.ir_read.specs.Readers.{Reader, ◌>>=◌}
+use Rattle.ir_read.specs.Rules.{in_range, is_valued}
 use Rattle.ir_instructions.specs.Addressing.{any_slots}
 use Rattle.ir_read.specs.Classes.{tokens, refusal, the, the_at}
 use Rattle.ir_read.specs.Operands.{named}

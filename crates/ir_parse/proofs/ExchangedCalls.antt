@@ -7,14 +7,14 @@ use Rattle.ir_lex.specs.declared.head.Head.TheVariants as heads
 use Rattle.ir_lex.specs.declared.head.Head.{Head}
 use Rattle.ir_tree.specs.declared.operand.Reg.TheVariants.{Ptr, Int}
 use Rattle.ir_tree.specs.declared.operand.Reg.{Reg}
-use Rattle.lto_forms.proofs.Rules as rules
-use Rattle.lto_forms.specs.Alphabet.{among, contains}
-use Rattle.lto_forms.specs.Forms as form
-use Rattle.lto_forms.specs.Lawful.{IsBound}
-use Rattle.lto_forms.specs.Readers.{done, follow, ◌>>=◌}
-use Rattle.lto_forms.specs.Rules.{is_among, is_class, is_valued}
-use Rattle.lto_forms.specs.declared.fault.FaultKind.TheVariants.{Syntax}
-use Rattle.lto_forms.specs.declared.fault.FaultKind.{FaultKind}
+use Rattle.ir_read.proofs.Rules as rules
+use Rattle.ir_read.specs.Alphabet.{among, contains}
+use Rattle.ir_read.specs.Forms as form
+use Rattle.ir_read.specs.Lawful.{IsBound}
+use Rattle.ir_read.specs.Readers.{done, follow, ◌>>=◌}
+use Rattle.ir_read.specs.Rules.{is_among, is_class, is_valued}
+use Rattle.ir_read.specs.declared.fault.FaultKind.TheVariants.{Syntax}
+use Rattle.ir_read.specs.declared.fault.FaultKind.{FaultKind}
 use Rattle.ir_heads.specs.Attributes.{call_attributes}
 use Rattle.ir_heads.specs.AttributesAt.{call_attributes_at}
 use Rattle.ir_read.specs.Classes.{tokens, IsReal, refusal, the, the_at, itself}

@@ -5,17 +5,17 @@ use Rattle.ir_lex.specs.Heads.{number}
 use Rattle.ir_lex.specs.Tok.{Tok}
 use Rattle.ir_lex.specs.declared.head.Head.TheVariants as heads
 use Rattle.ir_lex.specs.declared.head.Head.{Head}
-use Rattle.lto_forms.proofs.Composed.{all_real, cut_is, reads, reads_is, wrong, wrong_is}
-use Rattle.lto_forms.specs.Alphabet.{AllReal, among, contains}
-use Rattle.lto_forms.specs.Chained.{Chain, stops_here, chain_within, chain_at}
-use Rattle.lto_forms.proofs.Rules.{within_of}
-use Rattle.lto_forms.specs.Forms.{Form}
-use Rattle.lto_forms.specs.Lawful.{ends}
-use Rattle.lto_forms.specs.Readers.{Reader, fault_at, done, follow, ◌>>=◌}
-use Rattle.lto_forms.specs.declared.fault.Fault.{Fault}
-use Rattle.lto_forms.specs.declared.fault.FaultKind.TheVariants.{Syntax}
-use Rattle.lto_forms.specs.declared.fault.FaultKind.{FaultKind}
-use Rattle.lto_forms.specs.Rules.{disjoint}
+use Rattle.ir_read.proofs.Composed.{all_real, cut_is, reads, reads_is, wrong, wrong_is}
+use Rattle.ir_read.specs.Alphabet.{AllReal, among, contains}
+use Rattle.ir_read.specs.Chained.{Chain, stops_here, chain_within, chain_at}
+use Rattle.ir_read.proofs.Rules.{within_of}
+use Rattle.ir_read.specs.Forms.{Form}
+use Rattle.ir_read.specs.Lawful.{ends}
+use Rattle.ir_read.specs.Readers.{Reader, fault_at, done, follow, ◌>>=◌}
+use Rattle.ir_read.specs.declared.fault.Fault.{Fault}
+use Rattle.ir_read.specs.declared.fault.FaultKind.TheVariants.{Syntax}
+use Rattle.ir_read.specs.declared.fault.FaultKind.{FaultKind}
+use Rattle.ir_read.specs.Rules.{disjoint}
 use Rattle.ir_read.specs.Classes.{tokens}
 use Rattle.ir_operands.specs.ShapeForms.{OPEN_BRACE}
 use Rattle.ir_parse.proofs.Exchanged.{Exchanges, OutcomeAt, Place, Stays, Swaps, angled_behind, apart, is_angled, never_angled, nowhere, same_at, Goes, Outcome, Stuck, fair, alike, ends_in_front, err_ends, err_too, fair_at, fair_of, fewer, in_front, joined, ok_too, stands_for, without}

@@ -4,7 +4,7 @@ use Rattle.std.specs.Prelude.{codes}
 use Rattle.ir_lex.specs.Tok.{Tok}
 use Rattle.ir_lex.specs.declared.head.Head.TheVariants as heads
 use Rattle.ir_tree.specs.declared.operand.Reg.{Reg}
-use Rattle.lto_forms.specs.Rules.{is_valued}
+use Rattle.ir_read.specs.Rules.{is_valued}
 use Rattle.ir_read.specs.Classes.{tokens, refusal}
 use Rattle.ir_operands.specs.ShapeForms.{any_shape}
 use Rattle.ir_operands.specs.ValuesAt.{ADDRESS}

@@ -5,17 +5,17 @@ use Rattle.ir_lex.specs.Heads.{number}
 use Rattle.ir_lex.specs.Tok.{Tok}
 use Rattle.ir_lex.specs.declared.head.Head.TheVariants as heads
 use Rattle.ir_lex.specs.declared.head.Head.{Head}
-use Rattle.lto_forms.proofs.Closings.{closing_lawful}
-use Rattle.lto_forms.proofs.Composed.{cut_is, reads, reads_is, widened, wrong_is}
-use Rattle.lto_forms.proofs.Rules.{within_of}
-use Rattle.lto_forms.specs.Alphabet.{among, contains}
-use Rattle.lto_forms.specs.Balanced as balanced
-use Rattle.lto_forms.specs.Balanced.{Closing, closing_at, HaveClosers, moved}
-use Rattle.lto_forms.specs.Readers.{fault_at}
-use Rattle.lto_forms.specs.Rules.{Rule}
-use Rattle.lto_forms.specs.declared.fault.Fault.{Fault}
-use Rattle.lto_forms.specs.declared.fault.FaultKind.TheVariants.{Syntax}
-use Rattle.lto_forms.specs.declared.fault.FaultKind.{FaultKind}
+use Rattle.ir_read.proofs.Closings.{closing_lawful}
+use Rattle.ir_read.proofs.Composed.{cut_is, reads, reads_is, widened, wrong_is}
+use Rattle.ir_read.proofs.Rules.{within_of}
+use Rattle.ir_read.specs.Alphabet.{among, contains}
+use Rattle.ir_read.specs.Balanced as balanced
+use Rattle.ir_read.specs.Balanced.{Closing, closing_at, HaveClosers, moved}
+use Rattle.ir_read.specs.Readers.{fault_at}
+use Rattle.ir_read.specs.Rules.{Rule}
+use Rattle.ir_read.specs.declared.fault.Fault.{Fault}
+use Rattle.ir_read.specs.declared.fault.FaultKind.TheVariants.{Syntax}
+use Rattle.ir_read.specs.declared.fault.FaultKind.{FaultKind}
 use Rattle.ir_read.specs.Brackets.{brackets, opening, move_of, group, group_at}
 use Rattle.ir_read.specs.Classes.{tokens, the, the_at}
 use Rattle.ir_read.specs.declared.brackets.Bracket.TheVariants.{Paren, Square, Curly}

@@ -12,15 +12,15 @@ use Rattle.ir_lex.specs.declared.head.Head.TheVariants as heads
 use Rattle.ir_lex.specs.declared.head.Head.{Head}
 use Rattle.ir_lex.specs.declared.token.Kind.TheVariants as kinds
 use Rattle.ir_tree.specs.declared.operand.Reg.{Reg}
-use Rattle.lto_forms.proofs.Composed.{all_real, reads}
-use Rattle.lto_forms.specs.Alphabet.{among, contains, AllReal}
-use Rattle.lto_forms.specs.Chained.{Chain, chain_at, chain_within}
-use Rattle.lto_forms.specs.Forms as form
-use Rattle.lto_forms.specs.Readers.{Reader, done, fault_at, follow, ◌>>=◌, token_means, pick, next_is}
-use Rattle.lto_forms.specs.Rules.{is_class}
-use Rattle.lto_forms.specs.declared.fault.Fault.{Fault}
-use Rattle.lto_forms.specs.declared.fault.FaultKind.TheVariants.{Syntax, Profile, Limit}
-use Rattle.lto_forms.specs.declared.fault.FaultKind.{FaultKind}
+use Rattle.ir_read.proofs.Composed.{all_real, reads}
+use Rattle.ir_read.specs.Alphabet.{among, contains, AllReal}
+use Rattle.ir_read.specs.Chained.{Chain, chain_at, chain_within}
+use Rattle.ir_read.specs.Forms as form
+use Rattle.ir_read.specs.Readers.{Reader, done, fault_at, follow, ◌>>=◌, token_means, pick, next_is}
+use Rattle.ir_read.specs.Rules.{is_class}
+use Rattle.ir_read.specs.declared.fault.Fault.{Fault}
+use Rattle.ir_read.specs.declared.fault.FaultKind.TheVariants.{Syntax, Profile, Limit}
+use Rattle.ir_read.specs.declared.fault.FaultKind.{FaultKind}
 use Rattle.ir_read.specs.Ahead.{BRACKETS}
 use Rattle.ir_read.specs.Classes.{tokens, IsReal, refusal, the, the_at}
 use Rattle.ir_operands.specs.Extents.{left, shared, whole}

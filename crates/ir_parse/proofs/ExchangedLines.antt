@@ -5,10 +5,10 @@ use Rattle.ir_lex.specs.Heads.{number}
 use Rattle.ir_lex.specs.Tok.{Tok}
 use Rattle.ir_lex.specs.declared.head.Head.TheVariants as heads
 use Rattle.ir_lex.specs.declared.head.Head.{Head}
-use Rattle.lto_forms.specs.Alphabet.{among, contains}
-use Rattle.lto_forms.specs.Forms as form
-use Rattle.lto_forms.specs.Rules.{is_among, is_class}
-use Rattle.lto_forms.specs.declared.fault.FaultKind.{FaultKind}
+use Rattle.ir_read.specs.Alphabet.{among, contains}
+use Rattle.ir_read.specs.Forms as form
+use Rattle.ir_read.specs.Rules.{is_among, is_class}
+use Rattle.ir_read.specs.declared.fault.FaultKind.{FaultKind}
 use Rattle.ir_instructions.specs.Addressing.{any_slots}
 use Rattle.ir_read.specs.Classes.{one_of, refusal, the, tokens}
 use Rattle.ir_read.specs.Operands.{LOCAL, named}

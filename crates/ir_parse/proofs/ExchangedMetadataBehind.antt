@@ -5,16 +5,16 @@ use Rattle.ir_lex.specs.Heads.{number}
 use Rattle.ir_lex.specs.Tok.{Tok}
 use Rattle.ir_lex.specs.declared.head.Head.TheVariants as heads
 use Rattle.ir_lex.specs.declared.token.Kind.TheVariants as kinds
-use Rattle.lto_forms.proofs.Rules.{apart_from}
-use Rattle.lto_forms.specs.Alphabet.{among, contains}
-use Rattle.lto_forms.specs.Forms as form
-use Rattle.lto_forms.specs.Forms.{Form}
-use Rattle.lto_forms.specs.Lawful.{ends}
-use Rattle.lto_forms.specs.Readers.{Reader, ◌>>=◌, token_at}
-use Rattle.lto_forms.specs.Rules.{disjoint}
-use Rattle.lto_forms.specs.Runs.{Step, bad, last, onward}
-use Rattle.lto_forms.specs.declared.fault.FaultKind.TheVariants.{Syntax}
-use Rattle.lto_forms.specs.declared.fault.FaultKind.{FaultKind}
+use Rattle.ir_read.proofs.Rules.{apart_from}
+use Rattle.ir_read.specs.Alphabet.{among, contains}
+use Rattle.ir_read.specs.Forms as form
+use Rattle.ir_read.specs.Forms.{Form}
+use Rattle.ir_read.specs.Lawful.{ends}
+use Rattle.ir_read.specs.Readers.{Reader, ◌>>=◌, token_at}
+use Rattle.ir_read.specs.Rules.{disjoint}
+use Rattle.ir_read.specs.Runs.{Step, bad, last, onward}
+use Rattle.ir_read.specs.declared.fault.FaultKind.TheVariants.{Syntax}
+use Rattle.ir_read.specs.declared.fault.FaultKind.{FaultKind}
 use Rattle.ir_read.specs.Classes.{tokens}
 use Rattle.ir_read.specs.Metadata.{META, ends_line, line_step}
 use Rattle.ir_read.specs.MetadataAt.{PAREN, CURLY, NAMED}

@@ -6,17 +6,17 @@ use Rattle.ir_lex.specs.Heads.{number}
 use Rattle.ir_lex.specs.Tok.{Tok}
 use Rattle.ir_lex.specs.declared.head.Head.TheVariants as heads
 use Rattle.ir_lex.specs.declared.head.Head.{Head}
-use Rattle.lto_forms.proofs.Composed.{cons_is, cut_is, reads, reads_is, wrong, wrong_is}
-use Rattle.lto_forms.proofs.Rules.{within_of}
-use Rattle.lto_forms.specs.Alphabet.{among, contains}
-use Rattle.lto_forms.specs.Chained.{chain_within, stops_here}
-use Rattle.lto_forms.specs.Faults.{Extends}
-use Rattle.lto_forms.specs.Forms as form
-use Rattle.lto_forms.specs.Lawful.{Broad, IsBound, UpTo, ends}
-use Rattle.lto_forms.specs.Readers.{Reader, done, ended, fault_at, follow, ◌>>=◌, pick, whole_of}
-use Rattle.lto_forms.specs.declared.fault.Fault.{Fault}
-use Rattle.lto_forms.specs.declared.fault.FaultKind.TheVariants.{Syntax, Profile, Number, Limit}
-use Rattle.lto_forms.specs.declared.fault.FaultKind.{FaultKind}
+use Rattle.ir_read.proofs.Composed.{cons_is, cut_is, reads, reads_is, wrong, wrong_is}
+use Rattle.ir_read.proofs.Rules.{within_of}
+use Rattle.ir_read.specs.Alphabet.{among, contains}
+use Rattle.ir_read.specs.Chained.{chain_within, stops_here}
+use Rattle.ir_read.specs.Faults.{Extends}
+use Rattle.ir_read.specs.Forms as form
+use Rattle.ir_read.specs.Lawful.{Broad, IsBound, UpTo, ends}
+use Rattle.ir_read.specs.Readers.{Reader, done, ended, fault_at, follow, ◌>>=◌, pick, whole_of}
+use Rattle.ir_read.specs.declared.fault.Fault.{Fault}
+use Rattle.ir_read.specs.declared.fault.FaultKind.TheVariants.{Syntax, Profile, Number, Limit}
+use Rattle.ir_read.specs.declared.fault.FaultKind.{FaultKind}
 use Rattle.ir_heads.specs.AttributesAt.{HEAD}
 use Rattle.ir_read.specs.Classes.{tokens, refusal}
 use Rattle.ir_heads.specs.FunctionHeads.{NUMBERED, name_refusal}

@@ -6,7 +6,7 @@ use Rattle.ir_lex.specs.Tok.{Tok}
 use Rattle.ir_lex.specs.declared.head.Head.TheVariants as heads
 use Rattle.ir_tree.specs.declared.operand.Reg.TheVariants.{Int, Ptr}
 use Rattle.ir_tree.specs.declared.operand.Reg.{Reg}
-use Rattle.lto_forms.specs.Alphabet.{among}
+use Rattle.ir_read.specs.Alphabet.{among}
 use Rattle.ir_read.specs.Classes.{tokens}
 use Rattle.ir_read.specs.Operands.{INTEGER, REG, SCALAR, RESULT, LOCAL, NUMBER_OPERAND, POINTER_OPERAND, width, reg_of, is_bit, result_of, reg, integer, bit, scalar, result, named, local, operand_of, simple, maybe}
 use Rattle.ir_read.specs.OperandsAt.{reg_at, integer_at, bit_at, scalar_at, result_at, local_at, simple_at, maybe_at}

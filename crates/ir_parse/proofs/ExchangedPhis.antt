@@ -3,8 +3,8 @@ use Rattle.std.proofs.Common.{Bool, true, false, Option, [], refl}
 use Rattle.ir_lex.specs.Heads.{number}
 use Rattle.ir_lex.specs.declared.head.Head.TheVariants as heads
 use Rattle.ir_tree.specs.declared.operand.Reg.{Reg}
-use Rattle.lto_forms.specs.Chained.{Chain, chain_at}
-use Rattle.lto_forms.specs.Rules.{is_class}
+use Rattle.ir_read.specs.Chained.{Chain, chain_at}
+use Rattle.ir_read.specs.Rules.{is_class}
 use Rattle.ir_read.specs.Classes.{tokens, refusal}
 use Rattle.ir_read.specs.Metadata.{META}
 use Rattle.ir_read.specs.MetadataAt.{COMMA}

@@ -5,18 +5,18 @@ use Rattle.std.specs.Prelude.{codes}
 use Rattle.ir_lex.specs.Heads.{number}
 use Rattle.ir_lex.specs.Tok.{Tok}
 use Rattle.ir_lex.specs.declared.head.Head.TheVariants as heads
-use Rattle.lto_forms.specs.Alphabet.{among}
-use Rattle.lto_forms.specs.Chained.{Chain, chain_at}
-use Rattle.lto_forms.proofs.Composed.{cons_is}
-use Rattle.lto_forms.specs.Alphabet.{AllReal}
-use Rattle.lto_forms.specs.Forms as form
-use Rattle.lto_forms.specs.Forms.{Form}
-use Rattle.lto_forms.specs.Lawful.{IsBound, ends}
-use Rattle.lto_forms.specs.Readers.{Reader, fault_at, follow, ◌>>=◌, token_means}
-use Rattle.lto_forms.specs.Rules.{in_range, is_class, is_valued}
-use Rattle.lto_forms.specs.declared.fault.FaultKind.TheVariants.{Number, Limit, Profile}
-use Rattle.lto_forms.specs.declared.fault.Fault.{Fault}
-use Rattle.lto_forms.specs.declared.fault.FaultKind.{FaultKind}
+use Rattle.ir_read.specs.Alphabet.{among}
+use Rattle.ir_read.specs.Chained.{Chain, chain_at}
+use Rattle.ir_read.proofs.Composed.{cons_is}
+use Rattle.ir_read.specs.Alphabet.{AllReal}
+use Rattle.ir_read.specs.Forms as form
+use Rattle.ir_read.specs.Forms.{Form}
+use Rattle.ir_read.specs.Lawful.{IsBound, ends}
+use Rattle.ir_read.specs.Readers.{Reader, fault_at, follow, ◌>>=◌, token_means}
+use Rattle.ir_read.specs.Rules.{in_range, is_class, is_valued}
+use Rattle.ir_read.specs.declared.fault.FaultKind.TheVariants.{Number, Limit, Profile}
+use Rattle.ir_read.specs.declared.fault.Fault.{Fault}
+use Rattle.ir_read.specs.declared.fault.FaultKind.{FaultKind}
 use Rattle.ir_lex.specs.declared.head.Head.{Head}
 use Rattle.ir_read.specs.Ahead.{BRACKETS}
 use Rattle.ir_read.specs.Classes.{tokens, IsReal, refusal, the, the_at}

@@ -10,13 +10,13 @@ use Rattle.ir_lex.specs.Tok.{Tok}
 use Rattle.ir_lex.specs.declared.head.Head.TheVariants as heads
 use Rattle.ir_lex.specs.declared.head.Head.{Head}
 use Rattle.ir_lex.specs.declared.token.Kind.TheVariants as kinds
-use Rattle.lto_forms.specs.Alphabet.{among, contains}
-use Rattle.lto_forms.specs.Forms as form
-use Rattle.lto_forms.specs.Lawful.{IsBound}
-use Rattle.lto_forms.specs.Readers.{token_at}
-use Rattle.lto_forms.specs.Rules.{is_class, disjoint}
-use Rattle.lto_forms.specs.declared.fault.FaultKind.TheVariants.{Profile}
-use Rattle.lto_forms.specs.declared.fault.FaultKind.{FaultKind}
+use Rattle.ir_read.specs.Alphabet.{among, contains}
+use Rattle.ir_read.specs.Forms as form
+use Rattle.ir_read.specs.Lawful.{IsBound}
+use Rattle.ir_read.specs.Readers.{token_at}
+use Rattle.ir_read.specs.Rules.{is_class, disjoint}
+use Rattle.ir_read.specs.declared.fault.FaultKind.TheVariants.{Profile}
+use Rattle.ir_read.specs.declared.fault.FaultKind.{FaultKind}
 use Rattle.ir_read.specs.Classes.{tokens, IsReal, refusal, the, the_at, one_of, one_of_at, itself}
 use Rattle.ir_read.specs.Operands.{REG}
 use Rattle.ir_heads.specs.Targets.{STRING, fits_item, has_64_bits, fits_layout, is_layout, layout_line, triple_line, target_line, source_line, comdat_line}

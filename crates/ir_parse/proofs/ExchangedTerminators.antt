@@ -10,9 +10,9 @@ use Rattle.ir_lex.specs.Tok.{Tok}
 use Rattle.ir_lex.specs.declared.head.Head.TheVariants as heads
 use Rattle.ir_tree.specs.declared.operand.Reg.TheVariants.{Int, Ptr}
 use Rattle.ir_tree.specs.declared.operand.Reg.{Reg}
-use Rattle.lto_forms.specs.Readers.{Reader, fault_at, follow, ◌>>=◌}
-use Rattle.lto_forms.specs.declared.fault.Fault.{Fault}
-use Rattle.lto_forms.specs.declared.fault.FaultKind.TheVariants.{Syntax}
+use Rattle.ir_read.specs.Readers.{Reader, fault_at, follow, ◌>>=◌}
+use Rattle.ir_read.specs.declared.fault.Fault.{Fault}
+use Rattle.ir_read.specs.declared.fault.FaultKind.TheVariants.{Syntax}
 use Rattle.ir_read.specs.Classes.{IsReal}
 use Rattle.ir_read.specs.Operands.{reg_of}
 use Rattle.ir_read.specs.OperandsAt.{reg_at}

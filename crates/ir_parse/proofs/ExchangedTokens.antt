@@ -9,15 +9,15 @@ use Rattle.ir_lex.specs.Rows.{best_fit, rest_fit, label_len, number_len, word_le
 use Rattle.ir_lex.specs.Tok.{Tok}
 use Rattle.ir_lex.specs.declared.head.Head.TheVariants as heads
 use Rattle.ir_lex.specs.declared.head.Head.{Head}
-use Rattle.lto_forms.proofs.Rules.{within_of}
-use Rattle.lto_forms.specs.Alphabet.{among, contains}
-use Rattle.lto_forms.specs.Forms as form
-use Rattle.lto_forms.specs.Forms.{Form}
-use Rattle.lto_forms.specs.Lawful.{IsBound}
-use Rattle.lto_forms.specs.Readers.{token_at, Reader, fault_at, follow, ◌>>=◌, token_means}
-use Rattle.lto_forms.specs.Rules.{Rule, disjoint, in_range, is_among, is_class, is_exact, is_valued}
-use Rattle.lto_forms.specs.declared.fault.FaultKind.TheVariants.{Syntax, Profile, Number, Limit}
-use Rattle.lto_forms.specs.declared.fault.FaultKind.{FaultKind}
+use Rattle.ir_read.proofs.Rules.{within_of}
+use Rattle.ir_read.specs.Alphabet.{among, contains}
+use Rattle.ir_read.specs.Forms as form
+use Rattle.ir_read.specs.Forms.{Form}
+use Rattle.ir_read.specs.Lawful.{IsBound}
+use Rattle.ir_read.specs.Readers.{token_at, Reader, fault_at, follow, ◌>>=◌, token_means}
+use Rattle.ir_read.specs.Rules.{Rule, disjoint, in_range, is_among, is_class, is_exact, is_valued}
+use Rattle.ir_read.specs.declared.fault.FaultKind.TheVariants.{Syntax, Profile, Number, Limit}
+use Rattle.ir_read.specs.declared.fault.FaultKind.{FaultKind}
 use Rattle.ir_read.specs.Classes.{tokens, IsReal, refusal, the, the_at, one_of, one_of_at}
 use Rattle.ir_heads.specs.FunctionHeads.{name_refusal}
 use Rattle.ir_read.specs.Operands.{REG, memory_refusal, type_refusal}

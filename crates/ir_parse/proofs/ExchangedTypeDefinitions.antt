@@ -7,7 +7,7 @@ use Rattle.ir_lex.specs.Lexing.{is_bad}
 use Rattle.ir_lex.specs.Quotes.{is_zero_name}
 use Rattle.ir_lex.specs.Rows.{best_fit, rest_fit, label_len, number_len, word_len, name_len, meta_len, dots_len, other_len, string_len}
 use Rattle.ir_lex.specs.declared.head.Head.TheVariants as heads
-use Rattle.lto_forms.specs.Rules.{is_class}
+use Rattle.ir_read.specs.Rules.{is_class}
 use Rattle.ir_read.specs.Classes.{IsReal, the, the_at}
 use Rattle.ir_operands.specs.ShapeForms.{any_shape}
 use Rattle.ir_read.proofs.Singles.{word, the_rule}

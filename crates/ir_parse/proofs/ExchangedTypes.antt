@@ -5,14 +5,14 @@ use Rattle.ir_lex.specs.Heads.{number}
 use Rattle.ir_lex.specs.Tok.{Tok}
 use Rattle.ir_lex.specs.declared.head.Head.TheVariants as heads
 use Rattle.ir_lex.specs.declared.head.Head.{Head}
-use Rattle.lto_forms.specs.Alphabet.{among, contains}
-use Rattle.lto_forms.specs.Forms as form
-use Rattle.lto_forms.specs.Forms.{Form, Star}
-use Rattle.lto_forms.specs.Readers.{Reader, done, fault_at, follow, ◌>>=◌, token_means, token_at, pick, many_at, star_at}
-use Rattle.lto_forms.specs.Rules.{is_among, is_class}
-use Rattle.lto_forms.specs.declared.fault.Fault.{Fault}
-use Rattle.lto_forms.specs.declared.fault.FaultKind.TheVariants.{Profile}
-use Rattle.lto_forms.specs.declared.fault.FaultKind.{FaultKind}
+use Rattle.ir_read.specs.Alphabet.{among, contains}
+use Rattle.ir_read.specs.Forms as form
+use Rattle.ir_read.specs.Forms.{Form, Star}
+use Rattle.ir_read.specs.Readers.{Reader, done, fault_at, follow, ◌>>=◌, token_means, token_at, pick, many_at, star_at}
+use Rattle.ir_read.specs.Rules.{is_among, is_class}
+use Rattle.ir_read.specs.declared.fault.Fault.{Fault}
+use Rattle.ir_read.specs.declared.fault.FaultKind.TheVariants.{Profile}
+use Rattle.ir_read.specs.declared.fault.FaultKind.{FaultKind}
 use Rattle.ir_read.specs.Classes.{tokens, refusal, the, the_at}
 use Rattle.ir_read.specs.Operands.{REFUSED_TYPES, REG, type_refusal}
 use Rattle.ir_parse.specs.Refusals.{WORD}

@@ -8,9 +8,9 @@ use Rattle.ir_lex.specs.Quotes.{is_zero_name}
 use Rattle.ir_lex.specs.Rows.{best_fit, rest_fit, label_len, number_len, word_len, name_len, meta_len, dots_len, other_len, string_len}
 use Rattle.ir_lex.specs.declared.head.Head.TheVariants as heads
 use Rattle.ir_tree.specs.declared.operand.Reg.{Reg}
-use Rattle.lto_forms.proofs.Rules as rules
-use Rattle.lto_forms.specs.Forms.{Star}
-use Rattle.lto_forms.specs.Rules.{is_class}
+use Rattle.ir_read.proofs.Rules as rules
+use Rattle.ir_read.specs.Forms.{Star}
+use Rattle.ir_read.specs.Rules.{is_class}
 use Rattle.ir_read.specs.Ahead.{STEPPING}
 use Rattle.ir_read.specs.Classes.{tokens, IsReal, the, the_at, one_of, one_of_at}
 use Rattle.ir_read.specs.MetadataAt.{COMMA}

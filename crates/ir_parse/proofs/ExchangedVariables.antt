@@ -11,12 +11,12 @@ use Rattle.ir_lex.specs.declared.head.Head.TheVariants as heads
 use Rattle.ir_lex.specs.declared.token.Kind.TheVariants as kinds
 use Rattle.ir_tree.specs.declared.function.Linkage.{Linkage}
 use Rattle.ir_tree.specs.declared.operand.Reg.{Reg}
-use Rattle.lto_forms.specs.Alphabet.{among}
-use Rattle.lto_forms.specs.Forms as form
-use Rattle.lto_forms.specs.Readers as reader
-use Rattle.lto_forms.specs.Readers.{pick}
-use Rattle.lto_forms.specs.Rules.{in_range, is_among, is_class, is_valued}
-use Rattle.lto_forms.specs.declared.fault.FaultKind.{FaultKind}
+use Rattle.ir_read.specs.Alphabet.{among}
+use Rattle.ir_read.specs.Forms as form
+use Rattle.ir_read.specs.Readers as reader
+use Rattle.ir_read.specs.Readers.{pick}
+use Rattle.ir_read.specs.Rules.{in_range, is_among, is_class, is_valued}
+use Rattle.ir_read.specs.declared.fault.FaultKind.{FaultKind}
 use Rattle.ir_read.specs.Classes.{tokens, IsReal, the, the_at, one_of, one_of_at}
 use Rattle.ir_heads.specs.FunctionHeads.{LINKAGES, linkage_word, QUALIFIERS, nothing_of, name_refusal}
 use Rattle.ir_instructions.specs.InstructionsAt.{ALIGN}

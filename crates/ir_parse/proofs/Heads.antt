@@ -5,7 +5,7 @@ use Rattle.std.specs.Prelude.{IfSome}
 use Rattle.ir_lex.specs.Heads.{number}
 use Rattle.ir_lex.specs.declared.head.Head as class
 use Rattle.ir_lex.specs.declared.head.Head.TheVariants as heads
-use Rattle.lto_forms.specs.Alphabet.{contains}
+use Rattle.ir_read.specs.Alphabet.{contains}
 use Rattle.ir_heads.specs.FunctionHeads.{further_param, head, leading, linkage_by, linkages_of, linking, listed_params, param, params, prefix, qualifying, some_params, with_linkage}
 use Rattle.ir_heads.specs.declared.function_heads.Role.{Role}
 use Rattle.ir_heads.specs.declared.function_heads.Role.TheVariants as roles

@@ -8,7 +8,7 @@ use Rattle.ir_parse.specs.Modules.{FURTHER_PARAMETERS, GLOBAL_NAMES, whole_modul
 use Rattle.ir_lex.specs.Heads.{number}
 use Rattle.ir_lex.specs.Tok.{Tok}
 use Rattle.ir_lex.specs.declared.head.Head.TheVariants as heads
-use Rattle.lto_forms.specs.Forms.{Form}
+use Rattle.ir_read.specs.Forms.{Form}
 use Rattle.ir_heads.specs.Attributes.{attribute_group}
 use Rattle.ir_operands.specs.ShapeForms.{memory_shape}
 use Rattle.ir_heads.specs.Targets.{layout_line, target_line, triple_line}

@@ -2,14 +2,14 @@
 use Rattle.std.proofs.Common.{◌≡◌, ◌<◌, ℕ, suc, Bool, true, false, not, Option, List, [], ◌∷◌, length, Result, Ok, refl, sym, ap, ◌∙◌}
 use Rattle.std.specs.List.{fold}
 use Rattle.ir_lex.specs.Tok.{Tok}
-use Rattle.lto_forms.specs.Chained.{stops_here, chain_within, chain_at}
-use Rattle.lto_forms.specs.declared.fault.Fault.{Fault}
-use Rattle.lto_forms.specs.declared.fault.ReadError.{ReadError}
-use Rattle.lto_forms.specs.declared.fault.ReadError.TheVariants as errors
-use Rattle.lto_forms.specs.Readers.{Reader, Fails, done, follow, ◌>>=◌, folded, next_is}
-use Rattle.lto_forms.specs.Alphabet.{among}
-use Rattle.lto_forms.proofs.ChainLoops.{chain_on}
-use Rattle.lto_forms.proofs.Stars.{takes, folded_is}
+use Rattle.ir_read.specs.Chained.{stops_here, chain_within, chain_at}
+use Rattle.ir_read.specs.declared.fault.Fault.{Fault}
+use Rattle.ir_read.specs.declared.fault.ReadError.{ReadError}
+use Rattle.ir_read.specs.declared.fault.ReadError.TheVariants as errors
+use Rattle.ir_read.specs.Readers.{Reader, Fails, done, follow, ◌>>=◌, folded, next_is}
+use Rattle.ir_read.specs.Alphabet.{among}
+use Rattle.ir_read.proofs.ChainLoops.{chain_on}
+use Rattle.ir_read.proofs.Stars.{takes, folded_is}
 use Rattle.ir_read.specs.Classes.{tokens}
 use Rattle.ir_read.specs.declared.places.Position.{Position}
 use Rattle.ir_read.specs.declared.raw.Item.{Item}

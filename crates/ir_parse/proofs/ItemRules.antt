@@ -8,16 +8,16 @@ use Rattle.ir_lex.specs.Lexing.{is_bad}
 use Rattle.ir_lex.specs.Quotes.{is_zero_name}
 use Rattle.ir_lex.specs.Tok.{Tok}
 use Rattle.ir_lex.specs.Rows.{best_fit, rest_fit, label_len, number_len, word_len, name_len, meta_len, dots_len, other_len, string_len}
-use Rattle.lto_forms.specs.Alphabet.{among, contains}
-use Rattle.lto_forms.specs.Chained.{Chain, chain_at}
-use Rattle.lto_forms.specs.Forms as form
-use Rattle.lto_forms.specs.declared.fault.FaultKind.TheVariants.{Limit}
-use Rattle.lto_forms.specs.Readers.{fault_at, pick}
-use Rattle.lto_forms.specs.Rules.{Rule, Opens, is_class, disjoint, subset}
-use Rattle.lto_forms.proofs.Chains.{chain_lawful}
-use Rattle.lto_forms.proofs.Composed.{Begun, same_form, widened}
-use Rattle.lto_forms.proofs.Rules as rules
-use Rattle.lto_forms.proofs.Rules.{apart_from, contains-append, within_of}
+use Rattle.ir_read.specs.Alphabet.{among, contains}
+use Rattle.ir_read.specs.Chained.{Chain, chain_at}
+use Rattle.ir_read.specs.Forms as form
+use Rattle.ir_read.specs.declared.fault.FaultKind.TheVariants.{Limit}
+use Rattle.ir_read.specs.Readers.{fault_at, pick}
+use Rattle.ir_read.specs.Rules.{Rule, Opens, is_class, disjoint, subset}
+use Rattle.ir_read.proofs.Chains.{chain_lawful}
+use Rattle.ir_read.proofs.Composed.{Begun, same_form, widened}
+use Rattle.ir_read.proofs.Rules as rules
+use Rattle.ir_read.proofs.Rules.{apart_from, contains-append, within_of}
 use Rattle.ir_bodies.specs.Blocks.{any_definition}
 use Rattle.ir_bodies.specs.BlocksAt.{DEFINE}
 use Rattle.ir_bodies.proofs.BlockRules.{definition_rule, definition_opens}

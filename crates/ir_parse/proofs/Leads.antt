@@ -3,16 +3,16 @@
 use Rattle.std.proofs.Common.{◌≡◌, ℕ, zero, suc, ◌<◌, Bool, true, false, ◌&&◌, not, List, [], ◌∷◌, ◌++◌, length, Result, refl, sym, ap, subst, append_assoc, arith, inl, inr}
 use Rattle.std.proofs.lemmas.List.{length-append}
 use Rattle.ir_lex.specs.Tok.{Tok}
-use Rattle.lto_forms.specs.Alphabet.{among}
-use Rattle.lto_forms.specs.Chained.{Chain, chain_within}
-use Rattle.lto_forms.specs.Forms.{Form, Star}
-use Rattle.lto_forms.specs.Lawful.{Broad, Stops, UpTo}
-use Rattle.lto_forms.specs.Readers.{Reader, done, fault_at, follow, ◌>>=◌, many_at, next_is, pick}
-use Rattle.lto_forms.specs.Rules.{Rule, disjoint, subset}
-use Rattle.lto_forms.specs.declared.fault.Fault.{Fault}
-use Rattle.lto_forms.specs.declared.fault.FaultKind.TheVariants.{Syntax, Limit}
-use Rattle.lto_forms.proofs.Composed.{bounded_too, follow_up, limit_up}
-use Rattle.lto_forms.proofs.Rules.{apart_from, within_of}
+use Rattle.ir_read.specs.Alphabet.{among}
+use Rattle.ir_read.specs.Chained.{Chain, chain_within}
+use Rattle.ir_read.specs.Forms.{Form, Star}
+use Rattle.ir_read.specs.Lawful.{Broad, Stops, UpTo}
+use Rattle.ir_read.specs.Readers.{Reader, done, fault_at, follow, ◌>>=◌, many_at, next_is, pick}
+use Rattle.ir_read.specs.Rules.{Rule, disjoint, subset}
+use Rattle.ir_read.specs.declared.fault.Fault.{Fault}
+use Rattle.ir_read.specs.declared.fault.FaultKind.TheVariants.{Syntax, Limit}
+use Rattle.ir_read.proofs.Composed.{bounded_too, follow_up, limit_up}
+use Rattle.ir_read.proofs.Rules.{apart_from, within_of}
 use Rattle.ir_read.specs.Classes.{tokens}
 use Rattle.ir_bodies.specs.CallsAt.{MARKER}
 use Rattle.ir_bodies.specs.Successive.{successive_at}

@@ -10,8 +10,8 @@ use Rattle.ir_lex.specs.Heads.{number}
 use Rattle.ir_lex.specs.Tok.{Tok}
 use Rattle.ir_lex.specs.declared.head.Head.{Head}
 use Rattle.ir_lex.specs.declared.head.Head.TheVariants as heads
-use Rattle.lto_forms.specs.Alphabet.{contains}
-use Rattle.lto_forms.specs.Forms.{Form}
+use Rattle.ir_read.specs.Alphabet.{contains}
+use Rattle.ir_read.specs.Forms.{Form}
 use Rattle.ir_instructions.specs.Addressing.{slots_fit}
 use Rattle.ir_instructions.specs.Instructions.{flags, no_flags, storing}
 use Rattle.ir_operands.specs.ShapeForms.{memory_shape}

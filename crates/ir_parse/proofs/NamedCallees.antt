@@ -9,17 +9,17 @@ use Rattle.ir_lex.specs.declared.head.Head.TheVariants as heads
 use Rattle.ir_lex.specs.declared.token.Kind.TheVariants as kinds
 use Rattle.ir_lex.specs.declared.head.Head.{Head}
 use Rattle.ir_tree.specs.declared.operand.Reg.TheVariants.{Ptr}
-use Rattle.lto_forms.proofs.Composed.{limit_up, with_wide, wrong, wrong_is}
-use Rattle.lto_forms.proofs.Rules as rules
-use Rattle.lto_forms.specs.Alphabet.{among, contains}
-use Rattle.lto_forms.specs.Chained.{chain_at, chain_within}
-use Rattle.lto_forms.specs.Forms as form
-use Rattle.lto_forms.specs.Lawful.{IsBound, UpTo}
-use Rattle.lto_forms.specs.Readers.{Reader, done, fault_at, ◌>>=◌, pick, token_means, whole_of}
-use Rattle.lto_forms.specs.Rules.{Rule, disjoint, in_range, is_among, is_class, is_valued, subset}
-use Rattle.lto_forms.specs.declared.fault.Fault.{Fault}
-use Rattle.lto_forms.specs.declared.fault.FaultKind.TheVariants.{Syntax, Profile, Limit}
-use Rattle.lto_forms.specs.declared.fault.FaultKind.{FaultKind}
+use Rattle.ir_read.proofs.Composed.{limit_up, with_wide, wrong, wrong_is}
+use Rattle.ir_read.proofs.Rules as rules
+use Rattle.ir_read.specs.Alphabet.{among, contains}
+use Rattle.ir_read.specs.Chained.{chain_at, chain_within}
+use Rattle.ir_read.specs.Forms as form
+use Rattle.ir_read.specs.Lawful.{IsBound, UpTo}
+use Rattle.ir_read.specs.Readers.{Reader, done, fault_at, ◌>>=◌, pick, token_means, whole_of}
+use Rattle.ir_read.specs.Rules.{Rule, disjoint, in_range, is_among, is_class, is_valued, subset}
+use Rattle.ir_read.specs.declared.fault.Fault.{Fault}
+use Rattle.ir_read.specs.declared.fault.FaultKind.TheVariants.{Syntax, Profile, Limit}
+use Rattle.ir_read.specs.declared.fault.FaultKind.{FaultKind}
 use Rattle.ir_instructions.specs.Addressing.{any_slots}
 use Rattle.ir_heads.specs.AttributesAt.{definition_attributes_at}
 use Rattle.ir_read.specs.Classes.{NUMERALS, itself, one_of, one_of_at, refusal, the, tokens}

@@ -5,8 +5,8 @@ use Rattle.ir_lex.specs.Heads.{number, width_of}
 use Rattle.ir_lex.specs.Tok.{Tok}
 use Rattle.ir_lex.specs.declared.head.Head.{Head}
 use Rattle.ir_lex.specs.declared.head.Head.TheVariants as heads
-use Rattle.lto_forms.specs.Alphabet.{contains}
-use Rattle.lto_forms.specs.Forms.{Form}
+use Rattle.ir_read.specs.Alphabet.{contains}
+use Rattle.ir_read.specs.Forms.{Form}
 use Rattle.ir_read.specs.Literals.{literal}
 use Rattle.ir_read.proofs.LiteralRange.{literal_fits}
 use Rattle.ir_read.specs.Operands.{SCALAR, bit, bits_of, integer, named, operand_by, reg, reg_of, result, result_of, scalar, simple, width}

@@ -5,9 +5,9 @@ use Rattle.std.proofs.lemmas.Bool.{and_parts}
 use Rattle.ir_lex.specs.Heads.{number}
 use Rattle.ir_lex.specs.Tok.{Tok}
 use Rattle.ir_lex.specs.declared.head.Head.TheVariants as heads
-use Rattle.lto_forms.specs.Alphabet.{contains}
-use Rattle.lto_forms.specs.Forms.{Form}
-use Rattle.lto_forms.specs.Rules.{in_range, is_valued}
+use Rattle.ir_read.specs.Alphabet.{contains}
+use Rattle.ir_read.specs.Forms.{Form}
+use Rattle.ir_read.specs.Rules.{in_range, is_valued}
 use Rattle.ir_read.specs.Classes.{tokens}
 use Rattle.ir_operands.specs.Extents.{extent_of, grown, left, no_bytes, shared, whole}
 use Rattle.ir_read.specs.Operands.{LOCAL, SCALAR, memory_refusal, named, width}

@@ -4,14 +4,14 @@ use Rattle.std.proofs.lemmas.List.{append-nil, length-append, length-map, drop-m
 use Rattle.ir_lex.specs.Heads.{number}
 use Rattle.ir_lex.specs.Tok.{Tok, tok, toks}
 use Rattle.ir_lex.specs.declared.token.Token.{Token}
-use Rattle.lto_forms.specs.Alphabet.{among}
-use Rattle.lto_forms.specs.Faults.{Dead, Extends, StopsAt}
-use Rattle.lto_forms.specs.Lawful.{Lawful}
-use Rattle.lto_forms.specs.Readers.{Reader}
-use Rattle.lto_forms.specs.declared.fault.Fault.{Fault}
-use Rattle.lto_forms.specs.declared.fault.FaultKind.TheVariants.{Number}
-use Rattle.lto_forms.proofs.Composed.{cut_is}
-use Rattle.lto_forms.proofs.Whole as whole
+use Rattle.ir_read.specs.Alphabet.{among}
+use Rattle.ir_read.specs.Faults.{Dead, Extends, StopsAt}
+use Rattle.ir_read.specs.Lawful.{Lawful}
+use Rattle.ir_read.specs.Readers.{Reader}
+use Rattle.ir_read.specs.declared.fault.Fault.{Fault}
+use Rattle.ir_read.specs.declared.fault.FaultKind.TheVariants.{Number}
+use Rattle.ir_read.proofs.Composed.{cut_is}
+use Rattle.ir_read.proofs.Whole as whole
 use Rattle.ir_read.specs.Classes.{tokens}
 use Rattle.ir_read.specs.declared.raw.Item.{Item}
 use Rattle.ir_heads.proofs.FunctionHeadRules.{name_not_number}

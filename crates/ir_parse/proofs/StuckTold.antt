@@ -3,14 +3,14 @@ use Rattle.std.proofs.Common.{◌≡◌, ℕ, Bool, true, false, cond, ◌||◌,
 use Rattle.ir_lex.specs.Heads.{number}
 use Rattle.ir_lex.specs.Tok.{Tok}
 use Rattle.ir_lex.specs.declared.head.Head.TheVariants as heads
-use Rattle.lto_forms.specs.Alphabet.{among, contains, is_literal}
-use Rattle.lto_forms.specs.Faults as faults
-use Rattle.lto_forms.specs.Faults.{FitsBound, FitsKind}
-use Rattle.lto_forms.specs.declared.fault.Fault.{Fault}
-use Rattle.lto_forms.specs.declared.fault.FaultKind.{FaultKind}
-use Rattle.lto_forms.specs.declared.fault.FaultKind.TheVariants.{Syntax, Profile, Number, Limit}
-use Rattle.lto_forms.proofs.Composed.{cons_is, cut_is, wrong}
-use Rattle.lto_forms.proofs.Rules.{apart_from}
+use Rattle.ir_read.specs.Alphabet.{among, contains, is_literal}
+use Rattle.ir_read.specs.Faults as faults
+use Rattle.ir_read.specs.Faults.{FitsBound, FitsKind}
+use Rattle.ir_read.specs.declared.fault.Fault.{Fault}
+use Rattle.ir_read.specs.declared.fault.FaultKind.{FaultKind}
+use Rattle.ir_read.specs.declared.fault.FaultKind.TheVariants.{Syntax, Profile, Number, Limit}
+use Rattle.ir_read.proofs.Composed.{cons_is, cut_is, wrong}
+use Rattle.ir_read.proofs.Rules.{apart_from}
 use Rattle.ir_read.specs.Classes.{tokens}
 use Rattle.ir_heads.specs.FunctionHeads.{NUMBERED}
 use Rattle.ir_heads.specs.Targets.{STRING}

@@ -6,18 +6,18 @@ use Rattle.ir_lex.specs.declared.head.Head.{Head}
 use Rattle.ir_lex.specs.Heads.{number}
 use Rattle.ir_lex.specs.Rows.{begins as begins_by}
 use Rattle.ir_lex.specs.Tok.{Tok}
-use Rattle.lto_forms.specs.declared.fault.Fault.{Fault}
-use Rattle.lto_forms.specs.declared.fault.FaultKind.{FaultKind}
-use Rattle.lto_forms.specs.declared.fault.FaultKind.TheVariants.{Syntax, Profile, Number, Limit}
-use Rattle.lto_forms.specs.Alphabet.{among, contains}
-use Rattle.lto_forms.specs.Balanced.{Brackets, Move, opens, closes, stays, moved, none_open}
-use Rattle.lto_forms.specs.Balanced as balanced
-use Rattle.lto_forms.specs.Chained.{stops_here, chain_within, chain_at}
-use Rattle.lto_forms.specs.Forms.{Form}
-use Rattle.lto_forms.specs.Readers.{Reader, fault_at, done, follow, ◌>>=◌, token_means, token_at, pick, many_at, star_at, optional_at}
-use Rattle.lto_forms.specs.Rules.{Rule, disjoint, subset, in_range, is_class, is_among, is_exact, is_valued}
-use Rattle.lto_forms.specs.Runs.{Step, bad, last, onward, run_at}
-use Rattle.lto_forms.proofs.Rules.{apart_from, within_of}
+use Rattle.ir_read.specs.declared.fault.Fault.{Fault}
+use Rattle.ir_read.specs.declared.fault.FaultKind.{FaultKind}
+use Rattle.ir_read.specs.declared.fault.FaultKind.TheVariants.{Syntax, Profile, Number, Limit}
+use Rattle.ir_read.specs.Alphabet.{among, contains}
+use Rattle.ir_read.specs.Balanced.{Brackets, Move, opens, closes, stays, moved, none_open}
+use Rattle.ir_read.specs.Balanced as balanced
+use Rattle.ir_read.specs.Chained.{stops_here, chain_within, chain_at}
+use Rattle.ir_read.specs.Forms.{Form}
+use Rattle.ir_read.specs.Readers.{Reader, fault_at, done, follow, ◌>>=◌, token_means, token_at, pick, many_at, star_at, optional_at}
+use Rattle.ir_read.specs.Rules.{Rule, disjoint, subset, in_range, is_class, is_among, is_exact, is_valued}
+use Rattle.ir_read.specs.Runs.{Step, bad, last, onward, run_at}
+use Rattle.ir_read.proofs.Rules.{apart_from, within_of}
 use Rattle.ir_read.specs.Brackets.{brackets, opening, move_of, group_at}
 use Rattle.ir_read.specs.Classes.{tokens, REFUSED, refusal, the_at, one_of_at}
 use Rattle.ir_read.specs.Decimals.{ALIGNMENTS, alignment_of, decimal, is_alignment}

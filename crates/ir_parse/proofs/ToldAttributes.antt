@@ -2,7 +2,7 @@
 use Rattle.ir_parse.proofs.Told.{Tells, takes_of, seq, nothing, alt, star, maybe, single, valued, any, the_told, one_told, refusal_refuses, group_told, is_alignment_allowed}
 use Rattle.std.specs.Prelude.{ℕ, List}
 use Rattle.ir_lex.specs.declared.head.Head.TheVariants as heads
-use Rattle.lto_forms.specs.Alphabet.{among}
+use Rattle.ir_read.specs.Alphabet.{among}
 use Rattle.ir_heads.specs.Attributes.{WORDS, CALL_WORDS, GROUP_WORDS, GROUP, word_kept}
 use Rattle.ir_read.specs.Classes.{tokens, refusal}
 use Rattle.ir_read.specs.Decimals.{is_alignment}

@@ -3,7 +3,7 @@ use Rattle.ir_parse.proofs.Told.{Tells, seq, nothing, alt, barred, many, valued,
 use Rattle.std.specs.Prelude.{ℕ, Option, Some, None}
 use Rattle.ir_lex.specs.declared.head.Head.TheVariants as heads
 use Rattle.ir_lex.specs.Tok.{Tok}
-use Rattle.lto_forms.specs.Alphabet.{among}
+use Rattle.ir_read.specs.Alphabet.{among}
 use Rattle.ir_parse.proofs.ToldAttributes.{definition_attributes_told}
 use Rattle.ir_read.specs.Classes.{tokens, refusal}
 use Rattle.ir_heads.specs.declared.function_heads.Role.TheVariants as roles

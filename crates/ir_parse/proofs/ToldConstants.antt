@@ -2,7 +2,7 @@
 use Rattle.ir_parse.proofs.Told.{Tells, seq, nothing, alt, valued, refusal_refuses}
 use Rattle.std.specs.Prelude.{Option}
 use Rattle.ir_tree.specs.declared.operand.Reg.{Reg}
-use Rattle.lto_forms.specs.Alphabet.{among}
+use Rattle.ir_read.specs.Alphabet.{among}
 use Rattle.ir_read.specs.Classes.{tokens, refusal}
 use Rattle.ir_operands.specs.ValuesAt.{ADDRESS}
 use Rattle.ir_parse.proofs.ToldValues.{address_told}

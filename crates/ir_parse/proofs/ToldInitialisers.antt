@@ -5,7 +5,7 @@ use Rattle.ir_lex.specs.declared.head.Head.{Head}
 use Rattle.ir_lex.specs.declared.head.Head.TheVariants as heads
 use Rattle.ir_lex.specs.Heads.{number}
 use Rattle.ir_tree.specs.declared.operand.Reg.{Reg}
-use Rattle.lto_forms.specs.Alphabet.{among}
+use Rattle.ir_read.specs.Alphabet.{among}
 use Rattle.ir_read.specs.Ahead.{BRACKETS}
 use Rattle.ir_read.specs.Classes.{tokens}
 use Rattle.ir_read.specs.declared.raw.InitHead.TheVariants as inits

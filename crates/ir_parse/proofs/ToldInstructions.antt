@@ -8,7 +8,7 @@ use Rattle.ir_tree.specs.declared.instr.CastOp.{CastOp}
 use Rattle.ir_tree.specs.declared.instr.Flags.{Flags}
 use Rattle.ir_tree.specs.declared.operand.Reg.{Reg}
 use Rattle.ir_tree.specs.declared.operand.Reg.TheVariants.{Int, Ptr}
-use Rattle.lto_forms.specs.Alphabet.{among}
+use Rattle.ir_read.specs.Alphabet.{among}
 use Rattle.ir_read.specs.Ahead.{WRAPS}
 use Rattle.ir_read.specs.Classes.{tokens}
 use Rattle.ir_read.specs.Decimals.{is_alignment}

@@ -3,9 +3,9 @@ use Rattle.ir_parse.proofs.Told.{Tells, takes_of, seq, nothing, alt, barred, sta
 use Rattle.std.specs.Prelude.{ℕ, Bool, nat_eq}
 use Rattle.ir_lex.specs.declared.head.Head.TheVariants as heads
 use Rattle.ir_lex.specs.Tok.{Tok}
-use Rattle.lto_forms.specs.Alphabet.{among}
-use Rattle.lto_forms.specs.declared.fault.FaultKind.TheVariants.{Limit}
-use Rattle.lto_forms.specs.Readers.{Reader, fault_at, pick}
+use Rattle.ir_read.specs.Alphabet.{among}
+use Rattle.ir_read.specs.declared.fault.FaultKind.TheVariants.{Limit}
+use Rattle.ir_read.specs.Readers.{Reader, fault_at, pick}
 use Rattle.ir_bodies.specs.BlocksAt.{definition_at}
 use Rattle.ir_parse.proofs.ToldBlocks.{definition_told}
 use Rattle.ir_globals.specs.TypeDefinitionsAt.{type_line_at}

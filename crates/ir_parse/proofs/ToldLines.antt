@@ -4,8 +4,8 @@ use Rattle.std.specs.Prelude.{Bool, true, false}
 use Rattle.ir_lex.specs.declared.head.Head.TheVariants as heads
 use Rattle.ir_lex.specs.Tok.{Tok}
 use Rattle.ir_tree.specs.declared.instr.CastOp.TheVariants as casts
-use Rattle.lto_forms.specs.Alphabet.{among}
-use Rattle.lto_forms.specs.Readers.{Reader}
+use Rattle.ir_read.specs.Alphabet.{among}
+use Rattle.ir_read.specs.Readers.{Reader}
 use Rattle.ir_instructions.specs.AddressingAt.{reserving_at, addressing_at}
 use Rattle.ir_parse.proofs.ToldAddressing.{reserving_told, addressing_told}
 use Rattle.ir_read.specs.Classes.{tokens}

@@ -2,7 +2,7 @@
 use Rattle.ir_parse.proofs.Told.{Tells, run_line_told, seq, nothing, alt, star, maybe, the_told, one_told, group_told}
 use Rattle.std.specs.Prelude.{Bool, true, false, []}
 use Rattle.ir_lex.specs.declared.head.Head.TheVariants as heads
-use Rattle.lto_forms.specs.Alphabet.{among}
+use Rattle.ir_read.specs.Alphabet.{among}
 use Rattle.ir_read.specs.Classes.{tokens}
 use Rattle.ir_read.specs.Metadata.{META, ends_line}
 use Rattle.ir_read.specs.declared.brackets.Bracket.TheVariants.{Paren, Curly}

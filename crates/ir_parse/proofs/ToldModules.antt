@@ -2,15 +2,15 @@
 use Rattle.std.proofs.Common.{◌≡◌, true, List, [], ◌∷◌, ◌++◌, length, Result, Ok, Err, refl, subst, inl}
 use Rattle.ir_lex.specs.Heads.{number}
 use Rattle.ir_lex.specs.Tok.{Tok}
-use Rattle.lto_forms.specs.Alphabet.{among}
-use Rattle.lto_forms.specs.Faults.{FitsBound, FitsKind, StopsAt}
-use Rattle.lto_forms.specs.Lawful.{Lawful}
-use Rattle.lto_forms.specs.Readers.{Reader, ended, whole_of}
-use Rattle.lto_forms.specs.declared.fault.Fault.{Fault}
-use Rattle.lto_forms.specs.declared.fault.FaultKind.TheVariants.{Number, Limit}
-use Rattle.lto_forms.proofs.Composed.{wrong, wrong_is}
-use Rattle.lto_forms.proofs.Bounds.{whole_bound}
-use Rattle.lto_forms.proofs.Whole as whole
+use Rattle.ir_read.specs.Alphabet.{among}
+use Rattle.ir_read.specs.Faults.{FitsBound, FitsKind, StopsAt}
+use Rattle.ir_read.specs.Lawful.{Lawful}
+use Rattle.ir_read.specs.Readers.{Reader, ended, whole_of}
+use Rattle.ir_read.specs.declared.fault.Fault.{Fault}
+use Rattle.ir_read.specs.declared.fault.FaultKind.TheVariants.{Number, Limit}
+use Rattle.ir_read.proofs.Composed.{wrong, wrong_is}
+use Rattle.ir_read.proofs.Bounds.{whole_bound}
+use Rattle.ir_read.proofs.Whole as whole
 use Rattle.ir_read.specs.Classes.{tokens}
 use Rattle.ir_read.specs.declared.raw.Item.{Item}
 use Rattle.ir_heads.proofs.FunctionHeadRules.{name_not_limit, name_not_number}

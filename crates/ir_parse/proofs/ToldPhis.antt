@@ -3,7 +3,7 @@ use Rattle.ir_parse.proofs.Told.{Tells, takes_of, seq, nothing, alt, chain, the_
 use Rattle.std.specs.Prelude.{Bool, true, false}
 use Rattle.ir_lex.specs.declared.head.Head.TheVariants as heads
 use Rattle.ir_tree.specs.declared.operand.Reg.{Reg}
-use Rattle.lto_forms.specs.Alphabet.{among}
+use Rattle.ir_read.specs.Alphabet.{among}
 use Rattle.ir_read.specs.Classes.{tokens}
 use Rattle.ir_read.specs.declared.raw.Incoming.{Incoming}
 use Rattle.ir_read.specs.Metadata.{META}

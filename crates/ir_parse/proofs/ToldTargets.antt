@@ -3,12 +3,12 @@ use Rattle.ir_parse.proofs.Told.{Tells, may_of, seq, nothing, alt, single, the_t
 use Rattle.ir_lex.specs.declared.head.Head.TheVariants as heads
 use Rattle.ir_lex.specs.Heads.{number}
 use Rattle.ir_lex.specs.Tok.{Tok}
-use Rattle.lto_forms.specs.Alphabet.{among}
+use Rattle.ir_read.specs.Alphabet.{among}
 use Rattle.ir_read.specs.Classes.{tokens, itself, refusal}
 use Rattle.ir_heads.specs.Targets.{STRING, is_layout, fits_layout}
 use Rattle.ir_heads.specs.TargetsAt.{LAYOUT, layout_line_at, triple_line_at, target_line_at, source_line_at, comdat_line_at}
 use Rattle.std.proofs.Common.{Ok, Err, Bool, true, false, cond, nat_eq, ◌≡◌, refl}
-use Rattle.lto_forms.specs.declared.fault.FaultKind.TheVariants.{Profile}
+use Rattle.ir_read.specs.declared.fault.FaultKind.TheVariants.{Profile}
 use Rattle.ir_lex.specs.Quotes.{content}
 
 is_layout_allowed : (t : Tok) → AllowedBy t (is_layout t)

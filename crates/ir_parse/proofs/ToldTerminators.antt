@@ -6,7 +6,7 @@ use Rattle.ir_lex.specs.Heads.{number}
 use Rattle.ir_lex.specs.Tok.{Tok}
 use Rattle.ir_tree.specs.declared.operand.Reg.{Reg}
 use Rattle.ir_tree.specs.declared.operand.Reg.TheVariants.{Int, Ptr}
-use Rattle.lto_forms.specs.Alphabet.{among}
+use Rattle.ir_read.specs.Alphabet.{among}
 use Rattle.ir_read.specs.Classes.{tokens, refusal}
 use Rattle.ir_read.specs.declared.raw.Operand.{Operand}
 use Rattle.ir_instructions.specs.declared.terminators.End.{End}
@@ -17,7 +17,7 @@ use Rattle.ir_parse.proofs.ToldOperands.{reg_told, integer_told, bit_told, resul
 use Rattle.ir_parse.proofs.ToldValues.{operand_told}
 use Rattle.ir_instructions.specs.Terminators.{case_classes, matched_of, ENDS, ending_of}
 use Rattle.ir_instructions.specs.TerminatorsAt.{LABEL, returned_at, returning_at, target_at, branches_at, branching_at, constant_at, case_of_at, case_at, cases_at, end_of_cases_at, switched_at, switches_at, switching_at, behind_end_at, terminator_at}
-use Rattle.lto_forms.specs.Rules.{disjoint}
+use Rattle.ir_read.specs.Rules.{disjoint}
 use Rattle.std.proofs.Common.{true, ◌≡◌, refl}
 use Rattle.ir_parse.specs.Refusals.{REFUSED_EVERYWHERE}
 

@@ -1,7 +1,7 @@
 -- The first fault of the readers of type definitions is of a kind that its token allows.
 use Rattle.ir_parse.proofs.Told.{Tells, seq, nothing, alt, the_told}
 use Rattle.ir_lex.specs.declared.head.Head.TheVariants as heads
-use Rattle.lto_forms.specs.Alphabet.{among}
+use Rattle.ir_read.specs.Alphabet.{among}
 use Rattle.ir_read.specs.Classes.{tokens}
 use Rattle.ir_parse.proofs.ToldOperands.{local_told}
 use Rattle.ir_parse.proofs.ToldShapeForms.{memory_shape_told}

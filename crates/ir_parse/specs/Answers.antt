@@ -1,7 +1,7 @@
 -- What reading answers.
 use Rattle.std.specs.Prelude.{◌≡◌, ℕ, Bool, List, [], ◌∷◌, Result, Ok, Err}
 use Rattle.ir_lex.specs.Tok.{Tok}
-use Rattle.lto_forms.specs.declared.fault.FaultKind as grammar_kind
+use Rattle.ir_read.specs.declared.fault.FaultKind as grammar_kind
 use Rattle.ir_names.specs.declared.fault.Fault as names
 use Rattle.ir_tree.specs.declared.module.Module.{Module}
 use Rattle.ir_parse.specs.declared.fault.FaultKind.{FaultKind}

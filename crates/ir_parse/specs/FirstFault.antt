@@ -1,6 +1,6 @@
 -- The first fault of bytes that are read as no module.
 use Rattle.std.specs.Prelude.{◌≡◌, ◌⊎◌, ℕ, Bool, true, false, List, [], ◌∷◌, ◌++◌, Err}
-use Rattle.lto_forms.specs.Faults.{Extends, Viable}
+use Rattle.ir_read.specs.Faults.{Extends, Viable}
 use Rattle.ir_lex.specs.Lexing.{AreTokens, IsLexed}
 use Rattle.ir_lex.specs.Tok.{Tok}
 use Rattle.ir_names.specs.declared.fault.Fault as names

@@ -7,8 +7,8 @@ use Rattle.std.specs.List.{fold}
 use Rattle.ir_lex.specs.declared.head.Head.TheVariants as heads
 use Rattle.ir_lex.specs.Heads.{number}
 use Rattle.ir_lex.specs.Tok.{Tok}
-use Rattle.lto_forms.specs.Chained.{Chain}
-use Rattle.lto_forms.specs.Forms.{Form, ◌>>=◌, either, gives, Star}
+use Rattle.ir_read.specs.Chained.{Chain}
+use Rattle.ir_read.specs.Forms.{Form, ◌>>=◌, either, gives, Star}
 use Rattle.ir_bodies.specs.Blocks.{definition, any_definition}
 use Rattle.ir_globals.specs.TypeDefinitions.{type_line}
 use Rattle.ir_globals.specs.Variables.{variable_name, any_variable_name, variable_line}

@@ -4,10 +4,10 @@ use Rattle.std.specs.List.{fold}
 use Rattle.ir_lex.specs.declared.head.Head.TheVariants as heads
 use Rattle.ir_lex.specs.Heads.{number}
 use Rattle.ir_lex.specs.Tok.{Tok}
-use Rattle.lto_forms.specs.Alphabet.{among}
-use Rattle.lto_forms.specs.Chained.{chain_at}
-use Rattle.lto_forms.specs.declared.fault.FaultKind.TheVariants.{Limit}
-use Rattle.lto_forms.specs.Readers.{Reader, ◌>>=◌, done, fault_at, pick, star_at}
+use Rattle.ir_read.specs.Alphabet.{among}
+use Rattle.ir_read.specs.Chained.{chain_at}
+use Rattle.ir_read.specs.declared.fault.FaultKind.TheVariants.{Limit}
+use Rattle.ir_read.specs.Readers.{Reader, ◌>>=◌, done, fault_at, pick, star_at}
 use Rattle.ir_bodies.specs.BlocksAt.{DEFINE, definition_at}
 use Rattle.ir_globals.specs.TypeDefinitionsAt.{type_line_at}
 use Rattle.ir_globals.specs.Variables.{NAMES}

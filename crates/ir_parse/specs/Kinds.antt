@@ -1,9 +1,9 @@
 -- The kind of a fault, by the stage that finds it.
 use Rattle.std.specs.Prelude.{if◌then◌else◌}
 use Rattle.ir_lex.specs.Tok.{Tok}
-use Rattle.lto_forms.specs.Alphabet.{among}
-use Rattle.lto_forms.specs.declared.fault.FaultKind as grammar_kind
-use Rattle.lto_forms.specs.declared.fault.FaultKind.TheVariants as refusal
+use Rattle.ir_read.specs.Alphabet.{among}
+use Rattle.ir_read.specs.declared.fault.FaultKind as grammar_kind
+use Rattle.ir_read.specs.declared.fault.FaultKind.TheVariants as refusal
 use Rattle.ir_names.specs.declared.fault.FaultKind as name_kind
 use Rattle.ir_names.specs.declared.fault.FaultKind.TheVariants as broken
 use Rattle.ir_read.specs.Classes.{tokens}

@@ -3,10 +3,10 @@ use Rattle.std.specs.Prelude.{ℕ, Result, List, length, drop, ◌-◌}
 use Rattle.ir_lex.specs.declared.token.Token.{Token}
 use Rattle.ir_lex.specs.Heads.{number}
 use Rattle.ir_lex.specs.Tok.{Tok, toks}
-use Rattle.lto_forms.specs.declared.fault.Fault.{Fault}
-use Rattle.lto_forms.specs.declared.fault.FaultKind.{FaultKind}
-use Rattle.lto_forms.specs.Forms.{Form}
-use Rattle.lto_forms.specs.Readers.{whole_of}
+use Rattle.ir_read.specs.declared.fault.Fault.{Fault}
+use Rattle.ir_read.specs.declared.fault.FaultKind.{FaultKind}
+use Rattle.ir_read.specs.Forms.{Form}
+use Rattle.ir_read.specs.Readers.{whole_of}
 use Rattle.ir_heads.specs.FunctionHeads.{name_refusal}
 use Rattle.ir_read.specs.declared.raw.Item.{Item}
 use Rattle.ir_parse.specs.ItemForms.{items, any_items}

@@ -3,8 +3,8 @@
 use Rattle.std.specs.Prelude.{ℕ}
 use Rattle.ir_lex.specs.Tok.{Tok}
 use Rattle.ir_lex.specs.declared.head.Head.TheVariants as heads
-use Rattle.lto_forms.specs.Chained.{Chain}
-use Rattle.lto_forms.specs.Forms.{Form, ◌>>=◌, gives, optional, Star}
+use Rattle.ir_read.specs.Chained.{Chain}
+use Rattle.ir_read.specs.Forms.{Form, ◌>>=◌, gives, optional, Star}
 use Rattle.ir_instructions.specs.Addressing.{any_slots}
 use Rattle.ir_heads.specs.Attributes.{definition_attributes}
 use Rattle.ir_read.specs.Classes.{the}

@@ -1,7 +1,7 @@
 -- Items that are put behind those that were read before.
 use Rattle.std.specs.Prelude.{Option, List}
 use Rattle.ir_lex.specs.Tok.{Tok}
-use Rattle.lto_forms.specs.Readers.{Reader, ◌>>=◌, done}
+use Rattle.ir_read.specs.Readers.{Reader, ◌>>=◌, done}
 use Rattle.ir_parse.specs.ItemForms.{keep}
 use Rattle.ir_read.specs.declared.raw.Item.{Item}
 

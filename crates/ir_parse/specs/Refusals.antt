@@ -3,8 +3,8 @@ use Rattle.std.specs.Prelude.{◌≡◌, ℕ, nat_eq, Bool, true, false, List, [
 use Rattle.ir_lex.specs.Heads.{number}
 use Rattle.ir_lex.specs.Tok.{Tok}
 use Rattle.ir_lex.specs.declared.head.Head.TheVariants as heads
-use Rattle.lto_forms.specs.Alphabet.{among, is_literal, is_number}
-use Rattle.lto_forms.specs.Faults.{Extends, Viable}
+use Rattle.ir_read.specs.Alphabet.{among, is_literal, is_number}
+use Rattle.ir_read.specs.Faults.{Extends, Viable}
 use Rattle.ir_read.specs.Classes.{IsReal, tokens}
 use Rattle.ir_heads.specs.FunctionHeads.{GLOBAL, NUMBERED}
 use Rattle.ir_read.specs.Operands.{REG}

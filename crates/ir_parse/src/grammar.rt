@@ -1,7 +1,7 @@
 //! The items of a text that is in the grammar, or the first place at which no reading goes on.
 ghost use Rattle.std.specs.Prelude.{◌≡◌, ◌-◌, [], IfOk, IfErr, OnOk, true, drop, length};
 ghost use Rattle.ir_lex.specs.Tok.{tok, toks};
-ghost use Rattle.lto_forms.specs.Readers.{Gives};
+ghost use Rattle.ir_read.specs.Readers.{Gives};
 ghost use Rattle.ir_parse.specs.Modules.{whole_module, module_of, last_tokens};
 ghost use Rattle.ir_parse.specs.Answers.{IfFault, IsStopped};
 ghost use Rattle.ir_parse.specs.FirstFault.{Stuck, end_kind};
@@ -13,7 +13,7 @@ use ir_heads::name_refusal;
 use ir_lex::{Head, Lexed, Token};
 use ir_read::{Item, Tokens};
 use ir_tree::Text;
-use lto_forms::{Fault as Refusal, FaultKind as RefusalKind, ReadError as GrammarError};
+use ir_read::{Fault as Refusal, FaultKind as RefusalKind, ReadError as GrammarError};
 use std::alloc::{AllocError, Global};
 
 // How many parameters may stand behind the first of a function.

@@ -2,9 +2,9 @@
 
 ghost use Rattle.std.specs.Prelude.{◌≡◌, ◌∷◌, ◌++◌, [], OnOk, IfErr, None};
 ghost use Rattle.ir_lex.specs.Heads.{number};
-ghost use Rattle.lto_forms.specs.Alphabet.{contains, among};
-ghost use Rattle.lto_forms.specs.declared.fault.ReadError.TheVariants.{NoMemory};
-ghost use Rattle.lto_forms.specs.Readers.{Gives, next_is};
+ghost use Rattle.ir_read.specs.Alphabet.{contains, among};
+ghost use Rattle.ir_read.specs.declared.fault.ReadError.TheVariants.{NoMemory};
+ghost use Rattle.ir_read.specs.Readers.{Gives, next_is};
 ghost use Rattle.ir_heads.specs.AttributesAt.{HEAD, attribute_group_at};
 ghost use Rattle.ir_heads.specs.TargetsAt.{layout_line_at, target_line_at, triple_line_at};
 ghost use Rattle.ir_read.specs.Classes.{tokens};
@@ -28,7 +28,7 @@ use ir_read::{
     Before, Item, Position, Tokens, attached_at, expect, metadata_behind_at, metadata_line_at,
     node_yet_at,
 };
-use lto_forms::{Fault, FaultKind, ReadError};
+use ir_read::{Fault, FaultKind, ReadError};
 use std::alloc::Global;
 
 /// Reads the layout of the target, and adds it.

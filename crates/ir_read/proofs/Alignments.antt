@@ -9,14 +9,14 @@ use Rattle.ir_lex.specs.Lexing.{is_bad}
 use Rattle.ir_lex.specs.Quotes.{is_zero_name}
 use Rattle.ir_lex.specs.Rows.{begins, best_fit, rest_fit, label_len, number_len, word_len, name_len, meta_len, dots_len, other_len, string_len}
 use Rattle.ir_lex.specs.Tok.{Tok}
-use Rattle.lto_forms.specs.Alphabet.{contains, among, is_number}
-use Rattle.lto_forms.specs.declared.fault.FaultKind.{FaultKind}
-use Rattle.lto_forms.specs.declared.fault.FaultKind.TheVariants.{Syntax, Profile, Number, Limit}
-use Rattle.lto_forms.specs.Forms as form
-use Rattle.lto_forms.specs.Lawful.{SameRefusal}
-use Rattle.lto_forms.specs.Readers.{token_at}
-use Rattle.lto_forms.specs.Rules.{Rule, Opens, IsWithin}
-use Rattle.lto_forms.proofs.Composed.{token_lawful}
+use Rattle.ir_read.specs.Alphabet.{contains, among, is_number}
+use Rattle.ir_read.specs.declared.fault.FaultKind.{FaultKind}
+use Rattle.ir_read.specs.declared.fault.FaultKind.TheVariants.{Syntax, Profile, Number, Limit}
+use Rattle.ir_read.specs.Forms as form
+use Rattle.ir_read.specs.Lawful.{SameRefusal}
+use Rattle.ir_read.specs.Readers.{token_at}
+use Rattle.ir_read.specs.Rules.{Rule, Opens, IsWithin}
+use Rattle.ir_read.proofs.Composed.{token_lawful}
 use Rattle.ir_read.specs.Classes.{tokens, IsReal, NUMERALS, refusal}
 use Rattle.ir_read.specs.Decimals.{ALIGNMENTS, decimal, alignment_of, is_alignment}
 use Rattle.ir_read.proofs.Singles.{sample, not_number, not_limit, number_real}

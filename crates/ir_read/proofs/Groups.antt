@@ -5,13 +5,13 @@ use Rattle.ir_lex.specs.declared.head.Head.TheVariants as heads
 use Rattle.ir_lex.specs.declared.head.Head.{Head}
 use Rattle.ir_lex.specs.Heads.{number}
 use Rattle.ir_lex.specs.Tok.{Tok}
-use Rattle.lto_forms.specs.Alphabet.{contains, among}
-use Rattle.lto_forms.specs.Balanced as balanced
-use Rattle.lto_forms.specs.Balanced.{Closing, closing_at, HaveClosers, moved}
-use Rattle.lto_forms.specs.Rules.{Rule}
-use Rattle.lto_forms.proofs.Closings.{closing_lawful}
-use Rattle.lto_forms.proofs.Composed.{widened}
-use Rattle.lto_forms.proofs.Rules as rules
+use Rattle.ir_read.specs.Alphabet.{contains, among}
+use Rattle.ir_read.specs.Balanced as balanced
+use Rattle.ir_read.specs.Balanced.{Closing, closing_at, HaveClosers, moved}
+use Rattle.ir_read.specs.Rules.{Rule}
+use Rattle.ir_read.proofs.Closings.{closing_lawful}
+use Rattle.ir_read.proofs.Composed.{widened}
+use Rattle.ir_read.proofs.Rules as rules
 use Rattle.ir_read.specs.Brackets.{brackets, opening, move_of, group, group_at}
 use Rattle.ir_read.specs.Classes.{tokens, IsReal, NUMERALS, the, the_at}
 use Rattle.ir_read.specs.declared.brackets.Bracket.{Bracket}

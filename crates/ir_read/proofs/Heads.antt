@@ -3,8 +3,8 @@ use Rattle.std.proofs.Common.{◌≡◌, ℕ, nat_eq, Bool, true, false, ◌||�
 use Rattle.ir_lex.specs.declared.head.Head.{Head}
 use Rattle.ir_lex.specs.Heads.{number}
 use Rattle.ir_lex.specs.Tok.{Tok}
-use Rattle.lto_forms.specs.Alphabet.{contains, among}
-use Rattle.lto_forms.specs.Readers.{next_is}
+use Rattle.ir_read.specs.Alphabet.{contains, among}
+use Rattle.ir_read.specs.Readers.{next_is}
 use Rattle.ir_read.specs.Classes.{tokens, NextHead}
 
 -- one of these, as the arm of a match has it

@@ -1,3 +1,17 @@
+pub mod Chains
+pub mod Closings
+pub mod Composed
+pub mod Grouped
+pub mod Listed
+pub mod Loops
+pub mod Places
+pub mod Rules
+pub mod Runs
+pub mod Stars
+pub mod Unlimited
+pub mod Whole
+pub mod Bounds
+pub mod ChainLoops
 pub mod Alignments
 pub mod Digits
 pub mod Groups

@@ -1,12 +1,12 @@
 -- A line of metadata that goes on, but not with some tokens.
 use Rattle.std.proofs.Common.{◌≡◌, ℕ, Bool, true, false, cond, ◌||◌, nat_eq, List, [], ◌∷◌, Result, Ok, Err, refl, sym, ap, ◌∙◌}
 use Rattle.ir_lex.specs.Tok.{Tok}
-use Rattle.lto_forms.specs.Alphabet.{among, contains}
-use Rattle.lto_forms.specs.declared.fault.Fault.{Fault}
-use Rattle.lto_forms.specs.declared.fault.FaultKind.{FaultKind}
-use Rattle.lto_forms.specs.declared.fault.FaultKind.TheVariants.{Syntax}
-use Rattle.lto_forms.specs.Readers.{fault_at, follow, token_means, next_is}
-use Rattle.lto_forms.specs.Runs.{Step, bad, last, onward, run_at}
+use Rattle.ir_read.specs.Alphabet.{among, contains}
+use Rattle.ir_read.specs.declared.fault.Fault.{Fault}
+use Rattle.ir_read.specs.declared.fault.FaultKind.{FaultKind}
+use Rattle.ir_read.specs.declared.fault.FaultKind.TheVariants.{Syntax}
+use Rattle.ir_read.specs.Readers.{fault_at, follow, token_means, next_is}
+use Rattle.ir_read.specs.Runs.{Step, bad, last, onward, run_at}
 use Rattle.ir_read.specs.Classes.{tokens}
 use Rattle.ir_read.specs.declared.brackets.Bracket.{Bracket}
 use Rattle.ir_read.specs.Metadata.{line_step}

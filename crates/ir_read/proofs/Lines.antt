@@ -1,8 +1,8 @@
 -- Reading the rest of a line of metadata, as a loop does.
 use Rattle.std.proofs.Common.{Bool, true, false, List}
 use Rattle.ir_lex.specs.Tok.{Tok}
-use Rattle.lto_forms.specs.Readers.{Reader, done}
-use Rattle.lto_forms.specs.Runs.{run_at}
+use Rattle.ir_read.specs.Readers.{Reader, done}
+use Rattle.ir_read.specs.Runs.{run_at}
 use Rattle.ir_read.specs.Metadata.{line_step}
 use Rattle.ir_read.specs.declared.brackets.Bracket.{Bracket}
 

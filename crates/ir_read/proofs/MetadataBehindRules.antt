@@ -6,18 +6,18 @@ use Rattle.ir_lex.specs.declared.head.Head.{Head}
 use Rattle.ir_lex.specs.declared.token.Kind.TheVariants as kinds
 use Rattle.ir_lex.specs.Heads.{number}
 use Rattle.ir_lex.specs.Tok.{Tok}
-use Rattle.lto_forms.specs.Alphabet.{among, contains, is_number}
-use Rattle.lto_forms.specs.Balanced.{Move, opens, closes, stays}
-use Rattle.lto_forms.specs.declared.fault.FaultKind.{FaultKind}
-use Rattle.lto_forms.specs.declared.fault.FaultKind.TheVariants.{Syntax, Number, Limit}
-use Rattle.lto_forms.specs.Forms as form
-use Rattle.lto_forms.specs.Lawful.{IsRanged, SameRefusal}
-use Rattle.lto_forms.specs.Readers as reader
-use Rattle.lto_forms.specs.Rules.{Rule, disjoint}
-use Rattle.lto_forms.specs.Runs.{Step, bad, last, onward}
-use Rattle.lto_forms.proofs.Composed.{token_lawful}
-use Rattle.lto_forms.proofs.Rules as rules
-use Rattle.lto_forms.proofs.Rules.{apart_from}
+use Rattle.ir_read.specs.Alphabet.{among, contains, is_number}
+use Rattle.ir_read.specs.Balanced.{Move, opens, closes, stays}
+use Rattle.ir_read.specs.declared.fault.FaultKind.{FaultKind}
+use Rattle.ir_read.specs.declared.fault.FaultKind.TheVariants.{Syntax, Number, Limit}
+use Rattle.ir_read.specs.Forms as form
+use Rattle.ir_read.specs.Lawful.{IsRanged, SameRefusal}
+use Rattle.ir_read.specs.Readers as reader
+use Rattle.ir_read.specs.Rules.{Rule, disjoint}
+use Rattle.ir_read.specs.Runs.{Step, bad, last, onward}
+use Rattle.ir_read.proofs.Composed.{token_lawful}
+use Rattle.ir_read.proofs.Rules as rules
+use Rattle.ir_read.proofs.Rules.{apart_from}
 use Rattle.ir_read.specs.Brackets.{move_of}
 use Rattle.ir_read.specs.Classes.{tokens, NUMERALS, one_of, one_of_at}
 use Rattle.ir_read.specs.declared.brackets.Bracket.{Bracket}

@@ -9,13 +9,13 @@ use Rattle.ir_lex.specs.Lexing.{is_bad}
 use Rattle.ir_lex.specs.Quotes.{is_zero_name}
 use Rattle.ir_lex.specs.Rows.{best_fit, rest_fit, label_len, number_len, word_len, name_len, meta_len, dots_len, other_len, string_len}
 use Rattle.ir_lex.specs.Tok.{Tok}
-use Rattle.lto_forms.specs.Alphabet.{among, AllReal}
-use Rattle.lto_forms.specs.Balanced.{Move, none_open}
-use Rattle.lto_forms.specs.Rules.{Rule, Opens}
-use Rattle.lto_forms.specs.Runs.{Step, bad, last, onward, Run, run_at, HaveEnds}
-use Rattle.lto_forms.proofs.Composed.{widened}
-use Rattle.lto_forms.proofs.Rules as rules
-use Rattle.lto_forms.proofs.Runs.{run_lawful}
+use Rattle.ir_read.specs.Alphabet.{among, AllReal}
+use Rattle.ir_read.specs.Balanced.{Move, none_open}
+use Rattle.ir_read.specs.Rules.{Rule, Opens}
+use Rattle.ir_read.specs.Runs.{Step, bad, last, onward, Run, run_at, HaveEnds}
+use Rattle.ir_read.proofs.Composed.{widened}
+use Rattle.ir_read.proofs.Rules as rules
+use Rattle.ir_read.proofs.Runs.{run_lawful}
 use Rattle.ir_read.specs.Classes.{tokens, IsReal, the, one_of, one_of_at}
 use Rattle.ir_read.specs.declared.brackets.Bracket.{Bracket}
 use Rattle.ir_read.specs.declared.brackets.Bracket.TheVariants.{Paren, Square, Curly}

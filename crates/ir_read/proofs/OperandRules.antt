@@ -13,11 +13,11 @@ use Rattle.ir_lex.specs.Rows.{best_fit, rest_fit, label_len, number_len, word_le
 use Rattle.ir_lex.specs.Tok.{Tok}
 use Rattle.ir_tree.specs.declared.operand.Reg.{Reg}
 use Rattle.ir_tree.specs.declared.operand.Reg.TheVariants.{Int, Ptr}
-use Rattle.lto_forms.specs.Alphabet.{among, contains}
-use Rattle.lto_forms.specs.declared.fault.FaultKind.{FaultKind}
-use Rattle.lto_forms.specs.declared.fault.FaultKind.TheVariants.{Profile, Number, Limit}
-use Rattle.lto_forms.specs.Rules.{Rule, IsWithin, is_class}
-use Rattle.lto_forms.proofs.Rules as rules
+use Rattle.ir_read.specs.Alphabet.{among, contains}
+use Rattle.ir_read.specs.declared.fault.FaultKind.{FaultKind}
+use Rattle.ir_read.specs.declared.fault.FaultKind.TheVariants.{Profile, Number, Limit}
+use Rattle.ir_read.specs.Rules.{Rule, IsWithin, is_class}
+use Rattle.ir_read.proofs.Rules as rules
 use Rattle.ir_read.specs.Classes.{tokens, refusal, IsReal, NUMERALS}
 use Rattle.ir_read.specs.Decimals.{decimal}
 use Rattle.ir_read.specs.declared.raw.Operand.{Operand}

@@ -11,11 +11,11 @@ use Rattle.ir_lex.specs.Lexing.{is_bad}
 use Rattle.ir_lex.specs.Quotes.{is_zero_name}
 use Rattle.ir_lex.specs.Rows.{best_fit, rest_fit, label_len, number_len, word_len, name_len, meta_len, dots_len, other_len, string_len}
 use Rattle.ir_lex.specs.Tok.{Tok}
-use Rattle.lto_forms.specs.Alphabet.{contains, among}
-use Rattle.lto_forms.specs.declared.fault.FaultKind.{FaultKind}
-use Rattle.lto_forms.specs.declared.fault.FaultKind.TheVariants.{Syntax, Profile, Number, Limit}
-use Rattle.lto_forms.specs.Rules.{Rule, Opens, is_class}
-use Rattle.lto_forms.proofs.Rules as rules
+use Rattle.ir_read.specs.Alphabet.{contains, among}
+use Rattle.ir_read.specs.declared.fault.FaultKind.{FaultKind}
+use Rattle.ir_read.specs.declared.fault.FaultKind.TheVariants.{Syntax, Profile, Number, Limit}
+use Rattle.ir_read.specs.Rules.{Rule, Opens, is_class}
+use Rattle.ir_read.proofs.Rules as rules
 use Rattle.ir_read.specs.Classes.{tokens, IsReal, REFUSED, refusal, the, the_at, one_of, one_of_at}
 
 -- a token that stands alone on a line

@@ -1,5 +1,5 @@
 -- What a token does to the brackets that are open, as a form sees it.
-use Rattle.lto_forms.specs.Balanced.{Move, opens, closes, stays}
+use Rattle.ir_read.specs.Balanced.{Move, opens, closes, stays}
 use Rattle.ir_read.specs.declared.brackets.Bracket.{Bracket}
 use Rattle.ir_read.specs.declared.brackets.BracketMove.{BracketMove}
 use Rattle.ir_read.specs.declared.brackets.BracketMove.TheVariants.{Opens, Closes, Stays}

@@ -3,12 +3,12 @@ use Rattle.std.specs.Prelude.{Bool, true, false, [], ◌∷◌}
 use Rattle.ir_lex.specs.declared.head.Head.TheVariants as heads
 use Rattle.ir_lex.specs.declared.head.Head.{Head}
 use Rattle.ir_lex.specs.Tok.{Tok}
-use Rattle.lto_forms.specs.Balanced as balanced
-use Rattle.lto_forms.specs.Balanced.{Brackets, Closing, closing_at, Move}
-use Rattle.lto_forms.specs.Forms as form
-use Rattle.lto_forms.specs.Forms.{Form}
-use Rattle.lto_forms.specs.Readers as reader
-use Rattle.lto_forms.specs.Readers.{Reader}
+use Rattle.ir_read.specs.Balanced as balanced
+use Rattle.ir_read.specs.Balanced.{Brackets, Closing, closing_at, Move}
+use Rattle.ir_read.specs.Forms as form
+use Rattle.ir_read.specs.Forms.{Form}
+use Rattle.ir_read.specs.Readers as reader
+use Rattle.ir_read.specs.Readers.{Reader}
 use Rattle.ir_read.specs.Classes.{the, the_at}
 use Rattle.ir_read.specs.declared.brackets.Bracket.{Bracket}
 use Rattle.ir_read.specs.declared.brackets.Bracket.TheVariants.{Paren, Square, Curly}

@@ -6,12 +6,12 @@ use Rattle.ir_lex.specs.Heads.{number, head_of}
 use Rattle.ir_lex.specs.Lexing.{is_bad}
 use Rattle.ir_lex.specs.Rows.{best_fit, fit}
 use Rattle.ir_lex.specs.Tok.{Tok}
-use Rattle.lto_forms.specs.Alphabet.{Alphabet, contains}
-use Rattle.lto_forms.specs.declared.fault.FaultKind.{FaultKind}
-use Rattle.lto_forms.specs.declared.fault.FaultKind.TheVariants.{Syntax, Profile}
-use Rattle.lto_forms.specs.Forms.{Form, token}
-use Rattle.lto_forms.specs.Readers.{Reader, token_at}
-use Rattle.lto_forms.specs.Rules.{is_class, is_among}
+use Rattle.ir_read.specs.Alphabet.{Alphabet, contains}
+use Rattle.ir_read.specs.declared.fault.FaultKind.{FaultKind}
+use Rattle.ir_read.specs.declared.fault.FaultKind.TheVariants.{Syntax, Profile}
+use Rattle.ir_read.specs.Forms.{Form, token}
+use Rattle.ir_read.specs.Readers.{Reader, token_at}
+use Rattle.ir_read.specs.Rules.{is_class, is_among}
 
 -- bytes spell this token: before some others they are one token of its kind and class
 pub record IsReal (t : Tok) : Type 0 where

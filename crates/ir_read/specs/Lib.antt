@@ -1,3 +1,14 @@
+pub mod Alphabet
+pub mod Balanced
+pub mod Chained
+pub mod Faults
+pub mod Forms
+pub mod Groups
+pub mod Lawful
+pub mod Listing
+pub mod Readers
+pub mod Rules
+pub mod Runs
 pub mod Brackets
 pub mod BracketViews
 pub mod Classes

@@ -3,9 +3,9 @@ use Rattle.std.specs.Prelude.{ℕ, Bool, true, false, ◌&&◌, if◌then◌else
 use Rattle.ir_lex.specs.declared.head.Head.TheVariants as heads
 use Rattle.ir_lex.specs.Heads.{number}
 use Rattle.ir_lex.specs.Tok.{Tok}
-use Rattle.lto_forms.specs.Balanced.{Move, opens, closes, stays, none_open}
-use Rattle.lto_forms.specs.Forms.{Form, ◌>>=◌, either, gives, optional, Star}
-use Rattle.lto_forms.specs.Runs.{Step, bad, last, onward, Run}
+use Rattle.ir_read.specs.Balanced.{Move, opens, closes, stays, none_open}
+use Rattle.ir_read.specs.Forms.{Form, ◌>>=◌, either, gives, optional, Star}
+use Rattle.ir_read.specs.Runs.{Step, bad, last, onward, Run}
 use Rattle.ir_read.specs.Brackets.{group, move_of, same}
 use Rattle.ir_read.specs.Classes.{the, one_of}
 use Rattle.ir_read.specs.declared.brackets.Bracket.{Bracket}

@@ -4,11 +4,11 @@ use Rattle.std.specs.Prelude.{ℕ, Bool, true, false, if◌then◌else◌, Optio
 use Rattle.ir_lex.specs.declared.head.Head.TheVariants as heads
 use Rattle.ir_lex.specs.Heads.{number}
 use Rattle.ir_lex.specs.Tok.{Tok}
-use Rattle.lto_forms.specs.Alphabet.{among, contains}
-use Rattle.lto_forms.specs.declared.fault.FaultKind.{FaultKind}
-use Rattle.lto_forms.specs.declared.fault.FaultKind.TheVariants.{Syntax}
-use Rattle.lto_forms.specs.Forms.{Form, ◌>>=◌, either, gives, optional, token}
-use Rattle.lto_forms.specs.Runs.{Step, bad, last, onward, Run}
+use Rattle.ir_read.specs.Alphabet.{among, contains}
+use Rattle.ir_read.specs.declared.fault.FaultKind.{FaultKind}
+use Rattle.ir_read.specs.declared.fault.FaultKind.TheVariants.{Syntax}
+use Rattle.ir_read.specs.Forms.{Form, ◌>>=◌, either, gives, optional, token}
+use Rattle.ir_read.specs.Runs.{Step, bad, last, onward, Run}
 use Rattle.ir_read.specs.Brackets.{group}
 use Rattle.ir_read.specs.Classes.{tokens, the, one_of}
 use Rattle.ir_read.specs.declared.brackets.Bracket.{Bracket}

@@ -9,11 +9,11 @@ use Rattle.ir_lex.specs.Quotes.{stripped}
 use Rattle.ir_lex.specs.Tok.{Tok}
 use Rattle.ir_tree.specs.declared.operand.Reg.{Reg}
 use Rattle.ir_tree.specs.declared.operand.Reg.TheVariants.{Int, Ptr}
-use Rattle.lto_forms.specs.Alphabet.{contains}
-use Rattle.lto_forms.specs.declared.fault.FaultKind.{FaultKind}
-use Rattle.lto_forms.specs.declared.fault.FaultKind.TheVariants.{Syntax, Profile}
-use Rattle.lto_forms.specs.Forms.{Form, ◌>>=◌, either, gives, token}
-use Rattle.lto_forms.specs.Rules.{in_range, is_among, is_exact, is_valued}
+use Rattle.ir_read.specs.Alphabet.{contains}
+use Rattle.ir_read.specs.declared.fault.FaultKind.{FaultKind}
+use Rattle.ir_read.specs.declared.fault.FaultKind.TheVariants.{Syntax, Profile}
+use Rattle.ir_read.specs.Forms.{Form, ◌>>=◌, either, gives, token}
+use Rattle.ir_read.specs.Rules.{in_range, is_among, is_exact, is_valued}
 use Rattle.ir_read.specs.Classes.{tokens, refusal, the}
 use Rattle.ir_read.specs.Decimals.{decimal}
 use Rattle.ir_read.specs.declared.raw.Operand.{Operand}

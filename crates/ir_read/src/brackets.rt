@@ -1,15 +1,15 @@
 //! Groups in brackets, however deep they nest.
 
 ghost use Rattle.std.specs.Prelude.{◌≡◌, [], ◌∷◌};
-ghost use Rattle.lto_forms.specs.Balanced.{closing_at};
-ghost use Rattle.lto_forms.specs.Readers.{Gives};
+ghost use Rattle.ir_read.specs.Balanced.{closing_at};
+ghost use Rattle.ir_read.specs.Readers.{Gives};
 ghost use Rattle.ir_read.specs.Brackets.{brackets, group_at, opening, move_of, same};
 ghost use Rattle.ir_read.specs.BracketViews.{move};
 
 use crate::terminals::expect;
 use crate::tokens::Tokens;
 use ir_lex::Head;
-use lto_forms::{Fault, FaultKind, ReadError};
+use crate::{Fault, FaultKind, ReadError};
 use std::alloc::Global;
 
 /// A kind of bracket.

@@ -5,7 +5,7 @@
 
 ghost use Rattle.std.specs.Prelude.{◌≡◌, Ok};
 
-use lto_forms::ReadError;
+use crate::ReadError;
 
 /// What was read.
 pub fn done<T>(value: T) -> Result<T, ReadError>

@@ -21,7 +21,9 @@
 
 mod address;
 mod brackets;
+mod fault;
 mod finished;
+mod laws;
 mod literals;
 mod metadata;
 mod metadata_behind;
@@ -54,3 +56,5 @@ pub use raw::{
 pub use shape::{Shape, ShapeNode, Typed};
 pub use terminals::{expect, refusal};
 pub use tokens::Tokens;
+pub use fault::{Fault, FaultKind, ReadError};
+pub use laws::{groups, listing_examples, listing_faults, listing_is_read, listing_rule};

@@ -1,8 +1,8 @@
 //! Reads metadata, which is dropped (LangRef, "Metadata").
 
 ghost use Rattle.std.specs.Prelude.{◌≡◌};
-ghost use Rattle.lto_forms.specs.Alphabet.{among};
-ghost use Rattle.lto_forms.specs.Readers.{Gives, next_is};
+ghost use Rattle.ir_read.specs.Alphabet.{among};
+ghost use Rattle.ir_read.specs.Readers.{Gives, next_is};
 ghost use Rattle.ir_read.specs.Classes.{tokens, one_of_at};
 ghost use Rattle.ir_read.specs.Metadata.{META, ends_line};
 ghost use Rattle.ir_read.specs.MetadataAt.{node_at, attached_at, attachment_at, attachments_at, rest_of_line_at, metadata_line_at};
@@ -11,11 +11,11 @@ use crate::brackets::{Bracket, BracketMove, group_at, move_of};
 use crate::terminals::{expect, refusal};
 use crate::tokens::Tokens;
 use ir_lex::Head;
-use lto_forms::{Fault, FaultKind, ReadError};
+use crate::{Fault, FaultKind, ReadError};
 use std::alloc::Global;
 
 /// Takes a name of metadata or a `!`; the answer is whether its line ends behind it.
-#[tactic(auto, unfolding(lto_forms::specs::Rules::is_among))]
+#[tactic(auto, unfolding(crate::specs::Rules::is_among))]
 pub fn meta_at(tokens: &mut Tokens) -> Result<bool, ReadError>
     ensures { Gives (λ x. (x, tokens.new)) result (one_of_at META ends_line tokens.old) }
 {

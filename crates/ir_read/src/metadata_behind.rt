@@ -2,8 +2,8 @@
 //! begins a line (LangRef, "Metadata", "Functions").
 
 ghost use Rattle.std.specs.Prelude.{◌≡◌, true, false};
-ghost use Rattle.lto_forms.specs.Alphabet.{among};
-ghost use Rattle.lto_forms.specs.Readers.{Gives, next_is};
+ghost use Rattle.ir_read.specs.Alphabet.{among};
+ghost use Rattle.ir_read.specs.Readers.{Gives, next_is};
 ghost use Rattle.ir_read.specs.Classes.{tokens, one_of_at};
 ghost use Rattle.ir_read.specs.Metadata.{META, ends_line};
 ghost use Rattle.ir_read.specs.MetadataBehind.{BANG, BRACES};
@@ -15,7 +15,7 @@ use crate::places::Before;
 use crate::terminals::{expect, refusal};
 use crate::tokens::Tokens;
 use ir_lex::Head;
-use lto_forms::{Fault, FaultKind, ReadError};
+use crate::{Fault, FaultKind, ReadError};
 use std::alloc::Global;
 
 /// Reads the rest of a line that goes on with no metadata.
@@ -64,7 +64,7 @@ fn behind_mark_at(alloc: Global, ends: bool, tokens: &mut Tokens) -> Result<Befo
 }
 
 /// Takes a `!`; the answer is whether its line ends behind it.
-#[tactic(auto, unfolding(lto_forms::specs::Rules::is_among))]
+#[tactic(auto, unfolding(crate::specs::Rules::is_among))]
 fn mark_at(tokens: &mut Tokens) -> Result<bool, ReadError>
     ensures { Gives (λ x. (x, tokens.new)) result (one_of_at BANG ends_line tokens.old) }
 {

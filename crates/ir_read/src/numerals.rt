@@ -1,8 +1,8 @@
 //! Numbers as they are written in digits, and the alignments among them.
 
 ghost use Rattle.std.specs.Prelude.{◌≡◌, ◌≤◌, ◌^◌, MatchOption};
-ghost use Rattle.lto_forms.specs.Alphabet.{contains};
-ghost use Rattle.lto_forms.specs.Readers.{Gives, token_at};
+ghost use Rattle.ir_read.specs.Alphabet.{contains};
+ghost use Rattle.ir_read.specs.Readers.{Gives, token_at};
 ghost use Rattle.ir_lex.specs.Rows.{begins};
 ghost use Rattle.ir_lex.specs.Tok.{tok};
 ghost use Rattle.ir_read.specs.Decimals.{decimal, ALIGNMENTS, alignment_of, is_alignment};
@@ -10,7 +10,7 @@ ghost use Rattle.ir_read.specs.Decimals.{decimal, ALIGNMENTS, alignment_of, is_a
 use crate::terminals::refusal;
 use crate::tokens::Tokens;
 use ir_lex::{Head, Token};
-use lto_forms::{Fault, FaultKind, ReadError};
+use crate::{Fault, FaultKind, ReadError};
 
 /// The number that these digits write, or `None` from `2^64` on. Leading zeros count for nothing.
 pub fn decimal(digits: &[u8]) -> Option<u64>

@@ -5,8 +5,8 @@ ghost use Rattle.std.specs.Char.{is_ascii_digit};
 ghost use Rattle.std.specs.List.{list_all};
 ghost use Rattle.ir_lex.specs.Heads.{number};
 ghost use Rattle.ir_lex.specs.Tok.{tok};
-ghost use Rattle.lto_forms.specs.Readers.{Gives};
-ghost use Rattle.lto_forms.specs.Rules.{is_among, is_exact, is_valued};
+ghost use Rattle.ir_read.specs.Readers.{Gives};
+ghost use Rattle.ir_read.specs.Rules.{is_among, is_exact, is_valued};
 ghost use Rattle.ir_read.specs.Classes.{tokens, refusal};
 ghost use Rattle.ir_read.specs.Literals.{IsWidth};
 ghost use Rattle.ir_read.specs.Decimals.{decimal};
@@ -22,7 +22,7 @@ use crate::terminals::{expect, refusal};
 use crate::tokens::Tokens;
 use ir_lex::{Head, Token};
 use ir_tree::Reg;
-use lto_forms::{Fault, FaultKind, ReadError};
+use crate::{Fault, FaultKind, ReadError};
 use std::alloc::{AllocError, Global};
 
 /// Why a token can't stand where a type may.
@@ -65,7 +65,7 @@ pub fn reg_of(t: &Token) -> Reg
     }
 }
 
-#[tactic(auto, unfolding(lto_forms::specs::Rules::is_among))]
+#[tactic(auto, unfolding(crate::specs::Rules::is_among))]
 fn reg_means(t: &Token) -> Result<Reg, FaultKind>
     ensures exact { result ≡ is_among tokens type_refusal REG reg_of (tok t.now) }
     ensures ranged { IfOk result IsReg }
@@ -94,7 +94,7 @@ pub fn reg_at(tokens: &mut Tokens) -> Result<Reg, ReadError>
     }
 }
 
-#[tactic(auto, unfolding(lto_forms::specs::Rules::is_among))]
+#[tactic(auto, unfolding(crate::specs::Rules::is_among))]
 fn integer_means(t: &Token) -> Result<u8, FaultKind>
     ensures exact { result ≡ is_among tokens type_refusal INTEGER width (tok t.now) }
     ensures ranged { IfOk result IsWidth }
@@ -123,7 +123,7 @@ pub fn integer_at(tokens: &mut Tokens) -> Result<u8, ReadError>
     }
 }
 
-#[tactic(auto, unfolding(lto_forms::specs::Rules::is_exact))]
+#[tactic(auto, unfolding(crate::specs::Rules::is_exact))]
 fn bit_means(t: &Token) -> Result<u8, FaultKind>
     ensures exact { result ≡ is_exact tokens type_refusal INTEGER is_bit width (tok t.now) }
     ensures ranged { IfOk result IsWidth }
@@ -159,7 +159,7 @@ pub fn bit_at(tokens: &mut Tokens) -> Result<u8, ReadError>
     }
 }
 
-#[tactic(auto, unfolding(lto_forms::specs::Rules::is_among))]
+#[tactic(auto, unfolding(crate::specs::Rules::is_among))]
 fn scalar_means(t: &Token) -> Result<Reg, FaultKind>
     ensures exact { result ≡ is_among tokens memory_refusal SCALAR reg_of (tok t.now) }
     ensures ranged { IfOk result IsReg }
@@ -188,7 +188,7 @@ pub fn scalar_at(tokens: &mut Tokens) -> Result<Reg, ReadError>
     }
 }
 
-#[tactic(auto, unfolding(lto_forms::specs::Rules::is_among))]
+#[tactic(auto, unfolding(crate::specs::Rules::is_among))]
 fn result_means(t: &Token) -> Result<Option<Reg>, FaultKind>
     ensures exact { result ≡ is_among tokens type_refusal RESULT result_of (tok t.now) }
     ensures ranged { IfOk result (λ x. IfSome x IsReg) }
@@ -279,7 +279,7 @@ pub fn group_named(alloc: Global, t: &Token) -> Result<Option<Name>, AllocError>
     }
 }
 
-#[tactic(auto, unfolding(lto_forms::specs::Rules::is_valued))]
+#[tactic(auto, unfolding(crate::specs::Rules::is_valued))]
 fn local_means(alloc: Global, t: &Token) -> Result<Result<Name, FaultKind>, AllocError>
     ensures { IfOk result (λ x. x ≡ is_valued tokens refusal LOCAL named (tok t.now)) }
 {
@@ -364,7 +364,7 @@ fn global_spelled(alloc: Global, t: &Token) -> Result<Result<Operand, FaultKind>
 }
 
 /// What a token means where an operand of a type may stand.
-#[tactic(auto, unfolding(lto_forms::specs::Rules::is_valued))]
+#[tactic(auto, unfolding(crate::specs::Rules::is_valued))]
 pub fn operand_means(
     alloc: Global,
     reg: Reg,

@@ -3,12 +3,12 @@
 ghost use Rattle.std.specs.Prelude.{◌≡◌};
 ghost use Rattle.ir_lex.specs.Heads.{number};
 ghost use Rattle.ir_lex.specs.Tok.{Tok};
-ghost use Rattle.lto_forms.specs.Readers.{Gives};
+ghost use Rattle.ir_read.specs.Readers.{Gives};
 ghost use Rattle.ir_read.specs.Classes.{refusal, the_at};
 
 use crate::tokens::Tokens;
 use ir_lex::Head;
-use lto_forms::{Fault, FaultKind, ReadError};
+use crate::{Fault, FaultKind, ReadError};
 
 /// Why a token of this class can't stand where it isn't wanted.
 pub fn refusal(head: Head) -> FaultKind
@@ -26,7 +26,7 @@ pub fn refusal(head: Head) -> FaultKind
 }
 
 /// Takes a token of this class.
-#[tactic(auto, unfolding(lto_forms::specs::Rules::is_class))]
+#[tactic(auto, unfolding(crate::specs::Rules::is_class))]
 pub fn expect(wanted: Head, tokens: &mut Tokens) -> Result<(), ReadError>
     ensures { Gives (λ x. (tt, tokens.new)) result (the_at wanted tokens.old) }
 {

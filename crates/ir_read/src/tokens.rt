@@ -3,8 +3,8 @@
 ghost use Rattle.std.specs.Prelude.{◌≡◌, [], ◌∷◌, length, MatchOption};
 ghost use Rattle.ir_lex.specs.Heads.{number};
 ghost use Rattle.ir_lex.specs.Tok.{tok, toks};
-ghost use Rattle.lto_forms.specs.Alphabet.{among};
-ghost use Rattle.lto_forms.specs.Readers.{next_is};
+ghost use Rattle.ir_read.specs.Alphabet.{among};
+ghost use Rattle.ir_read.specs.Readers.{next_is};
 ghost use Rattle.ir_read.specs.Ahead.{ALIGNED, BRACKETS, STEPPING, WRAPS};
 ghost use Rattle.ir_read.specs.Classes.{tokens, NextHead};
 ghost use Rattle.ir_read.specs.Metadata.{META};

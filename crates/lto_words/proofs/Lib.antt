@@ -4,3 +4,9 @@ pub mod Numbers
 pub mod Simple
 pub mod OneCommand
 pub mod Arguments
+pub mod Fetches
+mod Cutting
+mod Naming
+pub mod OneList
+mod Lining
+pub mod InARow

@@ -4,3 +4,8 @@ pub mod Values
 pub mod Given
 pub mod Commands
 pub mod Laws
+pub mod Fetching
+pub mod Fetched
+pub mod Listing
+pub mod Lists
+pub mod Links

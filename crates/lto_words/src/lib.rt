@@ -18,14 +18,21 @@
 
 mod argument;
 mod fault;
+mod fetching;
 mod given;
 mod laws;
+mod linked;
 mod list;
+mod listing;
+mod listing_laws;
 mod name;
 mod number;
 mod options;
+mod putting;
 mod request;
 mod table;
+#[cfg(test)]
+mod tests;
 mod words;
 
 pub use fault::WordsError;
@@ -34,3 +41,8 @@ pub use list::Decimal;
 pub use name::FileName;
 pub use request::{Command, LinkOptions};
 pub use words::command;
+pub use fetching::{FetchError, fetch_all, fetch_one};
+pub use listing_laws::one_list;
+pub use linked::fetch_links;
+pub use listing::{ListError, ListedLink, links};
+pub use putting::put_all;

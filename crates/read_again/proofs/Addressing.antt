@@ -23,7 +23,7 @@ use Rattle.ir_tree.specs.declared.instr.Instr.TheVariants.{Alloca, Address}
 use Rattle.ir_tree.specs.declared.operand.Argument.{Argument}
 use Rattle.ir_tree.specs.declared.operand.Operand.{Operand}
 use Rattle.ir_tree.specs.declared.operand.Reg.TheVariants.{Ptr}
-use Rattle.lto_forms.specs.Chained.{Chain}
+use Rattle.ir_read.specs.Chained.{Chain}
 use Rattle.read_again.specs.PartsPrinted.{IsArgument, IsInstr}
 use Rattle.read_again.specs.PartsReadable.{OperandReadable, ArgumentReadable}
 use Rattle.read_again.specs.Reads.{Reads}

@@ -15,10 +15,10 @@ use Rattle.ir_read.specs.Classes.{refusal}
 use Rattle.ir_read.specs.Decimals as read_decimal
 use Rattle.ir_read.specs.Decimals.{ALIGNMENTS, alignment_of, is_alignment}
 use Rattle.ir_tree.specs.Formed.{IsAlignment}
-use Rattle.lto_forms.specs.Alphabet.{contains}
-use Rattle.lto_forms.specs.declared.fault.FaultKind.{FaultKind}
-use Rattle.lto_forms.specs.declared.fault.FaultKind.TheVariants as faults
-use Rattle.lto_forms.specs.Forms.{Star, token}
+use Rattle.ir_read.specs.Alphabet.{contains}
+use Rattle.ir_read.specs.declared.fault.FaultKind.{FaultKind}
+use Rattle.ir_read.specs.declared.fault.FaultKind.TheVariants as faults
+use Rattle.ir_read.specs.Forms.{Star, token}
 use Rattle.read_again.specs.Reads.{Reads}
 use Rattle.read_again.proofs.Composed.{then, last, nothing, left, right, no_more, one_more}
 use Rattle.read_again.proofs.Numerals.{decimal_again, decimal_nonempty, no_minus}

@@ -12,7 +12,7 @@ use Rattle.ir_heads.specs.declared.attributes.Attribute.{Attribute}
 use Rattle.ir_heads.specs.declared.attributes.Attribute.TheVariants.{Noinline, Optnone}
 use Rattle.ir_heads.specs.declared.attributes.Kept.{Kept}
 use Rattle.ir_tree.specs.declared.function.Function.{Function}
-use Rattle.lto_forms.specs.Forms.{Star}
+use Rattle.ir_read.specs.Forms.{Star}
 use Rattle.read_again.specs.PartsPrinted.{IsKept}
 use Rattle.read_again.specs.Reads.{Reads, Any}
 use Rattle.read_again.proofs.Composed.{then, last, nothing, right, no_more, one_more}

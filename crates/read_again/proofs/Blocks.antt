@@ -18,7 +18,7 @@ use Rattle.ir_read.specs.declared.raw.Line as raw_line
 use Rattle.ir_tree.specs.declared.block.Block.{Block}
 use Rattle.ir_tree.specs.declared.instr.Line.{Line}
 use Rattle.ir_tree.specs.declared.instr.Phi.{Phi}
-use Rattle.lto_forms.specs.Forms.{Many}
+use Rattle.ir_read.specs.Forms.{Many}
 use Rattle.read_again.specs.Bodies.{phi_as_line, stated, instructions}
 use Rattle.read_again.specs.Printed.{IsLine, IsContent, IsEntry, IsLabelOf, IsLabelled, AreBlocks}
 use Rattle.read_again.specs.Readable.{LineReadable, BlockReadable, BodyReadable}

@@ -11,11 +11,11 @@ use Rattle.ir_heads.specs.FunctionHeads.{head, name_refusal, names_of}
 use Rattle.ir_read.specs.Operands.{global_named}
 use Rattle.ir_heads.specs.declared.function_heads.Role.{Role}
 use Rattle.ir_read.specs.declared.raw.Head.{Head}
-use Rattle.lto_forms.specs.Alphabet.{contains}
-use Rattle.lto_forms.specs.declared.fault.FaultKind.{FaultKind}
-use Rattle.lto_forms.specs.Forms as form
-use Rattle.lto_forms.specs.Forms.{Form, token}
-use Rattle.lto_forms.specs.Rules.{in_range, is_valued}
+use Rattle.ir_read.specs.Alphabet.{contains}
+use Rattle.ir_read.specs.declared.fault.FaultKind.{FaultKind}
+use Rattle.ir_read.specs.Forms as form
+use Rattle.ir_read.specs.Forms.{Form, token}
+use Rattle.ir_read.specs.Rules.{in_range, is_valued}
 use Rattle.read_again.specs.Texts.{tokens_before}
 use Rattle.read_again.specs.Reads.{Reads}
 

@@ -4,9 +4,9 @@ use Rattle.ir_lex.specs.Blanks.{line_behind}
 use Rattle.ir_lex.specs.Heads.{head_of}
 use Rattle.ir_lex.specs.Pieces.{Piece, ends_at}
 use Rattle.ir_lex.specs.Tok.{Tok}
-use Rattle.lto_forms.specs.Chained.{Chain}
-use Rattle.lto_forms.specs.Forms as form
-use Rattle.lto_forms.specs.Forms.{Form}
+use Rattle.ir_read.specs.Chained.{Chain}
+use Rattle.ir_read.specs.Forms as form
+use Rattle.ir_read.specs.Forms.{Form}
 use Rattle.read_again.specs.Texts.{line_after, tokens_before}
 use Rattle.read_again.specs.Reads.{Reads}
 

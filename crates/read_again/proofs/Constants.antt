@@ -24,11 +24,11 @@ use Rattle.ir_tree.specs.declared.operand.Operand.TheVariants.{Local, Number, Nu
 use Rattle.ir_tree.specs.declared.operand.Reg.{Reg}
 use Rattle.ir_tree.specs.declared.operand.Reg.TheVariants.{Int, Ptr}
 use Rattle.ir_tree.specs.declared.operand.Symbol as tree_symbol
-use Rattle.lto_forms.specs.Alphabet.{contains}
-use Rattle.lto_forms.specs.declared.fault.FaultKind.{FaultKind}
-use Rattle.lto_forms.specs.Forms as form
-use Rattle.lto_forms.specs.Forms.{Form, token}
-use Rattle.lto_forms.specs.Rules.{is_valued}
+use Rattle.ir_read.specs.Alphabet.{contains}
+use Rattle.ir_read.specs.declared.fault.FaultKind.{FaultKind}
+use Rattle.ir_read.specs.Forms as form
+use Rattle.ir_read.specs.Forms.{Form, token}
+use Rattle.ir_read.specs.Rules.{is_valued}
 use Rattle.read_again.specs.Variables.{IsInitHead}
 use Rattle.read_again.specs.VariablesReadable.{ConstantReadable}
 use Rattle.ir_tree.specs.declared.init_node.InitHead.TheVariants.{Plain}

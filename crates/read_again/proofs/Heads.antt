@@ -24,9 +24,9 @@ use Rattle.ir_tree.specs.declared.function.Function.{Function}
 use Rattle.ir_tree.specs.declared.function.Linkage.{Linkage}
 use Rattle.ir_tree.specs.declared.function.Linkage.TheVariants as linkages
 use Rattle.ir_tree.specs.declared.function.Param.{Param}
-use Rattle.lto_forms.specs.Alphabet.{contains}
-use Rattle.lto_forms.specs.Chained.{Chain}
-use Rattle.lto_forms.specs.Forms.{Many}
+use Rattle.ir_read.specs.Alphabet.{contains}
+use Rattle.ir_read.specs.Chained.{Chain}
+use Rattle.ir_read.specs.Forms.{Many}
 use Rattle.read_again.specs.Classes.{IsOrdinary}
 use Rattle.read_again.specs.Printable.{IsName}
 use Rattle.read_again.proofs.Classes.{global_class}

@@ -14,7 +14,7 @@ use Rattle.ir_tree.specs.declared.block.Block.{Block}
 use Rattle.ir_tree.specs.declared.function.Function.{Function}
 use Rattle.ir_tree.specs.declared.module.GlobalValue.{GlobalValue}
 use Rattle.ir_tree.specs.declared.module.GlobalValue.TheVariants as globals
-use Rattle.lto_forms.specs.Forms.{Form, ◌>>=◌, gives}
+use Rattle.ir_read.specs.Forms.{Form, ◌>>=◌, gives}
 use Rattle.ir_lex.specs.Tok.{Tok}
 use Rattle.read_again.specs.Modules.{Entry, layout, triple, global_value, IsFunctionOf, IsGlobalItem, IsItem}
 use Rattle.read_again.specs.ModulesReadable.{FunctionReadable, GlobalReadable, LayoutReadable}

@@ -8,9 +8,9 @@ use Rattle.ir_lex.specs.declared.token.Kind.TheVariants as kinds
 use Rattle.ir_print.specs.Tokens.{next_line, label_line}
 use Rattle.ir_read.specs.Classes.{tokens, refusal}
 use Rattle.ir_read.specs.Operands.{named, named_by}
-use Rattle.lto_forms.specs.Alphabet.{contains}
-use Rattle.lto_forms.specs.Forms.{token}
-use Rattle.lto_forms.specs.Rules.{is_valued}
+use Rattle.ir_read.specs.Alphabet.{contains}
+use Rattle.ir_read.specs.Forms.{token}
+use Rattle.ir_read.specs.Rules.{is_valued}
 use Rattle.read_again.specs.PartsPrinted.{IsLabel}
 use Rattle.read_again.specs.PartsReadable.{IsSmall}
 use Rattle.read_again.specs.Reads.{Reads}

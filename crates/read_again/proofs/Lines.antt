@@ -30,8 +30,8 @@ use Rattle.ir_tree.specs.declared.instr.Instr.TheVariants.{Binary, Icmp, Cast, S
 use Rattle.ir_tree.specs.declared.instr.Line.{Line}
 use Rattle.ir_tree.specs.declared.operand.Operand.{Operand}
 use Rattle.ir_tree.specs.declared.operand.Reg.{Reg}
-use Rattle.lto_forms.specs.Alphabet.{contains}
-use Rattle.lto_forms.specs.Forms.{Form, ◌>>=◌, gives}
+use Rattle.ir_read.specs.Alphabet.{contains}
+use Rattle.ir_read.specs.Forms.{Form, ◌>>=◌, gives}
 use Rattle.read_again.specs.Printed.{IsSomeWith, IsInstruction, IsLine}
 use Rattle.read_again.specs.Readable.{InstructionReadable, MayHaveName, ResultReadable, LineReadable}
 use Rattle.read_again.proofs.Calls.{calling_read}

@@ -4,12 +4,12 @@ use Rattle.std.specs.List.{AllByRecursion as Each, fold}
 use Rattle.std.specs.Prelude.{IfSome}
 use Rattle.ir_lex.specs.Heads.{number}
 use Rattle.ir_lex.specs.Tok.{Tok}
-use Rattle.lto_forms.specs.Alphabet.{contains}
-use Rattle.lto_forms.specs.Chained.{Chain}
-use Rattle.lto_forms.specs.Forms as form
-use Rattle.lto_forms.specs.Forms.{Form}
-use Rattle.lto_forms.specs.Rules.{in_range, is_among, is_valued}
-use Rattle.lto_forms.specs.declared.fault.FaultKind.{FaultKind}
+use Rattle.ir_read.specs.Alphabet.{contains}
+use Rattle.ir_read.specs.Chained.{Chain}
+use Rattle.ir_read.specs.Forms as form
+use Rattle.ir_read.specs.Forms.{Form}
+use Rattle.ir_read.specs.Rules.{in_range, is_among, is_valued}
+use Rattle.ir_read.specs.declared.fault.FaultKind.{FaultKind}
 use Rattle.ir_read.specs.Classes.{tokens}
 use Rattle.ir_read.specs.Operands.{global_named}
 use Rattle.ir_read.proofs.OperandRules.{global_is}

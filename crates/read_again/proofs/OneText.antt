@@ -10,7 +10,7 @@ use Rattle.ir_parse.specs.Stages.{module_in}
 use Rattle.ir_print.specs.Modules.{entries, module_text}
 use Rattle.ir_read.specs.declared.raw.Item.{Item}
 use Rattle.ir_tree.specs.declared.module.Module.{Module}
-use Rattle.lto_forms.proofs.Composed.{reads_is}
+use Rattle.ir_read.proofs.Composed.{reads_is}
 use Rattle.read_again.specs.OneText.{ModuleSpelled, PrintedIsOne}
 use Rattle.read_again.specs.Texts.{tokens_in}
 use Rattle.read_again.proofs.Modules.{module_again}

@@ -13,9 +13,9 @@ use Rattle.ir_read.specs.Literals.{literal}
 use Rattle.ir_tree.specs.Formed.{IsWidth}
 use Rattle.ir_tree.specs.declared.operand.Reg.{Reg}
 use Rattle.ir_tree.specs.declared.operand.Reg.TheVariants.{Int}
-use Rattle.lto_forms.specs.Alphabet.{contains}
-use Rattle.lto_forms.specs.Forms.{token}
-use Rattle.lto_forms.specs.Rules.{is_valued}
+use Rattle.ir_read.specs.Alphabet.{contains}
+use Rattle.ir_read.specs.Forms.{token}
+use Rattle.ir_read.specs.Rules.{is_valued}
 use Rattle.read_again.specs.PartsReadable.{NumberReadable}
 use Rattle.read_again.specs.Reads.{Reads}
 use Rattle.read_again.proofs.Numerals.{signed_again, signed_nonempty}

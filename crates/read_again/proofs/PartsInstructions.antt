@@ -37,10 +37,10 @@ use Rattle.ir_tree.specs.declared.operand.Argument.{Argument}
 use Rattle.ir_tree.specs.declared.operand.Operand.{Operand}
 use Rattle.ir_tree.specs.declared.operand.Reg.{Reg}
 use Rattle.ir_tree.specs.declared.operand.Reg.TheVariants.{Int, Ptr}
-use Rattle.lto_forms.specs.Alphabet.{contains}
-use Rattle.lto_forms.specs.declared.fault.FaultKind.{FaultKind}
-use Rattle.lto_forms.specs.declared.fault.FaultKind.TheVariants as faults
-use Rattle.lto_forms.specs.Forms.{Form, Star, token}
+use Rattle.ir_read.specs.Alphabet.{contains}
+use Rattle.ir_read.specs.declared.fault.FaultKind.{FaultKind}
+use Rattle.ir_read.specs.declared.fault.FaultKind.TheVariants as faults
+use Rattle.ir_read.specs.Forms.{Form, Star, token}
 use Rattle.read_again.specs.Classes.{binary_class, predicate_class, cast_class}
 use Rattle.read_again.proofs.Classes.{opcode_class, condition_class, conversion_class}
 use Rattle.read_again.specs.Behind.{behind_opcode, behind_conversion}

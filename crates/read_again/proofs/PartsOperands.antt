@@ -32,9 +32,9 @@ use Rattle.ir_tree.specs.declared.operand.Operand.{Operand}
 use Rattle.ir_tree.specs.declared.operand.Operand.TheVariants.{Local, Number, Null, Poison, Symbol}
 use Rattle.ir_tree.specs.declared.operand.Reg.{Reg}
 use Rattle.ir_tree.specs.declared.operand.Reg.TheVariants.{Int, Ptr}
-use Rattle.lto_forms.specs.Alphabet.{contains}
-use Rattle.lto_forms.specs.Forms.{Form, Star, either}
-use Rattle.lto_forms.specs.Rules.{is_valued}
+use Rattle.ir_read.specs.Alphabet.{contains}
+use Rattle.ir_read.specs.Forms.{Form, Star, either}
+use Rattle.ir_read.specs.Rules.{is_valued}
 use Rattle.read_again.proofs.Classes.{global_class}
 use Rattle.read_again.specs.PartsPrinted.{IsGlobal, IsDisplaced, IsOperand, IsArgument}
 use Rattle.read_again.specs.PartsReadable.{SymbolReadable, OperandReadable, ArgumentReadable}

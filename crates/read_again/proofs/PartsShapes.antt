@@ -25,9 +25,9 @@ use Rattle.ir_operands.specs.declared.extents.Room.{Room}
 use Rattle.ir_read.specs.declared.shape.Typed.{Typed}
 use Rattle.ir_tree.specs.Formed.{IsStored}
 use Rattle.ir_tree.specs.Forms.{Form, Forms, int, pointer, array, structure, no_parts, part}
-use Rattle.lto_forms.specs.Alphabet.{contains}
-use Rattle.lto_forms.specs.Chained.{Chain}
-use Rattle.lto_forms.specs.declared.fault.FaultKind.{FaultKind}
+use Rattle.ir_read.specs.Alphabet.{contains}
+use Rattle.ir_read.specs.Chained.{Chain}
+use Rattle.ir_read.specs.declared.fault.FaultKind.{FaultKind}
 use Rattle.read_again.specs.PartsPrinted.{written_shape, written_parts}
 use Rattle.read_again.specs.Reads.{Reads, Any}
 use Rattle.read_again.proofs.Composed.{then, next, last, nothing, left, right, chain_ends, chain_goes_on}

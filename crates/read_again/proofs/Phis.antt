@@ -10,7 +10,7 @@ use Rattle.ir_tree.specs.Formed.{IsReg}
 use Rattle.ir_tree.specs.declared.instr.Incoming.{Incoming}
 use Rattle.ir_tree.specs.declared.instr.Instr.TheVariants.{Phi}
 use Rattle.ir_tree.specs.declared.operand.Reg.{Reg}
-use Rattle.lto_forms.specs.Chained.{Chain}
+use Rattle.ir_read.specs.Chained.{Chain}
 use Rattle.read_again.specs.PartsPrinted.{Paired, IsIncoming, IsInstr}
 use Rattle.read_again.specs.PartsReadable.{IncomingReadable}
 use Rattle.read_again.specs.Reads.{Reads}

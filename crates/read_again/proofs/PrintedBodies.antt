@@ -8,8 +8,8 @@ use Rattle.ir_lex.specs.Tok.{Tok}
 use Rattle.ir_read.specs.Operands.{local}
 use Rattle.ir_read.specs.declared.raw.Block.{Block}
 use Rattle.ir_read.specs.declared.raw.Line.{Line}
-use Rattle.lto_forms.specs.Forms as form
-use Rattle.lto_forms.specs.Forms.{Form}
+use Rattle.ir_read.specs.Forms as form
+use Rattle.ir_read.specs.Forms.{Form}
 use Rattle.read_again.proofs.CutInstructions.{each_left, each_right}
 use Rattle.read_again.specs.Spelled.{BlockSpelled, BodySpelled, LineSpelled, lines_in}
 use Rattle.read_again.specs.Tokens.{IsCut}

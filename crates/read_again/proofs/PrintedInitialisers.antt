@@ -28,7 +28,7 @@ use Rattle.ir_tree.specs.declared.init_node.InitHead.TheVariants.{Plain}
 use Rattle.ir_tree.specs.declared.init_node.InitPart.{InitPart}
 use Rattle.ir_tree.specs.declared.init_node.InitPart.TheVariants.{Typed, End}
 use Rattle.ir_tree.specs.declared.operand.Operand.{Operand}
-use Rattle.lto_forms.specs.Chained.{Chain}
+use Rattle.ir_read.specs.Chained.{Chain}
 use Rattle.read_again.specs.Variables.{IsInitHead, IsInitPart, IsInit}
 use Rattle.read_again.specs.VariablesReadable.{InitialReadable, InitialsReadable}
 use Rattle.read_again.proofs.Constants.{constant_read}

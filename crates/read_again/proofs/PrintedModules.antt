@@ -13,9 +13,9 @@ use Rattle.ir_read.specs.declared.places.Position.{Position}
 use Rattle.ir_read.specs.declared.raw.Item.{Item}
 use Rattle.ir_tree.specs.declared.module.GlobalValue.{GlobalValue}
 use Rattle.ir_tree.specs.declared.module.Module.{Module}
-use Rattle.lto_forms.specs.Chained.{Chain}
-use Rattle.lto_forms.specs.Forms as form
-use Rattle.lto_forms.specs.Forms.{Form}
+use Rattle.ir_read.specs.Chained.{Chain}
+use Rattle.ir_read.specs.Forms as form
+use Rattle.ir_read.specs.Forms.{Form}
 use Rattle.read_again.specs.Modules.{Entry, layout, triple, global_value, target, IsItem, AreItems}
 use Rattle.read_again.specs.ModulesReadable.{GlobalReadable, LayoutReadable, ModuleReadable}
 use Rattle.read_again.proofs.Items.{before_next, behind_entry, IsPlaced, global_at, layout_at, triple_at}

@@ -14,7 +14,7 @@ use Rattle.ir_read.specs.Decimals as read_decimal
 use Rattle.ir_read.specs.Operands.{is_numeral, named, named_by, LOCAL}
 use Rattle.ir_read.specs.Operands as read
 use Rattle.ir_instructions.specs.Terminators.{target}
-use Rattle.lto_forms.specs.Alphabet.{contains}
+use Rattle.ir_read.specs.Alphabet.{contains}
 use Rattle.read_again.specs.PartsPrinted.{IsNumber}
 use Rattle.read_again.specs.Reads.{Reads}
 use Rattle.read_again.specs.PartsReadable.{IsSmall}

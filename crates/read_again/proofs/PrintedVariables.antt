@@ -22,7 +22,7 @@ use Rattle.ir_tree.specs.Names.{quoted}
 use Rattle.ir_tree.specs.declared.function.Linkage.{Linkage}
 use Rattle.ir_tree.specs.declared.function.Linkage.TheVariants as linkages
 use Rattle.ir_tree.specs.declared.function.Variable.{Variable}
-use Rattle.lto_forms.specs.Alphabet.{contains}
+use Rattle.ir_read.specs.Alphabet.{contains}
 use Rattle.read_again.specs.Variables.{IsInitOf, IsVariableItem, linkage_of}
 use Rattle.read_again.specs.VariablesReadable.{InitReadable, VariableReadable}
 use Rattle.read_again.proofs.Alignments.{tail_read}

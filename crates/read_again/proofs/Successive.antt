@@ -3,7 +3,7 @@ use Rattle.std.proofs.Common.{◌≡◌, ℕ, suc, List, [], ◌∷◌, ◌++◌
 use Rattle.ir_bodies.specs.Successive.{Successive}
 use Rattle.ir_lex.specs.Pieces.{Piece}
 use Rattle.ir_lex.specs.Tok.{Tok}
-use Rattle.lto_forms.specs.Forms.{Form}
+use Rattle.ir_read.specs.Forms.{Form}
 use Rattle.read_again.specs.Texts.{line_after, tokens_before}
 use Rattle.read_again.specs.Reads.{Reads}
 use Rattle.read_again.proofs.Composed.{tokens_append}

@@ -11,10 +11,10 @@ use Rattle.ir_print.specs.Tokens.{tight, space, word, closed, string}
 use Rattle.ir_read.specs.Classes.{refusal, the, one_of, itself}
 use Rattle.ir_heads.specs.Targets.{STRING, fits_layout, is_layout, layout_line, triple_line, target_line}
 use Rattle.ir_tree.specs.Names.{AllBytes}
-use Rattle.lto_forms.specs.Alphabet.{contains}
-use Rattle.lto_forms.specs.declared.fault.FaultKind.{FaultKind}
-use Rattle.lto_forms.specs.declared.fault.FaultKind.TheVariants.{Profile}
-use Rattle.lto_forms.specs.Forms.{token}
+use Rattle.ir_read.specs.Alphabet.{contains}
+use Rattle.ir_read.specs.declared.fault.FaultKind.{FaultKind}
+use Rattle.ir_read.specs.declared.fault.FaultKind.TheVariants.{Profile}
+use Rattle.ir_read.specs.Forms.{token}
 use Rattle.read_again.proofs.Quoted.{string_content}
 use Rattle.read_again.specs.PartsPrinted.{IsString, IsLayout, IsTriple}
 use Rattle.read_again.specs.Reads.{Reads, Any}

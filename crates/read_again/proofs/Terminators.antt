@@ -26,8 +26,8 @@ use Rattle.ir_tree.specs.declared.operand.Argument.{Argument}
 use Rattle.ir_tree.specs.declared.operand.Operand.{Operand}
 use Rattle.ir_tree.specs.declared.operand.Reg.{Reg}
 use Rattle.ir_tree.specs.declared.operand.Reg.TheVariants.{Int, Ptr}
-use Rattle.lto_forms.specs.Alphabet.{contains}
-use Rattle.lto_forms.specs.Forms.{Star}
+use Rattle.ir_read.specs.Alphabet.{contains}
+use Rattle.ir_read.specs.Forms.{Star}
 use Rattle.read_again.specs.PartsPrinted.{Paired, IsCase, IsTerminator}
 use Rattle.read_again.specs.PartsReadable.{IsSmall, OperandReadable, CaseReadable, AnswerReadable, TerminatorReadable}
 use Rattle.read_again.specs.Reads.{Reads, Any}

@@ -5,10 +5,10 @@ use Rattle.ir_lex.specs.Tok.{Tok}
 use Rattle.ir_lex.specs.declared.head.Head.{Head}
 use Rattle.ir_lex.specs.declared.token.Kind.{Kind}
 use Rattle.ir_print.specs.Tokens.{piece}
-use Rattle.lto_forms.specs.Alphabet.{contains}
-use Rattle.lto_forms.specs.declared.fault.FaultKind.{FaultKind}
-use Rattle.lto_forms.specs.Forms as form
-use Rattle.lto_forms.specs.Rules.{in_range, is_class, is_among, is_exact, is_valued}
+use Rattle.ir_read.specs.Alphabet.{contains}
+use Rattle.ir_read.specs.declared.fault.FaultKind.{FaultKind}
+use Rattle.ir_read.specs.Forms as form
+use Rattle.ir_read.specs.Rules.{in_range, is_class, is_among, is_exact, is_valued}
 use Rattle.ir_read.specs.Classes.{tokens, refusal, the}
 use Rattle.read_again.specs.Reads.{Reads, Any}
 

@@ -12,7 +12,7 @@ use Rattle.ir_operands.specs.Values.{pointer}
 use Rattle.ir_tree.specs.Formed.{IsWidth, IsReg, IsResult, IsStored, IsScalar}
 use Rattle.ir_tree.specs.declared.operand.Reg.{Reg}
 use Rattle.ir_tree.specs.declared.operand.Reg.TheVariants.{Int, Ptr}
-use Rattle.lto_forms.specs.Alphabet.{contains}
+use Rattle.ir_read.specs.Alphabet.{contains}
 use Rattle.read_again.specs.Classes.{is_stored, integer_class}
 use Rattle.read_again.proofs.Classes.{width_class}
 use Rattle.read_again.specs.Reads.{Reads, Any}

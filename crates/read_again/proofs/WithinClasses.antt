@@ -5,7 +5,7 @@ use Rattle.ir_lex.specs.declared.head.Head.{Head}
 use Rattle.ir_lex.specs.declared.head.Head.TheVariants as heads
 use Rattle.ir_lex.specs.declared.token.Kind.{Kind}
 use Rattle.ir_lex.specs.declared.token.Kind.TheVariants as kinds
-use Rattle.lto_forms.specs.Alphabet.{contains}
+use Rattle.ir_read.specs.Alphabet.{contains}
 use Rattle.ir_operands.specs.Values.{GLOBAL}
 
 -- no class of a name

@@ -12,7 +12,7 @@ use Rattle.ir_heads.specs.declared.function_heads.Role.TheVariants as roles
 use Rattle.ir_read.specs.declared.raw.Head.{Head}
 use Rattle.ir_read.specs.declared.raw.Param.{Param}
 use Rattle.ir_tree.specs.declared.function.Linkage.{Linkage}
-use Rattle.lto_forms.specs.Alphabet.{contains}
+use Rattle.ir_read.specs.Alphabet.{contains}
 use Rattle.read_again.specs.Spelled.{FewParams, NameSpelled}
 use Rattle.read_again.proofs.PrintedBodies.{many_few}
 use Rattle.read_again.proofs.Means.{Means, global_means, either_means, follow, nothing, skip}

@@ -23,7 +23,7 @@ use Rattle.ir_tree.specs.declared.instr.CastOp.{CastOp}
 use Rattle.ir_tree.specs.declared.instr.CastOp.TheVariants as casts
 use Rattle.ir_tree.specs.declared.instr.Flags.{Flags}
 use Rattle.ir_tree.specs.declared.operand.Reg.TheVariants.{Int, Ptr}
-use Rattle.lto_forms.specs.Forms.{Form}
+use Rattle.ir_read.specs.Forms.{Form}
 use Rattle.read_again.specs.Spelled.{InstrSpelled, IsCount, LineSpelled, OperandSpelled}
 use Rattle.read_again.proofs.Means.{Means, among_means, either_means, follow, nothing, skip, valued_means}
 use Rattle.read_again.proofs.Addresses.{addressing_spelled}

@@ -20,7 +20,7 @@ use Rattle.ir_lex.specs.declared.token.Kind.TheVariants as kinds
 use Rattle.ir_names.specs.Keys.{is_numeral}
 use Rattle.ir_names.specs.Symbols.{symbol_name, trimmed}
 use Rattle.ir_operands.specs.Values.{GLOBAL}
-use Rattle.lto_forms.specs.Alphabet.{contains}
+use Rattle.ir_read.specs.Alphabet.{contains}
 use Rattle.ir_tree.specs.Names.{AllBytes}
 use Rattle.read_again.specs.Classes.{IsOrdinary}
 use Rattle.read_again.specs.Tokens.{IsWritable}

@@ -5,8 +5,8 @@ use Rattle.ir_lex.specs.Heads.{number}
 use Rattle.ir_lex.specs.Tok.{Tok}
 use Rattle.ir_lex.specs.declared.head.Head.{Head}
 use Rattle.ir_lex.specs.declared.head.Head.TheVariants as heads
-use Rattle.lto_forms.specs.Alphabet.{contains}
-use Rattle.lto_forms.specs.Rules.{is_exact}
+use Rattle.ir_read.specs.Alphabet.{contains}
+use Rattle.ir_read.specs.Rules.{is_exact}
 use Rattle.ir_read.specs.Literals.{literal}
 use Rattle.ir_read.specs.Operands.{INTEGER, bit, bits_of, is_bit, named, operand_by, simple, type_refusal, width}
 use Rattle.ir_operands.specs.ShapeForms.{memory_shape}

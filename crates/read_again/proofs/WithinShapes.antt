@@ -18,9 +18,9 @@ use Rattle.ir_read.specs.Shapes.{Written, parts_of}
 use Rattle.ir_operands.specs.declared.extents.Extent.{Extent}
 use Rattle.ir_operands.specs.declared.extents.Room.{Room}
 use Rattle.ir_read.specs.declared.shape.Typed.{Typed}
-use Rattle.lto_forms.specs.Alphabet.{contains}
-use Rattle.lto_forms.specs.Forms.{Form}
-use Rattle.lto_forms.specs.Rules.{is_valued, in_range}
+use Rattle.ir_read.specs.Alphabet.{contains}
+use Rattle.ir_read.specs.Forms.{Form}
+use Rattle.ir_read.specs.Rules.{is_valued, in_range}
 use Rattle.read_again.specs.Spelled.{AllCounted, Counted, IsCount}
 use Rattle.read_again.proofs.Means.{Means, accepted, chain_means, either_means, follow, nothing, skip, token_means, valued, valued_means}
 

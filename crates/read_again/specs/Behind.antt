@@ -8,7 +8,7 @@ use Rattle.ir_tree.specs.declared.instr.CastOp.{CastOp}
 use Rattle.ir_tree.specs.declared.instr.CastOp.TheVariants as casts
 use Rattle.ir_tree.specs.declared.instr.Instr.{Instr}
 use Rattle.ir_tree.specs.declared.instr.Instr.TheVariants.{Binary, Icmp, Cast, Select, Freeze, Alloca, Load, Store, Address, Call, Phi}
-use Rattle.lto_forms.specs.Forms.{Form, ◌>>=◌}
+use Rattle.ir_read.specs.Forms.{Form, ◌>>=◌}
 use Rattle.ir_instructions.specs.Addressing.{reserving, addressing, slots_fit}
 use Rattle.ir_read.specs.Classes.{the}
 use Rattle.ir_instructions.specs.Instructions.{wrapping, dividing, joining, on_two, no_flags, comparing, extending, narrowing, selecting, freezing, loading, storing}

@@ -2,7 +2,7 @@
 use Rattle.std.specs.Prelude.{ℕ, List}
 use Rattle.ir_lex.specs.Pieces.{Piece}
 use Rattle.ir_lex.specs.Tok.{Tok}
-use Rattle.lto_forms.specs.Forms.{Form}
+use Rattle.ir_read.specs.Forms.{Form}
 use Rattle.read_again.specs.Texts.{tokens_before}
 
 -- whatever stands behind these pieces, and on whatever line they begin, their tokens spell by the form a value that has the

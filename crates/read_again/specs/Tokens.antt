@@ -5,7 +5,7 @@ use Rattle.ir_lex.specs.Tok.{Tok}
 use Rattle.ir_names.specs.Symbols.{symbol_name}
 use Rattle.ir_operands.specs.Values.{GLOBAL}
 use Rattle.ir_tree.specs.Names.{AllBytes}
-use Rattle.lto_forms.specs.Alphabet.{contains}
+use Rattle.ir_read.specs.Alphabet.{contains}
 use Rattle.read_again.specs.Classes.{IsOrdinary}
 use Rattle.read_again.specs.Printable.{IsName}
 

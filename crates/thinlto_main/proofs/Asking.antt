@@ -2,8 +2,8 @@
 use Rattle.std.proofs.Common.{ℕ, ◌≡◌, ◌⊎◌, true, List, [], ◌∷◌, ◌++◌, OnErr, OnOk, Option, Some, None, Result, Ok, Err, ap, inl, inr, refl, subst}
 use Rattle.lto_fault.specs.declared.kind.Kind.{Kind}
 use Rattle.lto_fault.specs.declared.refusal.Refusal.{Refusal}
-use Rattle.command_files.specs.Fetching.{FetchFailed, fetch_call, fetch_calls}
-use Rattle.command_files.specs.Links.{all_files}
+use Rattle.lto_words.specs.Fetching.{FetchFailed, fetch_call, fetch_calls}
+use Rattle.lto_words.specs.Links.{all_files}
 use Rattle.lto_outside.specs.Calls.{Call, DidNoPut, Fetched, NoPut, Put}
 use Rattle.lto_outside.specs.DiskStore.{DiskStore}
 use Rattle.lto_outside.specs.Seen.{FilesSeen}

@@ -8,9 +8,9 @@ use Rattle.lto_fault.specs.declared.kind.Kind.{Kind}
 use Rattle.lto_fault.specs.declared.refusal.Refusal.{Refusal}
 use Rattle.lto_outside.specs.Store.{Store}
 use Rattle.lto_words.specs.declared.request.LinkOptions.{LinkOptions}
-use Rattle.command_files.specs.Listing.{IsList}
-use Rattle.command_files.specs.declared.listing.ListedLink.{ListedLink}
-use Rattle.command_files.proofs.OneList as list_laws
+use Rattle.lto_words.specs.Listing.{IsList}
+use Rattle.lto_words.specs.declared.listing.ListedLink.{ListedLink}
+use Rattle.lto_words.proofs.OneList as list_laws
 use Rattle.thinlto_main.specs.BatchHolding.{AreBadLines, BatchHeld, CanBatch, FirstHeld, HoldBatchBad, HoldBatchUnlinkable, HoldsBadList, HoldsList}
 use Rattle.thinlto_main.specs.Holding.{HoldFirstBad, HoldLinkable, HoldUnlinkable}
 use Rattle.thinlto_main.proofs.Held.{one_first_bad}

@@ -12,10 +12,10 @@ use Rattle.lto_outside.specs.Replay.{Follows, Replays}
 use Rattle.lto_outside.specs.Seen.{FilesSeen}
 use Rattle.lto_outside.specs.Store.{HasPut, IsPart, SameFiles, Store}
 use Rattle.lto_words.specs.declared.request.LinkOptions.{LinkOptions}
-use Rattle.command_files.specs.Fetching.{fetch_call, fetch_calls}
-use Rattle.command_files.specs.Links.{GivenFor, PutFailed, all_files, all_given, puts}
-use Rattle.command_files.specs.declared.listing.ListedLink.{ListedLink}
-use Rattle.command_files.proofs.InARow.{as_many}
+use Rattle.lto_words.specs.Fetching.{fetch_call, fetch_calls}
+use Rattle.lto_words.specs.Links.{GivenFor, PutFailed, all_files, all_given, puts}
+use Rattle.lto_words.specs.declared.listing.ListedLink.{ListedLink}
+use Rattle.lto_words.proofs.InARow.{as_many}
 use Rattle.thinlto_main.specs.Batching.{AreGiven, AreLinkable, BatchCannotWrite, DidBatch, FirstLink, IsBadList, LinkStops, ListIsBad}
 use Rattle.thinlto_main.specs.BatchHolding.{BatchHeld, FirstHeld, HavePart, HavePut, HoldStop, HoldsBadList, HoldsList, put_over}
 use Rattle.thinlto_main.specs.Holding.{HoldLinkable, HoldMade, HoldUnlinkable}

@@ -11,12 +11,12 @@ use Rattle.lto_outside.specs.Cause.{Rose}
 use Rattle.lto_outside.specs.declared.fault.FetchFault.TheVariants.{Fault}
 use Rattle.lto_outside.specs.Seen.{FilesSeen}
 use Rattle.lto_words.specs.declared.request.LinkOptions.{LinkOptions}
-use Rattle.command_files.specs.Fetched.{IfFault}
-use Rattle.command_files.specs.Fetching.{FetchFailed, fetch_call, fetch_calls}
-use Rattle.command_files.specs.Links.{GivenFor, PutFailed, all_files, all_given, puts}
-use Rattle.command_files.specs.declared.fetching.FetchError.{FetchError}
-use Rattle.command_files.specs.declared.fetching.FetchError.TheVariants as error
-use Rattle.command_files.specs.declared.listing.ListedLink.{ListedLink}
+use Rattle.lto_words.specs.Fetched.{IfFault}
+use Rattle.lto_words.specs.Fetching.{FetchFailed, fetch_call, fetch_calls}
+use Rattle.lto_words.specs.Links.{GivenFor, PutFailed, all_files, all_given, puts}
+use Rattle.lto_words.specs.declared.fetching.FetchError.{FetchError}
+use Rattle.lto_words.specs.declared.fetching.FetchError.TheVariants as error
+use Rattle.lto_words.specs.declared.listing.ListedLink.{ListedLink}
 use Rattle.lto_fault.specs.declared.refusal.Refusal.{Refusal}
 use Rattle.lto_fault.specs.declared.refusal.Refusal.TheVariants.{WriteFault}
 use Rattle.run_program.specs.Causes.{Because, Comes, never}

@@ -5,7 +5,7 @@ use Rattle.ir_tree.specs.declared.module.Module.{Module}
 use Rattle.link_one.specs.Accepted.{Accepts}
 use Rattle.link_one.specs.Laws.{AcceptedIsNotRefused, AcceptedIsOne, RefusedIsOne}
 use Rattle.lto_fault.specs.declared.kind.Kind.{Kind}
-use Rattle.command_files.specs.Fetching.{fetch_calls}
+use Rattle.lto_words.specs.Fetching.{fetch_calls}
 use Rattle.lto_outside.specs.Calls.{Call, Fetched, NoPut, Put}
 use Rattle.lto_outside.specs.Replay.{Follows, Replays}
 use Rattle.lto_outside.specs.Store.{SameFiles, Stays, Store}

@@ -13,7 +13,7 @@ use Rattle.link_one.specs.LinkedLaws.{UnlinkedIsNotLinked}
 use Rattle.link_one.specs.ModuleUnits.{IsTaskInLink}
 use Rattle.link_one.specs.Refusing.{CanBeLinked, IsUnlinked}
 use Rattle.link_one.proofs.Texts.{one_accepted}
-use Rattle.command_files.specs.Fetching.{fetch_calls}
+use Rattle.lto_words.specs.Fetching.{fetch_calls}
 use Rattle.lto_outside.specs.Calls.{Call, Put}
 use Rattle.lto_outside.specs.Seen.{FilesSeen}
 use Rattle.lto_task.specs.Tasks.{TaskView}

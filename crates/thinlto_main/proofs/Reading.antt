@@ -6,10 +6,10 @@ use Rattle.ir_tree.specs.declared.module.Module.{Module}
 use Rattle.link_one.specs.Laws.{AcceptedIsOne}
 use Rattle.lto_fault.specs.declared.kind.Kind.{Kind}
 use Rattle.lto_fault.specs.declared.refusal.Refusal.{Refusal}
-use Rattle.command_files.specs.Fetched.{IfFault}
-use Rattle.command_files.specs.Fetching.{FetchFailed, fetch_calls}
-use Rattle.command_files.specs.declared.fetching.FetchError.{FetchError}
-use Rattle.command_files.specs.declared.fetching.FetchError.TheVariants as error
+use Rattle.lto_words.specs.Fetched.{IfFault}
+use Rattle.lto_words.specs.Fetching.{FetchFailed, fetch_calls}
+use Rattle.lto_words.specs.declared.fetching.FetchError.{FetchError}
+use Rattle.lto_words.specs.declared.fetching.FetchError.TheVariants as error
 use Rattle.lto_outside.specs.Cause.{Rose}
 use Rattle.lto_outside.specs.Calls.{Call, DidNoPut, NoPut}
 use Rattle.lto_outside.specs.Seen.{FilesSeen}

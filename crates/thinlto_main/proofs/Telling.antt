@@ -6,7 +6,7 @@ use Rattle.ir_tree.specs.declared.module.Module.{Module}
 use Rattle.link_one.specs.Laws.{AcceptedIsOne}
 use Rattle.lto_fault.specs.declared.kind.Kind.{Kind}
 use Rattle.lto_fault.specs.declared.refusal.Refusal.{Refusal}
-use Rattle.command_files.specs.Fetching.{fetch_calls}
+use Rattle.lto_words.specs.Fetching.{fetch_calls}
 use Rattle.lto_outside.specs.Calls.{Call, Put}
 use Rattle.lto_outside.specs.Cause.{Rose}
 use Rattle.lto_outside.specs.Replay.{Follows}

@@ -7,8 +7,8 @@ use Rattle.lto_fault.specs.declared.kind.Kind.TheVariants.{Batch, Limit}
 use Rattle.lto_fault.specs.declared.refusal.Refusal.{Refusal}
 use Rattle.lto_outside.specs.Store.{HasPart, Store}
 use Rattle.lto_words.specs.declared.request.LinkOptions.{LinkOptions}
-use Rattle.command_files.specs.Listing.{FirstBadLine, IsList}
-use Rattle.command_files.specs.declared.listing.ListedLink.{ListedLink}
+use Rattle.lto_words.specs.Listing.{FirstBadLine, IsList}
+use Rattle.lto_words.specs.declared.listing.ListedLink.{ListedLink}
 use Rattle.thinlto_main.specs.Holding.{HoldFirstBad, HoldLinkable, HoldMade, HoldUnlinkable, Holds}
 
 -- ---- the list file

@@ -9,10 +9,10 @@ use Rattle.lto_outside.specs.Calls.{Call, DidNoPut, Fetched}
 use Rattle.lto_outside.specs.Cause.{Rose}
 use Rattle.lto_outside.specs.Seen.{FilesSeen}
 use Rattle.lto_words.specs.declared.request.LinkOptions.{LinkOptions}
-use Rattle.command_files.specs.Fetching.{FetchFailed, fetch_call, fetch_calls}
-use Rattle.command_files.specs.Links.{GivenFor, PutFailed, all_files, all_given, puts}
-use Rattle.command_files.specs.Listing.{FirstBadLine, IsList}
-use Rattle.command_files.specs.declared.listing.ListedLink.{ListedLink}
+use Rattle.lto_words.specs.Fetching.{FetchFailed, fetch_call, fetch_calls}
+use Rattle.lto_words.specs.Links.{GivenFor, PutFailed, all_files, all_given, puts}
+use Rattle.lto_words.specs.Listing.{FirstBadLine, IsList}
+use Rattle.lto_words.specs.declared.listing.ListedLink.{ListedLink}
 use Rattle.run_program.specs.Causes.{Causes, never}
 use Rattle.thinlto_main.specs.Linking.{IsLinkable, IsMadeIf, IsUnlinkable}
 use Rattle.thinlto_main.specs.Modules.{CannotFetch, FirstBad}

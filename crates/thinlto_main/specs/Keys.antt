@@ -3,10 +3,10 @@ use Rattle.std.specs.Prelude.{◌≡◌, ◌≢◌, ℕ, List, ◌∷◌, ◌++�
 use Rattle.std.specs.List.{AllZip, Contains}
 use Rattle.cache_slot.specs.Decoded.{decoded}
 use Rattle.cache_slot.specs.Files.{file_of}
-use Rattle.command_files.specs.Fetching.{fetch_calls}
-use Rattle.command_files.specs.Links.{GivenFor, all_files, all_given}
-use Rattle.command_files.specs.Listing.{IsList}
-use Rattle.command_files.specs.declared.listing.ListedLink.{ListedLink}
+use Rattle.lto_words.specs.Fetching.{fetch_calls}
+use Rattle.lto_words.specs.Links.{GivenFor, all_files, all_given}
+use Rattle.lto_words.specs.Listing.{IsList}
+use Rattle.lto_words.specs.declared.listing.ListedLink.{ListedLink}
 use Rattle.ir_tree.specs.declared.module.Module.{Module}
 use Rattle.link_one.specs.ModuleUnits.{IsTaskInLink}
 use Rattle.lto_outside.specs.Calls.{Call, Fetched}

@@ -6,7 +6,7 @@ use Rattle.ir_tree.specs.declared.module.Module.{Module}
 use Rattle.ir_parse.specs.Reading.{Reads}
 use Rattle.read_again.specs.Within.{ModuleWithin}
 use Rattle.lto_fault.specs.declared.refusal.Refusal.{Refusal}
-use Rattle.command_files.specs.Fetching.{fetch_calls}
+use Rattle.lto_words.specs.Fetching.{fetch_calls}
 use Rattle.lto_words.specs.declared.request.LinkOptions.{LinkOptions}
 use Rattle.lto_outside.specs.Calls.{Put}
 use Rattle.lto_outside.specs.Cause.{Rose}

@@ -6,12 +6,12 @@ use Rattle.lto_fault.specs.declared.kind.Kind.{Kind}
 use Rattle.lto_fault.specs.declared.kind.Kind.TheVariants.{Limit}
 use Rattle.lto_fault.specs.declared.refusal.Refusal.{Refusal}
 use Rattle.lto_fault.specs.declared.refusal.Refusal.TheVariants.{NoMemory, ReadFault}
-use Rattle.command_files.specs.declared.fetching.FetchError.{FetchError}
-use Rattle.command_files.specs.declared.fetching.FetchError.TheVariants as error
+use Rattle.lto_words.specs.declared.fetching.FetchError.{FetchError}
+use Rattle.lto_words.specs.declared.fetching.FetchError.TheVariants as error
 use Rattle.lto_outside.specs.Calls.{Call, DidNoPut}
 use Rattle.lto_outside.specs.Cause.{Rose}
 use Rattle.lto_outside.specs.Seen.{FilesSeen}
-use Rattle.command_files.specs.Fetching.{FetchFailed, fetch_calls}
+use Rattle.lto_words.specs.Fetching.{FetchFailed, fetch_calls}
 use Rattle.link_one.specs.Accepted.{Accepts, Refuses}
 use Rattle.thin_link.specs.Refusing.{IsRefused}
 use Rattle.run_program.specs.Causes.{Causes, never}

@@ -2,13 +2,13 @@
 ghost use Rattle.std.specs.Prelude.{◌≡◌, ◌≤◌, ◌<◌, All, IfOk, IfErr, OnErr, length};
 ghost use Rattle.std.specs.List.{AllZip};
 ghost use Rattle.lto_fault.specs.declared.refusal.Refusal.{Refusal};
-ghost use Rattle.command_files.specs.Fetching.{IsShort};
+ghost use Rattle.lto_words.specs.Fetching.{IsShort};
 ghost use Rattle.lto_outside.specs.Seen.{files_seen};
 ghost use Rattle.run_program.specs.Causes.{Because, never};
 ghost use Rattle.thinlto_main.specs.Linking.{suffixes_of};
 ghost use Rattle.thinlto_main.specs.Modules.{AreRead, FirstBad, IsBad, IsRead, bytes_of, reading, unfetched};
 
-use command_files::{FetchError, fetch_all};
+use lto_words::{FetchError, fetch_all};
 use ir_tree::{Rows, Text, Verified};
 use link_one::{LinkError, accepted};
 use lto_fault::{Kind, Refusal};

@@ -1,5 +1,5 @@
 use Rattle.std.proofs.Common.{sym, ap, subst, ◌∙◌, arith}
-use Rattle.lto_forms.specs.Readers.{Fails, follow}
+use Rattle.ir_read.specs.Readers.{Fails, follow}
 use Rattle.ir_operands.proofs.Levels.{gives_as}
 use Rattle.ir_bodies.specs.Adding.{joined_at}
 use Rattle.ir_bodies.specs.BlocksAt.{blocks_at}

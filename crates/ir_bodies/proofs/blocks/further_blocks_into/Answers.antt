@@ -1,7 +1,7 @@
 use Rattle.std.proofs.Common.{◌-◌, ◌++◌, List, [], ◌∷◌, sym, ap, ◌∙◌, arith}
-use Rattle.lto_forms.specs.Alphabet.{among}
-use Rattle.lto_forms.specs.Readers.{Fails, done, follow}
-use Rattle.lto_forms.proofs.Loops.{with_front}
+use Rattle.ir_read.specs.Alphabet.{among}
+use Rattle.ir_read.specs.Readers.{Fails, done, follow}
+use Rattle.ir_read.proofs.Loops.{with_front}
 use Rattle.ir_read.specs.Classes.{tokens}
 use Rattle.ir_read.specs.declared.raw.Block.{Block}
 use Rattle.ir_bodies.specs.BlocksAt.{BLOCK, block_at, further_blocks_at}

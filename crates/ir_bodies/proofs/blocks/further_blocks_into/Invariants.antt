@@ -1,5 +1,5 @@
 use Rattle.std.proofs.Common.{◌≡◌}
-use Rattle.lto_forms.proofs.Loops.{with_front}
+use Rattle.ir_read.proofs.Loops.{with_front}
 use Rattle.ir_bodies.specs.BlocksAt.{further_blocks_at}
 use Rattle.ir_bodies.proofs.blocks.further_blocks_into.Given as goal
 

@@ -1,7 +1,7 @@
 use Rattle.std.proofs.Common.{◌-◌, List, length, sym, ap, ◌∙◌, arith}
 use Rattle.std.specs.List.{fold}
-use Rattle.lto_forms.specs.Alphabet.{among}
-use Rattle.lto_forms.specs.Readers.{Fails, done, follow}
+use Rattle.ir_read.specs.Alphabet.{among}
+use Rattle.ir_read.specs.Readers.{Fails, done, follow}
 use Rattle.ir_read.specs.Classes.{tokens}
 use Rattle.ir_read.specs.declared.raw.Line.{Line}
 use Rattle.ir_bodies.specs.Blocks.{keep}

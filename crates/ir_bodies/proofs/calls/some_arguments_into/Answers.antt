@@ -1,7 +1,7 @@
 use Rattle.std.proofs.Common.{List, sym, ap, ◌∙◌, arith}
-use Rattle.lto_forms.specs.Alphabet.{among}
-use Rattle.lto_forms.specs.Readers.{Fails, folded, follow, star_at}
-use Rattle.lto_forms.proofs.Stars.{behind, takes, folds_fail, folds_on, folds_none}
+use Rattle.ir_read.specs.Alphabet.{among}
+use Rattle.ir_read.specs.Readers.{Fails, folded, follow, star_at}
+use Rattle.ir_read.proofs.Stars.{behind, takes, folds_fail, folds_on, folds_none}
 use Rattle.ir_read.specs.Classes.{tokens}
 use Rattle.ir_read.specs.declared.raw.Argument.{Argument}
 use Rattle.ir_read.specs.MetadataAt.{COMMA}

@@ -2,8 +2,8 @@ use Rattle.std.proofs.Common.{◌≡◌, ◌+◌, List, drop, sym, ap, ◌∙◌
 use Rattle.std.proofs.lemmas.List.{append-nil, drop_all}
 use Rattle.std.specs.Prelude.{Ok}
 use Rattle.ir_lex.specs.Tok.{Tok}
-use Rattle.lto_forms.specs.Readers.{Fails, follow}
-use Rattle.lto_forms.proofs.Loops.{with_front}
+use Rattle.ir_read.specs.Readers.{Fails, follow}
+use Rattle.ir_read.proofs.Loops.{with_front}
 use Rattle.ir_read.specs.declared.raw.Argument.{Argument}
 use Rattle.ir_operands.proofs.Additions.{first_fails, pushed_fails, pushed_read}
 use Rattle.ir_operands.proofs.Levels.{turn_fails, turns_on}

@@ -1,5 +1,5 @@
 use Rattle.std.proofs.Common.{◌≡◌, drop}
-use Rattle.lto_forms.proofs.Loops.{with_front}
+use Rattle.ir_read.proofs.Loops.{with_front}
 use Rattle.ir_bodies.specs.Adding.{joined_at}
 use Rattle.ir_bodies.specs.CallsAt.{each_further_at, some_of_at}
 use Rattle.ir_bodies.proofs.calls.some_of_into.Given as goal

@@ -1,8 +1,8 @@
 use Rattle.std.proofs.Common.{List, sym, ap, ◌∙◌}
 use Rattle.ir_lex.specs.Tok.{Tok}
-use Rattle.lto_forms.specs.Alphabet.{among}
-use Rattle.lto_forms.specs.Readers.{folded, star_at}
-use Rattle.lto_forms.proofs.Stars.{behind, takes, folds_on, folds_none}
+use Rattle.ir_read.specs.Alphabet.{among}
+use Rattle.ir_read.specs.Readers.{folded, star_at}
+use Rattle.ir_read.proofs.Stars.{behind, takes, folds_on, folds_none}
 use Rattle.ir_read.specs.Classes.{tokens}
 use Rattle.ir_read.specs.MetadataAt.{COMMA}
 use Rattle.ir_operands.proofs.Levels.{first_and_others}

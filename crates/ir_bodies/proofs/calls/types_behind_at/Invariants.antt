@@ -1,7 +1,7 @@
 use Rattle.std.proofs.Common.{◌≡◌, length, [], ◌∷◌}
-use Rattle.lto_forms.specs.Alphabet.{among}
-use Rattle.lto_forms.specs.Readers.{star_at, folded}
-use Rattle.lto_forms.proofs.Stars.{behind}
+use Rattle.ir_read.specs.Alphabet.{among}
+use Rattle.ir_read.specs.Readers.{star_at, folded}
+use Rattle.ir_read.proofs.Stars.{behind}
 use Rattle.ir_read.specs.Classes.{tokens}
 use Rattle.ir_read.specs.MetadataAt.{COMMA}
 use Rattle.ir_bodies.specs.CallsAt.{further_type_at}

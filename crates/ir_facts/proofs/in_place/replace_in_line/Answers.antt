@@ -1,5 +1,5 @@
 use Rattle.std.proofs.Common.{sym}
-use Rattle.point_edit.proofs.Staying.{local_stays}
+use Rattle.fact_sources.proofs.Staying.{local_stays}
 use Rattle.ir_facts.proofs.in_place.replace_in_line.Goals as goal
 
 pub returns : goal.returns

@@ -3,7 +3,7 @@ use Rattle.std.proofs.Math.Seq.{drop-cons}
 use Rattle.std.proofs.lemmas.List.{drop_all}
 use Rattle.ir_tree.specs.declared.operand.Operand.{Operand}
 use Rattle.ir_facts.specs.Points.{EachIsFact}
-use Rattle.point_edit.specs.declared.fact.Fact.{Fact}
+use Rattle.fact_sources.specs.declared.fact.Fact.{Fact}
 use Rattle.ir_facts.proofs.FactSolutions.{each_pushed, listed_more}
 use Rattle.ir_facts.proofs.points.facts_of.Goals as goal
 

@@ -5,7 +5,7 @@ use Rattle.std.specs.HashSet.{contains}
 use Rattle.ir_tree.specs.declared.operand.Operand.{Operand}
 use Rattle.ir_edit.specs.Substituted.{substituted}
 use Rattle.fact_sources.specs.Apart.{firm, resting}
-use Rattle.point_edit.specs.AtPoints.{function_at}
+use Rattle.fact_sources.specs.AtPoints.{function_at}
 use Rattle.ir_facts.specs.Steps.{IsStep, candidate_of}
 use Rattle.ir_facts.proofs.Parting.{step_at}
 use Rattle.ir_facts.proofs.rounds.replaced_at_points.Goals as goal

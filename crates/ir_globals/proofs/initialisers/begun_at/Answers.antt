@@ -1,5 +1,5 @@
 use Rattle.std.proofs.Common.{reverse, arith}
-use Rattle.lto_forms.specs.Readers.{Fails}
+use Rattle.ir_read.specs.Readers.{Fails}
 use Rattle.ir_globals.specs.InitialisersAt.{begun_at}
 use Rattle.ir_globals.proofs.initialisers.begun_at.Goals as goal
 

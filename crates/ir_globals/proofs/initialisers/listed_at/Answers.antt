@@ -1,10 +1,10 @@
 use Rattle.std.proofs.Common.{◌≡◌, ◌<◌, Bool, true, List, [], length, Ok, reverse, sym, ap, ◌∙◌}
 use Rattle.ir_lex.specs.Tok.{Tok}
-use Rattle.lto_forms.specs.Alphabet.{among}
-use Rattle.lto_forms.specs.Chained.{chain_at, stops_here}
-use Rattle.lto_forms.specs.Readers.{folded}
-use Rattle.lto_forms.proofs.ChainLoops.{chain_on, chain_none}
-use Rattle.lto_forms.proofs.Stars.{behind, collected, takes}
+use Rattle.ir_read.specs.Alphabet.{among}
+use Rattle.ir_read.specs.Chained.{chain_at, stops_here}
+use Rattle.ir_read.specs.Readers.{folded}
+use Rattle.ir_read.proofs.ChainLoops.{chain_on, chain_none}
+use Rattle.ir_read.proofs.Stars.{behind, collected, takes}
 use Rattle.ir_read.specs.Classes.{tokens}
 use Rattle.ir_read.specs.declared.raw.InitPart.{InitPart}
 use Rattle.ir_globals.specs.Initialisers.{Spot, outermost}

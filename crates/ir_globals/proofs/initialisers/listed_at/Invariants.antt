@@ -1,7 +1,7 @@
 use Rattle.std.proofs.Common.{◌≡◌, length, reverse}
-use Rattle.lto_forms.specs.Chained.{chain_at}
-use Rattle.lto_forms.specs.Readers.{folded}
-use Rattle.lto_forms.proofs.Stars.{behind}
+use Rattle.ir_read.specs.Chained.{chain_at}
+use Rattle.ir_read.specs.Readers.{folded}
+use Rattle.ir_read.proofs.Stars.{behind}
 use Rattle.ir_globals.specs.Initialisers.{outermost}
 use Rattle.ir_globals.specs.InitialisersAt.{begins_there, there_at, listed_at}
 use Rattle.ir_globals.proofs.initialisers.listed_at.Given as goal

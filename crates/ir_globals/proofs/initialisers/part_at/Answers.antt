@@ -1,5 +1,5 @@
 use Rattle.std.proofs.Common.{arith}
-use Rattle.lto_forms.specs.Readers.{Fails}
+use Rattle.ir_read.specs.Readers.{Fails}
 use Rattle.ir_globals.specs.InitialisersAt.{begun_at}
 use Rattle.ir_globals.proofs.BegunParts.{begun_is, shape_fails, beginning_fails}
 use Rattle.ir_globals.proofs.initialisers.part_at.Goals as goal

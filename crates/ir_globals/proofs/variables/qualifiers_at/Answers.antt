@@ -1,6 +1,6 @@
-use Rattle.lto_forms.specs.Alphabet.{among}
-use Rattle.lto_forms.specs.Readers.{dropped}
-use Rattle.lto_forms.proofs.Stars.{takes, folds_on}
+use Rattle.ir_read.specs.Alphabet.{among}
+use Rattle.ir_read.specs.Readers.{dropped}
+use Rattle.ir_read.proofs.Stars.{takes, folds_on}
 use Rattle.ir_read.specs.Classes.{tokens}
 use Rattle.ir_heads.specs.FunctionHeads.{QUALIFIERS}
 use Rattle.ir_globals.proofs.VariableRules.{qualifier_word_rule}

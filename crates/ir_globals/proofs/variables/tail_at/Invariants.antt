@@ -1,6 +1,6 @@
 use Rattle.std.proofs.Common.{◌≡◌, length, None}
-use Rattle.lto_forms.specs.Alphabet.{among}
-use Rattle.lto_forms.specs.Readers.{star_at, folded}
+use Rattle.ir_read.specs.Alphabet.{among}
+use Rattle.ir_read.specs.Readers.{star_at, folded}
 use Rattle.ir_read.specs.Classes.{tokens}
 use Rattle.ir_read.specs.MetadataAt.{COMMA}
 use Rattle.ir_globals.specs.Variables.{with_align}

@@ -1,6 +1,6 @@
 use Rattle.std.proofs.Common.{◌≡◌, length}
-use Rattle.lto_forms.specs.Alphabet.{among}
-use Rattle.lto_forms.specs.Readers.{star_at, folded}
+use Rattle.ir_read.specs.Alphabet.{among}
+use Rattle.ir_read.specs.Readers.{star_at, folded}
 use Rattle.ir_heads.specs.Attributes.{none_kept, with_attribute}
 use Rattle.ir_read.specs.Classes.{tokens}
 use Rattle.ir_heads.specs.AttributesAt.{DEFINITION, definition_attribute_at}

@@ -1,9 +1,9 @@
 use Rattle.std.proofs.Common.{◌≡◌, sym, subst}
-use Rattle.lto_forms.specs.Alphabet.{among}
-use Rattle.lto_forms.specs.Readers.{star_at, folded}
+use Rattle.ir_read.specs.Alphabet.{among}
+use Rattle.ir_read.specs.Readers.{star_at, folded}
 use Rattle.ir_heads.specs.Attributes.{none_kept, with_attribute, GROUP_WORDS}
 use Rattle.ir_heads.specs.declared.attributes.Kept.{Kept}
-use Rattle.lto_forms.proofs.Stars.{takes, folds_on}
+use Rattle.ir_read.proofs.Stars.{takes, folds_on}
 use Rattle.ir_read.specs.Classes.{tokens}
 use Rattle.ir_heads.specs.AttributesAt.{GROUPED, function_attribute_at}
 use Rattle.ir_heads.proofs.AttributeRules.{grouped_attribute_rule}

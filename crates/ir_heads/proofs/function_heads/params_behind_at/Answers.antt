@@ -1,7 +1,7 @@
 use Rattle.std.proofs.Common.{◌≡◌, List, ◌-◌, sym, ap, ◌∙◌, arith}
-use Rattle.lto_forms.specs.Alphabet.{among}
-use Rattle.lto_forms.specs.Readers.{many_at}
-use Rattle.lto_forms.proofs.Loops.{with_front, goes_on, stops}
+use Rattle.ir_read.specs.Alphabet.{among}
+use Rattle.ir_read.specs.Readers.{many_at}
+use Rattle.ir_read.proofs.Loops.{with_front, goes_on, stops}
 use Rattle.ir_read.specs.Classes.{tokens}
 use Rattle.ir_read.specs.declared.raw.Param.{Param}
 use Rattle.ir_heads.specs.FunctionHeadsAt.{further_param_at, params_behind_at}

@@ -2,11 +2,11 @@ use Rattle.std.proofs.Common.{◌≡◌, ◌<◌, Bool, not, false, Option, List
 use Rattle.ir_lex.specs.Tok.{Tok}
 use Rattle.ir_tree.specs.declared.function.Linkage.{Linkage}
 use Rattle.ir_tree.specs.declared.function.Linkage.TheVariants as linkages
-use Rattle.lto_forms.specs.Alphabet.{among}
-use Rattle.lto_forms.specs.Chained.{chain_at}
-use Rattle.lto_forms.specs.Readers.{folded}
-use Rattle.lto_forms.proofs.ChainLoops.{chain_on, chain_none}
-use Rattle.lto_forms.proofs.Stars.{takes, folded_is}
+use Rattle.ir_read.specs.Alphabet.{among}
+use Rattle.ir_read.specs.Chained.{chain_at}
+use Rattle.ir_read.specs.Readers.{folded}
+use Rattle.ir_read.proofs.ChainLoops.{chain_on, chain_none}
+use Rattle.ir_read.proofs.Stars.{takes, folded_is}
 use Rattle.ir_read.specs.Classes.{tokens}
 use Rattle.ir_heads.specs.declared.function_heads.Role.{Role}
 use Rattle.ir_heads.specs.FunctionHeads.{at_will, with_linkage}

@@ -1,7 +1,7 @@
 use Rattle.std.proofs.Common.{◌≡◌, length, false}
 use Rattle.ir_tree.specs.declared.function.Linkage.TheVariants as linkages
-use Rattle.lto_forms.specs.Chained.{chain_at}
-use Rattle.lto_forms.specs.Readers.{folded}
+use Rattle.ir_read.specs.Chained.{chain_at}
+use Rattle.ir_read.specs.Readers.{folded}
 use Rattle.ir_heads.specs.FunctionHeads.{at_will, with_linkage}
 use Rattle.ir_heads.specs.FunctionHeadsAt.{begins_leading, leading_at}
 use Rattle.ir_heads.proofs.function_heads.prefix_at.Given as goal

@@ -1,11 +1,11 @@
 use Rattle.std.proofs.Common.{◌≡◌, ◌<◌, Bool, false, not, Option, List, [], length, Ok, sym, ap, ◌∙◌, arith}
 use Rattle.std.specs.List.{fold}
 use Rattle.ir_lex.specs.Tok.{Tok}
-use Rattle.lto_forms.specs.Alphabet.{among}
-use Rattle.lto_forms.specs.Chained.{chain_at}
-use Rattle.lto_forms.specs.Readers.{Fails, done, follow, folded}
-use Rattle.lto_forms.proofs.ChainLoops.{chain_on, chain_none}
-use Rattle.lto_forms.proofs.Stars.{takes, folded_is}
+use Rattle.ir_read.specs.Alphabet.{among}
+use Rattle.ir_read.specs.Chained.{chain_at}
+use Rattle.ir_read.specs.Readers.{Fails, done, follow, folded}
+use Rattle.ir_read.proofs.ChainLoops.{chain_on, chain_none}
+use Rattle.ir_read.proofs.Stars.{takes, folded_is}
 use Rattle.ir_instructions.specs.Addressing.{keep}
 use Rattle.ir_instructions.specs.AddressingAt.{begins, further_at, indices_at}
 use Rattle.ir_read.specs.Classes.{tokens}

@@ -1,6 +1,6 @@
 use Rattle.std.proofs.Common.{◌≡◌, length, false, []}
-use Rattle.lto_forms.specs.Chained.{chain_at}
-use Rattle.lto_forms.specs.Readers.{folded}
+use Rattle.ir_read.specs.Chained.{chain_at}
+use Rattle.ir_read.specs.Readers.{folded}
 use Rattle.ir_instructions.specs.Addressing.{keep}
 use Rattle.ir_instructions.specs.AddressingAt.{begins, further_at}
 use Rattle.ir_instructions.specs.Phis.{anywhere}

@@ -1,7 +1,7 @@
 use Rattle.std.proofs.Common.{ap, ◌∙◌}
-use Rattle.lto_forms.specs.Alphabet.{among}
-use Rattle.lto_forms.specs.Readers.{star_at, folded}
-use Rattle.lto_forms.proofs.Stars.{takes, folds_on}
+use Rattle.ir_read.specs.Alphabet.{among}
+use Rattle.ir_read.specs.Readers.{star_at, folded}
+use Rattle.ir_read.proofs.Stars.{takes, folds_on}
 use Rattle.ir_tree.specs.declared.instr.Flags.{Flags}
 use Rattle.ir_read.specs.Ahead.{WRAPS}
 use Rattle.ir_read.specs.Classes.{tokens, one_of_at}

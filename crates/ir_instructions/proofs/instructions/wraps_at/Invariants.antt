@@ -1,6 +1,6 @@
 use Rattle.std.proofs.Common.{◌≡◌, length}
-use Rattle.lto_forms.specs.Alphabet.{among}
-use Rattle.lto_forms.specs.Readers.{star_at, folded}
+use Rattle.ir_read.specs.Alphabet.{among}
+use Rattle.ir_read.specs.Readers.{star_at, folded}
 use Rattle.ir_read.specs.Ahead.{WRAPS}
 use Rattle.ir_read.specs.Classes.{tokens, one_of_at}
 use Rattle.ir_instructions.specs.Instructions.{is_nuw, with_wrap, no_flags}

@@ -1,10 +1,10 @@
 use Rattle.std.proofs.Common.{◌≡◌, ◌<◌, Bool, false, not, Option, List, [], ◌∷◌, ◌++◌, length, Ok, sym, ap, ◌∙◌, arith}
 use Rattle.ir_lex.specs.Tok.{Tok}
-use Rattle.lto_forms.specs.Alphabet.{among}
-use Rattle.lto_forms.specs.Chained.{chain_at}
-use Rattle.lto_forms.specs.Readers.{Fails, folded, follow}
-use Rattle.lto_forms.proofs.ChainLoops.{chain_on, chain_none}
-use Rattle.lto_forms.proofs.Stars.{takes, folded_is}
+use Rattle.ir_read.specs.Alphabet.{among}
+use Rattle.ir_read.specs.Chained.{chain_at}
+use Rattle.ir_read.specs.Readers.{Fails, folded, follow}
+use Rattle.ir_read.proofs.ChainLoops.{chain_on, chain_none}
+use Rattle.ir_read.proofs.Stars.{takes, folded_is}
 use Rattle.ir_tree.specs.declared.operand.Reg.{Reg}
 use Rattle.ir_read.specs.Classes.{tokens}
 use Rattle.ir_read.specs.declared.raw.Incoming.{Incoming}

@@ -1,6 +1,6 @@
 use Rattle.std.proofs.Common.{◌≡◌, length}
-use Rattle.lto_forms.specs.Readers.{folded}
-use Rattle.lto_forms.proofs.Stars.{behind}
+use Rattle.ir_read.specs.Readers.{folded}
+use Rattle.ir_read.proofs.Stars.{behind}
 use Rattle.ir_instructions.specs.TerminatorsAt.{cases_at}
 use Rattle.ir_instructions.proofs.terminators.cases_at.Given as goal
 

@@ -1,11 +1,11 @@
 use Rattle.std.proofs.Common.{◌≡◌, ℕ, suc, ◌-◌, ◌*◌, ◌<◌, Bool, not, List, length, Ok, sym, ap, subst, ◌∙◌, arith}
 use Rattle.ir_lex.specs.declared.head.Head.TheVariants as heads
 use Rattle.ir_lex.specs.Tok.{Tok}
-use Rattle.lto_forms.specs.Alphabet.{among}
-use Rattle.lto_forms.specs.Chained.{chain_at}
-use Rattle.lto_forms.specs.Readers.{folded}
-use Rattle.lto_forms.proofs.ChainLoops.{chain_on, chain_none}
-use Rattle.lto_forms.proofs.Stars.{behind, takes}
+use Rattle.ir_read.specs.Alphabet.{among}
+use Rattle.ir_read.specs.Chained.{chain_at}
+use Rattle.ir_read.specs.Readers.{folded}
+use Rattle.ir_read.proofs.ChainLoops.{chain_on, chain_none}
+use Rattle.ir_read.proofs.Stars.{behind, takes}
 use Rattle.ir_read.specs.Classes.{tokens, the_at}
 use Rattle.ir_operands.specs.declared.extents.Extent.{Extent}
 use Rattle.ir_operands.specs.declared.extents.Room.{Room}

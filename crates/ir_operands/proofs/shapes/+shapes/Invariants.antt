@@ -1,7 +1,7 @@
 use Rattle.std.proofs.Common.{◌≡◌, ◌+◌, ◌*◌, length, [], ◌∷◌}
-use Rattle.lto_forms.specs.Chained.{chain_at}
-use Rattle.lto_forms.specs.Readers.{folded}
-use Rattle.lto_forms.proofs.Stars.{behind}
+use Rattle.ir_read.specs.Chained.{chain_at}
+use Rattle.ir_read.specs.Readers.{folded}
+use Rattle.ir_read.proofs.Stars.{behind}
 use Rattle.ir_operands.specs.Extents.{Fits, extent_of, grown, left, members_extent, no_bytes}
 use Rattle.ir_operands.specs.ShapeForms.{anywhere}
 use Rattle.ir_operands.specs.ShapeFormsAt.{begins, further_at, shape_at}

@@ -1,7 +1,7 @@
 use Rattle.std.proofs.Common.{List, [], ◌∷◌, ◌++◌, sym, ap, ◌∙◌, arith}
-use Rattle.lto_forms.specs.Alphabet.{among}
-use Rattle.lto_forms.specs.Readers.{Fails, done, folded, follow, ◌>>=◌}
-use Rattle.lto_forms.proofs.Stars.{behind, takes, folds_fail, folds_on, folds_none}
+use Rattle.ir_read.specs.Alphabet.{among}
+use Rattle.ir_read.specs.Readers.{Fails, done, folded, follow, ◌>>=◌}
+use Rattle.ir_read.proofs.Stars.{behind, takes, folds_fail, folds_on, folds_none}
 use Rattle.ir_read.specs.Classes.{tokens}
 use Rattle.ir_read.specs.declared.shape.Typed.{Typed}
 use Rattle.ir_operands.specs.ValuesAt.{ADDRESS, all_openings_at, opening_at, openings_at}

@@ -1,5 +1,5 @@
 use Rattle.std.proofs.Common.{◌≡◌, length, reverse}
-use Rattle.lto_forms.proofs.Loops.{with_front}
+use Rattle.ir_read.proofs.Loops.{with_front}
 use Rattle.ir_operands.specs.ValuesAt.{closing_at}
 use Rattle.ir_operands.proofs.values.closing_at.Given as goal
 

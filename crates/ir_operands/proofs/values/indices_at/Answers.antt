@@ -1,7 +1,7 @@
 use Rattle.std.proofs.Common.{List, ap, ◌∙◌}
-use Rattle.lto_forms.specs.Alphabet.{among}
-use Rattle.lto_forms.specs.Readers.{folded}
-use Rattle.lto_forms.proofs.Stars.{behind, collected, takes, folds_on}
+use Rattle.ir_read.specs.Alphabet.{among}
+use Rattle.ir_read.specs.Readers.{folded}
+use Rattle.ir_read.proofs.Stars.{behind, collected, takes, folds_on}
 use Rattle.ir_read.specs.Classes.{tokens}
 use Rattle.ir_read.specs.declared.address.Index.{Index}
 use Rattle.ir_read.specs.MetadataAt.{COMMA}

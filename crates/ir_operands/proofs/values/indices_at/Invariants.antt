@@ -1,6 +1,6 @@
 use Rattle.std.proofs.Common.{◌≡◌, length}
-use Rattle.lto_forms.specs.Readers.{folded}
-use Rattle.lto_forms.proofs.Stars.{behind}
+use Rattle.ir_read.specs.Readers.{folded}
+use Rattle.ir_read.proofs.Stars.{behind}
 use Rattle.ir_operands.specs.ValuesAt.{indices_at}
 use Rattle.ir_operands.proofs.values.indices_at.Given as goal
 

@@ -1,7 +1,7 @@
 use Rattle.std.proofs.Common.{Bool, ap, ◌∙◌}
-use Rattle.lto_forms.specs.Alphabet.{among}
-use Rattle.lto_forms.specs.Readers.{star_at, folded}
-use Rattle.lto_forms.proofs.Stars.{takes, folds_on}
+use Rattle.ir_read.specs.Alphabet.{among}
+use Rattle.ir_read.specs.Readers.{star_at, folded}
+use Rattle.ir_read.proofs.Stars.{takes, folds_on}
 use Rattle.ir_read.specs.Ahead.{STEPPING}
 use Rattle.ir_read.specs.Classes.{tokens, one_of_at}
 use Rattle.ir_operands.specs.Values.{is_inbounds, or_inbounds}

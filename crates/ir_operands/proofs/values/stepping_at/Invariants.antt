@@ -1,6 +1,6 @@
 use Rattle.std.proofs.Common.{◌≡◌, length, false}
-use Rattle.lto_forms.specs.Alphabet.{among}
-use Rattle.lto_forms.specs.Readers.{star_at, folded}
+use Rattle.ir_read.specs.Alphabet.{among}
+use Rattle.ir_read.specs.Readers.{star_at, folded}
 use Rattle.ir_read.specs.Ahead.{STEPPING}
 use Rattle.ir_read.specs.Classes.{tokens, one_of_at}
 use Rattle.ir_operands.specs.Values.{is_inbounds, or_inbounds}

@@ -1,6 +1,6 @@
 use Rattle.std.proofs.Common.{◌≡◌, true, false, arith}
-use Rattle.lto_forms.specs.Alphabet.{among}
-use Rattle.lto_forms.specs.Readers.{Fails, next_is}
+use Rattle.ir_read.specs.Alphabet.{among}
+use Rattle.ir_read.specs.Readers.{Fails, next_is}
 use Rattle.ir_read.specs.Classes.{tokens}
 use Rattle.ir_parse.specs.ItemFormsAt.{NAMING, there_at}
 use Rattle.ir_parse.specs.Putting.{behind_at}

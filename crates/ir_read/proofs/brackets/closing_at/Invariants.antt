@@ -1,5 +1,5 @@
 use Rattle.std.proofs.Common.{◌≡◌, [], ◌∷◌, length, reverse}
-use Rattle.lto_forms.specs.Balanced.{closing_at}
+use Rattle.ir_read.specs.Balanced.{closing_at}
 use Rattle.ir_read.specs.Brackets.{brackets}
 use Rattle.ir_read.proofs.brackets.closing_at.Given as goal
 

@@ -1,7 +1,7 @@
 use Rattle.std.proofs.Common.{subst, sym, Result, List}
 use Rattle.ir_lex.specs.Tok.{Tok}
-use Rattle.lto_forms.specs.declared.fault.Fault.{Fault}
-use Rattle.lto_forms.specs.Readers.{Gives}
+use Rattle.ir_read.specs.declared.fault.Fault.{Fault}
+use Rattle.ir_read.specs.Readers.{Gives}
 use Rattle.ir_read.specs.MetadataBehind.{BRACES}
 use Rattle.ir_read.proofs.LineStarts.{goes_on_is}
 use Rattle.ir_read.proofs.metadata_behind.goes_on_without_group_at.Goals as goal

@@ -2,11 +2,11 @@ use Rattle.std.proofs.Common.{◌≡◌, ◌<◌, ℕ, List, Option, arith, leng
 use Rattle.std.specs.Prelude.{All}
 use Rattle.std.specs.List.{AllZip}
 use Rattle.link_one.proofs.Zipping.{zip_next}
-use Rattle.command_files.specs.Fetching.{IsShort}
-use Rattle.command_files.specs.Links.{GivenFor}
+use Rattle.lto_words.specs.Fetching.{IsShort}
+use Rattle.lto_words.specs.Links.{GivenFor}
 use Rattle.run_program.specs.Causes.{Because, never}
 use Rattle.run_program.proofs.Causes.{because_map}
-use Rattle.command_files.specs.declared.listing.ListedLink.{ListedLink}
+use Rattle.lto_words.specs.declared.listing.ListedLink.{ListedLink}
 use Rattle.back_pool.specs.Making.{IsTrusted}
 use Rattle.thinlto_main.specs.Batching.{AreLinkable}
 use Rattle.thinlto_main.specs.Keys.{IsKeyOf}

@@ -3,8 +3,8 @@ use Rattle.std.specs.List.{AllZip}
 use Rattle.std.specs.Prelude.{IfErr, IfOk}
 use Rattle.std.proofs.lemmas.Slice.Zip.{AllZip-long}
 use Rattle.cache_slot.specs.Decoded.{decoded}
-use Rattle.command_files.specs.Links.{GivenFor}
-use Rattle.command_files.specs.declared.listing.ListedLink.{ListedLink}
+use Rattle.lto_words.specs.Links.{GivenFor}
+use Rattle.lto_words.specs.declared.listing.ListedLink.{ListedLink}
 use Rattle.lto_fault.specs.declared.refusal.Refusal.{Refusal}
 use Rattle.lto_outside.specs.Calls.{Call}
 use Rattle.lto_outside.specs.Honest.{IsHonest}

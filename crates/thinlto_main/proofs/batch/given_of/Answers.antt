@@ -3,8 +3,8 @@ use Rattle.lto_fault.specs.declared.refusal.Refusal.{Refusal}
 use Rattle.lto_outside.specs.Calls.{Call}
 use Rattle.lto_outside.specs.Cause.{Rose}
 use Rattle.lto_outside.specs.Seen.{files_seen}
-use Rattle.command_files.specs.declared.listing.ListedLink.{ListedLink}
-use Rattle.command_files.proofs.Fetches.{if_fault_map, no_put_more}
+use Rattle.lto_words.specs.declared.listing.ListedLink.{ListedLink}
+use Rattle.lto_words.proofs.Fetches.{if_fault_map, no_put_more}
 use Rattle.run_program.specs.Causes.{Because}
 use Rattle.run_program.proofs.Causes.{because_map}
 use Rattle.thinlto_main.specs.Batching.{AreGiven, HasListed, fetching}

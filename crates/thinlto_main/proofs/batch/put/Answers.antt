@@ -1,7 +1,7 @@
 use Rattle.std.proofs.Common.{◌≡◌, ◌∙◌, ℕ, List, Option, ap, subst, sym}
 use Rattle.std.specs.Prelude.{slice_index_or}
-use Rattle.command_files.specs.Links.{PutFailed}
-use Rattle.command_files.specs.declared.listing.ListedLink.{ListedLink}
+use Rattle.lto_words.specs.Links.{PutFailed}
+use Rattle.lto_words.specs.declared.listing.ListedLink.{ListedLink}
 use Rattle.lto_fault.specs.declared.refusal.Refusal.TheVariants.{WriteFault}
 use Rattle.thinlto_main.proofs.Batching.{name_at}
 use Rattle.thinlto_main.proofs.batch.put.Goals as goal

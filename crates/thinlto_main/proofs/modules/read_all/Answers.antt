@@ -1,6 +1,6 @@
 use Rattle.std.proofs.Common.{◌<◌, length, arith}
 use Rattle.link_one.proofs.Zipping.{zip_next}
-use Rattle.command_files.specs.Fetching.{IsShort}
+use Rattle.lto_words.specs.Fetching.{IsShort}
 use Rattle.thinlto_main.specs.Modules.{IsRead}
 use Rattle.thinlto_main.proofs.Reading.{at_place, first_because}
 use Rattle.thinlto_main.proofs.modules.read_all.Goals as goal

@@ -1,7 +1,7 @@
 use Rattle.std.proofs.Common.{ℕ, List, Option, Some, refl, sym, subst}
 use Rattle.link_one.specs.Accepted.{Refuses}
 use Rattle.lto_fault.specs.declared.kind.Kind.TheVariants.{Limit}
-use Rattle.command_files.specs.Fetching.{IsShort}
+use Rattle.lto_words.specs.Fetching.{IsShort}
 use Rattle.thinlto_main.specs.Modules.{IsBad}
 use Rattle.thinlto_main.proofs.Reading.{bad_because}
 use Rattle.thinlto_main.proofs.modules.read_one.Goals as goal

@@ -1,0 +1,50 @@
+//! Why a list of tokens could not be read.
+
+ghost use Rattle.std.specs.Prelude.{◌≡◌};
+ghost use Rattle.ir_read.specs.declared.fault.ReadError.TheVariants.{NoMemory};
+
+use std::alloc::{AllocError, AllocFailed};
+
+/// What is wrong at a token.
+#[derive(Clone, Copy, Debug, PartialEq, Eq)]
+pub enum FaultKind {
+    /// No reading goes on with the token, and none of the other kinds fits.
+    Syntax,
+    /// The token belongs to a part of the language that isn't read.
+    Profile,
+    /// A number that is out of its range.
+    Number,
+    /// One more than a limit allows.
+    Limit,
+}
+
+/// What is wrong, and how many tokens are left where it stands, its own among them; none are left
+/// at the end.
+#[derive(Clone, Copy, Debug, PartialEq, Eq)]
+pub struct Fault {
+    pub left: usize,
+    pub kind: FaultKind,
+}
+
+/// Why a reader gave up.
+#[derive(Debug, Drop)]
+pub enum ReadError {
+    NoMemory,
+    Fault(Fault),
+}
+
+impl From<AllocError> for ReadError {
+    ghost from_gives = { λ _ e. e ≡ NoMemory };
+
+    fn from(_e: AllocError) -> ReadError {
+        ReadError::NoMemory
+    }
+}
+
+impl<T: Drop> From<AllocFailed<T>> for ReadError {
+    ghost from_gives = { λ _ e. e ≡ NoMemory };
+
+    fn from(_e: AllocFailed<T>) -> ReadError {
+        ReadError::NoMemory
+    }
+}
