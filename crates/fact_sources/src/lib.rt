@@ -32,12 +32,12 @@ mod substitution;
 mod table;
 mod unreached;
 
+pub use at_points::function_at;
 pub use choices::{any_choice_in, settled};
 pub use entered::{above, is_above};
+pub use fact::Fact;
 pub use naming::{Beside, Locals, block_names, end_names, instr_names, is_among, phis_name};
 pub use placing::{places, places_by_number};
 pub use sources::{candidates, is_local, is_phi, phi_locals, push_block, push_blocks, push_phis};
 pub use substitution::Substitution;
 pub use unreached::{apart, defined, firm, resting, set_of};
-pub use at_points::function_at;
-pub use fact::Fact;

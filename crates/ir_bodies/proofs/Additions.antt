@@ -2,8 +2,8 @@
 use Rattle.std.proofs.Common.{◌≡◌, Bool, true, false, cond, Option, Some, None, List, [], ◌∷◌, ◌++◌, Result, Ok, Err, refl, sym, ap, ◌∙◌, append_assoc}
 use Rattle.ir_lex.specs.Tok.{Tok}
 use Rattle.ir_read.specs.declared.fault.Fault.{Fault}
-use Rattle.ir_read.specs.declared.fault.ReadError.{ReadError}
-use Rattle.ir_read.specs.declared.fault.ReadError.TheVariants as errors
+use Rattle.ir_tree.specs.declared.failure.Failure.{Failure}
+use Rattle.ir_tree.specs.declared.failure.Failure.TheVariants as errors
 use Rattle.ir_read.specs.Readers.{Reader, Fails, done, follow, ◌>>=◌, optional_at, pick, folded}
 use Rattle.ir_read.proofs.Composed.{reads_is}
 use Rattle.ir_read.proofs.Loops.{with_front}
@@ -20,7 +20,7 @@ kept_read front new rest (Ok y) e =
     (y.0, ap (λ (us : List Tok). Ok (y.0, us)) p.1, sym p.0)
 kept_read front new rest (Err d) e = absurd cc
 
-pub kept_fails : {A : Type 0} (front : List A) (e : ReadError) (r : Result (Option A × List Tok) Fault) → Fails e (follow r (λ x. done (keep front x))) → Fails e r
+pub kept_fails : {A : Type 0} (front : List A) (e : Failure Fault) (r : Result (Option A × List Tok) Fault) → Fails e (follow r (λ x. done (keep front x))) → Fails e r
 kept_fails front errors.NoMemory r h = tt
 kept_fails front (errors.Fault f) (Ok y) h = absurd cc
 kept_fails front (errors.Fault f) (Err d) h = cc
@@ -36,13 +36,13 @@ added_read {A} {S} front new s rest (Ok y) e =
     (y.0, ap (λ (us : List Tok). Ok (y.0, us)) p.1, sym (ap (λ (x : List A × S). x.0) p.0), sym (ap (λ (x : List A × S). x.1) p.0))
 added_read front new s rest (Err d) e = absurd cc
 
-pub added_fails : {A S : Type 0} (front : List A) (e : ReadError) (r : Result ((A × S) × List Tok) Fault) → Fails e (follow r (added_to front)) → Fails e r
+pub added_fails : {A S : Type 0} (front : List A) (e : Failure Fault) (r : Result ((A × S) × List Tok) Fault) → Fails e (follow r (added_to front)) → Fails e r
 added_fails front errors.NoMemory r h = tt
 added_fails front (errors.Fault f) (Ok y) h = absurd cc
 added_fails front (errors.Fault f) (Err d) h = cc
 
 -- what fails first fails
-pub first_fails : {A B : Type 0} (e : ReadError) (r : Result (A × List Tok) Fault) (h : A → Reader Tok B) → Fails e r → Fails e (follow r h)
+pub first_fails : {A B : Type 0} (e : Failure Fault) (r : Result (A × List Tok) Fault) (h : A → Reader Tok B) → Fails e r → Fails e (follow r h)
 first_fails errors.NoMemory r h p = tt
 first_fails (errors.Fault f) r h p = rw p refl
 

@@ -4,8 +4,8 @@ use Rattle.std.proofs.lemmas.List.{append-nil}
 use Rattle.std.specs.List.{fold}
 use Rattle.ir_read.specs.declared.fault.Fault.{Fault}
 use Rattle.ir_read.specs.declared.fault.FaultKind.TheVariants.{Limit}
-use Rattle.ir_read.specs.declared.fault.ReadError.{ReadError}
-use Rattle.ir_read.specs.declared.fault.ReadError.TheVariants as errors
+use Rattle.ir_tree.specs.declared.failure.Failure.{Failure}
+use Rattle.ir_tree.specs.declared.failure.Failure.TheVariants as errors
 use Rattle.ir_read.specs.Readers.{Reader, fault_at, done, follow, ◌>>=◌, pick, many_at, Fails, next_is}
 use Rattle.ir_read.proofs.Loops.{with_front}
 use Rattle.ir_bodies.specs.Successive.{successive_at}
@@ -59,7 +59,7 @@ module _ {T A B : Type 0} (begins : T → Bool) (f : Reader T A) (step : B → A
   pub counts_none : (acc : B) (left : ℕ) (ts : List T) (total : Result ((B × ℕ) × List T) Fault) → false ≡ next_is begins ts → counted step acc left (many_at begins f left ts) ≡ total → total ≡ Ok ((acc, left), ts)
   counts_none acc left ts total n so_far = sym so_far ∙ ap (counted step acc left) (none left ts (sym n)) ∙ ap (λ (m : ℕ). Ok ((acc, m), ts)) (all_left left)
 
-  pub counts_fail : (e : ReadError) (acc : B) (left : ℕ) (ts : List T) (total : Result ((B × ℕ) × List T) Fault) → 0 < left → true ≡ next_is begins ts → Fails e (f ts) → counted step acc left (many_at begins f left ts) ≡ total → Fails e total
+  pub counts_fail : (e : Failure Fault) (acc : B) (left : ℕ) (ts : List T) (total : Result ((B × ℕ) × List T) Fault) → 0 < left → true ≡ next_is begins ts → Fails e (f ts) → counted step acc left (many_at begins f left ts) ≡ total → Fails e total
   counts_fail errors.NoMemory acc left ts total lt n h so_far = tt
   counts_fail (errors.Fault e) acc left ts total lt n h so_far =
       let k : left ≡ suc (left - 1) = omega (arith, lt) in
@@ -91,7 +91,7 @@ module _ {T S A : Type 0} (begins : T → Bool) (f : S → Reader T (A × S)) wh
   pub pieces_none : (front : List A) (room : ℕ) (s : S) (ts : List T) (total : Result (List A × List T) Fault) → false ≡ next_is begins ts → with_front front (successive_at begins f room s ts) ≡ total → total ≡ Ok (front, ts)
   pieces_none front room s ts total n so_far = sym so_far ∙ ap (with_front front) (ended room s ts (sym n)) ∙ ap (λ (as' : List A). Ok (as', ts)) (append-nil front)
 
-  pub pieces_fail : (e : ReadError) (front : List A) (room : ℕ) (s : S) (ts : List T) (total : Result (List A × List T) Fault) → 0 < room → true ≡ next_is begins ts → Fails e (f s ts) → with_front front (successive_at begins f room s ts) ≡ total → Fails e total
+  pub pieces_fail : (e : Failure Fault) (front : List A) (room : ℕ) (s : S) (ts : List T) (total : Result (List A × List T) Fault) → 0 < room → true ≡ next_is begins ts → Fails e (f s ts) → with_front front (successive_at begins f room s ts) ≡ total → Fails e total
   pieces_fail errors.NoMemory front room s ts total lt n h so_far = tt
   pieces_fail (errors.Fault e) front room s ts total lt n h so_far =
       let k : room ≡ suc (room - 1) = omega (arith, lt) in

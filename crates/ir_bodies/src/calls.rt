@@ -3,7 +3,7 @@
 ghost use Rattle.std.specs.Prelude.{◌≡◌, IfErr, IfOk, OnOk};
 ghost use Rattle.ir_lex.specs.Tok.{tok};
 ghost use Rattle.ir_read.specs.Alphabet.{among};
-ghost use Rattle.ir_read.specs.declared.fault.ReadError.TheVariants.{NoMemory};
+ghost use Rattle.ir_tree.specs.declared.failure.Failure.TheVariants.{NoMemory};
 ghost use Rattle.ir_read.specs.Readers.{Gives, next_is};
 ghost use Rattle.ir_read.specs.Rules.{is_among, is_exact, is_valued};
 ghost use Rattle.ir_read.specs.Classes.{tokens, itself};

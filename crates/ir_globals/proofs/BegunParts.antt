@@ -2,8 +2,9 @@
 use Rattle.std.proofs.Common.{◌≡◌, Bool, Option, List, Ok, Err, refl, subst}
 use Rattle.ir_lex.specs.Tok.{Tok}
 use Rattle.ir_tree.specs.declared.operand.Reg.{Reg}
-use Rattle.ir_read.specs.declared.fault.ReadError.{ReadError}
-use Rattle.ir_read.specs.declared.fault.ReadError.TheVariants as errors
+use Rattle.ir_tree.specs.declared.failure.Failure.{Failure}
+use Rattle.ir_read.specs.declared.fault.Fault.{Fault}
+use Rattle.ir_tree.specs.declared.failure.Failure.TheVariants as errors
 use Rattle.ir_read.specs.Readers.{Fails}
 use Rattle.ir_read.specs.declared.raw.InitHead.{InitHead}
 use Rattle.ir_read.specs.declared.raw.InitPart.TheVariants as init_parts
@@ -16,12 +17,12 @@ pub begun_is : (first : Bool) (outer : List Aggregate) (ts us rest : List Tok) (
 unfolding begun_at part_at
 begun_is first outer ts us rest typed head scalar p s q = let r = subst (λ o. beginning_at o us ≡ Ok (head, rest)) s q in rw p (rw r refl)
 
-pub shape_fails : (first : Bool) (outer : List Aggregate) (ts : List Tok) (e : ReadError) → Fails e (part_shape_at first ts) → Fails e (begun_at first outer ts)
+pub shape_fails : (first : Bool) (outer : List Aggregate) (ts : List Tok) (e : Failure Fault) → Fails e (part_shape_at first ts) → Fails e (begun_at first outer ts)
 unfolding begun_at part_at
 shape_fails first outer ts errors.NoMemory h = tt
 shape_fails first outer ts (errors.Fault f) h = rw h refl
 
-pub beginning_fails : (first : Bool) (outer : List Aggregate) (ts us : List Tok) (typed : Typed) (scalar : Option Reg) (e : ReadError) → part_shape_at first ts ≡ Ok (typed, us) → scalar ≡ scalar_of typed.shape → Fails e (beginning_at scalar us) → Fails e (begun_at first outer ts)
+pub beginning_fails : (first : Bool) (outer : List Aggregate) (ts us : List Tok) (typed : Typed) (scalar : Option Reg) (e : Failure Fault) → part_shape_at first ts ≡ Ok (typed, us) → scalar ≡ scalar_of typed.shape → Fails e (beginning_at scalar us) → Fails e (begun_at first outer ts)
 unfolding begun_at part_at
 beginning_fails first outer ts us typed scalar errors.NoMemory p s h = tt
 beginning_fails first outer ts us typed scalar (errors.Fault f) p s h = let r = subst (λ o. beginning_at o us ≡ Err f) s h in rw p (rw r refl)

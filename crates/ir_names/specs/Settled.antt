@@ -1,11 +1,11 @@
 -- What a call that may lack memory gives.
 use Rattle.std.specs.Prelude.{◌≡◌, Result, Ok, Err, List, [], ◌∷◌}
 use Rattle.ir_names.specs.declared.fault.Fault.{Fault}
-use Rattle.ir_names.specs.declared.fault.ResolveError.{ResolveError}
-use Rattle.ir_names.specs.declared.fault.ResolveError.TheVariants as errors
+use Rattle.ir_tree.specs.declared.failure.Failure.{Failure}
+use Rattle.ir_tree.specs.declared.failure.Failure.TheVariants as errors
 
 -- what a call returned is this, unless memory ran out
-abbrev pub Settles : {X Y : Type 0} → (X → Y) → Result X ResolveError → Result Y Fault → Type 0
+abbrev pub Settles : {X Y : Type 0} → (X → Y) → Result X (Failure Fault) → Result Y Fault → Type 0
 Settles view (Ok x) r = r ≡ Ok (view x)
 Settles view (Err errors.NoMemory) r = Unit {0}
 Settles view (Err (errors.Fault fault)) r = r ≡ Err fault

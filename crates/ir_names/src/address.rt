@@ -4,7 +4,7 @@ ghost use Rattle.ir_tree.specs.Forms.{forms_of, list_of};
 ghost use Rattle.ir_tree.specs.Layout.{IsLaidOut, AreLaidOut};
 ghost use Rattle.ir_names.specs.Addresses.{bad_index, extended, scaled, picks, part_at, offset_in, level_offset, offset_behind};
 ghost use Rattle.ir_names.specs.Addresses as addresses;
-ghost use Rattle.ir_names.specs.declared.fault.ResolveError.TheVariants as errors;
+ghost use Rattle.ir_tree.specs.declared.failure.Failure.TheVariants as errors;
 ghost use Rattle.ir_names.specs.Settled.{Settles};
 
 use crate::expand::expanded;

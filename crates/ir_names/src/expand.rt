@@ -3,7 +3,7 @@ ghost use Rattle.std.specs.Option.{SomeIff};
 ghost use Rattle.std.specs.Prelude.{◌≡◌, ◌≤◌, ◌<◌, ◌^◌, ◌*◌, ◌+◌, nat_le, IfOk, Ok};
 ghost use Rattle.ir_tree.specs.Forms.{structure, array, forms_of};
 ghost use Rattle.ir_tree.specs.Layout.{IsLaidOut, AreLaidOut, size, ends, begins, widest, rounded};
-ghost use Rattle.ir_names.specs.declared.fault.ResolveError.TheVariants as errors;
+ghost use Rattle.ir_tree.specs.declared.failure.Failure.TheVariants as errors;
 ghost use Rattle.ir_read.specs.Shapes.{parts_of, list_of};
 ghost use Rattle.ir_names.specs.Settled.{Settles, each};
 ghost use Rattle.ir_names.specs.Types.{expand, limit, scalar, within, without_parts, opened, structure_of};

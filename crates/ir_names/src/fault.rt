@@ -1,8 +1,6 @@
 //! What is wrong with a name, a shape or an index of a module whose text is in the grammar.
-ghost use Rattle.std.specs.Prelude.{◌≡◌};
-ghost use Rattle.ir_names.specs.declared.fault.ResolveError.TheVariants.{NoMemory};
 
-use std::alloc::{AllocError, AllocFailed};
+use ir_tree::Failure;
 
 /// What a name, a shape or an index breaks.
 #[derive(Clone, Copy, Debug, PartialEq, Eq)]
@@ -25,24 +23,4 @@ pub struct Fault {
 }
 
 /// Why a module isn't resolved.
-#[derive(Debug, Drop)]
-pub enum ResolveError {
-    NoMemory,
-    Fault(Fault),
-}
-
-impl From<AllocError> for ResolveError {
-    ghost from_gives = { λ _ e. e ≡ NoMemory };
-
-    fn from(_e: AllocError) -> ResolveError {
-        ResolveError::NoMemory
-    }
-}
-
-impl<T: Drop> From<AllocFailed<T>> for ResolveError {
-    ghost from_gives = { λ _ e. e ≡ NoMemory };
-
-    fn from(_e: AllocFailed<T>) -> ResolveError {
-        ResolveError::NoMemory
-    }
-}
+pub type ResolveError = Failure<Fault>;

@@ -5,7 +5,7 @@ ghost use Rattle.ir_tree.specs.Forms.{structure, forms_of};
 ghost use Rattle.ir_names.specs.Keys.{key_of};
 ghost use Rattle.ir_names.specs.KeyViews.{key};
 ghost use Rattle.ir_names.specs.Locals.{unknown};
-ghost use Rattle.ir_names.specs.declared.fault.ResolveError.TheVariants as errors;
+ghost use Rattle.ir_tree.specs.declared.failure.Failure.TheVariants as errors;
 ghost use Rattle.ir_names.specs.Settled.{Settles};
 ghost use Rattle.ir_names.specs.TypeNames.{place_of};
 ghost use Rattle.ir_names.specs.Types.{entry_of, entry_in, shape_at, shape_in, head_from, chased, with_type, shape_if};

@@ -3,8 +3,8 @@ use Rattle.std.proofs.Common.{◌≡◌, List, [], ◌∷◌, ◌++◌, Result, 
 use Rattle.std.specs.List.{fold}
 use Rattle.std.proofs.lemmas.List.{append-nil}
 use Rattle.ir_read.specs.declared.fault.Fault.{Fault}
-use Rattle.ir_read.specs.declared.fault.ReadError.{ReadError}
-use Rattle.ir_read.specs.declared.fault.ReadError.TheVariants as errors
+use Rattle.ir_tree.specs.declared.failure.Failure.{Failure}
+use Rattle.ir_tree.specs.declared.failure.Failure.TheVariants as errors
 use Rattle.ir_read.specs.Readers.{Reader, done, follow, ◌>>=◌, folded, Fails, Gives}
 use Rattle.ir_read.proofs.Composed.{reads_is}
 use Rattle.ir_read.proofs.Loops.{with_front}
@@ -36,7 +36,7 @@ module _ {T A : Type 0} (one : Reader T A) (rest : Reader T (List A)) where
   pub turns_on : (front : List A) (ts after : List T) (a : A) (total : Result (List A × List T) Fault) → one ts ≡ Ok (a, after) → with_front front (in_turn ts) ≡ total → with_front (front ++ a ∷ []) (rest after) ≡ total
   turns_on front ts after a total h so_far = sym (ap (λ (r : Result (A × List T) Fault). with_front front (follow r (λ b. rest >>= λ more. done (b ∷ more)))) h ∙ regroup front a (rest after)) ∙ so_far
 
-  pub turn_fails : (e : ReadError) (front : List A) (ts : List T) (total : Result (List A × List T) Fault) → Fails e (one ts) → with_front front (in_turn ts) ≡ total → Fails e total
+  pub turn_fails : (e : Failure Fault) (front : List A) (ts : List T) (total : Result (List A × List T) Fault) → Fails e (one ts) → with_front front (in_turn ts) ≡ total → Fails e total
   turn_fails errors.NoMemory front ts total h so_far = tt
   turn_fails (errors.Fault d) front ts total h so_far = sym so_far ∙ ap (λ (r : Result (A × List T) Fault). with_front front (follow r (λ b. rest >>= λ more. done (b ∷ more)))) h
 
@@ -48,5 +48,5 @@ then_closed {T} {A} first (Ok x) close all mid after e h =
 then_closed first (Err d) close all mid after e h = absurd cc
 
 -- the same reading, written otherwise
-pub gives_as : {X Y : Type 0} (view : X → Y) (x : Result X ReadError) (r r' : Result Y Fault) → r ≡ r' → Gives view x r → Gives view x r'
+pub gives_as : {X Y : Type 0} (view : X → Y) (x : Result X (Failure Fault)) (r r' : Result Y Fault) → r ≡ r' → Gives view x r → Gives view x r'
 gives_as {Y = Y} view x r r' e h = subst (λ (y : Result Y Fault). Gives view x y) e h

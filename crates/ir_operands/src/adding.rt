@@ -4,7 +4,7 @@
 //! field of an instruction.
 
 ghost use Rattle.std.specs.Prelude.{◌≡◌, ◌++◌, ◌∷◌, [], IfErr, OnOk};
-ghost use Rattle.ir_read.specs.declared.fault.ReadError.TheVariants.{NoMemory};
+ghost use Rattle.ir_tree.specs.declared.failure.Failure.TheVariants.{NoMemory};
 
 use ir_read::Item;
 use ir_read::ReadError;

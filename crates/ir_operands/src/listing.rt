@@ -1,7 +1,7 @@
 //! The lines of a block while they are read.
 
 ghost use Rattle.std.specs.Prelude.{◌≡◌, IfErr, OnOk};
-ghost use Rattle.ir_read.specs.declared.fault.ReadError.TheVariants.{NoMemory};
+ghost use Rattle.ir_tree.specs.declared.failure.Failure.TheVariants.{NoMemory};
 ghost use Rattle.ir_operands.specs.Listing.{put};
 
 use crate::adding::push;

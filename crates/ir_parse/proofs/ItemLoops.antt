@@ -4,8 +4,8 @@ use Rattle.std.specs.List.{fold}
 use Rattle.ir_lex.specs.Tok.{Tok}
 use Rattle.ir_read.specs.Chained.{stops_here, chain_within, chain_at}
 use Rattle.ir_read.specs.declared.fault.Fault.{Fault}
-use Rattle.ir_read.specs.declared.fault.ReadError.{ReadError}
-use Rattle.ir_read.specs.declared.fault.ReadError.TheVariants as errors
+use Rattle.ir_tree.specs.declared.failure.Failure.{Failure}
+use Rattle.ir_tree.specs.declared.failure.Failure.TheVariants as errors
 use Rattle.ir_read.specs.Readers.{Reader, Fails, done, follow, ◌>>=◌, folded, next_is}
 use Rattle.ir_read.specs.Alphabet.{among}
 use Rattle.ir_read.proofs.ChainLoops.{chain_on}
@@ -32,7 +32,7 @@ module _ {T S A B : Type 0} (final : S → Bool) (begins : S → T → Bool) (f 
   goes : (n : ℕ) (s : S) (ts : List T) → stop s ts ≡ false → within (suc n) s ts ≡ follow (f s ts) (further n)
   goes n s ts h = rw h refl
 
-  chain_fails : (e : ReadError) (acc : B) (s : S) (ts : List T) (total : Result (B × List T) Fault) → stop s ts ≡ false → Fails e (f s ts) → folded step acc (chain_at final begins f s ts) ≡ total → Fails e total
+  chain_fails : (e : Failure Fault) (acc : B) (s : S) (ts : List T) (total : Result (B × List T) Fault) → stop s ts ≡ false → Fails e (f s ts) → folded step acc (chain_at final begins f s ts) ≡ total → Fails e total
   chain_fails errors.NoMemory acc s ts total h d so_far = tt
   chain_fails (errors.Fault e) acc s ts total h d so_far = sym so_far ∙ ap (folded step acc) (goes (length ts) s ts h ∙ ap (λ (r : Result ((A × S) × List T) Fault). follow r (further (length ts))) d)
 
@@ -49,7 +49,7 @@ items_on room names front new at next ts rest all n h so_far =
     ap (λ (x : List Item). folded keep x (chain_at anywhere begins_there (there_at room) next rest)) (sym p.2)
     ∙ chain_on anywhere begins_there (there_at room) (shorter room) keep front at ts (p.0, next) rest (folded keep [] (chain_at anywhere begins_there (there_at room) (first_place names) all)) (ap not (sym n)) p.1 so_far
 
-pub items_fail : (room names : ℕ) (e : ReadError) (front : List Item) (at : Position) (ts all : List Tok) → true ≡ next_is (begins_there at) ts → Fails e (behind_at front (there_at room at) ts)
+pub items_fail : (room names : ℕ) (e : Failure Fault) (front : List Item) (at : Position) (ts all : List Tok) → true ≡ next_is (begins_there at) ts → Fails e (behind_at front (there_at room at) ts)
     → folded keep front (chain_at anywhere begins_there (there_at room) at ts) ≡ folded keep [] (chain_at anywhere begins_there (there_at room) (first_place names) all) → Fails e (items_at room names all)
 unfolding items_at
 items_fail room names e front at ts all n h so_far =

@@ -3,8 +3,8 @@ use Rattle.std.proofs.Common.{◌≡◌, ℕ, zero, suc, ◌-◌, nat_eq, Bool, 
 use Rattle.ir_lex.specs.Tok.{Tok}
 use Rattle.ir_read.specs.declared.fault.Fault.{Fault}
 use Rattle.ir_read.specs.declared.fault.FaultKind.TheVariants.{Limit}
-use Rattle.ir_read.specs.declared.fault.ReadError.{ReadError}
-use Rattle.ir_read.specs.declared.fault.ReadError.TheVariants as errors
+use Rattle.ir_tree.specs.declared.failure.Failure.{Failure}
+use Rattle.ir_tree.specs.declared.failure.Failure.TheVariants as errors
 use Rattle.ir_read.specs.Alphabet.{among}
 use Rattle.ir_read.specs.Readers.{Reader, Fails, Gives, done, fault_at, follow, ◌>>=◌, next_is}
 use Rattle.ir_read.specs.Classes.{tokens}
@@ -36,7 +36,7 @@ behind_placed front names f ts = by_result (f ts)
 placed_gives : (front new : List Item) (names : ℕ) (f : Reader Tok Found) (ts rest : List Tok) (b : Before) → behind_at front f ts ≡ Ok ((new, b), rest) → behind_at front (placed names f) ts ≡ Ok ((new, record { before = b; names = names }), rest)
 placed_gives front new names f ts rest b h = behind_placed front names f ts ∙ ap (λ (r : Result ((List Item × Before) × List Tok) Fault). follow r (at_names names)) h
 
-placed_fails : (front : List Item) (names : ℕ) (f : Reader Tok Found) (ts : List Tok) (e : ReadError) → Fails e (behind_at front f ts) → Fails e (behind_at front (placed names f) ts)
+placed_fails : (front : List Item) (names : ℕ) (f : Reader Tok Found) (ts : List Tok) (e : Failure Fault) → Fails e (behind_at front f ts) → Fails e (behind_at front (placed names f) ts)
 placed_fails front names f ts errors.NoMemory h = tt
 placed_fails front names f ts (errors.Fault e) h = behind_placed front names f ts ∙ ap (λ (r : Result ((List Item × Before) × List Tok) Fault). follow r (at_names names)) h
 
@@ -57,7 +57,7 @@ pub named_gives : (front new : List Item) (room names : ℕ) (ts rest : List Tok
 named_gives front new room zero ts rest b n h = absurd (n refl)
 named_gives front new room (suc m) ts rest b n h = ap (λ (f : Reader Tok (Option Item × Position)). behind_at front f ts) (named_is room m) ∙ placed_gives front new (suc m - 1) (naming_at room) ts rest b h
 
-pub named_fails : (front : List Item) (room names : ℕ) (ts : List Tok) (e : ReadError) → (names ≡ 0 → ⊥) → Fails e (behind_at front (naming_at room) ts) → Fails e (behind_at front (named_within_at room names) ts)
+pub named_fails : (front : List Item) (room names : ℕ) (ts : List Tok) (e : Failure Fault) → (names ≡ 0 → ⊥) → Fails e (behind_at front (naming_at room) ts) → Fails e (behind_at front (named_within_at room names) ts)
 named_fails front room zero ts e n h = absurd (n refl)
 named_fails front room (suc m) ts errors.NoMemory n h = tt
 named_fails front room (suc m) ts (errors.Fault e) n h = ap (λ (f : Reader Tok (Option Item × Position)). behind_at front f ts) (named_is room m) ∙ placed_fails front (suc m - 1) (naming_at room) ts (errors.Fault e) h
@@ -78,7 +78,7 @@ unfolding behind_at piece_at other_at
 pick_other front room at [] n = refl
 pick_other front room at (t ∷ ts) n = rw (sym n) refl
 
-pub piece_named : (front new : List Item) (room : ℕ) (at : Position) (ts rest : List Tok) (r : Result Position ReadError) → true ≡ next_is (among tokens NAMING) ts → Gives (λ p. ((new, p), rest)) r (behind_at front (named_within_at room at.names) ts) → Gives (λ p. ((new, p), rest)) r (behind_at front (piece_at room at.before at.names) ts)
+pub piece_named : (front new : List Item) (room : ℕ) (at : Position) (ts rest : List Tok) (r : Result Position (Failure Fault)) → true ≡ next_is (among tokens NAMING) ts → Gives (λ p. ((new, p), rest)) r (behind_at front (named_within_at room at.names) ts) → Gives (λ p. ((new, p), rest)) r (behind_at front (piece_at room at.before at.names) ts)
 piece_named front new room at ts rest (Ok p) n h = pick_one front room at ts n ∙ h
 piece_named front new room at ts rest (Err errors.NoMemory) n h = tt
 piece_named front new room at ts rest (Err (errors.Fault e)) n h = pick_one front room at ts n ∙ h
@@ -86,7 +86,7 @@ piece_named front new room at ts rest (Err (errors.Fault e)) n h = pick_one fron
 pub piece_gives : (front new : List Item) (room : ℕ) (at : Position) (ts rest : List Tok) (b : Before) → false ≡ next_is (among tokens NAMING) ts → behind_at front (beside_at at.before) ts ≡ Ok ((new, b), rest) → behind_at front (piece_at room at.before at.names) ts ≡ Ok ((new, record { before = b; names = at.names }), rest)
 piece_gives front new room at ts rest b n h = pick_other front room at ts n ∙ placed_gives front new at.names (beside_at at.before) ts rest b h
 
-pub piece_fails : (front : List Item) (room : ℕ) (at : Position) (ts : List Tok) (e : ReadError) → false ≡ next_is (among tokens NAMING) ts → Fails e (behind_at front (beside_at at.before) ts) → Fails e (behind_at front (piece_at room at.before at.names) ts)
+pub piece_fails : (front : List Item) (room : ℕ) (at : Position) (ts : List Tok) (e : Failure Fault) → false ≡ next_is (among tokens NAMING) ts → Fails e (behind_at front (beside_at at.before) ts) → Fails e (behind_at front (piece_at room at.before at.names) ts)
 piece_fails front room at ts errors.NoMemory n h = tt
 piece_fails front room at ts (errors.Fault e) n h = pick_other front room at ts n ∙ placed_fails front at.names (beside_at at.before) ts (errors.Fault e) h
 
@@ -105,7 +105,7 @@ put_was_read {S = S} front new f ts rest s h = by_result (f ts) refl h
         (i, d ∙ ap (with_item i) p, ap (λ (x : (List Item × S) × List Tok). x.0.0) p)
     by_result (Err e') d e = absurd cc
 
-pub put_fails : {S : Type 0} (front : List Item) (f : Reader Tok (Option Item × S)) (ts : List Tok) (e : ReadError) → Fails e (behind_at front f ts) → Fails e (f ts)
+pub put_fails : {S : Type 0} (front : List Item) (f : Reader Tok (Option Item × S)) (ts : List Tok) (e : Failure Fault) → Fails e (behind_at front f ts) → Fails e (f ts)
 unfolding behind_at
 put_fails {S = S} front f ts errors.NoMemory h = tt
 put_fails {S = S} front f ts (errors.Fault e) h = by_result (f ts) refl h

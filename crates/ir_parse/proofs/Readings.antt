@@ -10,15 +10,16 @@ use Rattle.ir_read.specs.declared.raw.Item.{Item}
 use Rattle.ir_tree.specs.declared.module.Module.{Module}
 use Rattle.ir_parse.specs.Modules.{module_of, whole_module}
 use Rattle.ir_parse.specs.Lines.{lines_of}
-use Rattle.ir_parse.specs.Answers.{IfFault, IsNameFault, IsRead, IsRefused}
+use Rattle.ir_tree.specs.Failures.{IfFault}
+use Rattle.ir_parse.specs.Answers.{IsNameFault, IsRead, IsRefused}
 use Rattle.ir_parse.specs.FirstFault.{FirstFault, GrammarFault, Stuck}
 use Rattle.ir_parse.specs.Kinds.{name_fault}
 use Rattle.ir_parse.specs.Laws.{Apart, Decided, OneFault, OneReading}
 use Rattle.ir_parse.specs.Reading.{Reads}
 use Rattle.ir_parse.specs.Stages.{module_in}
 use Rattle.ir_parse.specs.declared.fault.FaultKind.{FaultKind}
-use Rattle.ir_parse.specs.declared.fault.ReadError.{ReadError}
-use Rattle.ir_parse.specs.declared.fault.ReadError.TheVariants as errors
+use Rattle.ir_tree.specs.declared.failure.Failure.{Failure}
+use Rattle.ir_tree.specs.declared.failure.Failure.TheVariants as errors
 use Rattle.ir_parse.specs.declared.fault.ReadFault.{ReadFault}
 use Rattle.ir_parse.proofs.Stuck.{not_stuck, one_list, one_place, read_so, stuck_at, stuck_behind}
 use Rattle.ir_parse.proofs.Lexed.{one_text}
@@ -105,7 +106,7 @@ names_so bytes ts is b end f c s (fault, e, n) =
     inr (record { written = ts; items = is; cut = (end, subst (λ (d : Bool). IsLexed bytes ts d end) s.0 c); spelled = s.1; fault = fault; found = e; place = n.0; told = n.1 })
 
 abbrev Read : Type 0
-Read = Result (Module × List (List ℕ)) ReadError
+Read = Result (Module × List (List ℕ)) (Failure ReadFault)
 
 pub only_so : (bytes : List ℕ) (r : Read) → IfOk r (λ p. Reads bytes p.0 p.1) → IfErr r (λ e. IfFault e (λ f. FirstFault bytes f.line f.kind)) → (m : Module) (lines : List (List ℕ)) → Reads bytes m lines → IsRead m lines r
 only_so bytes (Ok p) found fault m lines s = reading_once bytes p.0 m p.1 lines found s

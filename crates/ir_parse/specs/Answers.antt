@@ -5,24 +5,20 @@ use Rattle.ir_read.specs.declared.fault.FaultKind as grammar_kind
 use Rattle.ir_names.specs.declared.fault.Fault as names
 use Rattle.ir_tree.specs.declared.module.Module.{Module}
 use Rattle.ir_parse.specs.declared.fault.FaultKind.{FaultKind}
-use Rattle.ir_parse.specs.declared.fault.ReadError.{ReadError}
-use Rattle.ir_parse.specs.declared.fault.ReadError.TheVariants as errors
+use Rattle.ir_tree.specs.declared.failure.Failure.{Failure}
+use Rattle.ir_tree.specs.declared.failure.Failure.TheVariants as errors
 use Rattle.ir_parse.specs.declared.fault.ReadFault.{ReadFault}
 use Rattle.ir_parse.specs.FirstFault.{end_kind, line_of}
 use Rattle.ir_parse.specs.Kinds.{grammar_fault, name_fault}
 
-abbrev pub IfFault : ReadError → (ReadFault → Type 0) → Type 0
-IfFault errors.NoMemory P = Unit {0}
-IfFault (errors.Fault f) P = P f
-
 -- this module with these lines, unless memory ran out
-abbrev pub IsRead : Module → List (List ℕ) → Result (Module × List (List ℕ)) ReadError → Type 0
+abbrev pub IsRead : Module → List (List ℕ) → Result (Module × List (List ℕ)) (Failure ReadFault) → Type 0
 IsRead m lines (Ok read) = (read.0 ≡ m) × (read.1 ≡ lines)
 IsRead m lines (Err errors.NoMemory) = Unit {0}
 IsRead m lines (Err (errors.Fault f)) = ⊥
 
 -- a fault on this line and of this kind, unless memory ran out
-abbrev pub IsRefused : ℕ → FaultKind → Result (Module × List (List ℕ)) ReadError → Type 0
+abbrev pub IsRefused : ℕ → FaultKind → Result (Module × List (List ℕ)) (Failure ReadFault) → Type 0
 IsRefused line kind (Ok read) = ⊥
 IsRefused line kind (Err errors.NoMemory) = Unit {0}
 IsRefused line kind (Err (errors.Fault f)) = (f.line ≡ line) × (f.kind ≡ kind)
@@ -45,7 +41,7 @@ abbrev pub IsFaultOf : Result Module names.Fault → ReadFault → Type 0
 IsFaultOf r f = (fault : names.Fault) × (r ≡ Err fault) × IsNameFault fault f
 
 -- a module, or this fault of names
-abbrev pub Answers : Result Module names.Fault → Result Module ReadError → Type 0
+abbrev pub Answers : Result Module names.Fault → Result Module (Failure ReadFault) → Type 0
 Answers r (Ok m) = r ≡ Ok m
 Answers r (Err errors.NoMemory) = Unit {0}
 Answers r (Err (errors.Fault f)) = IsFaultOf r f

@@ -1,11 +1,9 @@
 //! Why bytes are read as no module.
 ghost use Rattle.std.specs.Prelude.{◌≡◌};
-ghost use Rattle.ir_parse.specs.declared.fault.ReadError.TheVariants.{NoMemory};
 ghost use Rattle.ir_parse.specs.Kinds.{name_fault};
 
 use ir_names::FaultKind as NameKind;
-use ir_tree::Text;
-use std::alloc::{AllocError, AllocFailed};
+use ir_tree::{Failure, Text};
 
 /// What is wrong with a text.
 #[derive(Drop)]
@@ -39,27 +37,7 @@ pub struct ReadFault {
 }
 
 /// Why bytes could not be read.
-#[derive(Drop)]
-pub enum ReadError {
-    NoMemory,
-    Fault(ReadFault),
-}
-
-impl From<AllocError> for ReadError {
-    ghost from_gives = { λ _ e. e ≡ NoMemory };
-
-    fn from(_e: AllocError) -> ReadError {
-        ReadError::NoMemory
-    }
-}
-
-impl<T: Drop> From<AllocFailed<T>> for ReadError {
-    ghost from_gives = { λ _ e. e ≡ NoMemory };
-
-    fn from(_e: AllocFailed<T>) -> ReadError {
-        ReadError::NoMemory
-    }
-}
+pub type ReadError = Failure<ReadFault>;
 
 /// The kind of a fault of names.
 pub fn name_fault(kind: NameKind) -> FaultKind

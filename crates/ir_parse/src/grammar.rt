@@ -3,7 +3,8 @@ ghost use Rattle.std.specs.Prelude.{◌≡◌, ◌-◌, [], IfOk, IfErr, OnOk, t
 ghost use Rattle.ir_lex.specs.Tok.{tok, toks};
 ghost use Rattle.ir_read.specs.Readers.{Gives};
 ghost use Rattle.ir_parse.specs.Modules.{whole_module, module_of, last_tokens};
-ghost use Rattle.ir_parse.specs.Answers.{IfFault, IsStopped};
+ghost use Rattle.ir_tree.specs.Failures.{IfFault};
+ghost use Rattle.ir_parse.specs.Answers.{IsStopped};
 ghost use Rattle.ir_parse.specs.FirstFault.{Stuck, end_kind};
 ghost use Rattle.ir_parse.specs.Kinds.{refused_kind, grammar_fault};
 
@@ -11,9 +12,10 @@ use crate::fault::{FaultKind, ReadError, ReadFault};
 use crate::items::items_into;
 use ir_heads::name_refusal;
 use ir_lex::{Head, Lexed, Token};
-use ir_read::{Item, Tokens};
+use ir_read::{
+    Fault as Refusal, FaultKind as RefusalKind, Item, ReadError as GrammarError, Tokens,
+};
 use ir_tree::Text;
-use ir_read::{Fault as Refusal, FaultKind as RefusalKind, ReadError as GrammarError};
 use std::alloc::{AllocError, Global};
 
 // How many parameters may stand behind the first of a function.

@@ -3,7 +3,7 @@
 ghost use Rattle.std.specs.Prelude.{◌≡◌, ◌∷◌, ◌++◌, [], OnOk, IfErr, None};
 ghost use Rattle.ir_lex.specs.Heads.{number};
 ghost use Rattle.ir_read.specs.Alphabet.{contains, among};
-ghost use Rattle.ir_read.specs.declared.fault.ReadError.TheVariants.{NoMemory};
+ghost use Rattle.ir_tree.specs.declared.failure.Failure.TheVariants.{NoMemory};
 ghost use Rattle.ir_read.specs.Readers.{Gives, next_is};
 ghost use Rattle.ir_heads.specs.AttributesAt.{HEAD, attribute_group_at};
 ghost use Rattle.ir_heads.specs.TargetsAt.{layout_line_at, target_line_at, triple_line_at};
@@ -25,10 +25,9 @@ use ir_heads::{
 use ir_lex::Head;
 use ir_operands::push;
 use ir_read::{
-    Before, Item, Position, Tokens, attached_at, expect, metadata_behind_at, metadata_line_at,
-    node_yet_at,
+    Before, Fault, FaultKind, Item, Position, ReadError, Tokens, attached_at, expect,
+    metadata_behind_at, metadata_line_at, node_yet_at,
 };
-use ir_read::{Fault, FaultKind, ReadError};
 use std::alloc::Global;
 
 /// Reads the layout of the target, and adds it.

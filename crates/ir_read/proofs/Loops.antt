@@ -3,8 +3,8 @@ use Rattle.std.proofs.Common.{◌≡◌, ℕ, zero, suc, ◌-◌, ◌<◌, Bool,
 use Rattle.std.proofs.lemmas.List.{append-nil, map_push}
 use Rattle.ir_read.specs.declared.fault.Fault.{Fault}
 use Rattle.ir_read.specs.declared.fault.FaultKind.TheVariants.{Limit}
-use Rattle.ir_read.specs.declared.fault.ReadError.{ReadError}
-use Rattle.ir_read.specs.declared.fault.ReadError.TheVariants as errors
+use Rattle.ir_tree.specs.declared.failure.Failure.{Failure}
+use Rattle.ir_tree.specs.declared.failure.Failure.TheVariants as errors
 use Rattle.ir_read.specs.Readers.{Reader, fault_at, done, follow, ◌>>=◌, pick, many_at, Fails, next_is}
 
 -- what was read before, and what is still read
@@ -33,7 +33,7 @@ module _ {T A : Type 0} (begins : T → Bool) (f : Reader T A) where
       let one : many_at begins f (suc (left - 1)) ts ≡ follow (rest after) (λ more. done (a ∷ more)) = pick_of (f >>= λ b. rest >>= λ more. done (b ∷ more)) (done []) ts (sym n) ∙ ap (λ (r : Result (A × List T) Fault). follow r (λ b. rest >>= λ more. done (b ∷ more))) h in
       sym (ap (with_front front) one ∙ regroup front a (rest after)) ∙ ap (λ (m : ℕ). with_front front (many_at begins f m ts)) (sym k) ∙ so_far
 
-  pub fails : (e : ReadError) (front : List A) (left : ℕ) (ts : List T) (total : Result (List A × List T) Fault) → 0 < left → true ≡ next_is begins ts → Fails e (f ts)
+  pub fails : (e : Failure Fault) (front : List A) (left : ℕ) (ts : List T) (total : Result (List A × List T) Fault) → 0 < left → true ≡ next_is begins ts → Fails e (f ts)
       → with_front front (many_at begins f (left) ts) ≡ total → Fails e total
   fails errors.NoMemory front left ts total lt n h so_far = tt
   fails (errors.Fault e) front left ts total lt n h so_far =

@@ -3,8 +3,8 @@ use Rattle.std.proofs.Common.{◌≡◌, ℕ, zero, suc, ◌<◌, ◌≤◌, Boo
 use Rattle.std.proofs.lemmas.List.{length-append, append-nil}
 use Rattle.std.specs.List.{fold}
 use Rattle.ir_read.specs.declared.fault.Fault.{Fault}
-use Rattle.ir_read.specs.declared.fault.ReadError.{ReadError}
-use Rattle.ir_read.specs.declared.fault.ReadError.TheVariants as errors
+use Rattle.ir_tree.specs.declared.failure.Failure.{Failure}
+use Rattle.ir_tree.specs.declared.failure.Failure.TheVariants as errors
 use Rattle.ir_read.specs.Alphabet.{Alphabet}
 use Rattle.ir_read.specs.Forms.{Form}
 use Rattle.ir_read.specs.Lawful.{Lawful}
@@ -74,7 +74,7 @@ module _ {T A : Type 0} (alphabet : Alphabet T) {g wide : Form T A} {f : Reader 
     pub folds_none : (acc : B) (ts : List T) (total : Result (B × List T) Fault) → false ≡ next_is begins ts → folded step acc (star_at begins f ts) ≡ total → total ≡ Ok (acc, ts)
     folds_none acc ts total n so_far = sym so_far ∙ ap (folded step acc) (star_none ts (sym n))
 
-    pub folds_fail : (e : ReadError) (acc : B) (ts : List T) (total : Result (B × List T) Fault) → true ≡ next_is begins ts → Fails e (f ts) → folded step acc (star_at begins f ts) ≡ total → Fails e total
+    pub folds_fail : (e : Failure Fault) (acc : B) (ts : List T) (total : Result (B × List T) Fault) → true ≡ next_is begins ts → Fails e (f ts) → folded step acc (star_at begins f ts) ≡ total → Fails e total
     folds_fail errors.NoMemory acc ts total n h so_far = tt
     folds_fail (errors.Fault e) acc ts total n h so_far = sym so_far ∙ ap (folded step acc) (star_one ts (sym n) ∙ ap (λ (r : Result (A × List T) Fault). follow r (λ b. star_at begins f >>= λ m. done (b ∷ m))) h)
 

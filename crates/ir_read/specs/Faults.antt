@@ -3,8 +3,8 @@ use Rattle.std.specs.Prelude.{◌≡◌, ℕ, true, false, List, [], ◌∷◌, 
 use Rattle.ir_read.specs.declared.fault.Fault.{Fault}
 use Rattle.ir_read.specs.declared.fault.FaultKind.{FaultKind}
 use Rattle.ir_read.specs.declared.fault.FaultKind.TheVariants.{Syntax, Profile, Number, Limit}
-use Rattle.ir_read.specs.declared.fault.ReadError.{ReadError}
-use Rattle.ir_read.specs.declared.fault.ReadError.TheVariants as errors
+use Rattle.ir_tree.specs.declared.failure.Failure.{Failure}
+use Rattle.ir_tree.specs.declared.failure.Failure.TheVariants as errors
 use Rattle.ir_read.specs.Alphabet.{Alphabet, AllReal, is_literal, is_number}
 use Rattle.ir_read.specs.Forms.{Form}
 
@@ -90,7 +90,3 @@ module _ {T : Type 0} (alphabet : Alphabet T) where
   FitsBound wide ts left Number = NoLiteralGoesOn wide ts left
   FitsBound wide ts left Syntax = NoneGoesOn wide ts left
   FitsBound wide ts left Profile = NoneGoesOn wide ts left
-
-abbrev pub IfFault : ReadError → (Fault → Type 0) → Type 0
-IfFault errors.NoMemory P = Unit {0}
-IfFault (errors.Fault f) P = P f

@@ -8,8 +8,8 @@ ghost use Rattle.ir_read.specs.BracketViews.{move};
 
 use crate::terminals::expect;
 use crate::tokens::Tokens;
-use ir_lex::Head;
 use crate::{Fault, FaultKind, ReadError};
+use ir_lex::Head;
 use std::alloc::Global;
 
 /// A kind of bracket.

@@ -1,9 +1,6 @@
 //! Why a list of tokens could not be read.
 
-ghost use Rattle.std.specs.Prelude.{◌≡◌};
-ghost use Rattle.ir_read.specs.declared.fault.ReadError.TheVariants.{NoMemory};
-
-use std::alloc::{AllocError, AllocFailed};
+use ir_tree::Failure;
 
 /// What is wrong at a token.
 #[derive(Clone, Copy, Debug, PartialEq, Eq)]
@@ -27,24 +24,4 @@ pub struct Fault {
 }
 
 /// Why a reader gave up.
-#[derive(Debug, Drop)]
-pub enum ReadError {
-    NoMemory,
-    Fault(Fault),
-}
-
-impl From<AllocError> for ReadError {
-    ghost from_gives = { λ _ e. e ≡ NoMemory };
-
-    fn from(_e: AllocError) -> ReadError {
-        ReadError::NoMemory
-    }
-}
-
-impl<T: Drop> From<AllocFailed<T>> for ReadError {
-    ghost from_gives = { λ _ e. e ≡ NoMemory };
-
-    fn from(_e: AllocFailed<T>) -> ReadError {
-        ReadError::NoMemory
-    }
-}
+pub type ReadError = Failure<Fault>;

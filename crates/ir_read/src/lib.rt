@@ -38,7 +38,9 @@ mod tokens;
 
 pub use address::{Address, Index, Level, Steps};
 pub use brackets::{Bracket, BracketMove, group_at, move_of};
+pub use fault::{Fault, FaultKind, ReadError};
 pub use finished::done;
+pub use laws::{groups, listing_examples, listing_faults, listing_is_read, listing_rule};
 pub use literals::literal;
 pub use metadata::{attached_at, attachments_at, meta_at, metadata_line_at, rest_of_line_at};
 pub use metadata_behind::{metadata_behind_at, node_yet_at};
@@ -56,5 +58,3 @@ pub use raw::{
 pub use shape::{Shape, ShapeNode, Typed};
 pub use terminals::{expect, refusal};
 pub use tokens::Tokens;
-pub use fault::{Fault, FaultKind, ReadError};
-pub use laws::{groups, listing_examples, listing_faults, listing_is_read, listing_rule};

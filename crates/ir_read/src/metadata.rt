@@ -10,8 +10,8 @@ ghost use Rattle.ir_read.specs.MetadataAt.{node_at, attached_at, attachment_at, 
 use crate::brackets::{Bracket, BracketMove, group_at, move_of};
 use crate::terminals::{expect, refusal};
 use crate::tokens::Tokens;
-use ir_lex::Head;
 use crate::{Fault, FaultKind, ReadError};
+use ir_lex::Head;
 use std::alloc::Global;
 
 /// Takes a name of metadata or a `!`; the answer is whether its line ends behind it.

@@ -14,8 +14,8 @@ use crate::metadata::{meta_at, rest_of_line_at};
 use crate::places::Before;
 use crate::terminals::{expect, refusal};
 use crate::tokens::Tokens;
-use ir_lex::Head;
 use crate::{Fault, FaultKind, ReadError};
+use ir_lex::Head;
 use std::alloc::Global;
 
 /// Reads the rest of a line that goes on with no metadata.

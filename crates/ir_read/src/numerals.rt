@@ -9,8 +9,8 @@ ghost use Rattle.ir_read.specs.Decimals.{decimal, ALIGNMENTS, alignment_of, is_a
 
 use crate::terminals::refusal;
 use crate::tokens::Tokens;
-use ir_lex::{Head, Token};
 use crate::{Fault, FaultKind, ReadError};
+use ir_lex::{Head, Token};
 
 /// The number that these digits write, or `None` from `2^64` on. Leading zeros count for nothing.
 pub fn decimal(digits: &[u8]) -> Option<u64>

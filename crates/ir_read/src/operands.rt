@@ -20,9 +20,9 @@ use crate::numerals::decimal;
 use crate::raw::Operand;
 use crate::terminals::{expect, refusal};
 use crate::tokens::Tokens;
+use crate::{Fault, FaultKind, ReadError};
 use ir_lex::{Head, Token};
 use ir_tree::Reg;
-use crate::{Fault, FaultKind, ReadError};
 use std::alloc::{AllocError, Global};
 
 /// Why a token can't stand where a type may.

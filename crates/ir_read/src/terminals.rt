@@ -7,8 +7,8 @@ ghost use Rattle.ir_read.specs.Readers.{Gives};
 ghost use Rattle.ir_read.specs.Classes.{refusal, the_at};
 
 use crate::tokens::Tokens;
-use ir_lex::Head;
 use crate::{Fault, FaultKind, ReadError};
+use ir_lex::Head;
 
 /// Why a token of this class can't stand where it isn't wanted.
 pub fn refusal(head: Head) -> FaultKind

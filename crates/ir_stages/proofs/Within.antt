@@ -5,8 +5,9 @@ use Rattle.ir_read.specs.declared.address.Level.{Level}
 use Rattle.ir_read.specs.declared.address.Steps.{Steps}
 use Rattle.ir_read.specs.declared.shape.Typed.{Typed}
 use Rattle.ir_lex.specs.Tok.{Tok}
-use Rattle.ir_names.specs.declared.fault.ResolveError.{ResolveError}
-use Rattle.ir_names.specs.declared.fault.ResolveError.TheVariants as errors
+use Rattle.ir_tree.specs.declared.failure.Failure.{Failure}
+use Rattle.ir_names.specs.declared.fault.Fault.{Fault}
+use Rattle.ir_tree.specs.declared.failure.Failure.TheVariants as errors
 use Rattle.ir_names.specs.Bodies.{allocated}
 use Rattle.ir_names.specs.Marks.{Mark, type_name, many, address, all, uses, all_uses, uses_if, level_uses, typed_marks}
 use Rattle.ir_names.specs.Settled.{Settles, ◌>>=◌}
@@ -72,6 +73,6 @@ module _ {A : Type 0} (types : Types) (f : A → List Mark) (xs : List A) (k : �
   pub goes_on : marks_within types (f x) ≡ Ok tt → marks_within types (all f (drop (k + 1) xs)) ≡ r
   goes_on e = sym (step ∙ ap more e) ∙ h
 
-  pub fails : (e : ResolveError) (q : Result (Unit {0}) ResolveError) → q ≡ Err e → Settles {X = Unit {0}} {Y = Unit {0}} (λ u. u) (Err e) (marks_within types (f x)) → Settles {X = Unit {0}} {Y = Unit {0}} (λ u. u) q r
-  fails errors.NoMemory q same s = subst (λ (p : Result (Unit {0}) ResolveError). Settles {X = Unit {0}} {Y = Unit {0}} (λ u. u) p r) (sym same) tt
-  fails (errors.Fault fault) q same s = subst (λ (p : Result (Unit {0}) ResolveError). Settles {X = Unit {0}} {Y = Unit {0}} (λ u. u) p r) (sym same) (sym h ∙ step ∙ ap more s)
+  pub fails : (e : Failure Fault) (q : Result (Unit {0}) (Failure Fault)) → q ≡ Err e → Settles {X = Unit {0}} {Y = Unit {0}} (λ u. u) (Err e) (marks_within types (f x)) → Settles {X = Unit {0}} {Y = Unit {0}} (λ u. u) q r
+  fails errors.NoMemory q same s = subst (λ (p : Result (Unit {0}) (Failure Fault)). Settles {X = Unit {0}} {Y = Unit {0}} (λ u. u) p r) (sym same) tt
+  fails (errors.Fault fault) q same s = subst (λ (p : Result (Unit {0}) (Failure Fault)). Settles {X = Unit {0}} {Y = Unit {0}} (λ u. u) p r) (sym same) (sym h ∙ step ∙ ap more s)

@@ -163,19 +163,6 @@ fn copy_both(
     Ok((first, second))
 }
 
-fn copy_arms(
-    alloc: Global,
-    if_true: &Argument,
-    if_false: &Argument,
-) -> Result<(Argument, Argument), AllocError>
-    ensures if_true { IfOk result (λ both. both.0 ≡ if_true.now) }
-    ensures if_false { IfOk result (λ both. both.1 ≡ if_false.now) }
-{
-    let first = if_true.duplicate(alloc)?;
-    let second = if_false.duplicate(alloc)?;
-    Ok((first, second))
-}
-
 fn copy_applied(
     alloc: Global,
     operand: &Operand,
@@ -242,7 +229,8 @@ impl Duplicate for Instr {
                 if_false,
             } => {
                 let condition = condition.duplicate(alloc)?;
-                let (if_true, if_false) = copy_arms(alloc, if_true, if_false)?;
+                let if_true = if_true.duplicate(alloc)?;
+                let if_false = if_false.duplicate(alloc)?;
                 Ok(Instr::Select {
                     condition,
                     if_true,

@@ -21,6 +21,7 @@
 
 mod block;
 mod duplicate;
+mod failure;
 mod function;
 mod init;
 mod init_node;
@@ -40,6 +41,7 @@ mod verified;
 
 pub use block::{Block, Case, Terminator};
 pub use duplicate::Duplicate;
+pub use failure::Failure;
 pub use function::{Function, Linkage, Param, Variable};
 pub use init::Init;
 pub use init_node::{InitHead, InitPart};

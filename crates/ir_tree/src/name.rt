@@ -113,12 +113,6 @@ pub fn quoted(alloc: Global, name: &[u8]) -> Result<Text, AllocError>
     Ok(Text::of(out))
 }
 
-fn is_hex(byte: u8) -> bool
-    ensures { result ≡ is_hex byte }
-{
-    byte.is_ascii_hexdigit()
-}
-
 fn hex_value(digit: u8) -> u8
     requires { is_hex digit ≡ true }
     ensures value { result ≡ hex_value digit }
@@ -149,7 +143,7 @@ fn unescape(state: Escape, byte: u8, out: &mut Vec<u8>) -> Result<Escape, AllocE
             Ok(Escape::Closed)
         }
         Escape::Slash => {
-            if is_hex(byte) {
+            if byte.is_ascii_hexdigit() {
                 return Ok(Escape::Digit(byte));
             }
             out.push(BACKSLASH)?;
@@ -159,7 +153,7 @@ fn unescape(state: Escape, byte: u8, out: &mut Vec<u8>) -> Result<Escape, AllocE
             Ok(Escape::Closed)
         }
         Escape::Digit(high) => {
-            if is_hex(byte) {
+            if byte.is_ascii_hexdigit() {
                 out.push(16 * hex_value(high) + hex_value(byte))?;
                 return Ok(Escape::Closed);
             }

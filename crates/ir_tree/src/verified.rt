@@ -46,12 +46,4 @@ impl Verified {
     {
         &self.module
     }
-
-    /// The module, which is moved out.
-    pub fn into_module(self) -> Module
-        ensures module { result ≡ self }
-        ensures sound { IsVerified self }
-    {
-        self.module
-    }
 }

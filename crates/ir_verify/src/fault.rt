@@ -1,12 +1,10 @@
 //! Faults, and the first of several.
 ghost use Rattle.std.specs.Prelude.{◌≡◌, ℕ, ◌⊎◌, ◌↔◌, IsTrue, Some};
-ghost use Rattle.ir_verify.specs.declared.fault.VerifyError.TheVariants.{NoMemory};
 ghost use Rattle.ir_tree.specs.declared.rule.Rule.{Rule};
 ghost use Rattle.ir_verify.specs.Faults.{number};
 ghost use Rattle.ir_verify.specs.Orders.{IsBefore, AtMost, IsNoted};
 
-use ir_tree::Rule;
-use std::alloc::AllocError;
+use ir_tree::{Failure, Rule};
 
 /// A rule that is broken on a line, counted from 1: by a function, which goes by its place among the module's global values, or by
 /// the initialiser of a variable, which has none.
@@ -18,19 +16,7 @@ pub struct VerifyFault {
 }
 
 /// Why a module isn't verified: memory ran out, or a rule is broken.
-#[derive(Debug, Drop)]
-pub enum VerifyError {
-    NoMemory,
-    Fault(VerifyFault),
-}
-
-impl From<AllocError> for VerifyError {
-    ghost from_gives = { λ _ e. e ≡ NoMemory };
-
-    fn from(_e: AllocError) -> VerifyError {
-        VerifyError::NoMemory
-    }
-}
+pub type VerifyError = Failure<VerifyFault>;
 
 /// The number of a rule, from 1.
 pub fn rule_number(rule: Rule) -> u8

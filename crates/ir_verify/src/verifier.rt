@@ -2,7 +2,7 @@
 ghost use Rattle.std.specs.Prelude.{◌≡◌, All, IfOk, OnOk, IsErrOf};
 ghost use Rattle.ir_tree.specs.Wholes.{GlobalSound, IsVerified};
 ghost use Rattle.ir_verify.specs.Modules.{IsLeastFault};
-ghost use Rattle.ir_verify.specs.declared.fault.VerifyError.TheVariants.{Fault};
+ghost use Rattle.ir_tree.specs.declared.failure.Failure.TheVariants.{Fault};
 ghost use Rattle.ir_verify.specs.declared.fault.VerifyFault.{VerifyFault};
 
 use crate::fault::VerifyError;

@@ -4,7 +4,6 @@ pub mod Accepted
 pub mod Naming
 pub mod Linking
 pub mod Refusing
-pub mod Answers
 pub mod LinkedLaws
 pub mod Preparing
 pub mod Laws

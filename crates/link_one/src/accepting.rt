@@ -1,32 +1,24 @@
 //! From bytes to sound modules.
-ghost use Rattle.std.specs.Prelude.{◌≡◌, IfErr, IfOk};
+ghost use Rattle.std.specs.Prelude.{IfErr, IfOk};
+ghost use Rattle.ir_tree.specs.Failures.{IfFault};
 ghost use Rattle.link_one.specs.Accepted.{Accepts, Refuses};
-ghost use Rattle.link_one.specs.Answers.{IfRefused};
-ghost use Rattle.link_one.specs.declared.accepting.LinkError.TheVariants.{NoMemory};
 
 use crate::kind::{fault_kind, rule_kind};
 use ir_parse::{ReadError, parse};
-use ir_tree::Verified;
+use ir_tree::{Failure, Verified};
 use ir_verify::{VerifyError, verify};
 use lto_fault::Kind;
-use std::alloc::{AllocError, Global};
+use std::alloc::Global;
+
+/// The file is read as no sound module within the limits: on which line, counted from 1, and why.
+#[derive(Drop)]
+pub struct Unsound {
+    pub line: u32,
+    pub kind: Kind,
+}
 
 /// Why a file isn't accepted.
-#[derive(Drop)]
-pub enum LinkError {
-    /// Memory ran out.
-    NoMemory,
-    /// The file is read as no sound module within the limits: on which line, counted from 1, and why.
-    Refused { line: u32, kind: Kind },
-}
-
-impl From<AllocError> for LinkError {
-    ghost from_gives = { λ _ e. e ≡ NoMemory };
-
-    fn from(_e: AllocError) -> LinkError {
-        LinkError::NoMemory
-    }
-}
+pub type LinkError = Failure<Unsound>;
 
 /// The sound module that the bytes are read as.
 ///
@@ -34,24 +26,24 @@ impl From<AllocError> for LinkError {
 /// fault. Beside it memory can be what is lacking.
 pub fn accepted(alloc: Global, bytes: &[u8]) -> Result<Verified, LinkError>
     ensures found { IfOk result (λ m. Accepts bytes.now m) }
-    ensures refused { IfErr result (λ e. IfRefused e (λ line kind. Refuses bytes.now line kind)) }
+    ensures refused { IfErr result (λ e. IfFault e (λ why. Refuses bytes.now why.line why.kind)) }
 {
     let parsed = match parse(alloc, bytes) {
         Ok(parsed) => parsed,
         Err(ReadError::NoMemory) => return Err(LinkError::NoMemory),
         Err(ReadError::Fault(fault)) => {
-            return Err(LinkError::Refused {
+            return Err(LinkError::Fault(Unsound {
                 line: fault.line,
                 kind: fault_kind(fault.kind),
-            });
+            }));
         }
     };
     match verify(alloc, parsed) {
         Ok(verified) => Ok(verified),
         Err(VerifyError::NoMemory) => Err(LinkError::NoMemory),
-        Err(VerifyError::Fault(fault)) => Err(LinkError::Refused {
+        Err(VerifyError::Fault(fault)) => Err(LinkError::Fault(Unsound {
             line: fault.line,
             kind: rule_kind(fault.kind),
-        }),
+        })),
     }
 }

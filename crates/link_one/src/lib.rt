@@ -41,7 +41,7 @@ mod task_laws;
 mod task_unit;
 mod writable;
 
-pub use accepting::{LinkError, accepted};
+pub use accepting::{LinkError, Unsound, accepted};
 pub use laws::{accepted_is_not_refused, linked_is_one, refused_is_one};
 pub use linked_laws::{linked_is_verified, linked_refines, unlinked_is_one};
 pub use linking::link;

@@ -20,6 +20,6 @@ pub(crate) fn named(alloc: Global, decided: &ThinLink<'_>, suffixes: &[Text]) ->
     match final_names(alloc, &decided.index, &decided.live, suffixes) {
         Ok(_) => Ok(()),
         Err(NamesError::NoMemory) => Err(Refusal::NoMemory),
-        Err(NamesError::NameTaken { name }) => Err(Refusal::NameTaken { name }),
+        Err(NamesError::Fault(taken)) => Err(Refusal::NameTaken { name: taken.name }),
     }
 }

@@ -6,8 +6,8 @@ use Rattle.symbol_resolve.specs.Clashes.{IsLeast}
 use Rattle.combined_index.specs.Combined.{Combined, number_of, prevailing_of}
 use Rattle.combined_index.specs.declared.definition.Definition.{Definition}
 use Rattle.liveness.specs.Reach.{IsReached}
-use Rattle.liveness.specs.declared.refused.LiveError.{LiveError}
-use Rattle.liveness.specs.declared.refused.LiveError.TheVariants as error
+use Rattle.ir_tree.specs.declared.failure.Failure.{Failure}
+use Rattle.ir_tree.specs.declared.failure.Failure.TheVariants as error
 use Rattle.liveness.specs.declared.refused.Refused.{Refused}
 use Rattle.liveness.specs.declared.refused.Refused.TheVariants as refused
 
@@ -90,7 +90,7 @@ pub record AreLive (c : Combined) (roots : List (List ℕ)) (marks : List Bool) 
   pub live : (n : ℕ) → IsTrue (contains marks n) ↔ IsLive c roots n
 
 -- what a call gives that may lack memory
-abbrev pub Gives : Combined → List (List ℕ) → Result (List Bool) LiveError → Type 0
+abbrev pub Gives : Combined → List (List ℕ) → Result (List Bool) (Failure Refused) → Type 0
 Gives c roots (Ok marks) = AreLive c roots marks × NoneUndefined c roots × AllExported c roots
-Gives c roots (Err (error.Refused why)) = Refuses c roots why
+Gives c roots (Err (error.Fault why)) = Refuses c roots why
 Gives c roots (Err error.NoMemory) = Unit {0}

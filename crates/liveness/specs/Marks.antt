@@ -7,8 +7,9 @@ use Rattle.combined_index.specs.Combined.{Combined, number_of, prevailing_of}
 use Rattle.combined_index.specs.declared.definition.Definition.{Definition}
 use Rattle.liveness.specs.Best.{IsBest}
 use Rattle.liveness.specs.Liveness.{IsExported, is_host}
-use Rattle.liveness.specs.declared.refused.LiveError.{LiveError}
-use Rattle.liveness.specs.declared.refused.LiveError.TheVariants as error
+use Rattle.ir_tree.specs.declared.failure.Failure.{Failure}
+use Rattle.liveness.specs.declared.refused.Refused.{Refused}
+use Rattle.ir_tree.specs.declared.failure.Failure.TheVariants as error
 use Rattle.liveness.specs.declared.refused.Refused.TheVariants as refused
 
 -- ---- exported names
@@ -53,15 +54,15 @@ AreReferred c marks = (n : ℕ) (name : List ℕ) → IsLackingAt c marks n name
 
 -- ---- the two checks
 
-abbrev pub ChecksDefined : Combined → List Bool → Result (Unit {0}) LiveError → Type 0
+abbrev pub ChecksDefined : Combined → List Bool → Result (Unit {0}) (Failure Refused) → Type 0
 ChecksDefined c marks (Ok done) = IsBest (IsLackingAt c marks) (length c.symbols) None
-ChecksDefined c marks (Err (error.Refused (refused.Undefined name k))) =
+ChecksDefined c marks (Err (error.Fault (refused.Undefined name k))) =
     (n : ℕ) × IsBest (IsLackingAt c marks) (length c.symbols) (Some (name, n)) × (position_from (any_refers marks n) 0 c.modules ≡ Some k)
-ChecksDefined c marks (Err (error.Refused (refused.NoExport name))) = ⊥
+ChecksDefined c marks (Err (error.Fault (refused.NoExport name))) = ⊥
 ChecksDefined c marks (Err error.NoMemory) = Unit {0}
 
-abbrev pub ChecksExported : Combined → List (List ℕ) → Result (Unit {0}) LiveError → Type 0
+abbrev pub ChecksExported : Combined → List (List ℕ) → Result (Unit {0}) (Failure Refused) → Type 0
 ChecksExported c roots (Ok done) = IsBest (IsUnexportedAt c roots) (length roots) None
-ChecksExported c roots (Err (error.Refused (refused.Undefined name k))) = ⊥
-ChecksExported c roots (Err (error.Refused (refused.NoExport name))) = (k : ℕ) × IsBest (IsUnexportedAt c roots) (length roots) (Some (name, k))
+ChecksExported c roots (Err (error.Fault (refused.Undefined name k))) = ⊥
+ChecksExported c roots (Err (error.Fault (refused.NoExport name))) = (k : ℕ) × IsBest (IsUnexportedAt c roots) (length roots) (Some (name, k))
 ChecksExported c roots (Err error.NoMemory) = Unit {0}

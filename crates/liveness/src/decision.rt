@@ -28,7 +28,7 @@ fn check_defined(alloc: Global, index: &Index, live: &Bits) -> Result<(), LiveEr
     let Ok(module) = u32::try_from(place) else {
         return Err(LiveError::NoMemory);
     };
-    Err(LiveError::Refused(Refused::Undefined { name, module }))
+    Err(LiveError::Fault(Refused::Undefined { name, module }))
 }
 
 /// Each name to be exported has a definition.
@@ -39,7 +39,7 @@ fn check_exported(alloc: Global, index: &Index, roots: &[Text]) -> Result<(), Li
         return Ok(());
     };
     let name = Text::copied(alloc, found.name)?;
-    Err(LiveError::Refused(Refused::NoExport { name }))
+    Err(LiveError::Fault(Refused::NoExport { name }))
 }
 
 /// The symbols that are live in a link which exports these names.

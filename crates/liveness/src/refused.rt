@@ -1,9 +1,5 @@
 //! Why a link has no set of live symbols.
-ghost use Rattle.std.specs.Prelude.{◌≡◌};
-ghost use Rattle.liveness.specs.declared.refused.LiveError.TheVariants.{NoMemory};
-
-use ir_tree::Text;
-use std::alloc::{AllocError, AllocFailed};
+use ir_tree::{Failure, Text};
 
 /// A name that a link needs and no module defines.
 #[derive(Drop)]
@@ -15,24 +11,4 @@ pub enum Refused {
 }
 
 /// Why there is no set of live symbols.
-#[derive(Drop)]
-pub enum LiveError {
-    NoMemory,
-    Refused(Refused),
-}
-
-impl From<AllocError> for LiveError {
-    ghost from_gives = { λ _ e. e ≡ NoMemory };
-
-    fn from(_e: AllocError) -> LiveError {
-        LiveError::NoMemory
-    }
-}
-
-impl<T: Drop> From<AllocFailed<T>> for LiveError {
-    ghost from_gives = { λ _ e. e ≡ NoMemory };
-
-    fn from(_e: AllocFailed<T>) -> LiveError {
-        LiveError::NoMemory
-    }
-}
+pub type LiveError = Failure<Refused>;

@@ -4,12 +4,12 @@ use Rattle.std.proofs.lemmas.Grind.{take_at_read}
 use Rattle.std.proofs.lemmas.List.{length-take-le, take-append-drop}
 use Rattle.lto_outside.specs.Calls.{Call, DidNoPut, Fetched, NoPut, Put}
 use Rattle.lto_outside.specs.declared.fault.FetchFault.TheVariants.{Fault}
-use Rattle.lto_words.specs.Fetched.{IfFault}
+use Rattle.ir_tree.specs.Failures.{IfFault}
 use Rattle.lto_words.specs.Fetching.{FetchFailed, FetchStopped, IsTried, fetch_call, fetch_calls}
-use Rattle.lto_words.specs.declared.fetching.FetchError.{FetchError}
-use Rattle.lto_words.specs.declared.fetching.FetchError.TheVariants as error
+use Rattle.ir_tree.specs.declared.failure.Failure.{Failure}
+use Rattle.ir_tree.specs.declared.failure.Failure.TheVariants as error
 
-pub if_fault_map : (e : FetchError) (P Q : List ℕ → Type 0) → ((name : List ℕ) → P name → Q name) → IfFault e P → IfFault e Q
+pub if_fault_map : (e : Failure (List ℕ)) (P Q : List ℕ → Type 0) → ((name : List ℕ) → P name → Q name) → IfFault e P → IfFault e Q
 if_fault_map (error.Fault name) P Q f h = f name h
 if_fault_map error.NoMemory P Q f h = tt
 

@@ -5,7 +5,6 @@ pub mod Given
 pub mod Commands
 pub mod Laws
 pub mod Fetching
-pub mod Fetched
 pub mod Listing
 pub mod Lists
 pub mod Links

@@ -4,8 +4,9 @@ use Rattle.std.specs.List.{list_all, slice_split}
 use Rattle.std.specs.Str.{is_utf8}
 use Rattle.lto_words.specs.Values.{is_empty}
 use Rattle.lto_words.specs.declared.listing.ListedLink.{ListedLink}
-use Rattle.lto_words.specs.declared.listing.ListError.{ListError}
-use Rattle.lto_words.specs.declared.listing.ListError.TheVariants.{BadLine, NoMemory}
+use Rattle.ir_tree.specs.declared.failure.Failure.{Failure}
+use Rattle.ir_tree.specs.declared.failure.Failure.TheVariants.{Fault, NoMemory}
+use Rattle.lto_words.specs.declared.listing.BadLine.{BadLine}
 
 -- ---- a line
 
@@ -65,7 +66,7 @@ abbrev pub FirstBadLine : List ℕ → ℕ → Type 0
 FirstBadLine bytes line = IsFirstBad 1 (lines_of bytes) line
 
 -- what a reader of it answers
-abbrev pub IsListed : List ℕ → Result (List ListedLink) ListError → Type 0
+abbrev pub IsListed : List ℕ → Result (List ListedLink) (Failure BadLine) → Type 0
 IsListed bytes (Ok links) = IsList bytes links
-IsListed bytes (Err (BadLine line)) = FirstBadLine bytes line
+IsListed bytes (Err (Fault bad)) = FirstBadLine bytes bad.line
 IsListed bytes (Err NoMemory) = ⊤

@@ -3,29 +3,23 @@ ghost use Rattle.std.specs.Prelude.{◌≡◌, ◌≤◌, ◌<◌, ◌∷◌, []
 ghost use Rattle.lto_outside.specs.Calls.{DidNoPut, Fetched};
 ghost use Rattle.lto_outside.specs.Cause.{Rose};
 ghost use Rattle.lto_outside.specs.declared.fault.FetchFault.TheVariants.{Fault};
-ghost use Rattle.lto_words.specs.Fetched.{IfFault};
+ghost use Rattle.ir_tree.specs.Failures.{IfFault};
 ghost use Rattle.lto_words.specs.Fetching.{FetchFailed, FetchStopped, IsShort, IsTried, fetch_call, fetch_calls};
 
-use ir_tree::{Rows, Text};
-use lto_outside::{FetchFault, Files};
 use crate::FileName;
+use ir_tree::{Failure, Rows, Text};
+use lto_outside::{FetchFault, Files};
 use std::alloc::Global;
 
-/// Why not all files were fetched.
-#[derive(Drop)]
-pub enum FetchError {
-    /// The file of this name couldn't be fetched. The files' count of faults rose.
-    Fault { name: Text },
-    /// Memory ran out.
-    NoMemory,
-}
+/// Why not all files were fetched: the file of this name couldn't be, and the files' count of faults rose, or memory ran out.
+pub type FetchError = Failure<Text>;
 
 /// The error that tells this name.
 fn fault(alloc: Global, name: &FileName) -> FetchError
     ensures { IfFault result (λ told. told ≡ name.now) }
 {
     match Text::copied(alloc, name.as_str().as_bytes()) {
-        Ok(name) => FetchError::Fault { name },
+        Ok(name) => FetchError::Fault(name),
         Err(_) => FetchError::NoMemory,
     }
 }

@@ -36,13 +36,13 @@ mod tests;
 mod words;
 
 pub use fault::WordsError;
+pub use fetching::{FetchError, fetch_all, fetch_one};
 pub use laws::one_command;
+pub use linked::fetch_links;
 pub use list::Decimal;
+pub use listing::{BadLine, ListError, ListedLink, links};
+pub use listing_laws::one_list;
 pub use name::FileName;
+pub use putting::put_all;
 pub use request::{Command, LinkOptions};
 pub use words::command;
-pub use fetching::{FetchError, fetch_all, fetch_one};
-pub use listing_laws::one_list;
-pub use linked::fetch_links;
-pub use listing::{ListError, ListedLink, links};
-pub use putting::put_all;

@@ -3,7 +3,7 @@ ghost use Rattle.std.specs.List.{AllZip};
 ghost use Rattle.std.specs.Prelude.{◌≡◌, ◌≤◌, IfOk, IfErr};
 ghost use Rattle.lto_outside.specs.Calls.{DidNoPut};
 ghost use Rattle.lto_outside.specs.Cause.{Rose};
-ghost use Rattle.lto_words.specs.Fetched.{IfFault};
+ghost use Rattle.ir_tree.specs.Failures.{IfFault};
 ghost use Rattle.lto_words.specs.Fetching.{FetchFailed, fetch_calls};
 ghost use Rattle.lto_words.specs.Links.{GivenFor, all_files, all_given};
 

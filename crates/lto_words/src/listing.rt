@@ -2,11 +2,10 @@
 ghost use Rattle.std.specs.List.{list_all};
 ghost use Rattle.std.specs.Prelude.{◌≡◌, ◌==◌, ◌∷◌, ◌<◌, ◌+◌, count_by, length, map, IfOk, MatchOption, true, false};
 ghost use Rattle.lto_words.specs.Listing.{IsLink, IsListed, Lists, is_name, lines_of, names_in};
-ghost use Rattle.lto_words.specs.declared.listing.ListError.TheVariants.{NoMemory};
 ghost use Rattle.lto_words.specs.declared.listing.ListedLink.{ListedLink};
 
-use ir_tree::Rows;
 use crate::FileName;
+use ir_tree::{Failure, Rows};
 use memchr::memchr;
 use std::alloc::{AllocError, AllocFailed, Global};
 
@@ -25,30 +24,14 @@ pub struct ListedLink {
     pub files: Rows<FileName>,
 }
 
-/// Why bytes aren't read as a list of links.
+/// The first line that is no link has this number; lines count from 1.
 #[derive(Clone, Copy, Debug, PartialEq, Eq)]
-pub enum ListError {
-    /// The first line that is no link has this number; lines count from 1.
-    BadLine { line: u64 },
-    /// Memory ran out.
-    NoMemory,
+pub struct BadLine {
+    pub line: u64,
 }
 
-impl From<AllocError> for ListError {
-    ghost from_gives = { λ _ e. e ≡ NoMemory };
-
-    fn from(_error: AllocError) -> ListError {
-        ListError::NoMemory
-    }
-}
-
-impl<T: Drop> From<AllocFailed<T>> for ListError {
-    ghost from_gives = { λ _ e. e ≡ NoMemory };
-
-    fn from(_error: AllocFailed<T>) -> ListError {
-        ListError::NoMemory
-    }
-}
+/// Why bytes aren't read as a list of links.
+pub type ListError = Failure<BadLine>;
 
 /// The first line of a text that isn't empty, and what stands behind its end.
 fn first_line(text: &[u8]) -> (&[u8], &[u8])
@@ -142,7 +125,7 @@ pub fn links(alloc: Global, bytes: &[u8]) -> Result<Rows<ListedLink>, ListError>
         let (line, behind) = first_line(rest);
         let Some(link) = link_at(alloc, links.len(), line)? else {
             let line = links.len() as u64 + 1;
-            return Err(ListError::BadLine { line });
+            return Err(ListError::Fault(BadLine { line }));
         };
         links.push(link)?;
         rest = behind;

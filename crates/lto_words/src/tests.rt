@@ -1,5 +1,5 @@
 //! List files, by a table: how many links each lists, or its first line that is none.
-use crate::{ListError, links};
+use crate::{BadLine, ListError, links};
 use std::alloc::Global;
 
 /// A list file, how many links it lists, and its first line that is none, or 0.
@@ -22,7 +22,7 @@ static LISTS: [(&[u8], usize, u64); 9] = [
 fn listed(alloc: Global, bytes: &[u8]) -> (usize, u64) {
     match links(alloc, bytes) {
         Ok(links) => (links.len(), 0),
-        Err(ListError::BadLine { line }) => (0, line),
+        Err(ListError::Fault(BadLine { line })) => (0, line),
         Err(ListError::NoMemory) => (0, u64::MAX),
     }
 }

@@ -2,8 +2,9 @@
 use Rattle.std.specs.Prelude.{◌≡◌, ◌<◌, ℕ, Bool, true, false, List, [], ◌∷◌, ◌++◌, Option, Some, None, slice_get, slice_index_or, Result, Ok, Err}
 use Rattle.ir_tree.specs.declared.operand.Symbol.{Symbol}
 use Rattle.symbol_resolve.specs.Clashes.{IsLeast}
-use Rattle.promote_rename.specs.declared.error.NamesError.{NamesError}
-use Rattle.promote_rename.specs.declared.error.NamesError.TheVariants as error
+use Rattle.ir_tree.specs.declared.failure.Failure.{Failure}
+use Rattle.promote_rename.specs.declared.error.NameTaken.{NameTaken}
+use Rattle.ir_tree.specs.declared.failure.Failure.TheVariants as error
 
 -- what stands behind the name: the suffix of a local's module, nothing of another symbol
 abbrev pub suffix_at : List (List ℕ) → Option ℕ → List ℕ
@@ -31,7 +32,7 @@ abbrev pub NoneTaken : List (Option (List ℕ)) → Type 0
 NoneTaken names = (name : List ℕ) → IsTaken names name → ⊥
 
 -- what a call gives that may lack memory; of the names that are taken it tells the least
-abbrev pub GivesNames : List (Option (List ℕ)) → Result (List (Option (List ℕ))) NamesError → Type 0
+abbrev pub GivesNames : List (Option (List ℕ)) → Result (List (Option (List ℕ))) (Failure NameTaken) → Type 0
 GivesNames names (Ok given) = (given ≡ names) × NoneTaken names
-GivesNames names (Err (error.NameTaken name)) = IsLeast (IsTaken names) name
+GivesNames names (Err (error.Fault taken)) = IsLeast (IsTaken names) taken.name
 GivesNames names (Err error.NoMemory) = Unit {0}

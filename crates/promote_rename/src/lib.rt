@@ -23,7 +23,7 @@ mod naming;
 mod promotion;
 mod taken;
 
-pub use error::NamesError;
+pub use error::{NameTaken, NamesError};
 pub use module_suffix::suffix;
 pub use naming::{final_name, final_names, suffix_at};
 pub use promotion::promoted;

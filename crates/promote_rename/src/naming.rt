@@ -2,7 +2,7 @@
 ghost use Rattle.std.specs.Prelude.{◌≡◌, length, IfOk};
 ghost use Rattle.promote_rename.specs.Finals.{GivesNames, final_name, final_names, name_where, suffix_at};
 
-use crate::error::NamesError;
+use crate::error::{NameTaken, NamesError};
 use crate::taken::least_taken;
 use combined_index::{Index, Live, Names};
 use ir_tree::{Rows, Symbol, Text};
@@ -70,7 +70,7 @@ fn all_apart(alloc: Global, names: Rows<Option<Text>>) -> Result<Names, NamesErr
 {
     if let Some(name) = least_taken(alloc, names.as_slice())? {
         let name = Text::copied(alloc, name)?;
-        return Err(NamesError::NameTaken { name });
+        return Err(NamesError::Fault(NameTaken { name }));
     }
     Ok(Names::of(names))
 }

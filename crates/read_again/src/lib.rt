@@ -50,4 +50,4 @@ pub use printing_laws::{
     calls_are_read, definitions_are_read, lines_are_read, modules_are_read, variables_are_read,
 };
 pub use resolution::{functions_resolve, numbered_functions_are_known, variables_resolve};
-pub use trip::{Trip, TripError, read_twice};
+pub use trip::{Trip, read_twice};

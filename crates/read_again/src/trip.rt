@@ -6,10 +6,10 @@ ghost use Rattle.ir_parse.specs.Reading.{Reads};
 ghost use Rattle.ir_parse.specs.declared.fault.ReadFault.{ReadFault};
 ghost use Rattle.ir_tree.specs.declared.module.Module.{Module};
 ghost use Rattle.read_again.specs.Trips.{IsTripOf};
-ghost use Rattle.read_again.specs.declared.trip.TripError.TheVariants.{NoMemory, Unread};
+ghost use Rattle.ir_tree.specs.declared.failure.Failure.TheVariants.{Fault};
 
 use crate::laws::read_modules_are_read;
-use ir_parse::{ReadError, ReadFault, parse};
+use ir_parse::{ReadError, parse};
 use ir_print::print;
 use ir_tree::{Parsed, Text};
 use std::alloc::{AllocError, Global};
@@ -20,35 +20,6 @@ pub struct Trip {
     pub module: Parsed,
     pub text: Text,
     pub again: Parsed,
-}
-
-/// Why bytes make no such trip.
-#[derive(Drop)]
-pub enum TripError {
-    /// Memory ran out.
-    NoMemory,
-    /// They are read as no module.
-    Unread(ReadFault),
-}
-
-impl From<AllocError> for TripError {
-    ghost from_gives = { λ _ e. e ≡ NoMemory };
-
-    fn from(_e: AllocError) -> TripError {
-        TripError::NoMemory
-    }
-}
-
-/// What the bytes are read as.
-fn read_once(alloc: Global, bytes: &[u8]) -> Result<Parsed, TripError>
-    ensures found { IfOk result (λ p. Reads bytes.now p.0 p.1) }
-    ensures unread { (fault : ReadFault) → IsErrOf result (Unread fault) → FirstFault bytes.now fault.line fault.kind }
-{
-    match parse(alloc, bytes) {
-        Ok(parsed) => Ok(parsed),
-        Err(ReadError::NoMemory) => Err(TripError::NoMemory),
-        Err(ReadError::Fault(fault)) => Err(TripError::Unread(fault)),
-    }
 }
 
 /// What bytes are read as that are read as a module: want of memory is the one refusal.
@@ -68,12 +39,12 @@ fn parsed_again(alloc: Global, bytes: &[u8]) -> Result<Parsed, AllocError>
 ///
 /// Bytes that are read as no module are refused for that; the printed text is never refused. Takes
 /// the time of its three parts.
-pub fn read_twice(alloc: Global, bytes: &[u8]) -> Result<Trip, TripError>
+pub fn read_twice(alloc: Global, bytes: &[u8]) -> Result<Trip, ReadError>
     ensures made { IfOk result (λ t. IsTripOf bytes.now t) }
-    ensures unread { (fault : ReadFault) → IsErrOf result (Unread fault) → FirstFault bytes.now fault.line fault.kind }
+    ensures unread { (fault : ReadFault) → IsErrOf result (Fault fault) → FirstFault bytes.now fault.line fault.kind }
 {
     read_modules_are_read();
-    let module = read_once(alloc, bytes)?;
+    let module = parse(alloc, bytes)?;
     let text = print(alloc, module.module())?;
     let again = parsed_again(alloc, text.as_slice())?;
     Ok(Trip {

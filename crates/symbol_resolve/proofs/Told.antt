@@ -9,8 +9,8 @@ use Rattle.symbol_resolve.specs.Prevailing.{first, second}
 use Rattle.symbol_resolve.specs.Resolved.{Resolves, Symbols}
 use Rattle.ir_tree.specs.Once.{once}
 use Rattle.symbol_resolve.specs.declared.clash.Clash.{Clash}
-use Rattle.symbol_resolve.specs.declared.clash.ResolveError.{ResolveError}
-use Rattle.symbol_resolve.specs.declared.clash.ResolveError.TheVariants as error
+use Rattle.ir_tree.specs.declared.failure.Failure.{Failure}
+use Rattle.ir_tree.specs.declared.failure.Failure.TheVariants as error
 use Rattle.symbol_resolve.specs.declared.facts.Facts.{Facts}
 use Rattle.symbol_resolve.specs.declared.least.Rule.{Rule}
 use Rattle.symbol_resolve.specs.declared.least.Rule.TheVariants as rule
@@ -113,14 +113,14 @@ module _ (ms : List Module) (es : Entries) (t : Tabled (mentions ms) es) where
       inside e = cc
 
   -- what each check refuses
-  pub definitions_refused : OneTarget ms → (e : ResolveError) → ChecksNames rule.OneDefinition es (Err e) → Resolves ms (Err e)
-  definitions_refused target (error.Clash c) h =
+  pub definitions_refused : OneTarget ms → (e : Failure Clash) → ChecksNames rule.OneDefinition es (Err e) → Resolves ms (Err e)
+  definitions_refused target (error.Fault c) h =
       same_told c (told rule.OneDefinition) (least_from rule.OneDefinition None (pairs es)) h
       (λ r is. duplicate target r (found_of rule.OneDefinition (mentions ms) es r t is))
   definitions_refused target error.NoMemory h = tt
 
-  pub kinds_refused : OneTarget ms → NoDuplicate ms → (e : ResolveError) → ChecksNames rule.OneKind es (Err e) → Resolves ms (Err e)
-  kinds_refused target once (error.Clash c) h =
+  pub kinds_refused : OneTarget ms → NoDuplicate ms → (e : Failure Clash) → ChecksNames rule.OneKind es (Err e) → Resolves ms (Err e)
+  kinds_refused target once (error.Fault c) h =
       same_told c (told rule.OneKind) (least_from rule.OneKind None (pairs es)) h
       (λ r is. two_kinds target once r (found_of rule.OneKind (mentions ms) es r t is))
   kinds_refused target once error.NoMemory h = tt
@@ -129,11 +129,11 @@ module _ (ms : List Module) (es : Entries) (t : Tabled (mentions ms) es) where
   pub all_passed : OneTarget ms → least_from rule.OneDefinition None (pairs es) ≡ None → least_from rule.OneKind None (pairs es) ≡ None → Resolves ms (Ok (settled es))
   all_passed target once kinds = (record { target = target; duplicate = no_duplicate once; kind = one_kind kinds }, settled_tabled (mentions ms) es t)
 
-pub targets_refused : (ms : List Module) (e : ResolveError) → ChecksTargets ms (Err e) → Resolves ms (Err e)
-targets_refused ms (error.Clash c) h = h
+pub targets_refused : (ms : List Module) (e : Failure Clash) → ChecksTargets ms (Err e) → Resolves ms (Err e)
+targets_refused ms (error.Fault c) h = h
 targets_refused ms error.NoMemory h = tt
 
 -- an error that is handed on
-pub passed_on : (ms : List Module) (r : Result Symbols ResolveError) (e : ResolveError) → IsErrAnd r (λ given. given ≡ e) → Resolves ms (Err e) → Resolves ms r
+pub passed_on : (ms : List Module) (r : Result Symbols (Failure Clash)) (e : Failure Clash) → IsErrAnd r (λ given. given ≡ e) → Resolves ms (Err e) → Resolves ms r
 passed_on ms (Ok table) e is h = absurd is
-passed_on ms (Err given) e is h = subst (λ (y : ResolveError). Resolves ms (Err y)) (sym is) h
+passed_on ms (Err given) e is h = subst (λ (y : Failure Clash). Resolves ms (Err y)) (sym is) h

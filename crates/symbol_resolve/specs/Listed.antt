@@ -13,8 +13,8 @@ use Rattle.ir_tree.specs.declared.module.Module.{Module}
 use Rattle.symbol_resolve.specs.Clashes.{Clashes, OneTarget}
 use Rattle.symbol_resolve.specs.declared.clash.Clash.{Clash}
 use Rattle.symbol_resolve.specs.declared.clash.Clash.TheVariants as clash
-use Rattle.symbol_resolve.specs.declared.clash.ResolveError.{ResolveError}
-use Rattle.symbol_resolve.specs.declared.clash.ResolveError.TheVariants as error
+use Rattle.ir_tree.specs.declared.failure.Failure.{Failure}
+use Rattle.ir_tree.specs.declared.failure.Failure.TheVariants as error
 use Rattle.symbol_resolve.specs.Mentions.{Mention, modules_with, is_function, is_variable, is_strong, is_weak, names_of}
 use Rattle.symbol_resolve.specs.Prevailing.{first, second, or_else}
 use Rattle.ir_tree.specs.Once.{once}
@@ -134,14 +134,14 @@ abbrev pub told : Rule → Found → Clash
 told rule.OneDefinition e = clash.DuplicateSymbol e.0 e.1.0 e.1.1
 told rule.OneKind e = clash.KindClash e.0 e.1.0 e.1.1
 
-abbrev pub ChecksNames : Rule → Entries → Result (Unit {0}) ResolveError → Type 0
+abbrev pub ChecksNames : Rule → Entries → Result (Unit {0}) (Failure Clash) → Type 0
 ChecksNames rule es (Ok done) = least_from rule None (pairs es) ≡ None
-ChecksNames rule es (Err (error.Clash c)) = option_map (told rule) (least_from rule None (pairs es)) ≡ Some c
+ChecksNames rule es (Err (error.Fault c)) = option_map (told rule) (least_from rule None (pairs es)) ≡ Some c
 ChecksNames rule es (Err error.NoMemory) = Unit {0}
 
 -- ---- target lines
 
-abbrev pub ChecksTargets : List Module → Result (Unit {0}) ResolveError → Type 0
+abbrev pub ChecksTargets : List Module → Result (Unit {0}) (Failure Clash) → Type 0
 ChecksTargets ms (Ok done) = OneTarget ms
-ChecksTargets ms (Err (error.Clash c)) = Clashes ms c
+ChecksTargets ms (Err (error.Fault c)) = Clashes ms c
 ChecksTargets ms (Err error.NoMemory) = Unit {0}

@@ -6,8 +6,9 @@ use Rattle.ir_tree.specs.declared.module.Module.{Module}
 use Rattle.symbol_resolve.specs.Clashes.{Clashes, NoClash}
 use Rattle.symbol_resolve.specs.Mentions.{mentions, names_of}
 use Rattle.symbol_resolve.specs.Prevailing.{prevailing}
-use Rattle.symbol_resolve.specs.declared.clash.ResolveError.{ResolveError}
-use Rattle.symbol_resolve.specs.declared.clash.ResolveError.TheVariants as error
+use Rattle.ir_tree.specs.declared.failure.Failure.{Failure}
+use Rattle.symbol_resolve.specs.declared.clash.Clash.{Clash}
+use Rattle.ir_tree.specs.declared.failure.Failure.TheVariants as error
 
 -- a name with the module whose definition of it prevails
 abbrev pub Symbols : Type 0
@@ -23,7 +24,7 @@ module_of [] name = None
 module_of (s ∷ ss) name = if bytes_eq name s.0 then s.1 else module_of ss name
 
 -- what a call gives that may lack memory
-abbrev pub Resolves : List Module → Result Symbols ResolveError → Type 0
+abbrev pub Resolves : List Module → Result Symbols (Failure Clash) → Type 0
 Resolves ms (Ok table) = NoClash ms × (table ≡ symbols ms)
-Resolves ms (Err (error.Clash clash)) = Clashes ms clash
+Resolves ms (Err (error.Fault clash)) = Clashes ms clash
 Resolves ms (Err error.NoMemory) = Unit {0}

@@ -1,9 +1,5 @@
 //! Why modules can't be linked.
-ghost use Rattle.std.specs.Prelude.{◌≡◌};
-ghost use Rattle.symbol_resolve.specs.declared.clash.ResolveError.TheVariants.{NoMemory};
-
-use ir_tree::Text;
-use std::alloc::{AllocError, AllocFailed};
+use ir_tree::{Failure, Text};
 
 /// A line that says what a module is made for (LangRef, "Data Layout" and "Target Triple").
 #[derive(Clone, Copy, Debug, PartialEq, Eq)]
@@ -36,24 +32,4 @@ pub enum Clash {
 }
 
 /// Why symbols aren't resolved.
-#[derive(Drop)]
-pub enum ResolveError {
-    NoMemory,
-    Clash(Clash),
-}
-
-impl From<AllocError> for ResolveError {
-    ghost from_gives = { λ _ e. e ≡ NoMemory };
-
-    fn from(_e: AllocError) -> ResolveError {
-        ResolveError::NoMemory
-    }
-}
-
-impl<T: Drop> From<AllocFailed<T>> for ResolveError {
-    ghost from_gives = { λ _ e. e ≡ NoMemory };
-
-    fn from(_e: AllocFailed<T>) -> ResolveError {
-        ResolveError::NoMemory
-    }
-}
+pub type ResolveError = Failure<Clash>;

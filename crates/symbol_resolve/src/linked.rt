@@ -17,14 +17,14 @@ fn check_targets(modules: &[Verified]) -> Result<(), ResolveError>
     ensures { ChecksTargets modules.now result }
 {
     if let Some((first, second)) = differing(TargetLine::Datalayout, modules)? {
-        return Err(ResolveError::Clash(Clash::TargetClash {
+        return Err(ResolveError::Fault(Clash::TargetClash {
             line: TargetLine::Datalayout,
             first,
             second,
         }));
     }
     if let Some((first, second)) = differing(TargetLine::Triple, modules)? {
-        return Err(ResolveError::Clash(Clash::TargetClash {
+        return Err(ResolveError::Fault(Clash::TargetClash {
             line: TargetLine::Triple,
             first,
             second,
@@ -57,7 +57,7 @@ fn check_names(
             variable: found.second,
         },
     };
-    Err(ResolveError::Clash(clash))
+    Err(ResolveError::Fault(clash))
 }
 
 /// The names of the modules of a link, which are numbered from 0 in command order, each with the

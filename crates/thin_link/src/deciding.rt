@@ -43,7 +43,7 @@ fn resolved<'a>(
     match resolve(alloc, modules) {
         Ok(resolution) => Ok(resolution),
         Err(ResolveError::NoMemory) => Err(Refusal::NoMemory),
-        Err(ResolveError::Clash(clash)) => match clash_refusal(alloc, files, clash) {
+        Err(ResolveError::Fault(clash)) => match clash_refusal(alloc, files, clash) {
             Ok(why) => Err(why),
             Err(_) => Err(Refusal::NoMemory),
         },
@@ -66,7 +66,7 @@ fn kept(
     match live(alloc, index, exports) {
         Ok(live) => Ok(live),
         Err(LiveError::NoMemory) => Err(Refusal::NoMemory),
-        Err(LiveError::Refused(lack)) => match lack_refusal(alloc, files, lack) {
+        Err(LiveError::Fault(lack)) => match lack_refusal(alloc, files, lack) {
             Ok(why) => Err(why),
             Err(_) => Err(Refusal::NoMemory),
         },

@@ -11,11 +11,11 @@ use Rattle.lto_outside.specs.Cause.{Rose}
 use Rattle.lto_outside.specs.declared.fault.FetchFault.TheVariants.{Fault}
 use Rattle.lto_outside.specs.Seen.{FilesSeen}
 use Rattle.lto_words.specs.declared.request.LinkOptions.{LinkOptions}
-use Rattle.lto_words.specs.Fetched.{IfFault}
+use Rattle.ir_tree.specs.Failures.{IfFault}
 use Rattle.lto_words.specs.Fetching.{FetchFailed, fetch_call, fetch_calls}
 use Rattle.lto_words.specs.Links.{GivenFor, PutFailed, all_files, all_given, puts}
-use Rattle.lto_words.specs.declared.fetching.FetchError.{FetchError}
-use Rattle.lto_words.specs.declared.fetching.FetchError.TheVariants as error
+use Rattle.ir_tree.specs.declared.failure.Failure.{Failure}
+use Rattle.ir_tree.specs.declared.failure.Failure.TheVariants as error
 use Rattle.lto_words.specs.declared.listing.ListedLink.{ListedLink}
 use Rattle.lto_fault.specs.declared.refusal.Refusal.{Refusal}
 use Rattle.lto_fault.specs.declared.refusal.Refusal.TheVariants.{WriteFault}
@@ -45,7 +45,7 @@ list_refused list files given P bad calls calm = record {
 }
 
 -- it can't be fetched
-pub list_unfetched : (list : List ℕ) (files : FilesSeen) (e : FetchError) → IfFault e (λ name. (name ≡ list) × files.did (Fetched list (Err Fault) ∷ []) × Rose files.faults files.faults_now) → DidNoPut files.did
+pub list_unfetched : (list : List ℕ) (files : FilesSeen) (e : Failure (List ℕ)) → IfFault e (λ name. (name ≡ list) × files.did (Fetched list (Err Fault) ∷ []) × Rose files.faults files.faults_now) → DidNoPut files.did
     → Because (listing list files) (unfetched e)
 list_unfetched list files (error.Fault name) failed calm = record {
   failed = record {
@@ -90,7 +90,7 @@ fetching_stops options list trusted files = record {
 
 -- ---- the files of its links
 
-pub unfetched_stops : (list : List ℕ) (files : FilesSeen) (e : FetchError) → IfFault e (LinksCannotFetch list files) → DidNoPut files.did → Because (fetching list files) (unfetched e)
+pub unfetched_stops : (list : List ℕ) (files : FilesSeen) (e : Failure (List ℕ)) → IfFault e (LinksCannotFetch list files) → DidNoPut files.did → Because (fetching list files) (unfetched e)
 unfetched_stops list files (error.Fault name) failed calm = inr failed
 unfetched_stops list files error.NoMemory failed calm = calm
 

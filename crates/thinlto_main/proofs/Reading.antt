@@ -6,10 +6,10 @@ use Rattle.ir_tree.specs.declared.module.Module.{Module}
 use Rattle.link_one.specs.Laws.{AcceptedIsOne}
 use Rattle.lto_fault.specs.declared.kind.Kind.{Kind}
 use Rattle.lto_fault.specs.declared.refusal.Refusal.{Refusal}
-use Rattle.lto_words.specs.Fetched.{IfFault}
+use Rattle.ir_tree.specs.Failures.{IfFault}
 use Rattle.lto_words.specs.Fetching.{FetchFailed, fetch_calls}
-use Rattle.lto_words.specs.declared.fetching.FetchError.{FetchError}
-use Rattle.lto_words.specs.declared.fetching.FetchError.TheVariants as error
+use Rattle.ir_tree.specs.declared.failure.Failure.{Failure}
+use Rattle.ir_tree.specs.declared.failure.Failure.TheVariants as error
 use Rattle.lto_outside.specs.Cause.{Rose}
 use Rattle.lto_outside.specs.Calls.{Call, DidNoPut, NoPut}
 use Rattle.lto_outside.specs.Seen.{FilesSeen}
@@ -84,7 +84,7 @@ first_because names given ms i name bytes each lt name_is bytes_is read why h =
     }) why h
 
 -- of fetches, one of which failed
-pub unfetched_because : (names : List (List ℕ)) (files : FilesSeen) (e : FetchError) → IfFault e (λ name. FetchFailed files.did names name × Rose files.faults files.faults_now) → DidNoPut files.did
+pub unfetched_because : (names : List (List ℕ)) (files : FilesSeen) (e : Failure (List ℕ)) → IfFault e (λ name. FetchFailed files.did names name × Rose files.faults files.faults_now) → DidNoPut files.did
     → Because (reading names files) (unfetched e)
 unfetched_because names files (error.Fault name) failed calm = record { failed = failed.0; rose = failed.1 }
 unfetched_because names files error.NoMemory failed calm = calm

@@ -6,8 +6,8 @@ use Rattle.lto_fault.specs.declared.kind.Kind.{Kind}
 use Rattle.lto_fault.specs.declared.kind.Kind.TheVariants.{Limit}
 use Rattle.lto_fault.specs.declared.refusal.Refusal.{Refusal}
 use Rattle.lto_fault.specs.declared.refusal.Refusal.TheVariants.{NoMemory, ReadFault}
-use Rattle.lto_words.specs.declared.fetching.FetchError.{FetchError}
-use Rattle.lto_words.specs.declared.fetching.FetchError.TheVariants as error
+use Rattle.ir_tree.specs.declared.failure.Failure.{Failure}
+use Rattle.ir_tree.specs.declared.failure.Failure.TheVariants as error
 use Rattle.lto_outside.specs.Calls.{Call, DidNoPut}
 use Rattle.lto_outside.specs.Cause.{Rose}
 use Rattle.lto_outside.specs.Seen.{FilesSeen}
@@ -73,7 +73,7 @@ pub record CannotLink (exports names : List (List ℕ)) (files : FilesSeen) (why
   pub refused : IsRefused names ms exports why
 
 -- how it is told that a file can't be fetched
-abbrev pub unfetched : FetchError → Refusal
+abbrev pub unfetched : Failure (List ℕ) → Refusal
 unfetched (error.Fault name) = ReadFault name
 unfetched error.NoMemory = NoMemory
 

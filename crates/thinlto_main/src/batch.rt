@@ -25,11 +25,12 @@ use crate::entry::Ended;
 use crate::link::made;
 use crate::modules::{refused, unfetched};
 use cache_slot::{CachePass, Setting, SharedCache};
-use lto_words::{ListError, ListedLink, fetch_links, fetch_one, links, put_all};
 use ir_tree::{Rows, Text};
 use lto_fault::{Kind, Refusal};
 use lto_outside::{CacheDisk, Files, Gate};
-use lto_words::{FileName, LinkOptions};
+use lto_words::{
+    FileName, LinkOptions, ListError, ListedLink, fetch_links, fetch_one, links, put_all,
+};
 use std::alloc::Global;
 use std::marker::Brand;
 use std::sync::Wait;
@@ -42,7 +43,7 @@ fn listed(alloc: Global, list: &FileName, bytes: &[u8]) -> Result<Rows<ListedLin
 {
     match links(alloc, bytes) {
         Ok(links) => Ok(links),
-        Err(ListError::BadLine { line }) => Err(refused(alloc, list, line, Kind::Batch)),
+        Err(ListError::Fault(bad)) => Err(refused(alloc, list, bad.line, Kind::Batch)),
         Err(ListError::NoMemory) => Err(Refusal::NoMemory),
     }
 }

@@ -8,12 +8,11 @@ ghost use Rattle.run_program.specs.Causes.{Because, never};
 ghost use Rattle.thinlto_main.specs.Linking.{suffixes_of};
 ghost use Rattle.thinlto_main.specs.Modules.{AreRead, FirstBad, IsBad, IsRead, bytes_of, reading, unfetched};
 
-use lto_words::{FetchError, fetch_all};
 use ir_tree::{Rows, Text, Verified};
 use link_one::{LinkError, accepted};
 use lto_fault::{Kind, Refusal};
 use lto_outside::Files;
-use lto_words::FileName;
+use lto_words::{FetchError, FileName, fetch_all};
 use promote_rename::suffix;
 use std::alloc::{AllocError, Global};
 
@@ -49,8 +48,8 @@ fn read_one(alloc: Global, name: &FileName, bytes: &Option<Text>) -> Result<Veri
         Some(bytes) => match accepted(alloc, bytes.as_slice()) {
             Ok(module) => Ok(module),
             Err(LinkError::NoMemory) => Err(Refusal::NoMemory),
-            Err(LinkError::Refused { line, kind }) => {
-                Err(refused(alloc, name, u64::from(line), kind))
+            Err(LinkError::Fault(why)) => {
+                Err(refused(alloc, name, u64::from(why.line), why.kind))
             }
         },
     }
@@ -85,7 +84,7 @@ pub(crate) fn unfetched(error: FetchError) -> Refusal
     ensures { result ≡ unfetched error }
 {
     match error {
-        FetchError::Fault { name } => Refusal::ReadFault { name },
+        FetchError::Fault(name) => Refusal::ReadFault { name },
         FetchError::NoMemory => Refusal::NoMemory,
     }
 }
