@@ -6,8 +6,8 @@ use Rattle.std.proofs.lemmas.Nat.{from_be_bytes-to_be_bytes_8}
 use Rattle.std.proofs.lemmas.Slice.Eq.{bytes_eq-Decides}
 use Rattle.std.proofs.lemmas.List.{take-append-drop, append-nil}
 use Rattle.std.proofs.Math.Seq.{take-append_seam, drop-append_seam}
-use Rattle.cache_entry.specs.Entry.{magic, length_field, entry, Fits}
-use Rattle.cache_entry.proofs.Parts.{length-length_field, fits_of, reads_one_way, has_no_proper_prefix}
+use Rattle.cache_slot.specs.Entry.{magic, length_field, entry, Fits}
+use Rattle.cache_slot.proofs.Parts.{length-length_field, fits_of, reads_one_way, has_no_proper_prefix}
 use Rattle.cache_slot.specs.Decoded.{key_length, key_part, text_part, decoded}
 use Rattle.cache_slot.specs.Files.{bytes_of}
 

@@ -5,8 +5,8 @@ use Rattle.std.specs.Str.{bytes_eq}
 use Rattle.std.proofs.lemmas.Slice.Eq.{bytes_eq-Decides}
 use Rattle.std.proofs.lemmas.Bool.Decides.{not_from_Decides}
 use Rattle.lto_outside.specs.DiskStore.{DiskStore, Loads}
-use Rattle.cache_entry.specs.Entry.{entry, ReadsAs}
-use Rattle.cache_entry.proofs.Parts.{fits_of}
+use Rattle.cache_slot.specs.Entry.{entry, ReadsAs}
+use Rattle.cache_slot.proofs.Parts.{fits_of}
 use Rattle.cache_slot.specs.Files.{file_of, bytes_of, Holds, Lacks}
 
 -- the bytes are the entry of the key and a text, or of no text

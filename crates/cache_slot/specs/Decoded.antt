@@ -2,7 +2,7 @@
 use Rattle.std.specs.Prelude.{ℕ, List, None, Some, take, drop, if◌then◌else◌}
 use Rattle.std.specs.Int.{w64, from_be_bytes}
 use Rattle.std.specs.Str.{bytes_eq}
-use Rattle.cache_entry.specs.Entry.{entry}
+use Rattle.cache_slot.specs.Entry.{entry}
 use Rattle.lto_outside.specs.Honest.{Decoding}
 
 -- the length of the key: eight bytes behind the magic number of eight

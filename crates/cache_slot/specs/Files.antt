@@ -1,7 +1,7 @@
 -- The file of a key in the cache's directory.
 use Rattle.std.specs.Prelude.{◌≡◌, ◌≢◌, ℕ, List, Option, None, Some, ⊤}
-use Rattle.cache_entry.specs.Entry.{entry}
-use Rattle.cache_entry.specs.Named.{file_name_of}
+use Rattle.cache_slot.specs.Entry.{entry}
+use Rattle.cache_slot.specs.Named.{file_name_of}
 use Rattle.lto_outside.specs.DiskStore.{DiskStore}
 
 -- the name of the file that holds the entry of the key

@@ -1,3 +1,5 @@
+pub mod Entry
+pub mod Named
 pub mod Views
 pub mod Rule
 pub mod Places

@@ -8,7 +8,7 @@ ghost use Rattle.cache_slot.specs.Found.{LoadedAs, FoundOn, NeedsNoDisk};
 use crate::key::Key;
 use crate::record::Why;
 use crate::records::Records;
-use cache_entry::{decode, file_name};
+use crate::{decode, file_name};
 use ir_tree::Text;
 use lto_outside::{CacheDisk, LoadFault};
 use std::alloc::{AllocError, Global};

@@ -25,11 +25,13 @@
 
 mod cache;
 mod directory;
+mod entry;
 mod find;
 mod history;
 mod kept;
 mod key;
 mod lock;
+mod naming;
 mod place;
 mod record;
 mod records;
@@ -48,3 +50,5 @@ pub use rule::Logged;
 pub use setting::Setting;
 pub use shelf::Shelf;
 pub use sight::{Sight, Stage};
+pub use entry::{decode, encode, has_no_proper_prefix, reads_one_way};
+pub use naming::file_name;

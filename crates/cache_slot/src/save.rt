@@ -6,7 +6,7 @@ ghost use Rattle.cache_slot.specs.Found.{SavedOn, kept_of};
 
 use crate::find::name_str;
 use crate::kept::{Cause, Kept};
-use cache_entry::{encode, file_name};
+use crate::{encode, file_name};
 use lto_outside::CacheDisk;
 use std::alloc::{AllocError, Global};
 

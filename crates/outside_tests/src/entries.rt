@@ -1,5 +1,5 @@
 //! Bytes of entries and names of their files, worked out outside.
-use cache_entry::{decode, encode, file_name};
+use cache_slot::{decode, encode, file_name};
 
 /// The entry of the key `ab` with the text `c`.
 const KNOWN: &[u8] = b"TLTOENT1\x00\x00\x00\x00\x00\x00\x00\x02\x00\x00\x00\x00\x00\x00\x00\x01abc";

@@ -1,7 +1,7 @@
 use Rattle.std.proofs.Common.{◌≡◌, ◌<◌, ℕ, get_or, arith}
-use Rattle.cache_entry.specs.Entry.{length_field}
-use Rattle.cache_entry.proofs.Parts.{field_of_bytes, small_front}
-use Rattle.cache_entry.proofs.entry.split_length.Goals as goal
+use Rattle.cache_slot.specs.Entry.{length_field}
+use Rattle.cache_slot.proofs.Parts.{field_of_bytes, small_front}
+use Rattle.cache_slot.proofs.entry.split_length.Goals as goal
 
 pub returns-clause-some : goal.returns-clause-some
 returns-clause-some c =

@@ -1,10 +1,10 @@
 use Rattle.std.proofs.Common.{◌≡◌, ℕ, ◌<◌, ◌^◌, List, ◌++◌, length, arith, ap, ◌∙◌, Some, refl}
 use Rattle.std.proofs.lemmas.Bool.Decides.{Decides-eqb}
 use Rattle.std.proofs.lemmas.Slice.Eq.{strip_prefix_is}
-use Rattle.cache_entry.specs.Entry.{magic, length_field}
-use Rattle.cache_entry.proofs.Parts.{lacks_key_len, lacks_text_len, differs_in_length, cut_at_key}
-use Rattle.cache_entry.proofs.entry.decode.Goals.{then-body-key_len-via-then-body-key_len, then-body-key_len-via-else-body-key_len+then-body-key_len-2}
-use Rattle.cache_entry.proofs.entry.decode.Goals as goal
+use Rattle.cache_slot.specs.Entry.{magic, length_field}
+use Rattle.cache_slot.proofs.Parts.{lacks_key_len, lacks_text_len, differs_in_length, cut_at_key}
+use Rattle.cache_slot.proofs.entry.decode.Goals.{then-body-key_len-via-then-body-key_len, then-body-key_len-via-else-body-key_len+then-body-key_len-2}
+use Rattle.cache_slot.proofs.entry.decode.Goals as goal
 
 pub returns-in_err-key_len : goal.returns-in_err-key_len
 returns-in_err-key_len c =

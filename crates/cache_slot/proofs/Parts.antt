@@ -4,7 +4,7 @@ use Rattle.std.specs.Int.{w64, from_be_bytes}
 use Rattle.std.proofs.lemmas.Nat.{be_bytes_8, from_be_bytes-to_be_bytes_8}
 use Rattle.std.proofs.lemmas.List.{append_cancel_left, take-append-drop, length-take}
 use Rattle.std.proofs.Math.Seq.{take-append_seam, drop-append_seam}
-use Rattle.cache_entry.specs.Entry.{magic, length_field, entry, Fits, IsNoEntry, ReadsAs, ReadsOneWay, HasNoProperPrefix}
+use Rattle.cache_slot.specs.Entry.{magic, length_field, entry, Fits, IsNoEntry, ReadsAs, ReadsOneWay, HasNoProperPrefix}
 
 pub length-length_field : (n : ℕ) → length (length_field n) ≡ 8
 unfolding length_field

@@ -1,6 +1,6 @@
 //! The layout of an entry: magic number, length of the key, length of the text, key, text.
 ghost use Rattle.std.specs.Prelude.{◌≡◌, ◌<◌, ◌^◌, ◌++◌, length, ◌↔◌, IfOk, OnOk, IfSome, IsNone, MatchOption};
-ghost use Rattle.cache_entry.specs.Entry.{magic, length_field, entry, IsNoEntry, ReadsAs, ReadsOneWay, HasNoProperPrefix};
+ghost use Rattle.cache_slot.specs.Entry.{magic, length_field, entry, IsNoEntry, ReadsAs, ReadsOneWay, HasNoProperPrefix};
 
 use ir_tree::Text;
 use std::alloc::{AllocError, Global};

@@ -1,6 +1,6 @@
 //! The name under which the entry of a key is kept.
 ghost use Rattle.std.specs.Prelude.{◌≡◌, IfOk};
-ghost use Rattle.cache_entry.specs.Named.{file_name_of};
+ghost use Rattle.cache_slot.specs.Named.{file_name_of};
 
 use ir_tree::Text;
 use sha1::Sha1;

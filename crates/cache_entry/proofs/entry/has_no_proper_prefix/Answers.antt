@@ -1,5 +1,0 @@
-use Rattle.cache_entry.proofs.Parts.{has_no_proper_prefix}
-use Rattle.cache_entry.proofs.entry.has_no_proper_prefix.Goals as goal
-
-pub returns : goal.returns
-returns c = has_no_proper_prefix

@@ -1,5 +1,0 @@
-use Rattle.cache_entry.proofs.Parts.{reads_one_way}
-use Rattle.cache_entry.proofs.entry.reads_one_way.Goals as goal
-
-pub returns : goal.returns
-returns c = reads_one_way
