@@ -42,13 +42,13 @@ mod shelf;
 mod sight;
 
 pub use cache::{CachePass, Refused, SharedCache};
+pub use entry::{decode, encode, has_no_proper_prefix, reads_one_way};
 pub use kept::{Cause, Kept};
 pub use lock::TicketLock;
+pub use naming::file_name;
 pub use place::Place;
 pub use record::{Record, Why};
 pub use rule::Logged;
 pub use setting::Setting;
 pub use shelf::Shelf;
 pub use sight::{Sight, Stage};
-pub use entry::{decode, encode, has_no_proper_prefix, reads_one_way};
-pub use naming::file_name;

@@ -6,8 +6,8 @@ use Rattle.ir_lex.specs.Heads.{number}
 use Rattle.ir_lex.specs.Tok.{Tok}
 use Rattle.ir_tree.specs.declared.operand.Reg.{Reg}
 use Rattle.ir_tree.specs.declared.operand.Reg.TheVariants.{Ptr}
-use Rattle.ir_read.specs.declared.fault.FaultKind.{FaultKind}
-use Rattle.ir_read.specs.declared.fault.FaultKind.TheVariants.{Syntax, Number, Limit}
+use Rattle.ir_read.specs.declared.fault.TokenFault.{TokenFault}
+use Rattle.ir_read.specs.declared.fault.TokenFault.TheVariants.{Syntax, Number, Limit}
 use Rattle.ir_read.specs.Rules.{Rule, Opens, is_class}
 use Rattle.ir_read.proofs.Rules as rules
 use Rattle.ir_heads.specs.Attributes.{parameter_attribute}
@@ -135,10 +135,10 @@ arguments_rule (Some ws) = arguments_of_rule ws
 
 -- ---- what is called
 
-abbrev by_marker : Bool → FaultKind → FaultKind
+abbrev by_marker : Bool → TokenFault → TokenFault
 by_marker b k = cond b Syntax k
 
-neither : (b : Bool) (k l : FaultKind) → (Syntax ≡ l → ⊥) → (k ≡ l → ⊥) → by_marker b k ≡ l → ⊥
+neither : (b : Bool) (k l : TokenFault) → (Syntax ≡ l → ⊥) → (k ≡ l → ⊥) → by_marker b k ≡ l → ⊥
 neither true k l p q e = p e
 neither false k l p q e = q e
 

@@ -6,7 +6,7 @@ use Rattle.ir_lex.specs.Heads.{number}
 use Rattle.ir_lex.specs.Quotes.{stripped}
 use Rattle.ir_lex.specs.Tok.{Tok}
 use Rattle.ir_read.specs.Alphabet.{among}
-use Rattle.ir_read.specs.declared.fault.FaultKind.{FaultKind}
+use Rattle.ir_read.specs.declared.fault.TokenFault.{TokenFault}
 use Rattle.ir_read.specs.Forms as form
 use Rattle.ir_read.specs.Rules.{Rule, Opens, in_range, is_among, is_valued}
 use Rattle.ir_read.proofs.Composed.{with_wide}
@@ -37,7 +37,7 @@ use Rattle.ir_bodies.proofs.Samples.{add_real}
 
 -- ---- names, without the limit on numbers
 
-abbrev good : Tok → Result Tok FaultKind
+abbrev good : Tok → Result Tok TokenFault
 good t = Ok t
 
 good_is : (t u : Tok) → good t ≡ good u → t ≡ u

@@ -5,8 +5,8 @@ use Rattle.ir_lex.specs.Heads.{number}
 use Rattle.ir_lex.specs.Tok.{Tok}
 use Rattle.ir_tree.specs.declared.operand.Reg.{Reg}
 use Rattle.ir_tree.specs.declared.operand.Reg.TheVariants.{Int, Ptr}
-use Rattle.ir_read.specs.declared.fault.FaultKind.{FaultKind}
-use Rattle.ir_read.specs.declared.fault.FaultKind.TheVariants.{Syntax}
+use Rattle.ir_read.specs.declared.fault.TokenFault.{TokenFault}
+use Rattle.ir_read.specs.declared.fault.TokenFault.TheVariants.{Syntax}
 use Rattle.ir_read.specs.Forms.{Form, ◌>>=◌, either, gives, optional, Star, token}
 use Rattle.ir_read.specs.Rules.{is_among, is_exact, is_valued}
 use Rattle.ir_heads.specs.Attributes.{parameter_attribute, parameter_attributes, call_attributes}
@@ -177,7 +177,7 @@ marker = do
   gives None
 
 -- a lifetime marker is no part of the language that is left out where its call would be dropped, if it had no name
-abbrev pub marker_refusal : ℕ → FaultKind
+abbrev pub marker_refusal : ℕ → TokenFault
 marker_refusal class = if nat_eq class (number heads.LifetimeMarker) then Syntax else refusal class
 
 abbrev pub unmarked : Form Tok Operand

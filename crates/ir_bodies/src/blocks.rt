@@ -18,9 +18,8 @@ use crate::lines::line_into;
 use ir_instructions::{Ended, terminator_into};
 use ir_lex::{Head, Token};
 use ir_operands::{Listing, push};
-use ir_read::{Block, Name, Terminator, Tokens, named, refusal};
+use ir_read::{Block, Fault, Name, ReadError, Terminator, TokenFault, Tokens, named, refusal};
 use ir_tree::Rows;
-use ir_read::{Fault, FaultKind, ReadError};
 use std::alloc::{AllocError, Global};
 
 /// The blocks of a function while they are read.
@@ -95,12 +94,12 @@ impl Begun {
 }
 
 #[tactic(auto, unfolding(ir_read::specs::Rules::is_valued))]
-fn label_means(alloc: Global, t: &Token) -> Result<Result<Name, FaultKind>, AllocError>
+fn label_means(alloc: Global, t: &Token) -> Result<Result<Name, TokenFault>, AllocError>
     ensures { IfOk result (λ x. x ≡ is_valued tokens refusal LABEL named (tok t.now)) }
 {
     if t.head.is(Head::Label) {
         match named(alloc, t)? {
-            None => Ok(Err(FaultKind::Number)),
+            None => Ok(Err(TokenFault::Number)),
             Some(name) => Ok(Ok(name)),
         }
     } else {
@@ -116,7 +115,7 @@ fn label_at(alloc: Global, tokens: &mut Tokens) -> Result<Name, ReadError>
     match tokens.take() {
         None => Err(ReadError::Fault(Fault {
             left,
-            kind: FaultKind::Syntax,
+            kind: TokenFault::Syntax,
         })),
         Some(t) => match label_means(alloc, &t)? {
             Ok(x) => Ok(x),
@@ -212,7 +211,7 @@ fn lines_into(
         if left == 0 {
             return Err(ReadError::Fault(Fault {
                 left: tokens.left(),
-                kind: FaultKind::Limit,
+                kind: TokenFault::Limit,
             }));
         }
         line_into(alloc, list, tokens)?;
@@ -283,7 +282,7 @@ fn further_blocks_into(
         if room == 0 {
             return Err(ReadError::Fault(Fault {
                 left: tokens.left(),
-                kind: FaultKind::Limit,
+                kind: TokenFault::Limit,
             }));
         }
         left = block_into(alloc, left, blocks, tokens)?;

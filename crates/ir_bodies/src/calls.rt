@@ -21,11 +21,10 @@ use ir_heads::{
 use ir_lex::{Head, Token};
 use ir_operands::{Listing, address_at, operand_at, push};
 use ir_read::{
-    Argument, Instr, Name, Operand, Tokens, attachments_at, done, expect, operand_means, reg_at,
-    reg_of, result_at, type_refusal,
+    Argument, Fault, Instr, Name, Operand, ReadError, TokenFault, Tokens, attachments_at, done,
+    expect, operand_means, reg_at, reg_of, result_at, type_refusal,
 };
 use ir_tree::{Reg, Rows};
-use ir_read::{Fault, FaultKind, ReadError};
 use std::alloc::{AllocError, Global};
 
 /// Reads a calling convention, or an attribute of the result.
@@ -73,7 +72,7 @@ fn written_type_at(alloc: Global, tokens: &mut Tokens) -> Result<Name, ReadError
     match tokens.take() {
         None => Err(ReadError::Fault(Fault {
             left,
-            kind: FaultKind::Syntax,
+            kind: TokenFault::Syntax,
         })),
         Some(t) => match t.head {
             Head::MemoryInteger | Head::RegisterInteger | Head::Ptr => {
@@ -226,7 +225,7 @@ fn is_same_reg(left: Reg, right: Reg) -> bool
 
 /// What a token means where the type that another writes must stand.
 #[tactic(auto, unfolding(ir_read::specs::Rules::is_exact))]
-fn type_again(written: &Token, t: &Token) -> Result<Reg, FaultKind>
+fn type_again(written: &Token, t: &Token) -> Result<Reg, TokenFault>
     ensures exact { result ≡ is_exact tokens type_refusal REG (is_type (tok written.now)) reg_of (tok t.now) }
     ensures ranged { IfOk result IsReg }
 {
@@ -253,7 +252,7 @@ fn type_again_at(written: &Name, tokens: &mut Tokens) -> Result<Reg, ReadError>
     match tokens.take() {
         None => Err(ReadError::Fault(Fault {
             left,
-            kind: FaultKind::Syntax,
+            kind: TokenFault::Syntax,
         })),
         Some(t) => match type_again(&token, &t) {
             Ok(x) => Ok(x),
@@ -350,11 +349,11 @@ fn called_value_at(alloc: Global, tokens: &mut Tokens) -> Result<Option<Operand>
 
 /// What a token means as the callee of a call that has a name and gives nothing.
 #[tactic(auto, unfolding(ir_read::specs::Rules::is_valued))]
-fn unmarked_means(alloc: Global, t: &Token) -> Result<Result<Operand, FaultKind>, AllocError>
+fn unmarked_means(alloc: Global, t: &Token) -> Result<Result<Operand, TokenFault>, AllocError>
     ensures { IfOk result (λ x. x ≡ is_valued tokens marker_refusal (classes_of Ptr) (operand_of Ptr) (tok t.now)) }
 {
     if t.head.is(Head::LifetimeMarker) {
-        Ok(Err(FaultKind::Syntax))
+        Ok(Err(TokenFault::Syntax))
     } else {
         operand_means(alloc, Reg::Ptr, t)
     }
@@ -367,7 +366,7 @@ fn unmarked_at(alloc: Global, tokens: &mut Tokens) -> Result<Operand, ReadError>
     match tokens.take() {
         None => Err(ReadError::Fault(Fault {
             left,
-            kind: FaultKind::Syntax,
+            kind: TokenFault::Syntax,
         })),
         Some(t) => match unmarked_means(alloc, &t)? {
             Ok(x) => Ok(x),

@@ -11,9 +11,8 @@ use crate::blocks::{Blocks, blocks_into};
 use ir_heads::{Kept, Role, definition_attributes_at, head_at};
 use ir_lex::Head;
 use ir_operands::push_item;
-use ir_read::{Block, Item, Tokens, done, expect};
+use ir_read::{Block, Item, ReadError, Tokens, done, expect};
 use ir_tree::Rows;
-use ir_read::ReadError;
 use std::alloc::Global;
 
 /// How many blocks may stand behind the first of a function.

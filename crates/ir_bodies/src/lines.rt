@@ -16,9 +16,8 @@ use ir_instructions::{
 };
 use ir_lex::Head;
 use ir_operands::Listing;
-use ir_read::{Name, Tokens, attachments_at, expect, local_at};
+use ir_read::{Name, ReadError, Tokens, attachments_at, expect, local_at};
 use ir_tree::{CastOp, Flags};
-use ir_read::ReadError;
 use std::alloc::Global;
 
 /// Reads what follows the first word of an operation on values, but for its attachments.

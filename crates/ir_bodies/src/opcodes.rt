@@ -8,9 +8,8 @@ ghost use Rattle.ir_read.specs.Classes.{tokens, refusal, one_of_at};
 ghost use Rattle.ir_bodies.specs.Lines.{GIVING, OPCODES, opcode_of, begun_of};
 
 use ir_lex::{Head, Token};
-use ir_read::{Tokens, refusal};
+use ir_read::{Fault, ReadError, TokenFault, Tokens, refusal};
 use ir_tree::BinaryOp;
-use ir_read::{Fault, FaultKind, ReadError};
 
 /// An operation on values. Its attachments follow it.
 #[derive(Clone, Copy)]
@@ -52,7 +51,7 @@ pub struct Begun {
 }
 
 #[tactic(auto, unfolding(ir_read::specs::Rules::is_among))]
-fn opcode_means(t: &Token) -> Result<Opcode, FaultKind>
+fn opcode_means(t: &Token) -> Result<Opcode, TokenFault>
     ensures { result ≡ is_among tokens refusal OPCODES opcode_of (tok t.now) }
 {
     match t.head {
@@ -88,17 +87,17 @@ fn opcode_means(t: &Token) -> Result<Opcode, FaultKind>
 
 /// What a token means as the first word of an instruction that may give a result.
 #[tactic(auto, unfolding(ir_read::specs::Rules::is_among))]
-fn giving_means(t: &Token) -> Result<Opcode, FaultKind>
+fn giving_means(t: &Token) -> Result<Opcode, TokenFault>
     ensures { result ≡ is_among tokens refusal GIVING opcode_of (tok t.now) }
 {
     if t.head.is(Head::Store) {
-        Err(FaultKind::Syntax)
+        Err(TokenFault::Syntax)
     } else {
         opcode_means(t)
     }
 }
 
-fn begun_means(t: &Token) -> Result<Begun, FaultKind>
+fn begun_means(t: &Token) -> Result<Begun, TokenFault>
     ensures { result ≡ is_among tokens refusal OPCODES begun_of (tok t.now) }
 {
     match opcode_means(t) {
@@ -118,7 +117,7 @@ pub fn giving_at(tokens: &mut Tokens) -> Result<Opcode, ReadError>
     match tokens.take() {
         None => Err(ReadError::Fault(Fault {
             left,
-            kind: FaultKind::Syntax,
+            kind: TokenFault::Syntax,
         })),
         Some(t) => match giving_means(&t) {
             Ok(x) => Ok(x),
@@ -135,7 +134,7 @@ pub fn begun_at(tokens: &mut Tokens) -> Result<Begun, ReadError>
     match tokens.take() {
         None => Err(ReadError::Fault(Fault {
             left,
-            kind: FaultKind::Syntax,
+            kind: TokenFault::Syntax,
         })),
         Some(t) => match begun_means(&t) {
             Ok(x) => Ok(x),

@@ -4,7 +4,7 @@ use Rattle.std.specs.Prelude.{IfSome}
 use Rattle.ir_lex.specs.Heads.{number}
 use Rattle.ir_lex.specs.Tok.{Tok}
 use Rattle.ir_read.specs.Alphabet.{among}
-use Rattle.ir_read.specs.declared.fault.FaultKind.{FaultKind}
+use Rattle.ir_read.specs.declared.fault.TokenFault.{TokenFault}
 use Rattle.ir_read.specs.Forms as form
 use Rattle.ir_read.specs.Rules.{in_range, is_valued}
 use Rattle.ir_read.specs.Classes.{tokens}
@@ -40,7 +40,7 @@ scalar_is t = by_pointer (is_pointer t)
     by_pointer true = tt
     by_pointer false = has_width t
 
-abbrev read : Typed → Result Typed FaultKind
+abbrev read : Typed → Result Typed TokenFault
 read x = Ok x
 
 ok_is : (x y : Typed) → read x ≡ read y → x ≡ y

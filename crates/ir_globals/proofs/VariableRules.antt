@@ -14,7 +14,7 @@ use Rattle.ir_tree.specs.declared.operand.Reg.{Reg}
 use Rattle.ir_read.specs.Alphabet.{among}
 use Rattle.ir_read.specs.Forms as form
 use Rattle.ir_read.specs.Readers as reader
-use Rattle.ir_read.specs.declared.fault.FaultKind.{FaultKind}
+use Rattle.ir_read.specs.declared.fault.TokenFault.{TokenFault}
 use Rattle.ir_read.specs.Rules.{Rule, Opens, in_range, is_among, is_class, is_valued}
 use Rattle.ir_read.proofs.Composed.{with_wide}
 use Rattle.ir_read.proofs.Rules as rules
@@ -37,7 +37,7 @@ use Rattle.ir_globals.proofs.InitialiserRules.{INITIALISER, initialiser_rule}
 
 -- ---- before the shape
 
-abbrev good : Tok → Result Tok FaultKind
+abbrev good : Tok → Result Tok TokenFault
 good x = Ok x
 
 -- a name that has a number in range is a name

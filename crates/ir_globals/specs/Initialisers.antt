@@ -9,7 +9,7 @@ use Rattle.ir_tree.specs.declared.operand.Reg.{Reg}
 use Rattle.ir_tree.specs.declared.operand.Reg.TheVariants.{Int, Ptr}
 use Rattle.ir_read.specs.Balanced.{none_open}
 use Rattle.ir_read.specs.Chained.{Chain}
-use Rattle.ir_read.specs.declared.fault.FaultKind.{FaultKind}
+use Rattle.ir_read.specs.declared.fault.TokenFault.{TokenFault}
 use Rattle.ir_read.specs.Forms.{Form, ◌>>=◌, either, gives, token}
 use Rattle.ir_read.specs.Rules.{is_class}
 use Rattle.ir_read.specs.Classes.{tokens, refusal, the, one_of}
@@ -91,7 +91,7 @@ opening aggregates.Array = inits.Array
 opening (aggregates.Struct packed) = inits.Struct packed
 
 -- where none of its parts stands, a shape may stand there as well
-abbrev pub closing_refusal : Bool → ℕ → FaultKind
+abbrev pub closing_refusal : Bool → ℕ → TokenFault
 closing_refusal true class = memory_refusal class
 closing_refusal false class = refusal class
 

@@ -12,9 +12,10 @@ ghost use Rattle.ir_globals.specs.ConstantsAt.{single_at, constant_at};
 
 use ir_lex::{Head, Token};
 use ir_operands::address_at;
-use ir_read::{InitHead, Name, Operand, Tokens, done, literal, named, refusal};
+use ir_read::{
+    Fault, InitHead, Name, Operand, ReadError, TokenFault, Tokens, done, literal, named, refusal,
+};
 use ir_tree::Reg;
-use ir_read::{Fault, FaultKind, ReadError};
 use std::alloc::{AllocError, Global};
 
 /// The type of a constant: `i1`, which nothing in memory has, where it is of no scalar.
@@ -33,13 +34,13 @@ fn number_means(
     alloc: Global,
     scalar: Option<Reg>,
     t: &Token,
-) -> Result<Result<InitHead, FaultKind>, AllocError>
+) -> Result<Result<InitHead, TokenFault>, AllocError>
     requires { IfSome scalar IsReg }
     ensures { IfOk result (λ x. x ≡ in_range (number_of scalar (tok t.now))) }
 {
     match scalar {
         Some(Reg::Int(width)) => match literal(width, t.text) {
-            None => Ok(Err(FaultKind::Number)),
+            None => Ok(Err(TokenFault::Number)),
             Some(bits) => Ok(Ok(InitHead::Plain(Operand::Number { width, bits }))),
         },
         Some(Reg::Ptr) => Ok(Ok(InitHead::Plain(Operand::Number { width: 1, bits: 0 }))),
@@ -51,17 +52,17 @@ fn number_means(
 }
 
 /// A global that is written by its number.
-fn global_means(alloc: Global, t: &Token) -> Result<Result<InitHead, FaultKind>, AllocError>
+fn global_means(alloc: Global, t: &Token) -> Result<Result<InitHead, TokenFault>, AllocError>
     ensures { IfOk result (λ x. x ≡ in_range (option_map (λ name. plain (operands.Global name)) (named (tok t.now)))) }
 {
     match named(alloc, t)? {
-        None => Ok(Err(FaultKind::Number)),
+        None => Ok(Err(TokenFault::Number)),
         Some(name) => Ok(Ok(InitHead::Plain(Operand::Global(name)))),
     }
 }
 
 /// A global that is written by a name.
-fn spelled_means(alloc: Global, t: &Token) -> Result<Result<InitHead, FaultKind>, AllocError>
+fn spelled_means(alloc: Global, t: &Token) -> Result<Result<InitHead, TokenFault>, AllocError>
     ensures { IfOk result (λ x. x ≡ Ok (plain (operands.Global (tok t.now)))) }
 {
     let name = Name::of(alloc, t)?;
@@ -74,7 +75,7 @@ fn constant_means(
     alloc: Global,
     scalar: Option<Reg>,
     t: &Token,
-) -> Result<Result<InitHead, FaultKind>, AllocError>
+) -> Result<Result<InitHead, TokenFault>, AllocError>
     requires { IfSome scalar IsReg }
     ensures { IfOk result (λ x. x ≡ is_valued tokens refusal CONSTANTS (constant_of scalar) (tok t.now)) }
 {
@@ -98,7 +99,7 @@ fn single_at(alloc: Global, scalar: Option<Reg>, tokens: &mut Tokens) -> Result<
     match tokens.take() {
         None => Err(ReadError::Fault(Fault {
             left,
-            kind: FaultKind::Syntax,
+            kind: TokenFault::Syntax,
         })),
         Some(t) => match constant_means(alloc, scalar, &t)? {
             Ok(x) => Ok(x),

@@ -18,11 +18,10 @@ use crate::pairs::beside;
 use ir_lex::Head;
 use ir_operands::{brace_behind_angle_at, memory_shape_at};
 use ir_read::{
-    Init, InitHead, InitPart, Name, Shape, ShapeNode, Tokens, Typed, done, expect, memory_refusal,
-    refusal,
+    Fault, Init, InitHead, InitPart, Name, ReadError, Shape, ShapeNode, TokenFault, Tokens, Typed,
+    done, expect, memory_refusal, refusal,
 };
 use ir_tree::{Reg, Rows};
-use ir_read::{Fault, FaultKind, ReadError};
 use std::alloc::{AllocFailed, Global};
 
 /// What an initialiser with parts is of.
@@ -84,7 +83,7 @@ fn bytes_at(alloc: Global, tokens: &mut Tokens) -> Result<InitHead, ReadError>
     match tokens.take() {
         None => Err(ReadError::Fault(Fault {
             left,
-            kind: FaultKind::Syntax,
+            kind: TokenFault::Syntax,
         })),
         Some(t) => {
             if t.head.is(Head::CStr) {
@@ -160,7 +159,7 @@ fn beginning_at(
 
 /// Why a token can't stand where an aggregate must close, if none of its parts stands there yet, or if
 /// one does.
-fn closing_refusal(none: bool, head: Head) -> FaultKind
+fn closing_refusal(none: bool, head: Head) -> TokenFault
     ensures { result ≡ closing_refusal none (number head) }
 {
     if none {
@@ -178,7 +177,7 @@ fn mark_at(none: bool, wanted: Head, tokens: &mut Tokens) -> Result<(), ReadErro
     match tokens.take() {
         None => Err(ReadError::Fault(Fault {
             left,
-            kind: FaultKind::Syntax,
+            kind: TokenFault::Syntax,
         })),
         Some(t) => {
             if t.head.is(wanted) {

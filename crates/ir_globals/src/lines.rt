@@ -7,8 +7,7 @@ ghost use Rattle.ir_heads.specs.TargetsAt.{layout_line_at, triple_line_at};
 
 use ir_heads::{attribute_group_at, layout_line_at, triple_line_at};
 use ir_operands::push_item;
-use ir_read::{Item, Tokens};
-use ir_read::ReadError;
+use ir_read::{Item, ReadError, Tokens};
 use std::alloc::Global;
 
 /// Reads the layout of the target behind `target`, and adds it.

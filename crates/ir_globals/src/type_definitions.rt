@@ -7,8 +7,7 @@ ghost use Rattle.ir_globals.specs.TypeDefinitionsAt.{defined_at, type_line_at, t
 
 use ir_lex::Head;
 use ir_operands::{memory_shape_at, push_item};
-use ir_read::{Item, Name, Tokens, Typed, done, expect, local_at};
-use ir_read::ReadError;
+use ir_read::{Item, Name, ReadError, Tokens, Typed, done, expect, local_at};
 use std::alloc::Global;
 
 /// Reads what a type name stands for: a shape, or nothing where it is opaque.

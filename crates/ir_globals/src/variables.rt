@@ -19,21 +19,20 @@ use ir_heads::{comes_qualifier, linkage_by, name_refusal, qualifier_word_at, wit
 use ir_lex::{Head, Token};
 use ir_operands::push_item;
 use ir_read::{
-    Init, Item, Name, Tokens, Variable, alignment_at, attached_at, done, expect, global_named,
-    refusal,
+    Fault, Init, Item, Name, ReadError, TokenFault, Tokens, Variable, alignment_at, attached_at,
+    done, expect, global_named, refusal,
 };
 use ir_tree::{Linkage, Reg};
-use ir_read::{Fault, FaultKind, ReadError};
 use std::alloc::{AllocError, Global};
 
 /// What a token means where the name of a variable stands.
 #[tactic(auto, unfolding(ir_read::specs::Rules::is_valued))]
-fn name_means(alloc: Global, t: &Token) -> Result<Result<Name, FaultKind>, AllocError>
+fn name_means(alloc: Global, t: &Token) -> Result<Result<Name, TokenFault>, AllocError>
     ensures { IfOk result (λ x. x ≡ is_valued tokens name_refusal NAMES global_named (tok t.now)) }
 {
     match t.head {
         Head::Global | Head::NumberedDefinition => match global_named(alloc, t)? {
-            None => Ok(Err(FaultKind::Number)),
+            None => Ok(Err(TokenFault::Number)),
             Some(name) => Ok(Ok(name)),
         },
         head => Ok(Err(name_refusal(head))),
@@ -49,7 +48,7 @@ fn variable_name_at(alloc: Global, tokens: &mut Tokens) -> Result<Name, ReadErro
     match tokens.take() {
         None => Err(ReadError::Fault(Fault {
             left,
-            kind: FaultKind::Syntax,
+            kind: TokenFault::Syntax,
         })),
         Some(t) => match name_means(alloc, &t)? {
             Ok(x) => Ok(x),
@@ -92,7 +91,7 @@ fn linkage_word_at(tokens: &mut Tokens) -> Result<Linkage, ReadError>
     match tokens.take() {
         None => Err(ReadError::Fault(Fault {
             left,
-            kind: FaultKind::Syntax,
+            kind: TokenFault::Syntax,
         })),
         Some(t) => {
             if is_linkage(t.head) {
@@ -149,7 +148,7 @@ fn kind_at(tokens: &mut Tokens) -> Result<bool, ReadError>
     match tokens.take() {
         None => Err(ReadError::Fault(Fault {
             left,
-            kind: FaultKind::Syntax,
+            kind: TokenFault::Syntax,
         })),
         Some(t) => match t.head {
             Head::GlobalVariable => Ok(false),

@@ -13,8 +13,8 @@ use Rattle.ir_tree.specs.declared.function.Linkage.{Linkage}
 use Rattle.ir_tree.specs.declared.function.Linkage.TheVariants as linkages
 use Rattle.ir_read.specs.Alphabet.{contains, among}
 use Rattle.ir_read.specs.Chained.{Chain, chain_at}
-use Rattle.ir_read.specs.declared.fault.FaultKind.{FaultKind}
-use Rattle.ir_read.specs.declared.fault.FaultKind.TheVariants.{Profile, Number, Limit}
+use Rattle.ir_read.specs.declared.fault.TokenFault.{TokenFault}
+use Rattle.ir_read.specs.declared.fault.TokenFault.TheVariants.{Profile, Number, Limit}
 use Rattle.ir_read.specs.Forms as form
 use Rattle.ir_read.specs.Readers as reader
 use Rattle.ir_read.specs.Rules.{Rule, Opens, is_class, is_valued, subset}
@@ -94,10 +94,10 @@ pub global_real : IsReal (sample kinds.Global heads.Global (codes "@a"))
 unfolding best_fit rest_fit label_len number_len word_len name_len meta_len dots_len other_len string_len has is_bad is_zero_name head_of global_head name_head content unescaped
 global_real = record { behind = []; some = refl; fits = refl; good = refl; class = refl }
 
-abbrev by_numbered : Bool → FaultKind → FaultKind
+abbrev by_numbered : Bool → TokenFault → TokenFault
 by_numbered b k = cond b Profile k
 
-neither : (b : Bool) (k l : FaultKind) → (Profile ≡ l → ⊥) → (k ≡ l → ⊥) → by_numbered b k ≡ l → ⊥
+neither : (b : Bool) (k l : TokenFault) → (Profile ≡ l → ⊥) → (k ≡ l → ⊥) → by_numbered b k ≡ l → ⊥
 neither true k l p q e = p e
 neither false k l p q e = q e
 
@@ -111,7 +111,7 @@ name_not_limit n e = neither (contains NUMBERED n) (refusal n) Limit (λ x. cc) 
 abbrev pub NAMES : List ℕ
 NAMES = number heads.LifetimeMarker ∷ NUMBERED ++ GLOBAL
 
-abbrev is_name : List ℕ → Tok → Result Tok FaultKind
+abbrev is_name : List ℕ → Tok → Result Tok TokenFault
 is_name classes = is_valued tokens name_refusal classes global_named
 
 pub named_rule : (classes : List ℕ) → among tokens classes (sample kinds.Global heads.Global (codes "@a")) ≡ true → Rule tokens (form.token (is_name classes)) (form.token (is_name classes)) (reader.token_at (is_name classes)) classes [] false

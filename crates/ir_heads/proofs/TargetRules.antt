@@ -10,8 +10,8 @@ use Rattle.ir_lex.specs.Quotes.{is_zero_name, content, unescaped}
 use Rattle.ir_lex.specs.Rows.{best_fit, rest_fit, label_len, number_len, word_len, name_len, meta_len, dots_len, other_len, string_len}
 use Rattle.ir_lex.specs.Tok.{Tok}
 use Rattle.ir_read.specs.Alphabet.{contains, among, is_number}
-use Rattle.ir_read.specs.declared.fault.FaultKind.{FaultKind}
-use Rattle.ir_read.specs.declared.fault.FaultKind.TheVariants.{Syntax, Profile, Number, Limit}
+use Rattle.ir_read.specs.declared.fault.TokenFault.{TokenFault}
+use Rattle.ir_read.specs.declared.fault.TokenFault.TheVariants.{Syntax, Profile, Number, Limit}
 use Rattle.ir_read.specs.Forms as form
 use Rattle.ir_read.specs.Lawful.{IsRanged, SameRefusal}
 use Rattle.ir_read.specs.Readers.{token_at}
@@ -82,17 +82,17 @@ comdat_name_rule = the_rule heads.ComdatName (sample kinds.Comdat heads.ComdatNa
 
 -- ---- layouts
 
-abbrev failed : FaultKind → Result Tok FaultKind
+abbrev failed : TokenFault → Result Tok TokenFault
 failed k = Err k
 
-failed_is : (k l : FaultKind) → failed k ≡ failed l → k ≡ l
+failed_is : (k l : TokenFault) → failed k ≡ failed l → k ≡ l
 failed_is k l e = cc
 
-abbrev judged : Tok → Bool → Bool → Result Tok FaultKind
+abbrev judged : Tok → Bool → Bool → Result Tok TokenFault
 judged t is_string fits = cond is_string (cond fits (Ok t) (failed Profile)) (failed (refusal (number t.head)))
 
 -- a refusal is never for a range or a limit
-refuses : (t : Tok) (k : FaultKind) → (Profile ≡ k → ⊥) → (refusal (number t.head) ≡ k → ⊥) → (b c : Bool) → judged t b c ≡ failed k → ⊥
+refuses : (t : Tok) (k : TokenFault) → (Profile ≡ k → ⊥) → (refusal (number t.head) ≡ k → ⊥) → (b c : Bool) → judged t b c ≡ failed k → ⊥
 refuses t k p r true true e = cc
 refuses t k p r true false e = p (failed_is Profile k e)
 refuses t k p r false c e = r (failed_is (refusal (number t.head)) k e)
@@ -117,7 +117,7 @@ not_string t n = by_test (nat_eq (number t.head) (number heads.Str)) refl
         differ : false ≡ true → ⊥
         differ e = cc
 
-same_failed : (k l : FaultKind) → k ≡ l → SameRefusal {A = Tok} (Err k) (Err l)
+same_failed : (k l : TokenFault) → k ≡ l → SameRefusal {A = Tok} (Err k) (Err l)
 same_failed Number l e = tt
 same_failed Syntax l e = (l, refl)
 same_failed Profile l e = (l, refl)

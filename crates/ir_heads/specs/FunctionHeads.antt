@@ -11,8 +11,8 @@ use Rattle.ir_tree.specs.declared.function.Linkage.TheVariants as linkages
 use Rattle.ir_tree.specs.declared.operand.Reg.{Reg}
 use Rattle.ir_read.specs.Alphabet.{contains}
 use Rattle.ir_read.specs.Chained.{Chain}
-use Rattle.ir_read.specs.declared.fault.FaultKind.{FaultKind}
-use Rattle.ir_read.specs.declared.fault.FaultKind.TheVariants.{Profile}
+use Rattle.ir_read.specs.declared.fault.TokenFault.{TokenFault}
+use Rattle.ir_read.specs.declared.fault.TokenFault.TheVariants.{Profile}
 use Rattle.ir_read.specs.Forms.{Form, ◌>>=◌, either, gives, optional, Many, Star, token}
 use Rattle.ir_read.specs.Rules.{is_class, is_valued}
 use Rattle.ir_heads.specs.Attributes.{parameter_attribute, parameter_attributes}
@@ -101,7 +101,7 @@ abbrev pub names_of : Role → Linkage → List ℕ
 names_of roles.Declaration l = number heads.LifetimeMarker ∷ GLOBAL
 names_of roles.Definition l = if is_local l then NUMBERED ++ GLOBAL else GLOBAL
 
-abbrev pub name_refusal : ℕ → FaultKind
+abbrev pub name_refusal : ℕ → TokenFault
 name_refusal n = if contains NUMBERED n then Profile else refusal n
 
 abbrev pub function_name : Role → Linkage → Form Tok Tok

@@ -6,8 +6,8 @@ use Rattle.ir_lex.specs.declared.head.Head.TheVariants as heads
 use Rattle.ir_lex.specs.Heads.{number, begins_with}
 use Rattle.ir_lex.specs.Quotes.{content}
 use Rattle.ir_lex.specs.Tok.{Tok}
-use Rattle.ir_read.specs.declared.fault.FaultKind.{FaultKind}
-use Rattle.ir_read.specs.declared.fault.FaultKind.TheVariants.{Profile}
+use Rattle.ir_read.specs.declared.fault.TokenFault.{TokenFault}
+use Rattle.ir_read.specs.declared.fault.TokenFault.TheVariants.{Profile}
 use Rattle.ir_read.specs.Forms.{Form, ◌>>=◌, either, gives, token}
 use Rattle.ir_read.specs.Classes.{the, one_of, itself, refusal}
 use Rattle.ir_read.specs.declared.raw.Item.{Item}
@@ -54,7 +54,7 @@ unfoldable pub fits_layout : List ℕ → Bool
 fits_layout text = all_fit (split_at 45 text)
 
 -- a string that is a layout that is supported; another string is refused as a part of the language that isn't read
-unfoldable pub is_layout : Tok → Result Tok FaultKind
+unfoldable pub is_layout : Tok → Result Tok TokenFault
 is_layout t = if nat_eq (number t.head) (number heads.Str) then (if fits_layout (content t.kind t.text) then Ok t else Err Profile) else Err (refusal (number t.head))
 
 -- ---- lines

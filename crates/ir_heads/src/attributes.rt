@@ -15,11 +15,10 @@ ghost use Rattle.ir_read.specs.Operands.{group_named};
 
 use ir_lex::{Head, Token};
 use ir_read::{
-    Bracket, Item, Name, Tokens, alignment_at, attached_at, done, expect, group_at, group_named,
-    refusal,
+    Bracket, Fault, Item, Name, ReadError, TokenFault, Tokens, alignment_at, attached_at, done,
+    expect, group_at, group_named, refusal,
 };
 use ir_tree::Rows;
-use ir_read::{Fault, FaultKind, ReadError};
 use std::alloc::{AllocError, Global};
 
 /// What is kept of an attribute.
@@ -215,7 +214,7 @@ fn word_at(place: Place, tokens: &mut Tokens) -> Result<Attribute, ReadError>
     match tokens.take() {
         None => Err(ReadError::Fault(Fault {
             left,
-            kind: FaultKind::Syntax,
+            kind: TokenFault::Syntax,
         })),
         Some(t) => {
             if is_word_of(place, t.head) {
@@ -278,12 +277,12 @@ fn function_attribute_at(
 }
 
 #[tactic(auto, unfolding(ir_read::specs::Rules::is_valued))]
-fn group_means(alloc: Global, t: &Token) -> Result<Result<Name, FaultKind>, AllocError>
+fn group_means(alloc: Global, t: &Token) -> Result<Result<Name, TokenFault>, AllocError>
     ensures { IfOk result (λ x. x ≡ is_valued tokens refusal GROUP group_named (tok t.now)) }
 {
     if t.head.is(Head::Group) {
         match group_named(alloc, t)? {
-            None => Ok(Err(FaultKind::Number)),
+            None => Ok(Err(TokenFault::Number)),
             Some(name) => Ok(Ok(name)),
         }
     } else {
@@ -299,7 +298,7 @@ fn group_name_at(alloc: Global, tokens: &mut Tokens) -> Result<Name, ReadError>
     match tokens.take() {
         None => Err(ReadError::Fault(Fault {
             left,
-            kind: FaultKind::Syntax,
+            kind: TokenFault::Syntax,
         })),
         Some(t) => match group_means(alloc, &t)? {
             Ok(x) => Ok(x),

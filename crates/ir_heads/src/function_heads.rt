@@ -15,11 +15,10 @@ ghost use Rattle.ir_read.specs.Operands.{global_named};
 use crate::attributes::{parameter_attribute_at, parameter_attributes_at};
 use ir_lex::{Head, Token};
 use ir_read::{
-    Head as WrittenHead, Name, Param, Tokens, expect, global_named, local_at, refusal, reg_at,
-    result_at, type_refusal,
+    Fault, Head as WrittenHead, Name, Param, ReadError, TokenFault, Tokens, expect, global_named,
+    local_at, refusal, reg_at, result_at, type_refusal,
 };
 use ir_tree::{Linkage, Rows};
-use ir_read::{Fault, FaultKind, ReadError};
 use std::alloc::{AllocError, Global};
 
 /// Whether a function has a body.
@@ -81,7 +80,7 @@ fn linkage_at(role: Role, tokens: &mut Tokens) -> Result<Linkage, ReadError>
     match tokens.take() {
         None => Err(ReadError::Fault(Fault {
             left,
-            kind: FaultKind::Syntax,
+            kind: TokenFault::Syntax,
         })),
         Some(t) => {
             if is_linkage_of(role, t.head) {
@@ -105,7 +104,7 @@ pub fn qualifier_word_at(tokens: &mut Tokens) -> Result<(), ReadError>
     match tokens.take() {
         None => Err(ReadError::Fault(Fault {
             left,
-            kind: FaultKind::Syntax,
+            kind: TokenFault::Syntax,
         })),
         Some(t) => {
             if is_qualifier(t.head) {
@@ -278,11 +277,11 @@ fn is_name_of(role: Role, linkage: Linkage, head: Head) -> bool
 }
 
 /// Why a token can't name a function.
-pub fn name_refusal(head: Head) -> FaultKind
+pub fn name_refusal(head: Head) -> TokenFault
     ensures { result ≡ name_refusal (number head) }
 {
     match head {
-        Head::NumberedGlobal | Head::NumberedDefinition => FaultKind::Profile,
+        Head::NumberedGlobal | Head::NumberedDefinition => TokenFault::Profile,
         _ => refusal(head),
     }
 }
@@ -294,12 +293,12 @@ fn name_means(
     role: Role,
     linkage: Linkage,
     t: &Token,
-) -> Result<Result<Name, FaultKind>, AllocError>
+) -> Result<Result<Name, TokenFault>, AllocError>
     ensures { IfOk result (λ x. x ≡ is_valued tokens name_refusal (names_of role linkage) global_named (tok t.now)) }
 {
     if is_name_of(role, linkage, t.head) {
         match global_named(alloc, t)? {
-            None => Ok(Err(FaultKind::Number)),
+            None => Ok(Err(TokenFault::Number)),
             Some(name) => Ok(Ok(name)),
         }
     } else {
@@ -320,7 +319,7 @@ fn function_name_at(
     match tokens.take() {
         None => Err(ReadError::Fault(Fault {
             left,
-            kind: FaultKind::Syntax,
+            kind: TokenFault::Syntax,
         })),
         Some(t) => match name_means(alloc, role, linkage, &t)? {
             Ok(x) => Ok(x),
@@ -371,7 +370,7 @@ fn params_behind_at(
         if left == 0 {
             return Err(ReadError::Fault(Fault {
                 left: tokens.left(),
-                kind: FaultKind::Limit,
+                kind: TokenFault::Limit,
             }));
         }
         let param = further_param_at(alloc, tokens)?;
@@ -400,7 +399,7 @@ pub fn end_of_none_at(tokens: &mut Tokens) -> Result<(), ReadError>
     match tokens.take() {
         None => Err(ReadError::Fault(Fault {
             left,
-            kind: FaultKind::Syntax,
+            kind: TokenFault::Syntax,
         })),
         Some(t) => {
             if t.head.is(Head::CloseParen) {

@@ -9,8 +9,7 @@ ghost use Rattle.ir_heads.specs.Targets.{STRING, until, after, has_64_bits, fits
 ghost use Rattle.ir_heads.specs.TargetsAt.{layout_line_at, triple_line_at, source_line_at, comdat_line_at};
 
 use ir_lex::Head;
-use ir_read::{Name, Tokens, done, expect, refusal};
-use ir_read::{Fault, FaultKind, ReadError};
+use ir_read::{Fault, Name, ReadError, TokenFault, Tokens, done, expect, refusal};
 use std::alloc::Global;
 
 /// What stands before the first separator.
@@ -85,7 +84,7 @@ fn layout_at(alloc: Global, tokens: &mut Tokens) -> Result<Name, ReadError>
     match tokens.take() {
         None => Err(ReadError::Fault(Fault {
             left,
-            kind: FaultKind::Syntax,
+            kind: TokenFault::Syntax,
         })),
         Some(t) => {
             if !t.head.is(Head::Str) {
@@ -101,7 +100,7 @@ fn layout_at(alloc: Global, tokens: &mut Tokens) -> Result<Name, ReadError>
             } else {
                 Err(ReadError::Fault(Fault {
                     left,
-                    kind: FaultKind::Profile,
+                    kind: TokenFault::Profile,
                 }))
             }
         }
@@ -116,7 +115,7 @@ fn string_at(alloc: Global, tokens: &mut Tokens) -> Result<Name, ReadError>
     match tokens.take() {
         None => Err(ReadError::Fault(Fault {
             left,
-            kind: FaultKind::Syntax,
+            kind: TokenFault::Syntax,
         })),
         Some(t) => {
             if t.head.is(Head::Str) {

@@ -9,8 +9,8 @@ use Rattle.ir_lex.specs.Tok.{Tok}
 use Rattle.ir_tree.specs.declared.operand.Reg.TheVariants.{Ptr}
 use Rattle.ir_read.specs.Alphabet.{AllReal, among, contains}
 use Rattle.ir_read.specs.Chained.{Chain, chain_at}
-use Rattle.ir_read.specs.declared.fault.FaultKind.{FaultKind}
-use Rattle.ir_read.specs.declared.fault.FaultKind.TheVariants.{Limit}
+use Rattle.ir_read.specs.declared.fault.TokenFault.{TokenFault}
+use Rattle.ir_read.specs.declared.fault.TokenFault.TheVariants.{Limit}
 use Rattle.ir_read.specs.Readers.{Reader, fault_at, pick, token_at, token_means}
 use Rattle.ir_read.specs.Rules.{Rule, IsWithin, in_range, is_valued}
 use Rattle.ir_read.proofs.Composed.{Begun, widened}
@@ -84,7 +84,7 @@ module _ (fits : ℕ → Bool) (some : fits 1 ≡ true) where
       by_test true d = d
       by_test false d = absurd cc
 
-  abbrev counted_if : Bool → Option ℕ → FaultKind → Result ℕ FaultKind
+  abbrev counted_if : Bool → Option ℕ → TokenFault → Result ℕ TokenFault
   counted_if b o k = cond b (in_range o) (Err k)
 
   ranged : (o : Option ℕ) (n : ℕ) → in_range o ≡ Ok n → o ≡ Some n

@@ -3,15 +3,15 @@ use Rattle.std.proofs.Common.{◌≡◌, ℕ, max, ◌<◌, Bool, true, false, c
 use Rattle.ir_lex.specs.Heads.{number}
 use Rattle.ir_lex.specs.Tok.{Tok}
 use Rattle.ir_read.specs.Alphabet.{among}
-use Rattle.ir_read.specs.declared.fault.FaultKind.{FaultKind}
-use Rattle.ir_read.specs.declared.fault.FaultKind.TheVariants.{Number, Limit}
+use Rattle.ir_read.specs.declared.fault.TokenFault.{TokenFault}
+use Rattle.ir_read.specs.declared.fault.TokenFault.TheVariants.{Number, Limit}
 use Rattle.ir_read.specs.Rules.{in_range, is_valued}
 use Rattle.ir_instructions.specs.Addressing.{fitting}
 use Rattle.ir_instructions.specs.AddressingAt.{passes, count_means}
 use Rattle.ir_read.specs.Classes.{tokens, refusal}
 use Rattle.ir_operands.specs.ShapeForms.{NUMBER, counted, count_of}
 
-abbrev pub judged : (ℕ → Bool) → Option ℕ → Result ℕ FaultKind
+abbrev pub judged : (ℕ → Bool) → Option ℕ → Result ℕ TokenFault
 judged fits None = Err Number
 judged fits (Some n) = cond (fits n) (Ok n) (Err Limit)
 

@@ -5,7 +5,7 @@ use Rattle.ir_lex.specs.declared.head.Head.TheVariants as heads
 use Rattle.ir_lex.specs.Tok.{Tok}
 use Rattle.ir_tree.specs.declared.operand.Reg.TheVariants.{Ptr}
 use Rattle.ir_read.specs.Chained.{Chain}
-use Rattle.ir_read.specs.declared.fault.FaultKind.{FaultKind}
+use Rattle.ir_read.specs.declared.fault.TokenFault.{TokenFault}
 use Rattle.ir_read.specs.Forms.{Form, ◌>>=◌, either, gives, token}
 use Rattle.ir_read.specs.Rules.{is_valued}
 use Rattle.ir_read.specs.Classes.{tokens, refusal, the}
@@ -44,7 +44,7 @@ fitting fits (Some n) = if fits n then Some n else None
 abbrev pub fitting_count : (ℕ → Bool) → ℕ → Tok → Option ℕ
 fitting_count fits w t = fitting fits (count_of (max 1 w) t)
 
-abbrev pub is_count : (ℕ → Bool) → ℕ → Tok → Result ℕ FaultKind
+abbrev pub is_count : (ℕ → Bool) → ℕ → Tok → Result ℕ TokenFault
 is_count fits w t = is_valued tokens refusal NUMBER (fitting_count fits w) t
 
 abbrev pub count_in : (ℕ → Bool) → ℕ → Form Tok ℕ

@@ -6,8 +6,8 @@ use Rattle.ir_lex.specs.Tok.{Tok}
 use Rattle.ir_tree.specs.declared.operand.Reg.TheVariants.{Ptr}
 use Rattle.ir_read.specs.Alphabet.{among}
 use Rattle.ir_read.specs.Chained.{chain_at}
-use Rattle.ir_read.specs.declared.fault.FaultKind.{FaultKind}
-use Rattle.ir_read.specs.declared.fault.FaultKind.TheVariants.{Limit}
+use Rattle.ir_read.specs.declared.fault.TokenFault.{TokenFault}
+use Rattle.ir_read.specs.declared.fault.TokenFault.TheVariants.{Limit}
 use Rattle.ir_read.specs.Readers.{Reader, ◌>>=◌, done, pick, token_at}
 use Rattle.ir_read.specs.Ahead.{ALIGNED}
 use Rattle.ir_read.specs.Classes.{tokens, the_at}
@@ -35,7 +35,7 @@ passes fits (Some n) = not (fits n)
 abbrev pub too_many : (ℕ → Bool) → ℕ → Tok → Bool
 too_many fits w t = among tokens NUMBER t && passes fits (count_of (max 1 w) t)
 
-unfoldable pub count_means : (ℕ → Bool) → ℕ → Tok → Result ℕ FaultKind
+unfoldable pub count_means : (ℕ → Bool) → ℕ → Tok → Result ℕ TokenFault
 count_means fits w t = if too_many fits w t then Err Limit else is_count fits w t
 
 abbrev pub count_in_at : (ℕ → Bool) → ℕ → Reader Tok ℕ

@@ -6,8 +6,8 @@ use Rattle.ir_lex.specs.Heads.{number}
 use Rattle.ir_lex.specs.Tok.{Tok}
 use Rattle.ir_tree.specs.declared.operand.Reg.{Reg}
 use Rattle.ir_tree.specs.declared.operand.Reg.TheVariants.{Int, Ptr}
-use Rattle.ir_read.specs.declared.fault.FaultKind.{FaultKind}
-use Rattle.ir_read.specs.declared.fault.FaultKind.TheVariants.{Syntax}
+use Rattle.ir_read.specs.declared.fault.TokenFault.{TokenFault}
+use Rattle.ir_read.specs.declared.fault.TokenFault.TheVariants.{Syntax}
 use Rattle.ir_read.specs.Forms.{Form, ◌>>=◌, either, gives, token, Star}
 use Rattle.ir_read.specs.Rules.{in_range, is_class, is_valued}
 use Rattle.ir_read.specs.Classes.{tokens, refusal, the, one_of}
@@ -85,7 +85,7 @@ matched_by h r t = None
 abbrev pub matched_of : Reg → Tok → Option Matched
 matched_of r t = matched_by t.head r t
 
-abbrev pub number_matched : Reg → Tok → Result Matched FaultKind
+abbrev pub number_matched : Reg → Tok → Result Matched TokenFault
 number_matched (Int w) t = in_range (matched_number (Int w) t)
 number_matched Ptr t = Err Syntax
 

@@ -18,11 +18,10 @@ use crate::instructions::{align_at, aligned_at, argument_at, pointed_at};
 use ir_lex::{Head, Token};
 use ir_operands::{Listing, Measured, counted, memory_shape_at, push, stepping_at};
 use ir_read::{
-    Argument, Instr, Operand, Shape, ShapeNode, Tokens, attached_at, done, expect, integer_at,
-    refusal,
+    Argument, Fault, Instr, Operand, ReadError, Shape, ShapeNode, TokenFault, Tokens, attached_at,
+    done, expect, integer_at, refusal,
 };
 use ir_tree::Rows;
-use ir_read::{Fault, FaultKind, ReadError};
 use std::alloc::Global;
 
 /// How many of a shape an `alloca` takes, and their alignment in bytes, where it is written.
@@ -77,26 +76,26 @@ fn slots_fit(shape: &Measured, count: u64) -> bool
 
 /// The count that a literal is, of so many bits, where it is within the limits.
 #[tactic(auto, using(crate::proofs::Counts::count_is))]
-fn fitting_count(shape: &Measured, width: u8, t: &Token) -> Result<u64, FaultKind>
+fn fitting_count(shape: &Measured, width: u8, t: &Token) -> Result<u64, TokenFault>
     requires measured { shape.now.extent ≡ extent_of shape.now.typed.shape }
     requires ranged { IsWidth width }
     requires number { among tokens NUMBER (tok t.now) ≡ true }
     ensures { result ≡ count_means (slots_fit shape.now.typed.shape) width (tok t.now) }
 {
     match counted(width, t.text) {
-        None => Err(FaultKind::Number),
+        None => Err(TokenFault::Number),
         Some(count) => {
             if slots_fit(shape, count) {
                 Ok(count)
             } else {
-                Err(FaultKind::Limit)
+                Err(TokenFault::Limit)
             }
         }
     }
 }
 
 #[tactic(auto, unfolding(crate::specs::AddressingAt::count_means, ir_read::specs::Rules::is_valued))]
-fn count_means(shape: &Measured, width: u8, t: &Token) -> Result<u64, FaultKind>
+fn count_means(shape: &Measured, width: u8, t: &Token) -> Result<u64, TokenFault>
     requires measured { shape.now.extent ≡ extent_of shape.now.typed.shape }
     requires ranged { IsWidth width }
     ensures { result ≡ count_means (slots_fit shape.now.typed.shape) width (tok t.now) }
@@ -118,7 +117,7 @@ fn count_in_at(shape: &Measured, width: u8, tokens: &mut Tokens) -> Result<u64, 
     match tokens.take() {
         None => Err(ReadError::Fault(Fault {
             left,
-            kind: FaultKind::Syntax,
+            kind: TokenFault::Syntax,
         })),
         Some(t) => match count_means(shape, width, &t) {
             Ok(x) => Ok(x),

@@ -16,11 +16,10 @@ ghost use Rattle.ir_instructions.specs.InstructionsAt.{arm_at, pointed_at, secon
 use ir_lex::{Head, Token};
 use ir_operands::{Listing, operand_at, pointer_at};
 use ir_read::{
-    Argument, Instr, Operand, Tokens, alignment_at, attached_at, attachments_at, bit_at, done,
-    expect, integer_at, maybe_at, refusal, reg_at, scalar_at,
+    Argument, Fault, Instr, Operand, ReadError, TokenFault, Tokens, alignment_at, attached_at,
+    attachments_at, bit_at, done, expect, integer_at, maybe_at, refusal, reg_at, scalar_at,
 };
 use ir_tree::{BinaryOp, CastOp, Flags, Predicate, Reg};
-use ir_read::{Fault, FaultKind, ReadError};
 use std::alloc::Global;
 
 /// Takes `nuw` or `nsw`; the answer is whether it is `nuw`.
@@ -32,7 +31,7 @@ fn wrap_at(tokens: &mut Tokens) -> Result<bool, ReadError>
     match tokens.take() {
         None => Err(ReadError::Fault(Fault {
             left,
-            kind: FaultKind::Syntax,
+            kind: TokenFault::Syntax,
         })),
         Some(t) => match t.head {
             Head::Nuw => Ok(true),
@@ -160,7 +159,7 @@ pub fn joining_into(alloc: Global, list: &mut Listing, tokens: &mut Tokens) -> R
 }
 
 #[tactic(auto, unfolding(ir_read::specs::Rules::is_among))]
-fn predicate_means(t: &Token) -> Result<Predicate, FaultKind>
+fn predicate_means(t: &Token) -> Result<Predicate, TokenFault>
     ensures { result ≡ is_among tokens refusal PREDICATES predicate_of (tok t.now) }
 {
     match t.head {
@@ -186,7 +185,7 @@ fn predicate_at(tokens: &mut Tokens) -> Result<Predicate, ReadError>
     match tokens.take() {
         None => Err(ReadError::Fault(Fault {
             left,
-            kind: FaultKind::Syntax,
+            kind: TokenFault::Syntax,
         })),
         Some(t) => match predicate_means(&t) {
             Ok(x) => Ok(x),

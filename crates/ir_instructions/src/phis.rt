@@ -10,9 +10,8 @@ ghost use Rattle.ir_instructions.specs.PhisAt.{incoming_at, behind_comma_at, fur
 
 use ir_lex::Head;
 use ir_operands::{Listing, operand_at, push};
-use ir_read::{Incoming, Instr, Tokens, attached_at, done, expect, local_at, reg_at};
+use ir_read::{Incoming, Instr, ReadError, Tokens, attached_at, done, expect, local_at, reg_at};
 use ir_tree::{Reg, Rows};
-use ir_read::ReadError;
 use std::alloc::Global;
 
 /// Reads `[ operand , Local ]`.

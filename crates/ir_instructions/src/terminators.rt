@@ -12,11 +12,10 @@ ghost use Rattle.ir_instructions.specs.TerminatorsAt.{branch_at, bracketed_cases
 use ir_lex::{Head, Token};
 use ir_operands::operand_at;
 use ir_read::{
-    Argument, Case, Name, Terminator, Tokens, attachments_at, bit_at, done, expect, integer_at,
-    literal, local_at, refusal, reg_at, result_at, type_refusal,
+    Argument, Case, Fault, Name, ReadError, Terminator, TokenFault, Tokens, attachments_at, bit_at,
+    done, expect, integer_at, literal, local_at, refusal, reg_at, result_at, type_refusal,
 };
 use ir_tree::{Reg, Rows};
-use ir_read::{Fault, FaultKind, ReadError};
 use std::alloc::Global;
 use std::mem::replace;
 
@@ -138,21 +137,21 @@ fn branching_into(
     }
 }
 
-fn number_matched(reg: Reg, t: &Token) -> Result<Matched, FaultKind>
+fn number_matched(reg: Reg, t: &Token) -> Result<Matched, TokenFault>
     requires { IsReg reg }
     ensures { result ≡ number_matched reg (tok t.now) }
 {
     match reg {
-        Reg::Ptr => Err(FaultKind::Syntax),
+        Reg::Ptr => Err(TokenFault::Syntax),
         Reg::Int(width) => match literal(width, t.text) {
-            None => Err(FaultKind::Number),
+            None => Err(TokenFault::Number),
             Some(bits) => Ok(Matched { width, bits }),
         },
     }
 }
 
 #[tactic(auto, unfolding(ir_read::specs::Rules::is_valued))]
-fn constant_means(reg: Reg, t: &Token) -> Result<Matched, FaultKind>
+fn constant_means(reg: Reg, t: &Token) -> Result<Matched, TokenFault>
     requires { IsReg reg }
     ensures { result ≡ is_valued tokens refusal (case_classes reg) (matched_of reg) (tok t.now) }
 {
@@ -173,7 +172,7 @@ pub fn constant_at(reg: Reg, tokens: &mut Tokens) -> Result<Matched, ReadError>
     match tokens.take() {
         None => Err(ReadError::Fault(Fault {
             left,
-            kind: FaultKind::Syntax,
+            kind: TokenFault::Syntax,
         })),
         Some(t) => match constant_means(reg, &t) {
             Ok(x) => Ok(x),
@@ -220,7 +219,7 @@ fn end_of_cases_at(tokens: &mut Tokens) -> Result<(), ReadError>
     match tokens.take() {
         None => Err(ReadError::Fault(Fault {
             left,
-            kind: FaultKind::Syntax,
+            kind: TokenFault::Syntax,
         })),
         Some(t) => {
             if t.head.is(Head::CloseBracket) {
@@ -271,7 +270,7 @@ fn switching_into(
 }
 
 #[tactic(auto, unfolding(ir_read::specs::Rules::is_among))]
-fn ending_means(t: &Token) -> Result<Ending, FaultKind>
+fn ending_means(t: &Token) -> Result<Ending, TokenFault>
     ensures { result ≡ is_among tokens refusal ENDS ending_of (tok t.now) }
 {
     let line = t.line;
@@ -300,7 +299,7 @@ fn ending_at(tokens: &mut Tokens) -> Result<Ending, ReadError>
     match tokens.take() {
         None => Err(ReadError::Fault(Fault {
             left,
-            kind: FaultKind::Syntax,
+            kind: TokenFault::Syntax,
         })),
         Some(t) => match ending_means(&t) {
             Ok(x) => Ok(x),

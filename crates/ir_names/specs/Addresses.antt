@@ -5,7 +5,7 @@ use Rattle.ir_read.specs.declared.address.Level.{Level}
 use Rattle.ir_tree.specs.Forms.{Form, int, pointer, array, structure, Forms, no_parts, part, list_of}
 use Rattle.ir_tree.specs.Layout.{size, place}
 use Rattle.ir_names.specs.declared.fault.Fault.{Fault}
-use Rattle.ir_names.specs.declared.fault.FaultKind.TheVariants as kinds
+use Rattle.ir_names.specs.declared.fault.NameFault.TheVariants as kinds
 use Rattle.ir_names.specs.Settled.{◌>>=◌}
 use Rattle.ir_names.specs.Types.{Types, expanded}
 

@@ -3,7 +3,7 @@ use Rattle.std.specs.Prelude.{◌⊎◌, ℕ, ◌+◌, ◌^◌, ◌<◌, ◌≤�
 use Rattle.std.specs.List.{position_or_len}
 use Rattle.ir_lex.specs.Tok.{Tok}
 use Rattle.ir_names.specs.declared.fault.Fault.{Fault}
-use Rattle.ir_names.specs.declared.fault.FaultKind.TheVariants.{Twice, Unknown}
+use Rattle.ir_names.specs.declared.fault.NameFault.TheVariants.{Twice, Unknown}
 use Rattle.ir_names.specs.declared.locals.Sort.{Sort}
 use Rattle.ir_names.specs.declared.locals.Sort.TheVariants.{Value, Block}
 use Rattle.ir_names.specs.Keys.{Key, spelled, written, key_of, same_key}

@@ -7,7 +7,7 @@ use Rattle.ir_tree.specs.Forms as tree
 use Rattle.ir_tree.specs.Forms.{Form}
 use Rattle.ir_tree.specs.Layout.{size}
 use Rattle.ir_names.specs.declared.fault.Fault.{Fault}
-use Rattle.ir_names.specs.declared.fault.FaultKind.TheVariants.{Limit}
+use Rattle.ir_names.specs.declared.fault.NameFault.TheVariants.{Limit}
 use Rattle.ir_names.specs.Keys.{Key, key_of, same_key}
 use Rattle.ir_names.specs.Locals.{unknown, twice}
 use Rattle.ir_names.specs.Settled.{◌>>=◌, each}

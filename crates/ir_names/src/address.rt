@@ -8,7 +8,7 @@ ghost use Rattle.ir_tree.specs.declared.failure.Failure.TheVariants as errors;
 ghost use Rattle.ir_names.specs.Settled.{Settles};
 
 use crate::expand::expanded;
-use crate::fault::{Fault, FaultKind, ResolveError};
+use crate::fault::{Fault, NameFault, ResolveError};
 use crate::heads::Types;
 use ir_read::{Index, Level};
 use ir_tree::{Shape as Tree, ShapeNode, offset_of as part_offset, size_of};
@@ -19,7 +19,7 @@ fn bad_index(line: u32) -> ResolveError
 {
     ResolveError::Fault(Fault {
         line,
-        kind: FaultKind::Index,
+        kind: NameFault::Index,
     })
 }
 

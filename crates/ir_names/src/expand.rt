@@ -9,7 +9,7 @@ ghost use Rattle.ir_names.specs.Settled.{Settles, each};
 ghost use Rattle.ir_names.specs.Types.{expand, limit, scalar, within, without_parts, opened, structure_of};
 ghost use Rattle.ir_names.specs.Types as typing;
 
-use crate::fault::{Fault, FaultKind, ResolveError};
+use crate::fault::{Fault, NameFault, ResolveError};
 use crate::heads::Types;
 use crate::types::unknown;
 use ir_read::{Shape, ShapeNode, Typed};
@@ -28,7 +28,7 @@ pub fn limit(line: u32) -> ResolveError
 {
     ResolveError::Fault(Fault {
         line,
-        kind: FaultKind::Limit,
+        kind: NameFault::Limit,
     })
 }
 

@@ -4,7 +4,7 @@ use ir_tree::Failure;
 
 /// What a name, a shape or an index breaks.
 #[derive(Clone, Copy, Debug, PartialEq, Eq)]
-pub enum FaultKind {
+pub enum NameFault {
     /// A name that is defined before, or a number below the counter.
     Twice,
     /// A name that nothing of its sort is defined under, or a type without an expansion.
@@ -19,7 +19,7 @@ pub enum FaultKind {
 #[derive(Clone, Copy, Debug, PartialEq, Eq)]
 pub struct Fault {
     pub line: u32,
-    pub kind: FaultKind,
+    pub kind: NameFault,
 }
 
 /// Why a module isn't resolved.

@@ -5,7 +5,7 @@ ghost use Rattle.ir_names.specs.Globals.{no_globals, has_name, is_low, counted_b
 ghost use Rattle.ir_names.specs.Symbols.{symbol_name};
 ghost use Rattle.ir_names.specs.Settled.{Settles};
 
-use crate::fault::{Fault, FaultKind, ResolveError};
+use crate::fault::{Fault, NameFault, ResolveError};
 use crate::key::number_of;
 use crate::number::is_numeral;
 use crate::symbol::trimmed;
@@ -110,7 +110,7 @@ impl<'t> Globals<'t> {
         if self.is_low(number) || self.has_name(&wanted) {
             return Err(ResolveError::Fault(Fault {
                 line: name.line(),
-                kind: FaultKind::Twice,
+                kind: NameFault::Twice,
             }));
         }
         self.push(wanted, number)

@@ -34,7 +34,7 @@ mod types;
 pub use address::address_offset;
 pub use allocation::{align_or, allocated};
 pub use expand::{expanded, limit};
-pub use fault::{Fault, FaultKind, ResolveError};
+pub use fault::{Fault, NameFault, ResolveError};
 pub use globals::{Globals, name_of};
 pub use groups::{Groups, groups_of, is_noinline, is_optnone};
 pub use heads::Types;

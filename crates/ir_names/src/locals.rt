@@ -6,7 +6,7 @@ ghost use Rattle.ir_names.specs.KeyViews.{key};
 ghost use Rattle.ir_names.specs.Locals.{Known, none_known, place_of, sort_of, stands, is_below, with_key, counted, with_definition, with_name, number_in, MayFollow};
 ghost use Rattle.ir_names.specs.Settled.{Settles};
 
-use crate::fault::{Fault, FaultKind, ResolveError};
+use crate::fault::{Fault, NameFault, ResolveError};
 use crate::key::{Key, key_of};
 use indexmap::IndexMap;
 use ir_read::Name;
@@ -118,7 +118,7 @@ impl<'t> Locals<'t> {
         if self.is_below(&wanted) || self.stands(&wanted) {
             return Err(ResolveError::Fault(Fault {
                 line,
-                kind: FaultKind::Twice,
+                kind: NameFault::Twice,
             }));
         }
         self.push(wanted, sort)
@@ -162,7 +162,7 @@ impl<'t> Locals<'t> {
             },
             _ => Err(ResolveError::Fault(Fault {
                 line: name.line(),
-                kind: FaultKind::Unknown,
+                kind: NameFault::Unknown,
             })),
         }
     }

@@ -10,7 +10,7 @@ ghost use Rattle.ir_names.specs.Settled.{Settles};
 ghost use Rattle.ir_names.specs.TypeNames.{place_of};
 ghost use Rattle.ir_names.specs.Types.{entry_of, entry_in, shape_at, shape_in, head_from, chased, with_type, shape_if};
 
-use crate::fault::{Fault, FaultKind, ResolveError};
+use crate::fault::{Fault, NameFault, ResolveError};
 use crate::key::{Key, key_of};
 use indexmap::IndexMap;
 use ir_read::{Name, Shape, ShapeNode, Typed};
@@ -61,7 +61,7 @@ impl<'t> TypeNames<'t> {
         if self.place_of(&wanted).is_some() {
             return Err(ResolveError::Fault(Fault {
                 line: name.line(),
-                kind: FaultKind::Twice,
+                kind: NameFault::Twice,
             }));
         }
         self.push(wanted, shape)
@@ -196,6 +196,6 @@ pub fn unknown(line: u32) -> ResolveError
 {
     ResolveError::Fault(Fault {
         line,
-        kind: FaultKind::Unknown,
+        kind: NameFault::Unknown,
     })
 }

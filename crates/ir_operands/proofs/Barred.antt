@@ -1,7 +1,7 @@
 -- A reading that is barred by a limit before a token that begins none.
 use Rattle.std.proofs.Common.{◌≡◌, Bool, true, false, ◌&&◌, ◌||◌, not, List, [], ◌∷◌, ◌++◌, Result, Ok, refl, sym, subst, ◌∙◌, ◌⊎◌, inl, inr}
 use Rattle.ir_read.specs.declared.fault.Fault.{Fault}
-use Rattle.ir_read.specs.declared.fault.FaultKind.TheVariants.{Limit}
+use Rattle.ir_read.specs.declared.fault.TokenFault.TheVariants.{Limit}
 use Rattle.ir_read.specs.Alphabet.{Alphabet, AllReal, is_literal, is_number}
 use Rattle.ir_read.specs.Forms.{Form}
 use Rattle.ir_read.specs.Lawful.{Lawful, Stops, UpTo}

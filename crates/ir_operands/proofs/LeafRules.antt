@@ -10,8 +10,8 @@ use Rattle.ir_lex.specs.Quotes.{is_zero_name}
 use Rattle.ir_lex.specs.Rows.{best_fit, rest_fit, label_len, number_len, word_len, name_len, meta_len, dots_len, other_len, string_len}
 use Rattle.ir_lex.specs.Tok.{Tok}
 use Rattle.ir_read.specs.Alphabet.{among, contains, is_number, AllReal}
-use Rattle.ir_read.specs.declared.fault.FaultKind.{FaultKind}
-use Rattle.ir_read.specs.declared.fault.FaultKind.TheVariants.{Syntax, Profile, Number, Limit}
+use Rattle.ir_read.specs.declared.fault.TokenFault.{TokenFault}
+use Rattle.ir_read.specs.declared.fault.TokenFault.TheVariants.{Syntax, Profile, Number, Limit}
 use Rattle.ir_read.specs.Lawful.{Lawful, SameRefusal}
 use Rattle.ir_read.specs.Readers.{Reader, fault_at, pick, token_at, token_means}
 use Rattle.ir_read.specs.Rules.{Rule, IsWithin, in_range, is_class, is_valued}
@@ -47,10 +47,10 @@ zero_named : type_name zero_local ≡ Some zero_typed
 unfolding operands.named
 zero_named = refl
 
-abbrev refuse : FaultKind → Result Typed FaultKind
+abbrev refuse : TokenFault → Result Typed TokenFault
 refuse k = Err k
 
-err_is : (k l : FaultKind) → refuse k ≡ refuse l → k ≡ l
+err_is : (k l : TokenFault) → refuse k ≡ refuse l → k ≡ l
 err_is k l e = cc
 
 zero_is_leaf : (room : Room) → is_leaf room zero_local ≡ Ok zero_typed
@@ -67,7 +67,7 @@ only n m h = by_value (nat_eq n m) refl h
     by_value true e p = equal n m e
     by_value false e p = absurd cc
 
-abbrev named_means : Bool → Option Typed → FaultKind → Result Typed FaultKind
+abbrev named_means : Bool → Option Typed → TokenFault → Result Typed TokenFault
 named_means b o k = cond b (in_range o) (Err k)
 
 leaf_range : (room : Room) (t : Tok) → is_leaf room t ≡ refuse Number → (is_number tokens t ≡ true) × (u : Tok) × (b : Typed) × (tokens.class u ≡ tokens.class t) × (is_leaf room u ≡ Ok b) × IsReal u
@@ -107,19 +107,19 @@ leaf_alike : (room : Room) (t u : Tok) → is_number tokens t ≡ true → token
 unfolding is_leaf is_valued
 leaf_alike room t u n e = by_scalar (among tokens SCALAR t) (among tokens SCALAR u) (not_scalar t n) (not_scalar u (ap (contains NUMERALS) e ∙ n)) (among tokens LOCAL t) (among tokens LOCAL u) (ap (contains LOCAL) (sym e)) (type_name t) (type_name u) (memory_refusal (number t.head)) (memory_refusal (number u.head)) (ap memory_refusal (sym e))
   where
-    alike_refused : (k l : FaultKind) → k ≡ l → SameRefusal {A = Typed} (Err k) (Err l)
+    alike_refused : (k l : TokenFault) → k ≡ l → SameRefusal {A = Typed} (Err k) (Err l)
     alike_refused Number l e = tt
     alike_refused Syntax l e = (l, refl)
     alike_refused Profile l e = (l, refl)
     alike_refused Limit l e = tt
 
-    by_name : (b c : Bool) → b ≡ c → (o p : Option Typed) (k l : FaultKind) → k ≡ l → SameRefusal (named_means b o k) (named_means c p l)
+    by_name : (b c : Bool) → b ≡ c → (o p : Option Typed) (k l : TokenFault) → k ≡ l → SameRefusal (named_means b o k) (named_means c p l)
     by_name true c d None p k l h = tt
     by_name true c d (Some x) p k l h = tt
     by_name false true d o p k l h = absurd cc
     by_name false false d o p k l h = alike_refused k l h
 
-    by_scalar : (b c : Bool) → b ≡ false → c ≡ false → (b' c' : Bool) → b' ≡ c' → (o p : Option Typed) (k l : FaultKind) → k ≡ l → SameRefusal (cond (b && has_room room t) (Ok (scalar_typed t)) (named_means b' o k)) (cond (c && has_room room u) (Ok (scalar_typed u)) (named_means c' p l))
+    by_scalar : (b c : Bool) → b ≡ false → c ≡ false → (b' c' : Bool) → b' ≡ c' → (o p : Option Typed) (k l : TokenFault) → k ≡ l → SameRefusal (cond (b && has_room room t) (Ok (scalar_typed t)) (named_means b' o k)) (cond (c && has_room room u) (Ok (scalar_typed u)) (named_means c' p l))
     by_scalar true c d d' b' c' h o p k l i = absurd cc
     by_scalar false true d d' b' c' h o p k l i = absurd cc
     by_scalar false false d d' b' c' h o p k l i = by_name b' c' h o p k l i

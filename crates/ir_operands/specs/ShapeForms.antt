@@ -7,8 +7,8 @@ use Rattle.ir_lex.specs.Rows.{begins}
 use Rattle.ir_lex.specs.Tok.{Tok}
 use Rattle.ir_read.specs.Alphabet.{among}
 use Rattle.ir_read.specs.Chained.{Chain}
-use Rattle.ir_read.specs.declared.fault.FaultKind.{FaultKind}
-use Rattle.ir_read.specs.declared.fault.FaultKind.TheVariants.{Profile, Limit}
+use Rattle.ir_read.specs.declared.fault.TokenFault.{TokenFault}
+use Rattle.ir_read.specs.declared.fault.TokenFault.TheVariants.{Profile, Limit}
 use Rattle.ir_read.specs.Forms.{Form, ◌>>=◌, either, gives, token}
 use Rattle.ir_read.specs.Rules.{is_class, is_valued}
 use Rattle.ir_read.specs.Classes.{tokens, refusal, the, one_of}
@@ -51,11 +51,11 @@ too_large room t = among tokens SCALAR t && not (has_room room t)
 abbrev pub type_name : Tok → Option Typed
 type_name t = option_map (λ name. typed (named name) t.line) (operands.named t)
 
-unfoldable pub is_leaf : Room → Tok → Result Typed FaultKind
+unfoldable pub is_leaf : Room → Tok → Result Typed TokenFault
 is_leaf room t = if among tokens SCALAR t && has_room room t then Ok (scalar_typed t) else is_valued tokens memory_refusal LOCAL type_name t
 
 -- a scalar that has no room is past a limit
-unfoldable pub leaf_means : Room → Tok → Result Typed FaultKind
+unfoldable pub leaf_means : Room → Tok → Result Typed TokenFault
 leaf_means room t = if too_large room t then Err Limit else is_leaf room t
 
 -- i8 / i16 / i32 / i64 / ptr / Local
@@ -139,7 +139,7 @@ structure_of part = do
   gives (typed (structure false (parts_of parts)) line)
 
 -- behind < a number begins a vector, which is left out
-abbrev pub angle_refusal : ℕ → FaultKind
+abbrev pub angle_refusal : ℕ → TokenFault
 angle_refusal class = if nat_eq class (number heads.Number) then Profile else refusal class
 
 abbrev pub brace_behind_angle : Form Tok (Unit {0})

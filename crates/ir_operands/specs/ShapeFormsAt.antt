@@ -5,7 +5,7 @@ use Rattle.ir_lex.specs.Heads.{number}
 use Rattle.ir_lex.specs.Tok.{Tok}
 use Rattle.ir_read.specs.Alphabet.{among}
 use Rattle.ir_read.specs.Chained.{chain_at}
-use Rattle.ir_read.specs.declared.fault.FaultKind.TheVariants.{Limit}
+use Rattle.ir_read.specs.declared.fault.TokenFault.TheVariants.{Limit}
 use Rattle.ir_read.specs.Readers.{Reader, ◌>>=◌, done, fault_at, pick, token_at}
 use Rattle.ir_read.specs.Rules.{is_class, is_valued}
 use Rattle.ir_read.specs.Ahead.{BRACKETS}

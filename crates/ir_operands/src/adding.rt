@@ -6,8 +6,7 @@
 ghost use Rattle.std.specs.Prelude.{◌≡◌, ◌++◌, ◌∷◌, [], IfErr, OnOk};
 ghost use Rattle.ir_tree.specs.declared.failure.Failure.TheVariants.{NoMemory};
 
-use ir_read::Item;
-use ir_read::ReadError;
+use ir_read::{Item, ReadError};
 
 /// Adds a value, or says that memory ran out.
 pub fn push<T: Drop>(list: &mut Vec<T>, value: T) -> Result<(), ReadError>

@@ -5,8 +5,7 @@ ghost use Rattle.ir_tree.specs.declared.failure.Failure.TheVariants.{NoMemory};
 ghost use Rattle.ir_operands.specs.Listing.{put};
 
 use crate::adding::push;
-use ir_read::{Instr, Line, Name};
-use ir_read::ReadError;
+use ir_read::{Instr, Line, Name, ReadError};
 
 /// The lines of a block so far, and what stands before the next instruction: the name of its result,
 /// where it has one, and the line of its first token.

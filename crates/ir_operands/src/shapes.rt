@@ -18,9 +18,9 @@ ghost use Rattle.ir_read.specs.Shapes.{array, parts_of, structure};
 use crate::extents::{Align, Extent, Room};
 use ir_lex::{Head, Token};
 use ir_read::{
-    Shape, Tokens, Typed, decimal, expect, literal, memory_refusal, named, refusal, width,
+    Fault, ReadError, Shape, TokenFault, Tokens, Typed, decimal, expect, literal, memory_refusal,
+    named, refusal, width,
 };
-use ir_read::{Fault, FaultKind, ReadError};
 use std::alloc::{AllocError, Global};
 
 /// A shape with the line of its first token, and its extent, to which type names add no bytes.
@@ -63,7 +63,7 @@ fn leaf_means(
     alloc: Global,
     room: Room,
     t: &Token,
-) -> Result<Result<Measured, FaultKind>, AllocError>
+) -> Result<Result<Measured, TokenFault>, AllocError>
     requires { IsRoom room }
     ensures exact { IfOk result (λ means. view_result (λ x. x.typed) means ≡ leaf_means room (tok t.now)) }
     ensures measured { IfOk result (λ means. IfOk means (λ x. x.extent ≡ extent_of x.typed.shape)) }
@@ -75,11 +75,11 @@ fn leaf_means(
             if room.room_for(scalar.extent.align) > 1 {
                 Ok(Ok(scalar))
             } else {
-                Ok(Err(FaultKind::Limit))
+                Ok(Err(TokenFault::Limit))
             }
         }
         Head::Local => match named(alloc, t)? {
-            None => Ok(Err(FaultKind::Number)),
+            None => Ok(Err(TokenFault::Number)),
             Some(name) => Ok(Ok(Measured {
                 typed: Typed {
                     shape: Shape::named(name),
@@ -103,7 +103,7 @@ pub fn leaf_at(alloc: Global, room: Room, tokens: &mut Tokens) -> Result<Measure
     match tokens.take() {
         None => Err(ReadError::Fault(Fault {
             left,
-            kind: FaultKind::Syntax,
+            kind: TokenFault::Syntax,
         })),
         Some(t) => match leaf_means(alloc, room, &t)? {
             Ok(x) => Ok(x),
@@ -123,7 +123,7 @@ fn innermost_at(alloc: Global, room: Room, tokens: &mut Tokens) -> Result<Measur
     if tokens.comes_bracket() {
         Err(ReadError::Fault(Fault {
             left: tokens.left(),
-            kind: FaultKind::Limit,
+            kind: TokenFault::Limit,
         }))
     } else {
         leaf_at(alloc, room, tokens)
@@ -146,12 +146,12 @@ pub fn counted(width: u8, text: &[u8]) -> Option<u64>
 }
 
 #[tactic(auto, unfolding(ir_read::specs::Rules::is_valued))]
-fn count_means(t: &Token) -> Result<u64, FaultKind>
+fn count_means(t: &Token) -> Result<u64, TokenFault>
     ensures { result ≡ is_valued tokens refusal NUMBER (count_of 64) (tok t.now) }
 {
     if t.head.is(Head::Number) {
         match counted(64, t.text) {
-            None => Err(FaultKind::Number),
+            None => Err(TokenFault::Number),
             Some(n) => Ok(n),
         }
     } else {
@@ -167,7 +167,7 @@ pub fn count_at(tokens: &mut Tokens) -> Result<u64, ReadError>
     match tokens.take() {
         None => Err(ReadError::Fault(Fault {
             left,
-            kind: FaultKind::Syntax,
+            kind: TokenFault::Syntax,
         })),
         Some(t) => match count_means(&t) {
             Ok(x) => Ok(x),
@@ -185,7 +185,7 @@ pub fn line_at(wanted: Head, tokens: &mut Tokens) -> Result<u32, ReadError>
     match tokens.take() {
         None => Err(ReadError::Fault(Fault {
             left,
-            kind: FaultKind::Syntax,
+            kind: TokenFault::Syntax,
         })),
         Some(t) => {
             if t.head.is(wanted) {
@@ -201,11 +201,11 @@ pub fn line_at(wanted: Head, tokens: &mut Tokens) -> Result<u32, ReadError>
 }
 
 /// Why a token can't stand behind a `<`: a number would begin a vector, which is left out.
-pub fn angle_refusal(head: Head) -> FaultKind
+pub fn angle_refusal(head: Head) -> TokenFault
     ensures { result ≡ angle_refusal (number head) }
 {
     match head {
-        Head::Number => FaultKind::Profile,
+        Head::Number => TokenFault::Profile,
         _ => refusal(head),
     }
 }
@@ -219,7 +219,7 @@ pub fn brace_behind_angle_at(tokens: &mut Tokens) -> Result<(), ReadError>
     match tokens.take() {
         None => Err(ReadError::Fault(Fault {
             left,
-            kind: FaultKind::Syntax,
+            kind: TokenFault::Syntax,
         })),
         Some(t) => {
             if t.head.is(Head::OpenBrace) {

@@ -18,11 +18,10 @@ use crate::adding::push;
 use crate::shapes::memory_shape_at;
 use ir_lex::{Head, Token};
 use ir_read::{
-    Address, Index, Level, Name, Operand, Steps, Tokens, Typed, done, expect, global_named,
-    integer_at, literal, refusal, simple_at, type_refusal,
+    Address, Fault, Index, Level, Name, Operand, ReadError, Steps, TokenFault, Tokens, Typed, done,
+    expect, global_named, integer_at, literal, refusal, simple_at, type_refusal,
 };
 use ir_tree::{Reg, Rows};
-use ir_read::{Fault, FaultKind, ReadError};
 use std::alloc::{AllocError, Global};
 
 /// Takes `ptr`.
@@ -34,7 +33,7 @@ pub fn pointer_at(tokens: &mut Tokens) -> Result<(), ReadError>
     match tokens.take() {
         None => Err(ReadError::Fault(Fault {
             left,
-            kind: FaultKind::Syntax,
+            kind: TokenFault::Syntax,
         })),
         Some(t) => {
             if t.head.is(Head::Ptr) {
@@ -58,7 +57,7 @@ fn flag_at(tokens: &mut Tokens) -> Result<bool, ReadError>
     match tokens.take() {
         None => Err(ReadError::Fault(Fault {
             left,
-            kind: FaultKind::Syntax,
+            kind: TokenFault::Syntax,
         })),
         Some(t) => match t.head {
             Head::Inbounds => Ok(true),
@@ -91,13 +90,13 @@ pub fn stepping_at(tokens: &mut Tokens) -> Result<bool, ReadError>
 }
 
 #[tactic(auto, unfolding(ir_read::specs::Rules::is_valued))]
-fn index_means(width: u8, t: &Token) -> Result<Index, FaultKind>
+fn index_means(width: u8, t: &Token) -> Result<Index, TokenFault>
     requires { IsWidth width }
     ensures { result ≡ is_valued tokens refusal NUMBER (index_of width) (tok t.now) }
 {
     if t.head.is(Head::Number) {
         match literal(width, t.text) {
-            None => Err(FaultKind::Number),
+            None => Err(TokenFault::Number),
             Some(bits) => Ok(Index {
                 width,
                 bits,
@@ -117,7 +116,7 @@ pub fn index_number_at(width: u8, tokens: &mut Tokens) -> Result<Index, ReadErro
     match tokens.take() {
         None => Err(ReadError::Fault(Fault {
             left,
-            kind: FaultKind::Syntax,
+            kind: TokenFault::Syntax,
         })),
         Some(t) => match index_means(width, &t) {
             Ok(x) => Ok(x),
@@ -209,13 +208,13 @@ fn all_openings_at(alloc: Global, tokens: &mut Tokens) -> Result<Vec<Typed>, Rea
 }
 
 #[tactic(auto, unfolding(ir_read::specs::Rules::is_valued))]
-fn global_means(alloc: Global, t: &Token) -> Result<Result<Name, FaultKind>, AllocError>
+fn global_means(alloc: Global, t: &Token) -> Result<Result<Name, TokenFault>, AllocError>
     ensures { IfOk result (λ x. x ≡ is_valued tokens refusal GLOBAL global_named (tok t.now)) }
 {
     match t.head {
         Head::Global | Head::NumberedGlobal | Head::NumberedDefinition => {
             match global_named(alloc, t)? {
-                None => Ok(Err(FaultKind::Number)),
+                None => Ok(Err(TokenFault::Number)),
                 Some(name) => Ok(Ok(name)),
             }
         }
@@ -231,7 +230,7 @@ pub fn global_at(alloc: Global, tokens: &mut Tokens) -> Result<Name, ReadError>
     match tokens.take() {
         None => Err(ReadError::Fault(Fault {
             left,
-            kind: FaultKind::Syntax,
+            kind: TokenFault::Syntax,
         })),
         Some(t) => match global_means(alloc, &t)? {
             Ok(x) => Ok(x),

@@ -7,7 +7,7 @@ use Rattle.ir_lex.specs.Rows.{begins}
 use Rattle.ir_lex.specs.declared.head.Head.TheVariants as heads
 use Rattle.ir_read.specs.Alphabet.{contains}
 use Rattle.ir_read.specs.Forms as form
-use Rattle.ir_read.specs.declared.fault.FaultKind.TheVariants.{Number}
+use Rattle.ir_read.specs.declared.fault.TokenFault.TheVariants.{Number}
 use Rattle.ir_read.specs.Classes.{refusal}
 use Rattle.ir_read.specs.Decimals.{ALIGNMENTS, alignment_of, decimal, is_alignment}
 use Rattle.ir_instructions.specs.Instructions as instructions

@@ -15,8 +15,8 @@ use Rattle.ir_read.specs.Lawful.{IsBound, ends}
 use Rattle.ir_read.specs.Readers.{Reader, fault_at, done, follow, ◌>>=◌, token_means, token_at, pick, many_at, star_at, optional_at}
 use Rattle.ir_read.specs.Rules.{Rule, disjoint, subset}
 use Rattle.ir_read.specs.declared.fault.Fault.{Fault}
-use Rattle.ir_read.specs.declared.fault.FaultKind.TheVariants.{Syntax, Profile, Number, Limit}
-use Rattle.ir_read.specs.declared.fault.FaultKind.{FaultKind}
+use Rattle.ir_read.specs.declared.fault.TokenFault.TheVariants.{Syntax, Profile, Number, Limit}
+use Rattle.ir_read.specs.declared.fault.TokenFault.{TokenFault}
 use Rattle.ir_read.specs.Classes.{tokens, IsReal}
 use Rattle.ir_heads.specs.FunctionHeads.{GLOBAL}
 use Rattle.ir_read.specs.Operands.{REG}
@@ -66,7 +66,7 @@ IsTold angled h Stuck Goes = Unit {0}
 
 -- behind these tokens this one is refused, not only for its range or a limit
 abbrev pub Stuck : {A : Type 0} → Reader Tok A → List Tok → Tok → Type 0
-Stuck f front u = (rest : List Tok) → (k : FaultKind) × (IsBound k → ⊥) × (f (front ++ u ∷ rest) ≡ fault_at k (u ∷ rest))
+Stuck f front u = (rest : List Tok) → (k : TokenFault) × (IsBound k → ⊥) × (f (front ++ u ∷ rest) ≡ fault_at k (u ∷ rest))
 
 -- some continuation with it is of the form
 abbrev pub Goes : {A : Type 0} → Form Tok A → List Tok → Tok → Type 0
@@ -89,14 +89,14 @@ is_angled front = last_is (among tokens OPEN_ANGLE) front
 
 -- what a reading says at a token of this class of those that it stands for; only some readings end where a plain word goes on and
 -- `target` doesn't
-abbrev pub OutcomeAt : {A : Type 0} → Bool → Place → Form Tok A → Reader Tok A → Bool → List Tok → Head → Result A FaultKind → Type 0
+abbrev pub OutcomeAt : {A : Type 0} → Bool → Place → Form Tok A → Reader Tok A → Bool → List Tok → Head → Result A TokenFault → Type 0
 OutcomeAt words place wide f angled front h (Ok a) = ((u : Tok) → among tokens (stands_for angled h) u ≡ true → Stays f front a u) ⊎ ((words ≡ true) × WordGoes h (Goes wide front))
 OutcomeAt words place wide f angled front h (Err Syntax) = NotTold angled h (Stuck f front) (Goes wide front) (place front tt)
 OutcomeAt words place wide f angled front h (Err Profile) = IsTold angled h (Stuck f front) (Goes wide front)
 OutcomeAt words place wide f angled front h (Err Number) = Unit {0}
 OutcomeAt words place wide f angled front h (Err Limit) = Unit {0}
 
-abbrev pub Outcome : {A : Type 0} → Bool → Place → Form Tok A → Reader Tok A → List Tok → Head → Result A FaultKind → Type 0
+abbrev pub Outcome : {A : Type 0} → Bool → Place → Form Tok A → Reader Tok A → List Tok → Head → Result A TokenFault → Type 0
 Outcome words place wide f front h o = OutcomeAt words place wide f (is_angled front) front h o
 
 -- Some readings end where a plain word goes on, and some behind `<`; before a lifetime marker that is told against the syntax stands such
@@ -104,10 +104,10 @@ Outcome words place wide f front h o = OutcomeAt words place wide f (is_angled f
 pub record Swaps {A : Type 0} (words loose : Bool) (place : Place) (wide : Form Tok A) (f : Reader Tok A) : Type 0 where
   pub sound : (ts rest : List Tok) (a : A) → f ts ≡ reads a rest → (front : List Tok) × (ts ≡ front ++ rest) × wide front a
   pub placed : (ts : List Tok) (e : Fault) → f ts ≡ wrong e → (front : List Tok) × (rest : List Tok) × (ts ≡ front ++ rest) × (length rest ≡ e.left)
-  pub local : (front : List Tok) (t : Tok) (rest rest' : List Tok) (o : Result A FaultKind) → f (front ++ t ∷ rest) ≡ ends o (t ∷ rest) → f (front ++ t ∷ rest') ≡ ends o (t ∷ rest')
+  pub local : (front : List Tok) (t : Tok) (rest rest' : List Tok) (o : Result A TokenFault) → f (front ++ t ∷ rest) ≡ ends o (t ∷ rest) → f (front ++ t ∷ rest') ≡ ends o (t ∷ rest')
   pub some : (ts : List Tok) × (a : A) × wide ts a × AllReal tokens ts
   pub closed : (front rest : List Tok) (a : A) → f (front ++ rest) ≡ reads a rest → is_angled front ≡ true → loose ≡ true
-  pub swap : (front : List Tok) (t : Tok) (rest : List Tok) (o : Result A FaultKind) → f (front ++ t ∷ rest) ≡ ends o (t ∷ rest) → Outcome words place wide f front t.head o
+  pub swap : (front : List Tok) (t : Tok) (rest : List Tok) (o : Result A TokenFault) → f (front ++ t ∷ rest) ≡ ends o (t ∷ rest) → Outcome words place wide f front t.head o
 
 abbrev pub Swapping : {A : Type 0} → Bool → Place → Form Tok A → Reader Tok A → Type 0
 Swapping words place wide f = Swaps words false place wide f
@@ -160,7 +160,7 @@ word_not_told angled h S G P n = absurd n
 
 module _ {A B : Type 0} (words words' : Bool) (place place' : Place) (wide : Form Tok A) (wide' : Form Tok B) (f : Reader Tok A) (f' : Reader Tok B) (angled : Bool) (front front' : List Tok) (h : Head) where
   -- what is said of one reading is said of another
-  pub err_too : (k : FaultKind) → (place front tt → place' front' tt) → ((u : Tok) → among tokens (stands_for angled h) u ≡ true → Stuck f front u → Stuck f' front' u) → ((u : Tok) → Goes wide front u → Goes wide' front' u) → OutcomeAt words place wide f angled front h (Err k) → OutcomeAt words' place' wide' f' angled front' h (Err k)
+  pub err_too : (k : TokenFault) → (place front tt → place' front' tt) → ((u : Tok) → among tokens (stands_for angled h) u ≡ true → Stuck f front u → Stuck f' front' u) → ((u : Tok) → Goes wide front u → Goes wide' front' u) → OutcomeAt words place wide f angled front h (Err k) → OutcomeAt words' place' wide' f' angled front' h (Err k)
   err_too Syntax v s g n = not_told_too angled h (Stuck f front) (Stuck f' front') (Goes wide front) (Goes wide' front') (place front tt) (place' front' tt) s g v n
   err_too Profile v s g n = told_too angled h (Stuck f front) (Stuck f' front') (Goes wide front) (Goes wide' front') s g n
   err_too Number v s g n = tt
@@ -170,7 +170,7 @@ module _ {A B : Type 0} (words words' : Bool) (place place' : Place) (wide : For
   ok_too q a b s g (inl n) = inl (λ u i. s u i (n u i))
   ok_too q a b s g (inr (e, w)) = inr (q e, word_too h (Goes wide front) (Goes wide' front') g w)
 
-pub outcome_too : {A : Type 0} (words words' : Bool) (place place' : Place) (wide wide' : Form Tok A) (f f' : Reader Tok A) (angled : Bool) (front front' : List Tok) (h : Head) (o : Result A FaultKind) → (words ≡ true → words' ≡ true) → (place front tt → place' front' tt) → ((u : Tok) → among tokens (stands_for angled h) u ≡ true → (rest : List Tok) → f (front ++ u ∷ rest) ≡ f' (front' ++ u ∷ rest)) → ((u : Tok) → Goes wide front u → Goes wide' front' u)
+pub outcome_too : {A : Type 0} (words words' : Bool) (place place' : Place) (wide wide' : Form Tok A) (f f' : Reader Tok A) (angled : Bool) (front front' : List Tok) (h : Head) (o : Result A TokenFault) → (words ≡ true → words' ≡ true) → (place front tt → place' front' tt) → ((u : Tok) → among tokens (stands_for angled h) u ≡ true → (rest : List Tok) → f (front ++ u ∷ rest) ≡ f' (front' ++ u ∷ rest)) → ((u : Tok) → Goes wide front u → Goes wide' front' u)
     → OutcomeAt words place wide f angled front h o → OutcomeAt words' place' wide' f' angled front' h o
 outcome_too words words' place place' wide wide' f f' angled front front' h (Ok a) q v same g n = ok_too words words' place place' wide wide' f f' angled front front' h q a a (λ u i s rest. sym (same u i rest) ∙ s rest) g n
 outcome_too words words' place place' wide wide' f f' angled front front' h (Err k) q v same g n = err_too words words' place place' wide wide' f f' angled front front' h k v (λ u i s rest. let r = s rest in (r.0, r.1, sym (same u i rest) ∙ r.2)) g n
@@ -188,7 +188,7 @@ angled_behind (t ∷ []) v mid = refl
 angled_behind (t ∷ u ∷ one) v mid = angled_behind (u ∷ one) v mid
 
 -- but for a number, what stands before is all one
-pub same_at : {A : Type 0} (words : Bool) (place : Place) (wide : Form Tok A) (f : Reader Tok A) (front : List Tok) (h : Head) (o : Result A FaultKind) → nat_eq (number h) (number heads.Number) ≡ false → OutcomeAt words place wide f false front h o → OutcomeAt words place wide f true front h o
+pub same_at : {A : Type 0} (words : Bool) (place : Place) (wide : Form Tok A) (f : Reader Tok A) (front : List Tok) (h : Head) (o : Result A TokenFault) → nat_eq (number h) (number heads.Number) ≡ false → OutcomeAt words place wide f false front h o → OutcomeAt words place wide f true front h o
 same_at words place wide f front heads.Number o z p = absurd cc
 same_at words place wide f front h (Ok a) z p = p
 same_at words place wide f front h (Err Syntax) z p = p
@@ -199,7 +199,7 @@ same_at words place wide f front h (Err Limit) z p = p
 -- ---- no token
 
 module _ {A : Type 0} (a : A) where
-  ends_here : (front : List Tok) (t : Tok) (rest : List Tok) (o : Result A FaultKind) → reads a (front ++ t ∷ rest) ≡ ends o (t ∷ rest) → (front ≡ []) × (o ≡ Ok a)
+  ends_here : (front : List Tok) (t : Tok) (rest : List Tok) (o : Result A TokenFault) → reads a (front ++ t ∷ rest) ≡ ends o (t ∷ rest) → (front ≡ []) × (o ≡ Ok a)
   ends_here front t rest (Ok b) h =
       let p = reads_is a b (front ++ t ∷ rest) (t ∷ rest) h in
       ((cut_is front (t ∷ rest) [] (t ∷ rest) p.1 refl).0, ap (λ (x : A). Ok x) (sym p.0))
@@ -212,21 +212,21 @@ module _ {A : Type 0} (a : A) where
     local = λ front t rest rest' o d. let h = ends_here front t rest o d in rw (h.0, h.1) refl;
     some = ([], a, (refl, refl), tt);
     closed = λ front rest b d e. absurd (never_angled front (cut_is front rest [] rest (reads_is a b (front ++ rest) rest d).1 refl).0 e);
-    swap = λ front t rest o d. let h = ends_here front t rest o d in subst (λ (y : Result A FaultKind). Outcome false nowhere (form.gives a) (done a) front t.head y) (sym h.1) (subst (λ (y : List Tok). Outcome false nowhere (form.gives a) (done a) y t.head (Ok a)) (sym h.0) (inl (λ u i rest'. refl)));
+    swap = λ front t rest o d. let h = ends_here front t rest o d in subst (λ (y : Result A TokenFault). Outcome false nowhere (form.gives a) (done a) front t.head y) (sym h.1) (subst (λ (y : List Tok). Outcome false nowhere (form.gives a) (done a) y t.head (Ok a)) (sym h.0) (inl (λ u i rest'. refl)));
   }
 
 -- ---- one behind another
 
-pub placed_of : {A : Type 0} {words loose : Bool} {place : Place} {wide : Form Tok A} {f : Reader Tok A} → Swaps words loose place wide f → (ts us : List Tok) (o : Result A FaultKind) → f ts ≡ ends o us → (front : List Tok) × (rest : List Tok) × (ts ≡ front ++ rest) × (length rest ≡ length us)
+pub placed_of : {A : Type 0} {words loose : Bool} {place : Place} {wide : Form Tok A} {f : Reader Tok A} → Swaps words loose place wide f → (ts us : List Tok) (o : Result A TokenFault) → f ts ≡ ends o us → (front : List Tok) × (rest : List Tok) × (ts ≡ front ++ rest) × (length rest ≡ length us)
 placed_of law ts us (Ok a) h = let s = law.sound ts us a h in (s.0, us, s.1, refl)
 placed_of law ts us (Err k) h = law.placed ts (record { left = length us; kind = k }) h
 
-pub err_ends : {B : Type 0} (e : Fault) (o : Result B FaultKind) (us : List Tok) → wrong e ≡ ends o us → (kind : FaultKind) × (o ≡ Err kind) × (e ≡ record { left = length us; kind = kind })
+pub err_ends : {B : Type 0} (e : Fault) (o : Result B TokenFault) (us : List Tok) → wrong e ≡ ends o us → (kind : TokenFault) × (o ≡ Err kind) × (e ≡ record { left = length us; kind = kind })
 err_ends e (Ok b) us d = absurd cc
 err_ends e (Err kind) us d = (kind, refl, wrong_is e (record { left = length us; kind = kind }) d)
 
 -- how a reading may end that follows one which ended where a plain word goes on: not by telling `target`
-abbrev pub MayFollow : {B : Type 0} → Bool → Result B FaultKind → Type 0
+abbrev pub MayFollow : {B : Type 0} → Bool → Result B TokenFault → Type 0
 MayFollow words (Ok b) = words ≡ true
 MayFollow words (Err Profile) = ⊥
 MayFollow words (Err Syntax) = Unit {0}
@@ -239,9 +239,9 @@ is_target h = false
 
 module _ {A B : Type 0} {words words' loose loose' : Bool} (result result_loose : Bool) {one_place : Place} {other_place : A → Place} (place : Place) {wide : Form Tok A} {f : Reader Tok A} {wide' : A → Form Tok B} {h : A → Reader Tok B} (law : Swaps words loose one_place wide f) (laws : (a : A) → Swaps words' loose' (other_place a) (wide' a) (h a)) (into : words' ≡ true → result ≡ true)
     (loose_first : loose ≡ true → (a : A) (b : B) → wide' a [] b → result_loose ≡ true) (loose_second : loose' ≡ true → result_loose ≡ true)
-    (after : loose ≡ true → (a : A) (t : Tok) (rest : List Tok) (o : Result B FaultKind) → h a (t ∷ rest) ≡ ends o (t ∷ rest) → OutcomeAt words' (other_place a) (wide' a) (h a) true [] t.head o)
+    (after : loose ≡ true → (a : A) (t : Tok) (rest : List Tok) (o : Result B TokenFault) → h a (t ∷ rest) ≡ ends o (t ∷ rest) → OutcomeAt words' (other_place a) (wide' a) (h a) true [] t.head o)
     (within_first : (front : List Tok) → one_place front tt → place front tt) (within_second : (one two : List Tok) (a : A) → wide one a → other_place a two tt → place (one ++ two) tt)
-    (follows : words ≡ true → (a : A) (t : Tok) (rest : List Tok) (o : Result B FaultKind) → is_target t.head ≡ true → h a (t ∷ rest) ≡ ends o (t ∷ rest) → MayFollow result o) where
+    (follows : words ≡ true → (a : A) (t : Tok) (rest : List Tok) (o : Result B TokenFault) → is_target t.head ≡ true → h a (t ∷ rest) ≡ ends o (t ∷ rest) → MayFollow result o) where
   abbrev both : Form Tok B
   both = form.◌>>=◌ wide wide'
 
@@ -288,7 +288,7 @@ module _ {A B : Type 0} {words words' loose loose' : Bool} (result result_loose 
     spelled : wide one a
     first : f (one ++ (two ++ t ∷ rest)) ≡ reads a (two ++ t ∷ rest)
 
-  cut : (front : List Tok) (t : Tok) (rest : List Tok) (o : Result B FaultKind) (a : A) (left : List Tok) → f (front ++ t ∷ rest) ≡ reads a left → h a left ≡ ends o (t ∷ rest) → Cut front t rest a left
+  cut : (front : List Tok) (t : Tok) (rest : List Tok) (o : Result B TokenFault) (a : A) (left : List Tok) → f (front ++ t ∷ rest) ≡ reads a left → h a left ≡ ends o (t ∷ rest) → Cut front t rest a left
   cut front t rest o a left i d =
       let p = law.sound (front ++ t ∷ rest) left a i in
       let q = placed_of (laws a) left (t ∷ rest) o d in
@@ -302,7 +302,7 @@ module _ {A B : Type 0} {words words' loose loose' : Bool} (result result_loose 
   local_first front [] t rest rest' a h = law.local front t rest rest' (Ok a) h
   local_first front (u ∷ mid) t rest rest' a h = law.local front u (mid ++ t ∷ rest) (mid ++ t ∷ rest') (Ok a) h
 
-  local_seq : (front : List Tok) (t : Tok) (rest rest' : List Tok) (o : Result B FaultKind) (r : Result (A × List Tok) Fault) → f (front ++ t ∷ rest) ≡ r → follow r h ≡ ends o (t ∷ rest) → (f >>= h) (front ++ t ∷ rest') ≡ ends o (t ∷ rest')
+  local_seq : (front : List Tok) (t : Tok) (rest rest' : List Tok) (o : Result B TokenFault) (r : Result (A × List Tok) Fault) → f (front ++ t ∷ rest) ≡ r → follow r h ≡ ends o (t ∷ rest) → (f >>= h) (front ++ t ∷ rest') ≡ ends o (t ∷ rest')
   local_seq front t rest rest' o (Err e) i d =
       let w = err_ends e o (t ∷ rest) d in
       let one : f (front ++ t ∷ rest') ≡ fault_at w.0 (t ∷ rest') = law.local front t rest rest' (Err w.0) (i ∙ ap wrong w.2) in
@@ -313,7 +313,7 @@ module _ {A B : Type 0} {words words' loose loose' : Bool} (result result_loose 
       ap (λ (y : List Tok). (f >>= h) (y ++ t ∷ rest')) c.front_is ∙ whole c.one c.two x.0 t rest' (local_first c.one c.two t rest rest' x.0 c.first) ∙ two
 
   -- the second reading, behind a first one that stays
-  behind : (one two : List Tok) (a : A) → wide one a → (angled : Bool) → angled ≡ is_angled (one ++ two) → (k : Head) (o : Result B FaultKind) → ((u : Tok) → among tokens (stands_for angled k) u ≡ true → (rest : List Tok) → f (one ++ (two ++ u ∷ rest)) ≡ reads a (two ++ u ∷ rest)) → OutcomeAt words' (other_place a) (wide' a) (h a) angled two k o → Outcome result place both (f >>= h) (one ++ two) k o
+  behind : (one two : List Tok) (a : A) → wide one a → (angled : Bool) → angled ≡ is_angled (one ++ two) → (k : Head) (o : Result B TokenFault) → ((u : Tok) → among tokens (stands_for angled k) u ≡ true → (rest : List Tok) → f (one ++ (two ++ u ∷ rest)) ≡ reads a (two ++ u ∷ rest)) → OutcomeAt words' (other_place a) (wide' a) (h a) angled two k o → Outcome result place both (f >>= h) (one ++ two) k o
   behind one two a s angled e k o stays n =
       subst (λ (b : Bool). OutcomeAt result place both (f >>= h) b (one ++ two) k o) e
       (outcome_too words' result (other_place a) place (wide' a) both (h a) (f >>= h) angled two (one ++ two) k o into (within_second one two a s) (λ u i rest. sym (whole one two a u rest (stays u i rest))) (λ u g. goes_second one two a s u g) n)
@@ -324,7 +324,7 @@ module _ {A B : Type 0} {words words' loose loose' : Bool} (result result_loose 
   word_is k G w = absurd w
 
   -- or behind one where a word goes on
-  behind_word : (one : List Tok) (k : Head) (o : Result B FaultKind) → WordGoes k (Goes wide one) → MayFollow result o → Outcome result place both (f >>= h) (one ++ []) k o
+  behind_word : (one : List Tok) (k : Head) (o : Result B TokenFault) → WordGoes k (Goes wide one) → MayFollow result o → Outcome result place both (f >>= h) (one ++ []) k o
   behind_word one k (Ok b) w n = inr (n, word_too k (Goes wide one) (Goes both (one ++ [])) (λ u g. goes_first (one ++ []) u (subst (λ (y : List Tok). Goes wide y u) (sym (append-nil one)) g)) w)
   behind_word one k (Err Syntax) w n = word_not_told (is_angled (one ++ [])) k (Stuck (f >>= h) (one ++ [])) (Goes both (one ++ [])) (place (one ++ []) tt) (word_too k (Goes wide one) (Goes both (one ++ [])) (λ u g. goes_first (one ++ []) u (subst (λ (y : List Tok). Goes wide y u) (sym (append-nil one)) g)) w)
   behind_word one k (Err Profile) w n = absurd n
@@ -332,21 +332,21 @@ module _ {A B : Type 0} {words words' loose loose' : Bool} (result result_loose 
   behind_word one k (Err Limit) w n = tt
 
   -- nothing is read behind the first
-  nothing_behind : (one : List Tok) (t : Tok) (rest : List Tok) (o : Result B FaultKind) (a : A) → wide one a → f (one ++ t ∷ rest) ≡ reads a (t ∷ rest) → h a (t ∷ rest) ≡ ends o (t ∷ rest) → (angled : Bool) → is_angled one ≡ angled → ((u : Tok) → among tokens (stands_for angled t.head) u ≡ true → Stays f one a u) → Outcome result place both (f >>= h) (one ++ []) t.head o
+  nothing_behind : (one : List Tok) (t : Tok) (rest : List Tok) (o : Result B TokenFault) (a : A) → wide one a → f (one ++ t ∷ rest) ≡ reads a (t ∷ rest) → h a (t ∷ rest) ≡ ends o (t ∷ rest) → (angled : Bool) → is_angled one ≡ angled → ((u : Tok) → among tokens (stands_for angled t.head) u ≡ true → Stays f one a u) → Outcome result place both (f >>= h) (one ++ []) t.head o
   nothing_behind one t rest o a s e d false q stays = behind one [] a s false (sym (ap is_angled (append-nil one) ∙ q)) t.head o stays ((laws a).swap [] t rest o d)
   nothing_behind one t rest o a s e d true q stays = behind one [] a s true (sym (ap is_angled (append-nil one) ∙ q)) t.head o stays (after (law.closed one (t ∷ rest) a e q) a t rest o d)
 
-  swap_second : (one two : List Tok) (t : Tok) (rest : List Tok) (o : Result B FaultKind) (a : A) → wide one a → f (one ++ (two ++ t ∷ rest)) ≡ reads a (two ++ t ∷ rest) → h a (two ++ t ∷ rest) ≡ ends o (t ∷ rest) → Outcome result place both (f >>= h) (one ++ two) t.head o
+  swap_second : (one two : List Tok) (t : Tok) (rest : List Tok) (o : Result B TokenFault) (a : A) → wide one a → f (one ++ (two ++ t ∷ rest)) ≡ reads a (two ++ t ∷ rest) → h a (two ++ t ∷ rest) ≡ ends o (t ∷ rest) → Outcome result place both (f >>= h) (one ++ two) t.head o
   swap_second one (v ∷ mid) t rest o a s e d = behind one (v ∷ mid) a s (is_angled (v ∷ mid)) (angled_behind one v mid) t.head o (λ u i rest'. law.local one v (mid ++ t ∷ rest) (mid ++ u ∷ rest') (Ok a) e) ((laws a).swap (v ∷ mid) t rest o d)
   swap_second one [] t rest o a s e d = elim (law.swap one t rest (Ok a) e) [
     | inl stays ↦ nothing_behind one t rest o a s e d (is_angled one) refl stays
     | inr w ↦ behind_word one t.head o w.1 (follows w.0 a t rest o (word_is t.head (Goes wide one) w.1) d)
   ]
 
-  swap_seq : (front : List Tok) (t : Tok) (rest : List Tok) (o : Result B FaultKind) (r : Result (A × List Tok) Fault) → f (front ++ t ∷ rest) ≡ r → follow r h ≡ ends o (t ∷ rest) → Outcome result place both (f >>= h) front t.head o
+  swap_seq : (front : List Tok) (t : Tok) (rest : List Tok) (o : Result B TokenFault) (r : Result (A × List Tok) Fault) → f (front ++ t ∷ rest) ≡ r → follow r h ≡ ends o (t ∷ rest) → Outcome result place both (f >>= h) front t.head o
   swap_seq front t rest o (Err e) i d =
       let w = err_ends e o (t ∷ rest) d in
-      subst (λ (x : Result B FaultKind). Outcome result place both (f >>= h) front t.head x) (sym w.1) (err_too words result one_place place wide both f (f >>= h) (is_angled front) front front t.head w.0 (within_first front) (λ u _ s. stuck_first front u s) (λ u g. goes_first front u g) (law.swap front t rest (Err w.0) (i ∙ ap wrong w.2)))
+      subst (λ (x : Result B TokenFault). Outcome result place both (f >>= h) front t.head x) (sym w.1) (err_too words result one_place place wide both f (f >>= h) (is_angled front) front front t.head w.0 (within_first front) (λ u _ s. stuck_first front u s) (λ u g. goes_first front u g) (law.swap front t rest (Err w.0) (i ∙ ap wrong w.2)))
   swap_seq front t rest o (Ok x) i d =
       let c = cut front t rest o x.0 x.1 i d in
       subst (λ (y : List Tok). Outcome result place both (f >>= h) y t.head o) (sym c.front_is) (swap_second c.one c.two t rest o x.0 c.spelled c.first (ap (h x.0) (sym c.left_is) ∙ d))
@@ -375,7 +375,7 @@ module _ {A B : Type 0} {words words' loose loose' : Bool} (result result_loose 
     swap = λ front t rest o d. swap_seq front t rest o (f (front ++ t ∷ rest)) refl d;
   }
 
-valued_end : {B : Type 0} (b : B) (us : List Tok) (o : Result B FaultKind) → reads b us ≡ ends o us → MayFollow true o
+valued_end : {B : Type 0} (b : B) (us : List Tok) (o : Result B TokenFault) → reads b us ≡ ends o us → MayFollow true o
 valued_end b us (Ok c) d = refl
 valued_end b us (Err k) d = absurd cc
 
@@ -407,7 +407,7 @@ with_value {place = place} value law = seq_by true false place law (λ a. nothin
 pub seq_loosely : {A B : Type 0} {wide : Form Tok A} {f : Reader Tok A} {wide' : A → Form Tok B} {h : A → Reader Tok B} → Exchanges wide f → ((a : A) → Swaps false true nowhere (wide' a) (h a)) → Swaps false true nowhere (form.◌>>=◌ wide wide') (f >>= h)
 seq_loosely law laws = seq_by false true nowhere law laws (λ e. e) (λ e. absurd (differ e)) (λ e. e) (λ e. absurd (differ e)) (λ front v. v) (λ one two a s v. v) (λ e. absurd (differ e))
 
-pub nothing_after : {B : Type 0} (b : B) (t : Tok) (rest : List Tok) (o : Result B FaultKind) → reads b (t ∷ rest) ≡ ends o (t ∷ rest) → OutcomeAt false nowhere (form.gives b) (done b) true [] t.head o
+pub nothing_after : {B : Type 0} (b : B) (t : Tok) (rest : List Tok) (o : Result B TokenFault) → reads b (t ∷ rest) ≡ ends o (t ∷ rest) → OutcomeAt false nowhere (form.gives b) (done b) true [] t.head o
 nothing_after {B} b t rest (Ok c) d = inl (λ u i rest'. ap (λ (x : B). reads x (u ∷ rest')) (reads_is b c (t ∷ rest) (t ∷ rest) d).0)
 nothing_after b t rest (Err k) d = absurd cc
 
@@ -417,9 +417,9 @@ value_loosely {place = place} value law = seq_by false true place law (λ a. not
 
 -- ---- behind what may end where a plain word goes on
 
-syntax_follows : {B : Type 0} (o : Result B FaultKind) (us : List Tok) → fault_at Syntax us ≡ ends o us → MayFollow false o
+syntax_follows : {B : Type 0} (o : Result B TokenFault) (us : List Tok) → fault_at Syntax us ≡ ends o us → MayFollow false o
 syntax_follows (Ok b) us d = absurd cc
-syntax_follows {B} (Err k) us d = subst (λ (x : FaultKind). MayFollow {B = B} false (Err x)) (ap (λ (x : Fault). x.kind) (wrong_is {X = B × List Tok} (record { left = length us; kind = Syntax }) (record { left = length us; kind = k }) d)) tt
+syntax_follows {B} (Err k) us d = subst (λ (x : TokenFault). MayFollow {B = B} false (Err x)) (ap (λ (x : Fault). x.kind) (wrong_is {X = B × List Tok} (record { left = length us; kind = Syntax }) (record { left = length us; kind = k }) d)) tt
 
 -- the second refuses `target`
 pub seq_closing : {A B : Type 0} {place : Place} {wide : Form Tok A} {f : Reader Tok A} {wide' : A → Form Tok B} {h : A → Reader Tok B} → Swapping true place wide f → ((a : A) → Exchanges (wide' a) (h a)) → ((a : A) (t : Tok) (rest : List Tok) → is_target t.head ≡ true → h a (t ∷ rest) ≡ fault_at Syntax (t ∷ rest)) → Swapping false place (form.◌>>=◌ wide wide') (f >>= h)
@@ -441,7 +441,7 @@ target_is h e = absurd (differ e)
 
 -- ---- of a reader that is tied to its form
 
-pub of_rule : {A : Type 0} {loose : Bool} {g wide : Form Tok A} {f : Reader Tok A} {xs ms : List ℕ} {e : Bool} → Rule tokens g wide f xs ms e → ((front rest : List Tok) (a : A) → f (front ++ rest) ≡ reads a rest → is_angled front ≡ true → loose ≡ true) → ((front : List Tok) (t : Tok) (rest : List Tok) (o : Result A FaultKind) → f (front ++ t ∷ rest) ≡ ends o (t ∷ rest) → Outcome false nowhere wide f front t.head o) → Swaps false loose nowhere wide f
+pub of_rule : {A : Type 0} {loose : Bool} {g wide : Form Tok A} {f : Reader Tok A} {xs ms : List ℕ} {e : Bool} → Rule tokens g wide f xs ms e → ((front rest : List Tok) (a : A) → f (front ++ rest) ≡ reads a rest → is_angled front ≡ true → loose ≡ true) → ((front : List Tok) (t : Tok) (rest : List Tok) (o : Result A TokenFault) → f (front ++ t ∷ rest) ≡ ends o (t ∷ rest) → Outcome false nowhere wide f front t.head o) → Swaps false loose nowhere wide f
 of_rule rule closed swap = record {
   sound = λ ts rest a e. let s = rule.law.sound ts rest a e in (s.0, s.1, rule.law.contains s.0 a s.2);
   placed = λ ts e d. let v = rule.law.viable ts e d in (v.front, v.rest, v.whole, v.here);
@@ -586,7 +586,7 @@ word_at G h e w i g = absurd (differ e)
 abbrev pub Turns : {A : Type 0} → Bool → List ℕ → Form Tok A → Reader Tok A → Type 0
 Turns {A} words bs wide f' =
     (fair bs ≡ true) ⊎ ((nearly_fair bs ≡ true) × (contains bs (number heads.Target) ≡ false)
-    × (((words ≡ true) × (w : Tok) × (among tokens WORD w ≡ true) × Goes wide [] w × ((t : Tok) (rest : List Tok) → is_target t.head ≡ true → f' (t ∷ rest) ≡ fault_at Profile (t ∷ rest) → ⊥)) ⊎ ((t : Tok) (rest : List Tok) (o : Result A FaultKind) → is_target t.head ≡ true → f' (t ∷ rest) ≡ ends o (t ∷ rest) → ⊥)))
+    × (((words ≡ true) × (w : Tok) × (among tokens WORD w ≡ true) × Goes wide [] w × ((t : Tok) (rest : List Tok) → is_target t.head ≡ true → f' (t ∷ rest) ≡ fault_at Profile (t ∷ rest) → ⊥)) ⊎ ((t : Tok) (rest : List Tok) (o : Result A TokenFault) → is_target t.head ≡ true → f' (t ∷ rest) ≡ ends o (t ∷ rest) → ⊥)))
 
 pub target_apart : (bs : List ℕ) (h : Head) → contains bs (number heads.Target) ≡ false → is_target h ≡ true → contains bs (number h) ≡ false
 unfolding is_target
@@ -632,7 +632,7 @@ module _ {A : Type 0} {wide wide' : Form Tok A} {f f' : Reader Tok A} {words loo
       by_test true d = law.placed (t ∷ ts) e d
       by_test false d = law'.placed (t ∷ ts) e d
 
-  local_alt : (front : List Tok) (t : Tok) (rest rest' : List Tok) (o : Result A FaultKind) → one_of_two (front ++ t ∷ rest) ≡ ends o (t ∷ rest) → one_of_two (front ++ t ∷ rest') ≡ ends o (t ∷ rest')
+  local_alt : (front : List Tok) (t : Tok) (rest rest' : List Tok) (o : Result A TokenFault) → one_of_two (front ++ t ∷ rest) ≡ ends o (t ∷ rest) → one_of_two (front ++ t ∷ rest') ≡ ends o (t ∷ rest')
   local_alt [] t rest rest' o d = by_test (among tokens bs t) d
     where
       by_test : (b : Bool) → cond b (f (t ∷ rest)) (f' (t ∷ rest)) ≡ ends o (t ∷ rest) → cond b (f (t ∷ rest')) (f' (t ∷ rest')) ≡ ends o (t ∷ rest')
@@ -645,7 +645,7 @@ module _ {A : Type 0} {wide wide' : Form Tok A} {f f' : Reader Tok A} {words loo
       by_test false d = law'.local (u ∷ front) t rest rest' o d
 
   -- the first token chooses, and it is the same for all that it stands for
-  swap_fair : (t : Tok) (rest : List Tok) (o : Result A FaultKind) → fair_at bs t.head ≡ true → one_of_two (t ∷ rest) ≡ ends o (t ∷ rest) → Outcome words place of_two one_of_two [] t.head o
+  swap_fair : (t : Tok) (rest : List Tok) (o : Result A TokenFault) → fair_at bs t.head ≡ true → one_of_two (t ∷ rest) ≡ ends o (t ∷ rest) → Outcome words place of_two one_of_two [] t.head o
   swap_fair t rest o e d = by_test (among tokens bs t) refl d
     where
       by_test : (b : Bool) → among tokens bs t ≡ b → cond b (f (t ∷ rest)) (f' (t ∷ rest)) ≡ ends o (t ∷ rest) → Outcome words place of_two one_of_two [] t.head o
@@ -653,7 +653,7 @@ module _ {A : Type 0} {wide wide' : Form Tok A} {f f' : Reader Tok A} {words loo
       by_test false q d = outcome_too words words other_place place wide' of_two f' one_of_two false [] [] t.head o (λ e. e) (within_other []) (λ u i rest'. sym (passed bs f f' u rest' (alike bs t.head e u i ∙ q))) (λ u g. goes_other [] u g) (law'.swap [] t rest o d)
 
   -- at `target`, where a word goes on
-  swap_word : words ≡ true → (h : Head) (o : Result A FaultKind) → WordGoes h (Goes of_two []) → (o ≡ Err Profile → ⊥) → Outcome words place of_two one_of_two [] h o
+  swap_word : words ≡ true → (h : Head) (o : Result A TokenFault) → WordGoes h (Goes of_two []) → (o ≡ Err Profile → ⊥) → Outcome words place of_two one_of_two [] h o
   swap_word e h (Ok a) w n = inr (e, w)
   swap_word e h (Err Syntax) w n = word_not_told false h (Stuck one_of_two []) (Goes of_two []) (place [] tt) w
   swap_word e h (Err Profile) w n = absurd (n refl)
@@ -663,19 +663,19 @@ module _ {A : Type 0} {wide wide' : Form Tok A} {f f' : Reader Tok A} {words loo
   is_other : (t : Tok) (rest : List Tok) → contains bs (number heads.Target) ≡ false → is_target t.head ≡ true → one_of_two (t ∷ rest) ≡ f' (t ∷ rest)
   is_other t rest n q = passed bs f f' t rest (target_apart bs t.head n q)
 
-  swap_here : Turns words bs wide f' → (t : Tok) (rest : List Tok) (o : Result A FaultKind) → one_of_two (t ∷ rest) ≡ ends o (t ∷ rest) → Outcome words place of_two one_of_two [] t.head o
+  swap_here : Turns words bs wide f' → (t : Tok) (rest : List Tok) (o : Result A TokenFault) → one_of_two (t ∷ rest) ≡ ends o (t ∷ rest) → Outcome words place of_two one_of_two [] t.head o
   swap_here (inl e) t rest o d = swap_fair t rest o (fair_of bs e t.head) d
   swap_here (inr (e, n, turn)) t rest o d = by_test (is_target t.head) refl
     where
-      by_turn : is_target t.head ≡ true → ((words ≡ true) × (w : Tok) × (among tokens WORD w ≡ true) × Goes wide [] w × ((t : Tok) (rest : List Tok) → is_target t.head ≡ true → f' (t ∷ rest) ≡ fault_at Profile (t ∷ rest) → ⊥)) ⊎ ((t : Tok) (rest : List Tok) (o : Result A FaultKind) → is_target t.head ≡ true → f' (t ∷ rest) ≡ ends o (t ∷ rest) → ⊥) → Outcome words place of_two one_of_two [] t.head o
-      by_turn q (inl (v, w, i, g, quiet)) = swap_word v t.head o (word_at (Goes of_two []) t.head q w i (goes_one [] w g)) (λ p. quiet t rest q (sym (is_other t rest n q) ∙ d ∙ ap (λ (x : Result A FaultKind). ends x (t ∷ rest)) p))
+      by_turn : is_target t.head ≡ true → ((words ≡ true) × (w : Tok) × (among tokens WORD w ≡ true) × Goes wide [] w × ((t : Tok) (rest : List Tok) → is_target t.head ≡ true → f' (t ∷ rest) ≡ fault_at Profile (t ∷ rest) → ⊥)) ⊎ ((t : Tok) (rest : List Tok) (o : Result A TokenFault) → is_target t.head ≡ true → f' (t ∷ rest) ≡ ends o (t ∷ rest) → ⊥) → Outcome words place of_two one_of_two [] t.head o
+      by_turn q (inl (v, w, i, g, quiet)) = swap_word v t.head o (word_at (Goes of_two []) t.head q w i (goes_one [] w g)) (λ p. quiet t rest q (sym (is_other t rest n q) ∙ d ∙ ap (λ (x : Result A TokenFault). ends x (t ∷ rest)) p))
       by_turn q (inr never) = absurd (never t rest o q (sym (is_other t rest n q) ∙ d))
 
       by_test : (b : Bool) → is_target t.head ≡ b → Outcome words place of_two one_of_two [] t.head o
       by_test true q = by_turn q turn
       by_test false q = swap_fair t rest o (fair_but bs e t.head q) d
 
-  swap_alt : (front : List Tok) (t : Tok) (rest : List Tok) (o : Result A FaultKind) → one_of_two (front ++ t ∷ rest) ≡ ends o (t ∷ rest) → Outcome words place of_two one_of_two front t.head o
+  swap_alt : (front : List Tok) (t : Tok) (rest : List Tok) (o : Result A TokenFault) → one_of_two (front ++ t ∷ rest) ≡ ends o (t ∷ rest) → Outcome words place of_two one_of_two front t.head o
   swap_alt [] t rest o d = swap_here turns t rest o d
   swap_alt (v ∷ front) t rest o d = by_test (among tokens bs v) refl d
     where
@@ -713,7 +713,7 @@ maybe bs e law = alt bs e (seq law (λ a. nothing (Some a))) (nothing None)
 
 -- ---- a limit
 
-limit_ends : {A : Type 0} (front : List Tok) (t : Tok) (rest : List Tok) (o : Result A FaultKind) → fault_at Limit (front ++ t ∷ rest) ≡ ends o (t ∷ rest) → (front ≡ []) × (o ≡ Err Limit)
+limit_ends : {A : Type 0} (front : List Tok) (t : Tok) (rest : List Tok) (o : Result A TokenFault) → fault_at Limit (front ++ t ∷ rest) ≡ ends o (t ∷ rest) → (front ≡ []) × (o ≡ Err Limit)
 limit_ends front t rest (Ok a) d = absurd cc
 limit_ends [] t rest (Err k) d = (refl, sym (ap (λ (x : Fault). Err x.kind) (wrong_is (record { left = length (t ∷ rest); kind = Limit }) (record { left = length (t ∷ rest); kind = k }) d)))
 limit_ends (u ∷ us) t rest (Err k) d = absurd (omega (arith, ap (λ (x : Fault). x.left) (wrong_is (record { left = length (u ∷ (us ++ t ∷ rest)); kind = Limit }) (record { left = length (t ∷ rest); kind = k }) d), length-append us (t ∷ rest)))
@@ -725,7 +725,7 @@ limited {A} {words} {loose} {place} wide some = record {
   local = λ front t rest rest' o d. let h = limit_ends front t rest o d in rw (h.0, h.1) refl;
   some = some;
   closed = λ front rest a d q. absurd cc;
-  swap = λ front t rest o d. subst (λ (x : Result A FaultKind). Outcome words place wide (fault_at Limit) front t.head x) (sym (limit_ends front t rest o d).1) tt;
+  swap = λ front t rest o d. subst (λ (x : Result A TokenFault). Outcome words place wide (fault_at Limit) front t.head x) (sym (limit_ends front t rest o d).1) tt;
 }
 
 either_same : {A : Type 0} (wide : Form Tok A) (ts : List Tok) (a : A) → form.either wide wide ts a → wide ts a
@@ -743,15 +743,15 @@ barred {wide = wide} bs e law = recast (either_same wide) (alt bs e (limited wid
 abbrev pub in_front : {A : Type 0} → A → Result (List A × List Tok) Fault → Result (List A × List Tok) Fault
 in_front a r = follow r (λ m. done (a ∷ m))
 
-abbrev pub joined : {A : Type 0} → A → Result (List A) FaultKind → Result (List A) FaultKind
+abbrev pub joined : {A : Type 0} → A → Result (List A) TokenFault → Result (List A) TokenFault
 joined a (Ok m) = Ok (a ∷ m)
 joined a (Err k) = Err k
 
-pub ends_in_front : {A : Type 0} (a : A) (o : Result (List A) FaultKind) (us : List Tok) → in_front a (ends o us) ≡ ends (joined a o) us
+pub ends_in_front : {A : Type 0} (a : A) (o : Result (List A) TokenFault) (us : List Tok) → in_front a (ends o us) ≡ ends (joined a o) us
 ends_in_front a (Ok m) us = refl
 ends_in_front a (Err k) us = refl
 
-pub without : {A : Type 0} (a : A) (r : Result (List A × List Tok) Fault) (o : Result (List A) FaultKind) (us : List Tok) → in_front a r ≡ ends o us → (o' : Result (List A) FaultKind) × (r ≡ ends o' us) × (o ≡ joined a o')
+pub without : {A : Type 0} (a : A) (r : Result (List A × List Tok) Fault) (o : Result (List A) TokenFault) (us : List Tok) → in_front a r ≡ ends o us → (o' : Result (List A) TokenFault) × (r ≡ ends o' us) × (o ≡ joined a o')
 without a (Ok y) (Ok v) us h =
     let e = reads_is (a ∷ y.0) v y.1 us h in
     (Ok y.0, ap (λ (x : List Tok). reads y.0 x) e.1, ap (λ (x : List _). Ok x) (sym e.0))
@@ -804,10 +804,10 @@ module _ {A : Type 0} {words : Bool} (wide : Form Tok A) (f : Reader Tok A) (bs 
   none_at zero t rest e = rw e refl
   none_at (suc room) t rest e = rw e refl
 
-  follows_one : (room : ℕ) → words ≡ true → (a : A) (t : Tok) (rest : List Tok) (o : Result (List A) FaultKind) → is_target t.head ≡ true → (many_at (among tokens bs) f room >>= λ more. done (a ∷ more)) (t ∷ rest) ≡ ends o (t ∷ rest) → MayFollow words o
+  follows_one : (room : ℕ) → words ≡ true → (a : A) (t : Tok) (rest : List Tok) (o : Result (List A) TokenFault) → is_target t.head ≡ true → (many_at (among tokens bs) f room >>= λ more. done (a ∷ more)) (t ∷ rest) ≡ ends o (t ∷ rest) → MayFollow words o
   follows_one room v a t rest o q d = subst (λ (b : Bool). MayFollow b o) (sym v) (valued_end (a ∷ []) (t ∷ rest) o (sym (ap (λ (r : Result (List A × List Tok) Fault). follow r (λ more. done (a ∷ more))) (none_at room t rest (target_apart bs t.head (outside v) q))) ∙ d))
 
-  follows_all : words ≡ true → (more : List A) (a : A) (t : Tok) (rest : List Tok) (o : Result (List A) FaultKind) → reads (a ∷ more) (t ∷ rest) ≡ ends o (t ∷ rest) → MayFollow words o
+  follows_all : words ≡ true → (more : List A) (a : A) (t : Tok) (rest : List Tok) (o : Result (List A) TokenFault) → reads (a ∷ more) (t ∷ rest) ≡ ends o (t ∷ rest) → MayFollow words o
   follows_all v more a t rest o d = subst (λ (b : Bool). MayFollow b o) (sym v) (valued_end (a ∷ more) (t ∷ rest) o d)
 
   at_none : (front : List Tok) → nowhere front tt → place front tt
@@ -828,14 +828,14 @@ module _ {A : Type 0} {words : Bool} (wide : Form Tok A) (f : Reader Tok A) (bs 
     not_nil p a s e = some a (subst (λ (y : List Tok). wide y a) e s)
 
     -- with more room than stands before it, a reading that ends here ends so with any such room
-    enough : (n m : ℕ) (ts front us : List Tok) (o : Result (List A) FaultKind) → ts ≡ front ++ us → length front < n → length front < m → at_most n ts ≡ ends o us → at_most m ts ≡ ends o us
+    enough : (n m : ℕ) (ts front us : List Tok) (o : Result (List A) TokenFault) → ts ≡ front ++ us → length front < n → length front < m → at_most n ts ≡ ends o us → at_most m ts ≡ ends o us
     enough zero m ts front us o w i j d = absurd (omega (arith, i))
     enough (suc n) zero ts front us o w i j d = absurd (omega (arith, j))
     enough (suc n) (suc m) [] front us o w i j d = d
     enough (suc n) (suc m) (t ∷ ts) front us o w i j d = by_test (λ left before o' w' i' j' d'. enough n m left before us o' w' i' j' d') (among tokens bs t) d
       where
         Again : Type 0
-        Again = (left before : List Tok) (o' : Result (List A) FaultKind) → left ≡ before ++ us → length before < n → length before < m → at_most n left ≡ ends o' us → at_most m left ≡ ends o' us
+        Again = (left before : List Tok) (o' : Result (List A) TokenFault) → left ≡ before ++ us → length before < n → length before < m → at_most n left ≡ ends o' us → at_most m left ≡ ends o' us
 
         by_more : Again → (x : A × List Tok) → f (t ∷ ts) ≡ reads x.0 x.1 → in_front x.0 (at_most n x.1) ≡ ends o us → in_front x.0 (at_most m x.1) ≡ ends o us
         by_more again x e d =
@@ -844,7 +844,7 @@ module _ {A : Type 0} {words : Bool} (wide : Form Tok A) (f : Reader Tok A) (bs 
             let q = placed_of (many n) x.1 us w'.0 w'.1 in
             let c = fewer front us p.0 q.0 q.1 (not_nil p.0 x.0 p.2) (sym w ∙ p.1 ∙ ap (λ (y : List Tok). p.0 ++ y) q.2) q.3 in
             let two : at_most m x.1 ≡ ends w'.0 us = again x.1 q.0 w'.0 (q.2 ∙ ap (λ (y : List Tok). q.0 ++ y) c.0) (omega (arith, i, c.1)) (omega (arith, j, c.1)) w'.1 in
-            ap (in_front x.0) two ∙ ends_in_front x.0 w'.0 us ∙ ap (λ (y : Result (List A) FaultKind). ends y us) (sym w'.2)
+            ap (in_front x.0) two ∙ ends_in_front x.0 w'.0 us ∙ ap (λ (y : Result (List A) TokenFault). ends y us) (sym w'.2)
 
         by_piece : Again → (r : Result (A × List Tok) Fault) → f (t ∷ ts) ≡ r → follow r (λ a. at_most n >>= λ more. done (a ∷ more)) ≡ ends o us → follow r (λ a. at_most m >>= λ more. done (a ∷ more)) ≡ ends o us
         by_piece again (Err e) q d = d
@@ -857,13 +857,13 @@ module _ {A : Type 0} {words : Bool} (wide : Form Tok A) (f : Reader Tok A) (bs 
     abbrev all_at : Reader Tok (List A)
     all_at = star_at (among tokens bs) f
 
-    enough_for : (front : List Tok) (n : ℕ) → length front < n → (u : Tok) (rest : List Tok) (o : Result (List A) FaultKind) → at_most n (front ++ u ∷ rest) ≡ ends o (u ∷ rest) → all_at (front ++ u ∷ rest) ≡ ends o (u ∷ rest)
+    enough_for : (front : List Tok) (n : ℕ) → length front < n → (u : Tok) (rest : List Tok) (o : Result (List A) TokenFault) → at_most n (front ++ u ∷ rest) ≡ ends o (u ∷ rest) → all_at (front ++ u ∷ rest) ≡ ends o (u ∷ rest)
     enough_for front n i u rest o d = enough n (length (front ++ u ∷ rest)) (front ++ u ∷ rest) front (u ∷ rest) o refl i (omega (arith, length-append front (u ∷ rest))) d
 
-    all_is : (front : List Tok) (u : Tok) (rest : List Tok) (o : Result (List A) FaultKind) → all_at (front ++ u ∷ rest) ≡ ends o (u ∷ rest) → at_most (suc (length front)) (front ++ u ∷ rest) ≡ ends o (u ∷ rest)
+    all_is : (front : List Tok) (u : Tok) (rest : List Tok) (o : Result (List A) TokenFault) → all_at (front ++ u ∷ rest) ≡ ends o (u ∷ rest) → at_most (suc (length front)) (front ++ u ∷ rest) ≡ ends o (u ∷ rest)
     all_is front u rest o d = enough (length (front ++ u ∷ rest)) (suc (length front)) (front ++ u ∷ rest) front (u ∷ rest) o refl (omega (arith, length-append front (u ∷ rest))) (omega arith) d
 
-    swap_all : (front : List Tok) (h : Head) (o : Result (List A) FaultKind) → Outcome words place (Star wide) (at_most (suc (length front))) front h o → Outcome words place (Star wide) all_at front h o
+    swap_all : (front : List Tok) (h : Head) (o : Result (List A) TokenFault) → Outcome words place (Star wide) (at_most (suc (length front))) front h o → Outcome words place (Star wide) all_at front h o
     swap_all front h (Ok as') n = ok_too words words place place (Star wide) (Star wide) (at_most (suc (length front))) all_at (is_angled front) front front h (λ e. e) as' as' (λ u i s rest. enough_for front (suc (length front)) (omega arith) u rest (Ok as') (s rest)) (λ u g. g) n
     swap_all front h (Err k) n = err_too words words place place (Star wide) (Star wide) (at_most (suc (length front))) all_at (is_angled front) front front h k (λ v. v) (λ u i s rest. let r = s rest in (r.0, r.1, enough_for front (suc (length front)) (omega arith) u rest (Err r.0) r.2)) (λ u g. g) n
 
@@ -884,17 +884,17 @@ star {wide = wide} {f = f} bs e law some = all wide f bs nowhere (λ front v. v)
 -- ---- single tokens
 
 -- what a meaning says at a token of this class
-abbrev pub SaysAt : {A : Type 0} → Place → Form Tok A → (Tok → Result A FaultKind) → Head → FaultKind → Type 0
-SaysAt place wide meaning h Syntax = NotTold false h (λ u. (k : FaultKind) × (IsBound k → ⊥) × (meaning u ≡ Err k)) (Goes wide []) (place [] tt)
-SaysAt place wide meaning h Profile = IsTold false h (λ u. (k : FaultKind) × (IsBound k → ⊥) × (meaning u ≡ Err k)) (Goes wide [])
+abbrev pub SaysAt : {A : Type 0} → Place → Form Tok A → (Tok → Result A TokenFault) → Head → TokenFault → Type 0
+SaysAt place wide meaning h Syntax = NotTold false h (λ u. (k : TokenFault) × (IsBound k → ⊥) × (meaning u ≡ Err k)) (Goes wide []) (place [] tt)
+SaysAt place wide meaning h Profile = IsTold false h (λ u. (k : TokenFault) × (IsBound k → ⊥) × (meaning u ≡ Err k)) (Goes wide [])
 SaysAt place wide meaning h Number = Unit {0}
 SaysAt place wide meaning h Limit = Unit {0}
 
-abbrev pub Says : {A : Type 0} → Form Tok A → (Tok → Result A FaultKind) → Head → FaultKind → Type 0
+abbrev pub Says : {A : Type 0} → Form Tok A → (Tok → Result A TokenFault) → Head → TokenFault → Type 0
 Says wide meaning h k = SaysAt nowhere wide meaning h k
 
-module _ {A : Type 0} (loose : Bool) (place : Place) (wide : Form Tok A) (meaning : Tok → Result A FaultKind) (refuses : (t : Tok) (a : A) → among tokens OPEN_ANGLE t ≡ true → meaning t ≡ Ok a → loose ≡ true) (right : (t : Tok) (a : A) → meaning t ≡ Ok a → wide (t ∷ []) a) (some : (ts : List Tok) × (a : A) × wide ts a × AllReal tokens ts) (says : (t : Tok) (k : FaultKind) → meaning t ≡ Err k → SaysAt place wide meaning t.head k) where
-  sound_means : (t : Tok) (ts rest : List Tok) (a : A) (m : Result A FaultKind) → meaning t ≡ m → token_means t ts m ≡ reads a rest → (front : List Tok) × (t ∷ ts ≡ front ++ rest) × wide front a
+module _ {A : Type 0} (loose : Bool) (place : Place) (wide : Form Tok A) (meaning : Tok → Result A TokenFault) (refuses : (t : Tok) (a : A) → among tokens OPEN_ANGLE t ≡ true → meaning t ≡ Ok a → loose ≡ true) (right : (t : Tok) (a : A) → meaning t ≡ Ok a → wide (t ∷ []) a) (some : (ts : List Tok) × (a : A) × wide ts a × AllReal tokens ts) (says : (t : Tok) (k : TokenFault) → meaning t ≡ Err k → SaysAt place wide meaning t.head k) where
+  sound_means : (t : Tok) (ts rest : List Tok) (a : A) (m : Result A TokenFault) → meaning t ≡ m → token_means t ts m ≡ reads a rest → (front : List Tok) × (t ∷ ts ≡ front ++ rest) × wide front a
   sound_means t ts rest a (Ok b) d e = let h = reads_is b a ts rest e in (t ∷ [], ap (λ (x : List Tok). t ∷ x) h.1, right t a (d ∙ ap (λ (x : A). Ok x) h.0))
   sound_means t ts rest a (Err k) d e = absurd cc
 
@@ -902,7 +902,7 @@ module _ {A : Type 0} (loose : Bool) (place : Place) (wide : Form Tok A) (meanin
   sound_token [] rest a e = absurd cc
   sound_token (t ∷ ts) rest a e = sound_means t ts rest a (meaning t) refl e
 
-  placed_means : (t : Tok) (ts : List Tok) (e : Fault) (m : Result A FaultKind) → token_means t ts m ≡ wrong e → (front : List Tok) × (rest : List Tok) × (t ∷ ts ≡ front ++ rest) × (length rest ≡ e.left)
+  placed_means : (t : Tok) (ts : List Tok) (e : Fault) (m : Result A TokenFault) → token_means t ts m ≡ wrong e → (front : List Tok) × (rest : List Tok) × (t ∷ ts ≡ front ++ rest) × (length rest ≡ e.left)
   placed_means t ts e (Ok b) d = absurd cc
   placed_means t ts e (Err k) d = ([], t ∷ ts, refl, ap (λ (x : Fault). x.left) (wrong_is _ e d))
 
@@ -911,13 +911,13 @@ module _ {A : Type 0} (loose : Bool) (place : Place) (wide : Form Tok A) (meanin
   placed_token (t ∷ ts) e d = placed_means t ts e (meaning t) d
 
   -- a fault is at the token, and what is read stands before the next one
-  fault_here : (t : Tok) (rest : List Tok) (o m : Result A FaultKind) → token_means t rest m ≡ ends o (t ∷ rest) → (k : FaultKind) × (o ≡ Err k) × (m ≡ Err k)
+  fault_here : (t : Tok) (rest : List Tok) (o m : Result A TokenFault) → token_means t rest m ≡ ends o (t ∷ rest) → (k : TokenFault) × (o ≡ Err k) × (m ≡ Err k)
   fault_here t rest (Ok a) (Ok b) d = absurd (omega (arith, ap length (reads_is b a rest (t ∷ rest) d).1))
   fault_here t rest (Ok a) (Err k) d = absurd cc
   fault_here t rest (Err k) (Ok b) d = absurd cc
   fault_here t rest (Err k) (Err l) d = (k, refl, ap (λ (x : Fault). Err x.kind) (wrong_is (record { left = length (t ∷ rest); kind = l }) (record { left = length (t ∷ rest); kind = k }) d))
 
-  read_before : (v t : Tok) (front rest : List Tok) (o m : Result A FaultKind) → token_means v (front ++ t ∷ rest) m ≡ ends o (t ∷ rest) → (front ≡ []) × (a : A) × (o ≡ Ok a) × (m ≡ Ok a)
+  read_before : (v t : Tok) (front rest : List Tok) (o m : Result A TokenFault) → token_means v (front ++ t ∷ rest) m ≡ ends o (t ∷ rest) → (front ≡ []) × (a : A) × (o ≡ Ok a) × (m ≡ Ok a)
   read_before v t front rest (Ok a) (Ok b) d =
       let p = reads_is b a (front ++ t ∷ rest) (t ∷ rest) d in
       ((cut_is front (t ∷ rest) [] (t ∷ rest) p.1 refl).0, a, refl, ap (λ (x : A). Ok x) p.0)
@@ -926,25 +926,25 @@ module _ {A : Type 0} (loose : Bool) (place : Place) (wide : Form Tok A) (meanin
   read_before v t front rest (Err k) (Err l) d =
       absurd (omega (arith, ap (λ (x : Fault). x.left) (wrong_is (record { left = length (v ∷ (front ++ t ∷ rest)); kind = l }) (record { left = length (t ∷ rest); kind = k }) d), length-append front (t ∷ rest)))
 
-  local_token : (front : List Tok) (t : Tok) (rest rest' : List Tok) (o : Result A FaultKind) → token_at meaning (front ++ t ∷ rest) ≡ ends o (t ∷ rest) → token_at meaning (front ++ t ∷ rest') ≡ ends o (t ∷ rest')
-  local_token [] t rest rest' o d = let h = fault_here t rest o (meaning t) d in ap (token_means t rest') h.2 ∙ ap (λ (x : Result A FaultKind). ends x (t ∷ rest')) (sym h.1)
+  local_token : (front : List Tok) (t : Tok) (rest rest' : List Tok) (o : Result A TokenFault) → token_at meaning (front ++ t ∷ rest) ≡ ends o (t ∷ rest) → token_at meaning (front ++ t ∷ rest') ≡ ends o (t ∷ rest')
+  local_token [] t rest rest' o d = let h = fault_here t rest o (meaning t) d in ap (token_means t rest') h.2 ∙ ap (λ (x : Result A TokenFault). ends x (t ∷ rest')) (sym h.1)
   local_token (v ∷ front) t rest rest' o d =
       let h = read_before v t front rest o (meaning v) d in
-      ap (token_means v (front ++ t ∷ rest')) h.3 ∙ ap (λ (x : List Tok). reads h.1 (x ++ t ∷ rest')) h.0 ∙ ap (λ (x : Result A FaultKind). ends x (t ∷ rest')) (sym h.2)
+      ap (token_means v (front ++ t ∷ rest')) h.3 ∙ ap (λ (x : List Tok). reads h.1 (x ++ t ∷ rest')) h.0 ∙ ap (λ (x : Result A TokenFault). ends x (t ∷ rest')) (sym h.2)
 
-  by_kind : (h : Head) (k : FaultKind) → SaysAt place wide meaning h k → Outcome false place wide (token_at meaning) [] h (Err k)
-  by_kind h Syntax s = not_told_too false h (λ u. (k : FaultKind) × (IsBound k → ⊥) × (meaning u ≡ Err k)) (Stuck (token_at meaning) []) (Goes wide []) (Goes wide []) (place [] tt) (place [] tt) (λ u i r rest. (r.0, r.1, ap (token_means u rest) r.2)) (λ u g. g) (λ v. v) s
-  by_kind h Profile s = told_too false h (λ u. (k : FaultKind) × (IsBound k → ⊥) × (meaning u ≡ Err k)) (Stuck (token_at meaning) []) (Goes wide []) (Goes wide []) (λ u i r rest. (r.0, r.1, ap (token_means u rest) r.2)) (λ u g. g) s
+  by_kind : (h : Head) (k : TokenFault) → SaysAt place wide meaning h k → Outcome false place wide (token_at meaning) [] h (Err k)
+  by_kind h Syntax s = not_told_too false h (λ u. (k : TokenFault) × (IsBound k → ⊥) × (meaning u ≡ Err k)) (Stuck (token_at meaning) []) (Goes wide []) (Goes wide []) (place [] tt) (place [] tt) (λ u i r rest. (r.0, r.1, ap (token_means u rest) r.2)) (λ u g. g) (λ v. v) s
+  by_kind h Profile s = told_too false h (λ u. (k : TokenFault) × (IsBound k → ⊥) × (meaning u ≡ Err k)) (Stuck (token_at meaning) []) (Goes wide []) (Goes wide []) (λ u i r rest. (r.0, r.1, ap (token_means u rest) r.2)) (λ u g. g) s
   by_kind h Number s = tt
   by_kind h Limit s = tt
 
-  swap_token : (front : List Tok) (t : Tok) (rest : List Tok) (o : Result A FaultKind) → token_at meaning (front ++ t ∷ rest) ≡ ends o (t ∷ rest) → Outcome false place wide (token_at meaning) front t.head o
+  swap_token : (front : List Tok) (t : Tok) (rest : List Tok) (o : Result A TokenFault) → token_at meaning (front ++ t ∷ rest) ≡ ends o (t ∷ rest) → Outcome false place wide (token_at meaning) front t.head o
   swap_token [] t rest o d =
       let h = fault_here t rest o (meaning t) d in
-      subst (λ (x : Result A FaultKind). Outcome false place wide (token_at meaning) [] t.head x) (sym h.1) (by_kind t.head h.0 (says t h.0 h.2))
+      subst (λ (x : Result A TokenFault). Outcome false place wide (token_at meaning) [] t.head x) (sym h.1) (by_kind t.head h.0 (says t h.0 h.2))
   swap_token (v ∷ front) t rest o d =
       let h = read_before v t front rest o (meaning v) d in
-      subst (λ (x : Result A FaultKind). Outcome false place wide (token_at meaning) (v ∷ front) t.head x) (sym h.2) (inl (λ u i rest'. ap (token_means v (front ++ u ∷ rest')) h.3 ∙ ap (λ (x : List Tok). reads h.1 (x ++ u ∷ rest')) h.0))
+      subst (λ (x : Result A TokenFault). Outcome false place wide (token_at meaning) (v ∷ front) t.head x) (sym h.2) (inl (λ u i rest'. ap (token_means v (front ++ u ∷ rest')) h.3 ∙ ap (λ (x : List Tok). reads h.1 (x ++ u ∷ rest')) h.0))
 
   closed_token : (front rest : List Tok) (a : A) → token_at meaning (front ++ rest) ≡ reads a rest → is_angled front ≡ true → loose ≡ true
   closed_token [] rest a d q = absurd (differ q)
@@ -954,14 +954,14 @@ module _ {A : Type 0} (loose : Bool) (place : Place) (wide : Form Tok A) (meanin
       by_front [] n q e = refuses v a q e
       by_front (u ∷ us) n q e = absurd cc
 
-      by_meaning : (m : Result A FaultKind) → meaning v ≡ m → token_means v (front ++ rest) m ≡ reads a rest → loose ≡ true
+      by_meaning : (m : Result A TokenFault) → meaning v ≡ m → token_means v (front ++ rest) m ≡ reads a rest → loose ≡ true
       by_meaning (Ok b) e d = let p = reads_is b a (front ++ rest) rest d in by_front front (cut_is front rest [] rest p.1 refl).0 q (e ∙ ap (λ (x : A). Ok x) p.0)
       by_meaning (Err k) e d = absurd cc
 
   pub single_at : Swaps false loose place wide (token_at meaning)
   single_at = record { sound = sound_token; placed = placed_token; local = local_token; some = some; closed = closed_token; swap = swap_token }
 
-pub single : {A : Type 0} (wide : Form Tok A) (meaning : Tok → Result A FaultKind) → ((t : Tok) (a : A) → among tokens OPEN_ANGLE t ≡ true → meaning t ≡ Ok a → ⊥) → ((t : Tok) (a : A) → meaning t ≡ Ok a → wide (t ∷ []) a) → (ts : List Tok) × (a : A) × wide ts a × AllReal tokens ts → ((t : Tok) (k : FaultKind) → meaning t ≡ Err k → Says wide meaning t.head k) → Exchanges wide (token_at meaning)
+pub single : {A : Type 0} (wide : Form Tok A) (meaning : Tok → Result A TokenFault) → ((t : Tok) (a : A) → among tokens OPEN_ANGLE t ≡ true → meaning t ≡ Ok a → ⊥) → ((t : Tok) (a : A) → meaning t ≡ Ok a → wide (t ∷ []) a) → (ts : List Tok) × (a : A) × wide ts a × AllReal tokens ts → ((t : Tok) (k : TokenFault) → meaning t ≡ Err k → Says wide meaning t.head k) → Exchanges wide (token_at meaning)
 single wide meaning refuses right some says = single_at false nowhere wide meaning (λ t a i e. absurd (refuses t a i e)) right some says
 
 -- ---- what may end anywhere, but at none that is left out only in some places
@@ -981,8 +981,8 @@ TELLING = number heads.Str ∷ SOMEWHERE
 abbrev pub STEADY : List ℕ
 STEADY = number heads.Number ∷ TELLING
 
-module _ {A : Type 0} {g wide : Form Tok A} {f : Reader Tok A} {xs : List ℕ} {e : Bool} (rule : Rule tokens g wide f xs [] e) (never : (front : List Tok) (t : Tok) (rest : List Tok) (k : FaultKind) → f (front ++ t ∷ rest) ≡ fault_at k (t ∷ rest) → contains STEADY (number t.head) ≡ true → ⊥) where
-  stuck_nowhere : (h : Head) (k : FaultKind) (angled : Bool) (front : List Tok) → (contains STEADY (number h) ≡ true → ⊥) → OutcomeAt false nowhere wide f angled front h (Err k)
+module _ {A : Type 0} {g wide : Form Tok A} {f : Reader Tok A} {xs : List ℕ} {e : Bool} (rule : Rule tokens g wide f xs [] e) (never : (front : List Tok) (t : Tok) (rest : List Tok) (k : TokenFault) → f (front ++ t ∷ rest) ≡ fault_at k (t ∷ rest) → contains STEADY (number t.head) ≡ true → ⊥) where
+  stuck_nowhere : (h : Head) (k : TokenFault) (angled : Bool) (front : List Tok) → (contains STEADY (number h) ≡ true → ⊥) → OutcomeAt false nowhere wide f angled front h (Err k)
   stuck_nowhere h Number angled front n = tt
   stuck_nowhere h Limit angled front n = tt
   stuck_nowhere heads.RefusedType k angled front n = absurd (n refl)
@@ -996,7 +996,7 @@ module _ {A : Type 0} {g wide : Form Tok A} {f : Reader Tok A} {xs : List ℕ} {
   stuck_nowhere h Syntax angled front n = tt
   stuck_nowhere h Profile angled front n = tt
 
-  pub ends_anywhere : (angled : Bool) (front : List Tok) (t : Tok) (rest : List Tok) (o : Result A FaultKind) → f (front ++ t ∷ rest) ≡ ends o (t ∷ rest) → OutcomeAt false nowhere wide f angled front t.head o
+  pub ends_anywhere : (angled : Bool) (front : List Tok) (t : Tok) (rest : List Tok) (o : Result A TokenFault) → f (front ++ t ∷ rest) ≡ ends o (t ∷ rest) → OutcomeAt false nowhere wide f angled front t.head o
   ends_anywhere angled front t rest (Ok a) d =
       let s = rule.law.sound (front ++ t ∷ rest) (t ∷ rest) a d in
       let same = cut_is front (t ∷ rest) s.0 (t ∷ rest) s.1 refl in
@@ -1027,7 +1027,7 @@ same_reader {words = words} {place = place} {wide = wide} {f = f} {f' = f'} same
 }
 
 -- what begins with a token isn't empty
-pub token_begins : {A B : Type 0} (meaning : Tok → Result A FaultKind) (k : A → Form Tok B) (b : B) → form.◌>>=◌ (form.token meaning) k [] b → ⊥
+pub token_begins : {A B : Type 0} (meaning : Tok → Result A TokenFault) (k : A → Form Tok B) (b : B) → form.◌>>=◌ (form.token meaning) k [] b → ⊥
 unfolding form.◌>>=◌
 token_begins meaning k b ([], back, a, e, s, r) = s
 token_begins meaning k b (t ∷ front, back, a, e, s, r) = absurd cc

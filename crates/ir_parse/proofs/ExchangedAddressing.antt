@@ -11,8 +11,8 @@ use Rattle.ir_read.specs.Alphabet.{among}
 use Rattle.ir_read.specs.Chained.{Chain, chain_at}
 use Rattle.ir_read.specs.Lawful.{IsBound}
 use Rattle.ir_read.specs.Rules.{in_range, is_class, is_valued}
-use Rattle.ir_read.specs.declared.fault.FaultKind.TheVariants.{Number, Limit}
-use Rattle.ir_read.specs.declared.fault.FaultKind.{FaultKind}
+use Rattle.ir_read.specs.declared.fault.TokenFault.TheVariants.{Number, Limit}
+use Rattle.ir_read.specs.declared.fault.TokenFault.{TokenFault}
 use Rattle.ir_instructions.specs.Addressing.{slots_fit, any_slots, one_slot, slots_behind, reserving, indexing, attaching, behind_comma, further, indices, addressing, fitting, is_count, count_in, many_slots}
 use Rattle.ir_instructions.specs.AddressingAt.{begins, one_slot_at, slots_behind_at, reserving_at, indexing_at, attaching_at, behind_comma_at, further_at, indices_at, addressing_at, passes, count_means, count_in_at, many_slots_at}
 use Rattle.ir_read.specs.Ahead.{ALIGNED}
@@ -51,10 +51,10 @@ one_counts : (w : ℕ) → is_count (any_slots pointer) w one ≡ Ok 1
 unfolding is_valued
 one_counts w = ap (λ (o : Option ℕ). in_range (fitting (any_slots pointer) o)) (counts_one w)
 
-abbrev refuse : FaultKind → Result ℕ FaultKind
+abbrev refuse : TokenFault → Result ℕ TokenFault
 refuse k = Err k
 
-err_is : (k l : FaultKind) → refuse k ≡ refuse l → k ≡ l
+err_is : (k l : TokenFault) → refuse k ≡ refuse l → k ≡ l
 err_is k l e = cc
 
 module _ (fits : ℕ → Bool) (w : ℕ) where
@@ -75,7 +75,7 @@ module _ (fits : ℕ → Bool) (w : ℕ) where
   unfolding count_means is_valued
   count_outside t e = rw e refl
 
-  count_inside : (t : Tok) → among tokens NUMBER t ≡ true → (k : FaultKind) → count_means fits w t ≡ Err k → IsBound k
+  count_inside : (t : Tok) → among tokens NUMBER t ≡ true → (k : TokenFault) → count_means fits w t ≡ Err k → IsBound k
   unfolding count_means is_valued
   count_inside t p k d = by_class (among tokens NUMBER t) (count_of (max 1 w) t) p d
     where

@@ -13,8 +13,8 @@ use Rattle.ir_read.specs.Lawful.{IsBound}
 use Rattle.ir_read.specs.Readers as reader
 use Rattle.ir_read.specs.Readers.{token_at}
 use Rattle.ir_read.specs.Rules.{in_range, is_among, is_valued}
-use Rattle.ir_read.specs.declared.fault.FaultKind.TheVariants.{Number}
-use Rattle.ir_read.specs.declared.fault.FaultKind.{FaultKind}
+use Rattle.ir_read.specs.declared.fault.TokenFault.TheVariants.{Number}
+use Rattle.ir_read.specs.declared.fault.TokenFault.{TokenFault}
 use Rattle.ir_heads.specs.Attributes.{group_name, WORDS, CALL_WORDS, GROUP_WORDS, GROUP, word_kept, aligned, parameter_attribute, parameter_attributes, word_tail, word_attribute, string_value, string_attribute, function_attribute, group_attribute, call_attribute, call_attributes, head_alignment, head_attribute, attached_attribute, definition_attribute, definition_attributes, grouped, attribute_group, with_attribute, none_kept, group_item}
 use Rattle.ir_heads.specs.AttributesAt.{group_name_at, NUMBER, EQUALS, STRING, ALIGN, PARAMETER_WORD, PARAMETER_GROUP, PARAMETER, CALL, DEFINITION, aligned_at, parameter_attribute_at, parameter_attributes_at, word_tail_at, word_attribute_at, string_value_at, string_attribute_at, function_attribute_at, group_attribute_at, call_attribute_at, call_attributes_at, head_alignment_at, head_attribute_at, attached_attribute_at, definition_attribute_at, definition_attributes_at, GROUPED, grouped_at, attribute_group_at}
 use Rattle.ir_read.specs.Classes.{tokens, refusal}
@@ -36,7 +36,7 @@ use Rattle.ir_parse.proofs.ExchangedWords.{align_exchanged, attributes_exchanged
 abbrev zero_group : Tok
 zero_group = sample kinds.Group heads.Group (codes "#0")
 
-abbrev fault : FaultKind → Result ℕ FaultKind
+abbrev fault : TokenFault → Result ℕ TokenFault
 fault k = Err k
 
 alignment_outside : (t : Tok) → among tokens NUMBER t ≡ false → is_alignment t ≡ Err (refusal (number t.head))
@@ -47,11 +47,11 @@ alignment_outside t p = by_class (nat_eq (number t.head) (number heads.Number)) 
     by_class true p = absurd cc
     by_class false p = refl
 
-alignment_inside : (t : Tok) → among tokens NUMBER t ≡ true → (k : FaultKind) → is_alignment t ≡ Err k → IsBound k
+alignment_inside : (t : Tok) → among tokens NUMBER t ≡ true → (k : TokenFault) → is_alignment t ≡ Err k → IsBound k
 unfolding is_alignment alignment_of
 alignment_inside t p k d = by_class (nat_eq (number t.head) (number heads.Number)) p d
   where
-    number_is : (k : FaultKind) → fault Number ≡ fault k → Number ≡ k
+    number_is : (k : TokenFault) → fault Number ≡ fault k → Number ≡ k
     number_is k e = cc
 
     by_fit : (b : Bool) → cond b (Ok (decimal t.text)) (fault Number) ≡ fault k → IsBound k

@@ -13,8 +13,8 @@ use Rattle.ir_read.specs.Forms as form
 use Rattle.ir_read.specs.Lawful.{IsBound}
 use Rattle.ir_read.specs.Readers.{done, follow, ◌>>=◌}
 use Rattle.ir_read.specs.Rules.{is_among, is_class, is_valued}
-use Rattle.ir_read.specs.declared.fault.FaultKind.TheVariants.{Syntax}
-use Rattle.ir_read.specs.declared.fault.FaultKind.{FaultKind}
+use Rattle.ir_read.specs.declared.fault.TokenFault.TheVariants.{Syntax}
+use Rattle.ir_read.specs.declared.fault.TokenFault.{TokenFault}
 use Rattle.ir_heads.specs.Attributes.{call_attributes}
 use Rattle.ir_heads.specs.AttributesAt.{call_attributes_at}
 use Rattle.ir_read.specs.Classes.{tokens, IsReal, refusal, the, the_at, itself}
@@ -169,7 +169,7 @@ marker_not_bound n b = by_test (nat_eq n (number heads.LifetimeMarker)) b
     by_test true b = b
     by_test false b = not_bound n b
 
-abbrev unmarked_none : (h : Head) → plain_at POINTER_OPERAND h ≡ true → contains POINTER_OPERAND (number h) ≡ false → (u : Tok) → among tokens (stands_for false h) u ≡ true → (k : FaultKind) × (IsBound k → ⊥) × (is_valued tokens marker_refusal POINTER_OPERAND (operand_of Ptr) u ≡ Err k)
+abbrev unmarked_none : (h : Head) → plain_at POINTER_OPERAND h ≡ true → contains POINTER_OPERAND (number h) ≡ false → (u : Tok) → among tokens (stands_for false h) u ≡ true → (k : TokenFault) × (IsBound k → ⊥) × (is_valued tokens marker_refusal POINTER_OPERAND (operand_of Ptr) u ≡ Err k)
 unmarked_none = none_taken unmarked (is_valued tokens marker_refusal POINTER_OPERAND (operand_of Ptr)) POINTER_OPERAND marker_refusal marker_not_bound (valued_outside marker_refusal POINTER_OPERAND (operand_of Ptr)) (valued_inside marker_refusal POINTER_OPERAND (operand_of Ptr))
 
 null_means : is_valued tokens marker_refusal POINTER_OPERAND (operand_of Ptr) (word heads.Null (codes "null")) ≡ Ok operands.Null
@@ -180,7 +180,7 @@ null_means = refl
 abbrev here : Place
 here = form.gives tt
 
-abbrev unmarked_means : Tok → Result Operand FaultKind
+abbrev unmarked_means : Tok → Result Operand TokenFault
 unmarked_means = is_valued tokens marker_refusal POINTER_OPERAND (operand_of Ptr)
 
 unmarked_class : (h : Head) → contains POINTER_OPERAND (number h) ≡ false → SaysAt here unmarked unmarked_means h (marker_refusal (number h))
@@ -248,13 +248,13 @@ unfolding calling calling_at
 calling_exchanged named =
     seq_to conventions_exchanged (λ _. seq_to result_exchanged (λ r. seq_to (maybe PAREN refl types_exchanged) (λ ws. seq_from (callee_exchanged named r) (λ f. seq_into open_paren_exchanged (λ _. seq_into (arguments_exchanged ws) (λ as'. behind_arguments (called r f as')))))))
 
-abbrev fine : Unit {0} → Result (Unit {0}) FaultKind
+abbrev fine : Unit {0} → Result (Unit {0}) TokenFault
 fine u = Ok u
 
-abbrev failed : FaultKind → Result (Unit {0}) FaultKind
+abbrev failed : TokenFault → Result (Unit {0}) TokenFault
 failed k = Err k
 
-abbrev no_result : Result (Option Reg) FaultKind
+abbrev no_result : Result (Option Reg) TokenFault
 no_result = Ok None
 
 -- ---- a lifetime marker against the syntax: as the callee of a void call that has a name

@@ -13,8 +13,8 @@ use Rattle.ir_read.specs.Forms.{Form}
 use Rattle.ir_read.specs.Lawful.{ends}
 use Rattle.ir_read.specs.Readers.{Reader, fault_at, done, follow, ◌>>=◌}
 use Rattle.ir_read.specs.declared.fault.Fault.{Fault}
-use Rattle.ir_read.specs.declared.fault.FaultKind.TheVariants.{Syntax}
-use Rattle.ir_read.specs.declared.fault.FaultKind.{FaultKind}
+use Rattle.ir_read.specs.declared.fault.TokenFault.TheVariants.{Syntax}
+use Rattle.ir_read.specs.declared.fault.TokenFault.{TokenFault}
 use Rattle.ir_read.specs.Rules.{disjoint}
 use Rattle.ir_read.specs.Classes.{tokens}
 use Rattle.ir_operands.specs.ShapeForms.{OPEN_BRACE}
@@ -112,7 +112,7 @@ module _ {S A : Type 0} (final : S → Bool) (bs : S → List ℕ) (wide : S →
       by_stop again true d = absurd cc
       by_stop again false d = by_piece again (f s ts) refl d
 
-  placed_ends : (n : ℕ) (s : S) (ts us : List Tok) (o : Result (List A) FaultKind) → at_most n s ts ≡ ends o us → (front : List Tok) × (rest : List Tok) × (ts ≡ front ++ rest) × (length rest ≡ length us)
+  placed_ends : (n : ℕ) (s : S) (ts us : List Tok) (o : Result (List A) TokenFault) → at_most n s ts ≡ ends o us → (front : List Tok) × (rest : List Tok) × (ts ≡ front ++ rest) × (length rest ≡ length us)
   placed_ends n s ts us (Ok m) h = let p = sound_chain n s ts us m h in (p.0, us, p.1, refl)
   placed_ends n s ts us (Err k) h = placed_chain n s ts (record { left = length us; kind = k }) h
 
@@ -127,7 +127,7 @@ module _ {S A : Type 0} (final : S → Bool) (bs : S → List ℕ) (wide : S →
     piece : f s (one ++ (two ++ us)) ≡ reads x (two ++ us)
     less : length two < length front
 
-  cut_at : (n : ℕ) (s : S) (front us : List Tok) (x : A × S) (mid : List Tok) (o : Result (List A) FaultKind) → f s (front ++ us) ≡ reads x mid → at_most n x.1 mid ≡ ends o us → Cut s front us x mid
+  cut_at : (n : ℕ) (s : S) (front us : List Tok) (x : A × S) (mid : List Tok) (o : Result (List A) TokenFault) → f s (front ++ us) ≡ reads x mid → at_most n x.1 mid ≡ ends o us → Cut s front us x mid
   cut_at n s front us x mid o i d =
       let p = (laws s).sound (front ++ us) mid x i in
       let q = placed_ends n x.1 mid us o d in
@@ -146,13 +146,13 @@ module _ {S A : Type 0} (final : S → Bool) (bs : S → List ℕ) (wide : S →
       }
 
   -- with more room than stands before it, a reading that ends here ends so with any such room
-  enough : (n m : ℕ) (s : S) (front us : List Tok) (o : Result (List A) FaultKind) → length front < n → length front < m → at_most n s (front ++ us) ≡ ends o us → at_most m s (front ++ us) ≡ ends o us
+  enough : (n m : ℕ) (s : S) (front us : List Tok) (o : Result (List A) TokenFault) → length front < n → length front < m → at_most n s (front ++ us) ≡ ends o us → at_most m s (front ++ us) ≡ ends o us
   enough zero m s front us o i j d = absurd (omega (arith, i))
   enough (suc n) zero s front us o i j d = absurd (omega (arith, j))
   enough (suc n) (suc m) s front us o i j d = by_stop (λ next before o' i' j' d'. enough n m next before us o' i' j' d') (stop s (front ++ us)) d
     where
       Again : Type 0
-      Again = (next : S) (before : List Tok) (o' : Result (List A) FaultKind) → length before < n → length before < m → at_most n next (before ++ us) ≡ ends o' us → at_most m next (before ++ us) ≡ ends o' us
+      Again = (next : S) (before : List Tok) (o' : Result (List A) TokenFault) → length before < n → length before < m → at_most n next (before ++ us) ≡ ends o' us → at_most m next (before ++ us) ≡ ends o' us
 
       by_piece : Again → (r : Result ((A × S) × List Tok) Fault) → f s (front ++ us) ≡ r → follow r (further n) ≡ ends o us → follow r (further m) ≡ ends o us
       by_piece again (Err e) q d = d
@@ -160,7 +160,7 @@ module _ {S A : Type 0} (final : S → Bool) (bs : S → List ℕ) (wide : S →
           let w = without x.0.0 (at_most n x.0.1 x.1) o us d in
           let c = cut_at n s front us x.0 x.1 w.0 q w.1 in
           let two : at_most m x.0.1 (c.two ++ us) ≡ ends w.0 us = again x.0.1 c.two w.0 (omega (arith, i, c.less)) (omega (arith, j, c.less)) (ap (at_most n x.0.1) (sym c.mid_is) ∙ w.1) in
-          ap (λ (y : List Tok). in_front x.0.0 (at_most m x.0.1 y)) c.mid_is ∙ ap (in_front x.0.0) two ∙ ends_in_front x.0.0 w.0 us ∙ ap (λ (y : Result (List A) FaultKind). ends y us) (sym w.2)
+          ap (λ (y : List Tok). in_front x.0.0 (at_most m x.0.1 y)) c.mid_is ∙ ap (in_front x.0.0) two ∙ ends_in_front x.0.0 w.0 us ∙ ap (λ (y : Result (List A) TokenFault). ends y us) (sym w.2)
 
       by_stop : Again → (b : Bool) → cond b (reads {A = List A} [] (front ++ us)) (follow (f s (front ++ us)) (further n)) ≡ ends o us → cond b (reads {A = List A} [] (front ++ us)) (follow (f s (front ++ us)) (further m)) ≡ ends o us
       by_stop again true d = d
@@ -168,7 +168,7 @@ module _ {S A : Type 0} (final : S → Bool) (bs : S → List ℕ) (wide : S →
 
   -- ---- another rest behind the token
 
-  nothing_read : (front : List Tok) (t : Tok) (rest : List Tok) (o : Result (List A) FaultKind) → reads [] (front ++ t ∷ rest) ≡ ends o (t ∷ rest) → (front ≡ []) × (o ≡ Ok [])
+  nothing_read : (front : List Tok) (t : Tok) (rest : List Tok) (o : Result (List A) TokenFault) → reads [] (front ++ t ∷ rest) ≡ ends o (t ∷ rest) → (front ≡ []) × (o ≡ Ok [])
   nothing_read front t rest (Ok m) h =
       let p = reads_is [] m (front ++ t ∷ rest) (t ∷ rest) h in
       ((cut_is front (t ∷ rest) [] (t ∷ rest) p.1 refl).0, ap (λ (x : List A). Ok x) (sym p.0))
@@ -196,7 +196,7 @@ module _ {S A : Type 0} (final : S → Bool) (bs : S → List ℕ) (wide : S →
   goes_whole n s one two u rest x e h =
       stop_not n s ((one ++ two) ++ u ∷ rest) e ∙ ap (λ (y : List Tok). follow (f s y) (further n)) (append_assoc one two (u ∷ rest)) ∙ ap (λ (y : Result ((A × S) × List Tok) Fault). follow y (further n)) h
 
-  local_chain : (n : ℕ) (s : S) (front : List Tok) (t : Tok) (rest rest' : List Tok) (o : Result (List A) FaultKind) → length front < n → at_most n s (front ++ t ∷ rest) ≡ ends o (t ∷ rest) → at_most n s (front ++ t ∷ rest') ≡ ends o (t ∷ rest')
+  local_chain : (n : ℕ) (s : S) (front : List Tok) (t : Tok) (rest rest' : List Tok) (o : Result (List A) TokenFault) → length front < n → at_most n s (front ++ t ∷ rest) ≡ ends o (t ∷ rest) → at_most n s (front ++ t ∷ rest') ≡ ends o (t ∷ rest')
   local_chain zero s front t rest rest' o lt h = absurd (omega (arith, lt))
   local_chain (suc n) s front t rest rest' o lt h =
       either_way (at_most (suc n) s (front ++ t ∷ rest') ≡ ends o (t ∷ rest')) n s (front ++ t ∷ rest) (ends o (t ∷ rest)) h (λ e d. stopped e d)
@@ -205,23 +205,23 @@ module _ {S A : Type 0} (final : S → Bool) (bs : S → List ℕ) (wide : S →
       stopped : stop s (front ++ t ∷ rest) ≡ true → reads [] (front ++ t ∷ rest) ≡ ends o (t ∷ rest) → at_most (suc n) s (front ++ t ∷ rest') ≡ ends o (t ∷ rest')
       stopped e d =
           let z = nothing_read front t rest o d in
-          stop_gives (suc n) s (front ++ t ∷ rest') (sym (same_stop s front t rest rest') ∙ e) ∙ ap (λ (x : List Tok). reads [] (x ++ t ∷ rest')) z.0 ∙ ap (λ (x : Result (List A) FaultKind). ends x (t ∷ rest')) (sym z.1)
+          stop_gives (suc n) s (front ++ t ∷ rest') (sym (same_stop s front t rest rest') ∙ e) ∙ ap (λ (x : List Tok). reads [] (x ++ t ∷ rest')) z.0 ∙ ap (λ (x : Result (List A) TokenFault). ends x (t ∷ rest')) (sym z.1)
 
       Again : Type 0
-      Again = (next : S) (front' : List Tok) (o' : Result (List A) FaultKind) → length front' < n → at_most n next (front' ++ t ∷ rest) ≡ ends o' (t ∷ rest) → at_most n next (front' ++ t ∷ rest') ≡ ends o' (t ∷ rest')
+      Again = (next : S) (front' : List Tok) (o' : Result (List A) TokenFault) → length front' < n → at_most n next (front' ++ t ∷ rest) ≡ ends o' (t ∷ rest) → at_most n next (front' ++ t ∷ rest') ≡ ends o' (t ∷ rest')
 
       by_piece : Again → (r : Result ((A × S) × List Tok) Fault) → f s (front ++ t ∷ rest) ≡ r → follow r (further n) ≡ ends o (t ∷ rest) → follow (f s (front ++ t ∷ rest')) (further n) ≡ ends o (t ∷ rest')
       by_piece again (Err k) i d =
           let w = err_ends k o (t ∷ rest) d in
           let one : f s (front ++ t ∷ rest') ≡ fault_at w.0 (t ∷ rest') = (laws s).local front t rest rest' (Err w.0) (i ∙ ap wrong w.2) in
-          ap (λ (y : Result ((A × S) × List Tok) Fault). follow y (further n)) one ∙ ap (λ (x : Result (List A) FaultKind). ends x (t ∷ rest')) (sym w.1)
+          ap (λ (y : Result ((A × S) × List Tok) Fault). follow y (further n)) one ∙ ap (λ (x : Result (List A) TokenFault). ends x (t ∷ rest')) (sym w.1)
       by_piece again (Ok x) i d =
           let w = without x.0.0 (at_most n x.0.1 x.1) o (t ∷ rest) d in
           let c = cut_at n s front (t ∷ rest) x.0 x.1 w.0 i w.1 in
           let one : f s (c.one ++ (c.two ++ t ∷ rest')) ≡ reads x.0 (c.two ++ t ∷ rest') = local_mid s c.one c.two t rest rest' x.0 c.piece in
           let two : at_most n x.0.1 (c.two ++ t ∷ rest') ≡ ends w.0 (t ∷ rest') = again x.0.1 c.two w.0 (omega (arith, lt, c.less)) (ap (at_most n x.0.1) (sym c.mid_is) ∙ w.1) in
           let before : front ++ t ∷ rest' ≡ c.one ++ (c.two ++ t ∷ rest') = ap (λ (y : List Tok). y ++ t ∷ rest') c.front_is ∙ append_assoc c.one c.two (t ∷ rest') in
-          ap (λ (y : List Tok). follow (f s y) (further n)) before ∙ ap (λ (y : Result ((A × S) × List Tok) Fault). follow y (further n)) one ∙ ap (in_front x.0.0) two ∙ ends_in_front x.0.0 w.0 (t ∷ rest') ∙ ap (λ (y : Result (List A) FaultKind). ends y (t ∷ rest')) (sym w.2)
+          ap (λ (y : List Tok). follow (f s y) (further n)) before ∙ ap (λ (y : Result ((A × S) × List Tok) Fault). follow y (further n)) one ∙ ap (in_front x.0.0) two ∙ ends_in_front x.0.0 w.0 (t ∷ rest') ∙ ap (λ (y : Result (List A) TokenFault). ends y (t ∷ rest')) (sym w.2)
 
   -- ---- another token in its place
 
@@ -258,7 +258,7 @@ module _ {S A : Type 0} (final : S → Bool) (bs : S → List ℕ) (wide : S →
     here_at = at_most (suc n) s
 
     -- behind a first piece that stays before it
-    joined_too : (one two : List Tok) (x : A × S) → wide s one x → (angled : Bool) (h : Head) (o : Result (List A) FaultKind)
+    joined_too : (one two : List Tok) (x : A × S) → wide s one x → (angled : Bool) (h : Head) (o : Result (List A) TokenFault)
         → ((u : Tok) → among tokens (stands_for angled h) u ≡ true → (rest : List Tok) → here_at ((one ++ two) ++ u ∷ rest) ≡ in_front x.0 (at_most n x.1 (two ++ u ∷ rest)))
         → OutcomeAt false (place x.1) (of_all x.1) (at_most n x.1) angled two h o → OutcomeAt false (place s) (of_all s) here_at angled (one ++ two) h (joined x.0 o)
     joined_too one two x q angled h (Ok m) whole p = ok_too false false (place x.1) (place s) (of_all x.1) (of_all s) (at_most n x.1) here_at angled two (one ++ two) h (λ e. e) m (x.0 ∷ m) (λ u i st rest. whole u i rest ∙ ap (in_front x.0) (st rest)) (λ u g. goes_second s one two x q u g) p
@@ -268,11 +268,11 @@ module _ {S A : Type 0} (final : S → Bool) (bs : S → List ℕ) (wide : S →
       stuck_too : Keeps s front t rest → (u : Tok) → among tokens (stands_for (is_angled front) t.head) u ≡ true → Stuck (f s) front u → Stuck here_at front u
       stuck_too keeps u i st rest' = let r = st rest' in (r.0, r.1, stop_not n s (front ++ u ∷ rest') (keeps u i rest' ∙ here) ∙ ap (λ (y : Result ((A × S) × List Tok) Fault). follow y (further n)) r.2)
 
-      piece_err : Keeps s front t rest → (k : FaultKind) → f s (front ++ t ∷ rest) ≡ fault_at k (t ∷ rest) → Outcome false (place s) (of_all s) here_at front t.head (Err k)
+      piece_err : Keeps s front t rest → (k : TokenFault) → f s (front ++ t ∷ rest) ≡ fault_at k (t ∷ rest) → Outcome false (place s) (of_all s) here_at front t.head (Err k)
       piece_err keeps k e = err_too false false one_place (place s) (wide s) (of_all s) (f s) here_at (is_angled front) front front t.head k (within_first s front) (λ u i st. stuck_too keeps u i st) (λ u g. goes_first s front u g) ((laws s).swap front t rest (Err k) e)
 
       -- at a number behind `<` the rest of the chain stops, where a piece ends there
-      stops_after : (next : S) (o : Result (List A) FaultKind) → loose ≡ true → nat_eq (number t.head) (number heads.Number) ≡ true → at_most n next (t ∷ rest) ≡ ends o (t ∷ rest) → OutcomeAt false (place next) (of_all next) (at_most n next) true [] t.head o
+      stops_after : (next : S) (o : Result (List A) TokenFault) → loose ≡ true → nat_eq (number t.head) (number heads.Number) ≡ true → at_most n next (t ∷ rest) ≡ ends o (t ∷ rest) → OutcomeAt false (place next) (of_all next) (at_most n next) true [] t.head o
       stops_after next o e q d = by_end o (sym (stop_gives n next (t ∷ rest) (stop_at t rest (apart (number heads.Number ∷ []) (bs next) (first_apart (steady e next).1) (number t.head) (ap (λ (b : Bool). b || false) q)))) ∙ d)
         where
           first_apart : disjoint (number heads.Number ∷ OPEN_BRACE) (bs next) ≡ true → disjoint (number heads.Number ∷ []) (bs next) ≡ true
@@ -288,11 +288,11 @@ module _ {S A : Type 0} (final : S → Bool) (bs : S → List ℕ) (wide : S →
               by_head heads.Number q i = within_of OPEN_BRACE (number heads.Number ∷ OPEN_BRACE) refl (number u.head) i
               by_head h q i = absurd cc
 
-          by_end : (o : Result (List A) FaultKind) → reads [] (t ∷ rest) ≡ ends o (t ∷ rest) → OutcomeAt false (place next) (of_all next) (at_most n next) true [] t.head o
+          by_end : (o : Result (List A) TokenFault) → reads [] (t ∷ rest) ≡ ends o (t ∷ rest) → OutcomeAt false (place next) (of_all next) (at_most n next) true [] t.head o
           by_end (Ok m) d = inl (λ u i rest'. stop_gives n next (u ∷ rest') (stop_at u rest' (brace u i)) ∙ ap (λ (z : List A). reads z (u ∷ rest')) (reads_is [] m (t ∷ rest) (t ∷ rest) d).0)
           by_end (Err k) d = absurd cc
 
-      piece_ok : Keeps s front t rest → (x : A × S) (mid : List Tok) (o : Result (List A) FaultKind) (c : Cut s front (t ∷ rest) x mid) → at_most n x.1 (c.two ++ t ∷ rest) ≡ ends o (t ∷ rest) → Outcome false (place x.1) (of_all x.1) (at_most n x.1) c.two t.head o → Outcome false (place s) (of_all s) here_at front t.head (joined x.0 o)
+      piece_ok : Keeps s front t rest → (x : A × S) (mid : List Tok) (o : Result (List A) TokenFault) (c : Cut s front (t ∷ rest) x mid) → at_most n x.1 (c.two ++ t ∷ rest) ≡ ends o (t ∷ rest) → Outcome false (place x.1) (of_all x.1) (at_most n x.1) c.two t.head o → Outcome false (place s) (of_all s) here_at front t.head (joined x.0 o)
       piece_ok keeps x mid o c d p = subst (λ (y : List Tok). Outcome false (place s) (of_all s) here_at y t.head (joined x.0 o)) (sym c.front_is) (by_two c.two (λ u i rest'. ap (λ (y : List Tok). stop s (y ++ u ∷ rest')) (sym c.front_is) ∙ keeps u (subst (λ (y : List Tok). among tokens (stands_for (is_angled y) t.head) u ≡ true) (sym c.front_is) i) rest' ∙ here) c.piece d p)
         where
           by_angle : ((u : Tok) → among tokens (stands_for (is_angled (c.one ++ [])) t.head) u ≡ true → (rest' : List Tok) → stop s ((c.one ++ []) ++ u ∷ rest') ≡ false) → f s (c.one ++ t ∷ rest) ≡ reads x (t ∷ rest) → at_most n x.1 (t ∷ rest) ≡ ends o (t ∷ rest) → OutcomeAt false (place x.1) (of_all x.1) (at_most n x.1) false [] t.head o → (angled : Bool) → is_angled c.one ≡ angled → ((u : Tok) → among tokens (stands_for angled t.head) u ≡ true → Stays (f s) c.one x u) → OutcomeAt false (place s) (of_all s) here_at (is_angled (c.one ++ [])) (c.one ++ []) t.head (joined x.0 o)
@@ -310,25 +310,25 @@ module _ {S A : Type 0} (final : S → Bool) (bs : S → List ℕ) (wide : S →
           by_two (v ∷ mid') on e d p = joined_too c.one (v ∷ mid') x c.spelled (is_angled (c.one ++ v ∷ mid')) t.head o (λ u i rest'. goes_whole n s c.one (v ∷ mid') u rest' x (on u i rest') ((laws s).local c.one v (mid' ++ t ∷ rest) (mid' ++ u ∷ rest') (Ok x) e)) (subst (λ (b : Bool). OutcomeAt false (place x.1) (of_all x.1) (at_most n x.1) b (v ∷ mid') t.head o) (angled_behind c.one v mid') p)
           by_two [] on e d p = elim ((laws s).swap c.one t rest (Ok x) e) [ inl stays ↦ by_angle on e d p (is_angled c.one) refl stays | inr w ↦ absurd (differ w.0) ]
 
-  by_keeps : (n : ℕ) (s : S) (front : List Tok) (t : Tok) (rest : List Tok) (o : Result (List A) FaultKind) → ((next : S) (two : List Tok) (o' : Result (List A) FaultKind) → length two < length front → at_most n next (two ++ t ∷ rest) ≡ ends o' (t ∷ rest) → Outcome false (place next) (of_all next) (at_most n next) two t.head o')
+  by_keeps : (n : ℕ) (s : S) (front : List Tok) (t : Tok) (rest : List Tok) (o : Result (List A) TokenFault) → ((next : S) (two : List Tok) (o' : Result (List A) TokenFault) → length two < length front → at_most n next (two ++ t ∷ rest) ≡ ends o' (t ∷ rest) → Outcome false (place next) (of_all next) (at_most n next) two t.head o')
       → Keeps s front t rest → at_most (suc n) s (front ++ t ∷ rest) ≡ ends o (t ∷ rest) → Outcome false (place s) (of_all s) (at_most (suc n) s) front t.head o
   by_keeps n s front t rest o again keeps d = either_way (Outcome false (place s) (of_all s) (at_most (suc n) s) front t.head o) n s (front ++ t ∷ rest) (ends o (t ∷ rest)) d (λ e h. stopped e h) (λ e h. by_piece e (f s (front ++ t ∷ rest)) refl h)
     where
       stopped : stop s (front ++ t ∷ rest) ≡ true → reads [] (front ++ t ∷ rest) ≡ ends o (t ∷ rest) → Outcome false (place s) (of_all s) (at_most (suc n) s) front t.head o
       stopped e h =
           let z = nothing_read front t rest o h in
-          subst (λ (y : Result (List A) FaultKind). Outcome false (place s) (of_all s) (at_most (suc n) s) front t.head y) (sym z.1) (inl (λ u i rest'. stop_gives (suc n) s (front ++ u ∷ rest') (keeps u i rest' ∙ e) ∙ ap (λ (y : List Tok). reads [] (y ++ u ∷ rest')) z.0))
+          subst (λ (y : Result (List A) TokenFault). Outcome false (place s) (of_all s) (at_most (suc n) s) front t.head y) (sym z.1) (inl (λ u i rest'. stop_gives (suc n) s (front ++ u ∷ rest') (keeps u i rest' ∙ e) ∙ ap (λ (y : List Tok). reads [] (y ++ u ∷ rest')) z.0))
 
       by_piece : stop s (front ++ t ∷ rest) ≡ false → (r : Result ((A × S) × List Tok) Fault) → f s (front ++ t ∷ rest) ≡ r → follow r (further n) ≡ ends o (t ∷ rest) → Outcome false (place s) (of_all s) (at_most (suc n) s) front t.head o
       by_piece e (Err k) i h =
           let w = err_ends k o (t ∷ rest) h in
-          subst (λ (y : Result (List A) FaultKind). Outcome false (place s) (of_all s) (at_most (suc n) s) front t.head y) (sym w.1) (piece_err n s front t rest e keeps w.0 (i ∙ ap wrong w.2))
+          subst (λ (y : Result (List A) TokenFault). Outcome false (place s) (of_all s) (at_most (suc n) s) front t.head y) (sym w.1) (piece_err n s front t rest e keeps w.0 (i ∙ ap wrong w.2))
       by_piece e (Ok x) i h =
           let w = without x.0.0 (at_most n x.0.1 x.1) o (t ∷ rest) h in
           let c = cut_at n s front (t ∷ rest) x.0 x.1 w.0 i w.1 in
-          subst (λ (y : Result (List A) FaultKind). Outcome false (place s) (of_all s) (at_most (suc n) s) front t.head y) (sym w.2) (piece_ok n s front t rest e keeps x.0 x.1 w.0 c (ap (at_most n x.0.1) (sym c.mid_is) ∙ w.1) (again x.0.1 c.two w.0 c.less (ap (at_most n x.0.1) (sym c.mid_is) ∙ w.1)))
+          subst (λ (y : Result (List A) TokenFault). Outcome false (place s) (of_all s) (at_most (suc n) s) front t.head y) (sym w.2) (piece_ok n s front t rest e keeps x.0 x.1 w.0 c (ap (at_most n x.0.1) (sym c.mid_is) ∙ w.1) (again x.0.1 c.two w.0 c.less (ap (at_most n x.0.1) (sym c.mid_is) ∙ w.1)))
 
-  swap_chain : (n : ℕ) (s : S) (front : List Tok) (t : Tok) (rest : List Tok) (o : Result (List A) FaultKind) → length front < n → at_most n s (front ++ t ∷ rest) ≡ ends o (t ∷ rest) → Outcome false (place s) (of_all s) (at_most n s) front t.head o
+  swap_chain : (n : ℕ) (s : S) (front : List Tok) (t : Tok) (rest : List Tok) (o : Result (List A) TokenFault) → length front < n → at_most n s (front ++ t ∷ rest) ≡ ends o (t ∷ rest) → Outcome false (place s) (of_all s) (at_most n s) front t.head o
   swap_chain zero s front t rest o lt d = absurd (omega (arith, lt))
   swap_chain (suc n) s [] t rest o lt d = by_keeps n s [] t rest o (λ next two o' l i. absurd (omega (arith, l))) (kept s t rest) d
   swap_chain (suc n) s (v ∷ front) t rest o lt d = by_keeps n s (v ∷ front) t rest o (λ next two o' l i. swap_chain n next two t rest o' (omega (arith, lt, l)) i) (λ u i rest'. refl) d
@@ -372,13 +372,13 @@ module _ {S A : Type 0} (final : S → Bool) (bs : S → List ℕ) (wide : S →
     swap = λ front t rest o d. swap_all front t.head o (swap_chain (suc (length front)) s front t rest o (omega arith) (all_is front t rest o d));
   }
     where
-      enough_for : (front : List Tok) (u : Tok) (rest : List Tok) (o : Result (List A) FaultKind) → at_most (suc (length front)) s (front ++ u ∷ rest) ≡ ends o (u ∷ rest) → chain_at final begins f s (front ++ u ∷ rest) ≡ ends o (u ∷ rest)
+      enough_for : (front : List Tok) (u : Tok) (rest : List Tok) (o : Result (List A) TokenFault) → at_most (suc (length front)) s (front ++ u ∷ rest) ≡ ends o (u ∷ rest) → chain_at final begins f s (front ++ u ∷ rest) ≡ ends o (u ∷ rest)
       enough_for front u rest o d = enough (suc (length front)) (suc (length (front ++ u ∷ rest))) s front (u ∷ rest) o (omega arith) (omega (arith, length-append front (u ∷ rest))) d
 
-      all_is : (front : List Tok) (u : Tok) (rest : List Tok) (o : Result (List A) FaultKind) → chain_at final begins f s (front ++ u ∷ rest) ≡ ends o (u ∷ rest) → at_most (suc (length front)) s (front ++ u ∷ rest) ≡ ends o (u ∷ rest)
+      all_is : (front : List Tok) (u : Tok) (rest : List Tok) (o : Result (List A) TokenFault) → chain_at final begins f s (front ++ u ∷ rest) ≡ ends o (u ∷ rest) → at_most (suc (length front)) s (front ++ u ∷ rest) ≡ ends o (u ∷ rest)
       all_is front u rest o d = enough (suc (length (front ++ u ∷ rest))) (suc (length front)) s front (u ∷ rest) o (omega (arith, length-append front (u ∷ rest))) (omega arith) d
 
-      swap_all : (front : List Tok) (h : Head) (o : Result (List A) FaultKind) → Outcome false (place s) (of_all s) (at_most (suc (length front)) s) front h o → Outcome false (place s) (of_all s) (chain_at final begins f s) front h o
+      swap_all : (front : List Tok) (h : Head) (o : Result (List A) TokenFault) → Outcome false (place s) (of_all s) (at_most (suc (length front)) s) front h o → Outcome false (place s) (of_all s) (chain_at final begins f s) front h o
       swap_all front h (Ok m) p = ok_too false false (place s) (place s) (of_all s) (of_all s) (at_most (suc (length front)) s) (chain_at final begins f s) (is_angled front) front front h (λ e. e) m m (λ u i st rest. enough_for front u rest (Ok m) (st rest)) (λ u g. g) p
       swap_all front h (Err k) p = err_too false false (place s) (place s) (of_all s) (of_all s) (at_most (suc (length front)) s) (chain_at final begins f s) (is_angled front) front front h k (λ v. v) (λ u i st rest. let r = st rest in (r.0, r.1, enough_for front u rest (Err r.0) r.2)) (λ u g. g) p
 

@@ -11,7 +11,7 @@ use Rattle.ir_read.specs.Chained.{Chain, chain_at}
 use Rattle.ir_read.specs.Forms as form
 use Rattle.ir_read.specs.Readers.{token_at}
 use Rattle.ir_read.specs.Rules.{is_valued}
-use Rattle.ir_read.specs.declared.fault.FaultKind.{FaultKind}
+use Rattle.ir_read.specs.declared.fault.TokenFault.{TokenFault}
 use Rattle.ir_heads.specs.Attributes.{parameter_attribute}
 use Rattle.ir_read.specs.Classes.{tokens, one_of, one_of_at}
 use Rattle.ir_heads.specs.FunctionHeads.{linkages_of, linkage_word, QUALIFIERS, nothing_of, linking, qualifying, leading, at_will, prefix, is_local, GLOBAL, NUMBERED, function_name, param, further_param, some_params, params, any_some_params, any_listed_params, any_params, head, any_head, name_refusal}
@@ -66,7 +66,7 @@ unfolding prefix prefix_at
 prefix_exchanged roles.Declaration = seq (all_leading_exchanged roles.Declaration) (λ _. nothing _)
 prefix_exchanged roles.Definition = seq (all_leading_exchanged roles.Definition) (λ _. nothing _)
 
-abbrev is_name : List ℕ → Tok → Result Tok FaultKind
+abbrev is_name : List ℕ → Tok → Result Tok TokenFault
 is_name classes = is_valued tokens name_refusal classes global_named
 
 abbrev a_global : Tok

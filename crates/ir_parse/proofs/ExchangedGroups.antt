@@ -14,8 +14,8 @@ use Rattle.ir_read.specs.Balanced.{Closing, closing_at, HaveClosers, moved}
 use Rattle.ir_read.specs.Readers.{fault_at}
 use Rattle.ir_read.specs.Rules.{Rule}
 use Rattle.ir_read.specs.declared.fault.Fault.{Fault}
-use Rattle.ir_read.specs.declared.fault.FaultKind.TheVariants.{Syntax}
-use Rattle.ir_read.specs.declared.fault.FaultKind.{FaultKind}
+use Rattle.ir_read.specs.declared.fault.TokenFault.TheVariants.{Syntax}
+use Rattle.ir_read.specs.declared.fault.TokenFault.{TokenFault}
 use Rattle.ir_read.specs.Brackets.{brackets, opening, move_of, group, group_at}
 use Rattle.ir_read.specs.Classes.{tokens, the, the_at}
 use Rattle.ir_read.specs.declared.brackets.Bracket.TheVariants.{Paren, Square, Curly}
@@ -51,7 +51,7 @@ pub telling_stays : (h : Head) → contains TELLING (number h) ≡ true → move
 telling_stays h e = steady_stays h (within_of TELLING STEADY refl (number h) e)
 
 -- a fault at a token is none behind it
-not_behind : (bs : List Bracket) (t : Tok) (rest : List Tok) (k : FaultKind) → closing_at brackets bs rest ≡ fault_at k (t ∷ rest) → ⊥
+not_behind : (bs : List Bracket) (t : Tok) (rest : List Tok) (k : TokenFault) → closing_at brackets bs rest ≡ fault_at k (t ∷ rest) → ⊥
 not_behind bs t rest k d =
     let v = (closing_rule bs).law.viable rest (record { left = length (t ∷ rest); kind = k }) d in
     omega (arith, ap length v.whole, length-append v.front v.rest, v.here)
@@ -62,7 +62,7 @@ read o t ts = elim o as (λ x. Result (Unit {0} × List Tok) Fault) [ None ↦ f
 stays_open : (t : Tok) (b : Bracket) (bs : List Bracket) → move_of t.head ≡ balanced.stays → moved brackets (move_of t.head) b bs ≡ Some (b ∷ bs)
 stays_open t b bs e = ap (λ (m : balanced.Move Bracket). moved brackets m b bs) e
 
-never_closing : (bs : List Bracket) (front : List Tok) (t : Tok) (rest : List Tok) (k : FaultKind) → closing_at brackets bs (front ++ t ∷ rest) ≡ fault_at k (t ∷ rest) → move_of t.head ≡ balanced.stays → ⊥
+never_closing : (bs : List Bracket) (front : List Tok) (t : Tok) (rest : List Tok) (k : TokenFault) → closing_at brackets bs (front ++ t ∷ rest) ≡ fault_at k (t ∷ rest) → move_of t.head ≡ balanced.stays → ⊥
 never_closing [] front t rest k d e = cc
 never_closing (b ∷ bs) [] t rest k d e = not_behind (b ∷ bs) t rest k (ap (λ (o : Option (List Bracket)). read o t rest) (sym (stays_open t b bs e)) ∙ d)
 never_closing (b ∷ bs) (v ∷ front) t rest k d e = by_moved (λ stack d'. never_closing stack front t rest k d' e) (moved brackets (move_of v.head) b bs) d

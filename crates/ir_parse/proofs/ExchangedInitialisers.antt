@@ -19,8 +19,8 @@ use Rattle.ir_read.specs.Forms as form
 use Rattle.ir_read.specs.Readers.{Reader, done, fault_at, follow, ◌>>=◌, token_means, pick, next_is}
 use Rattle.ir_read.specs.Rules.{is_class}
 use Rattle.ir_read.specs.declared.fault.Fault.{Fault}
-use Rattle.ir_read.specs.declared.fault.FaultKind.TheVariants.{Syntax, Profile, Limit}
-use Rattle.ir_read.specs.declared.fault.FaultKind.{FaultKind}
+use Rattle.ir_read.specs.declared.fault.TokenFault.TheVariants.{Syntax, Profile, Limit}
+use Rattle.ir_read.specs.declared.fault.TokenFault.{TokenFault}
 use Rattle.ir_read.specs.Ahead.{BRACKETS}
 use Rattle.ir_read.specs.Classes.{tokens, IsReal, refusal, the, the_at}
 use Rattle.ir_operands.specs.Extents.{left, shared, whole}
@@ -183,7 +183,7 @@ same n m h = grind arith
 out_not : (n : ℕ) → contains OUT n ≡ false → memory_refusal n ≡ refusal n
 out_not n e = by_tests (nat_eq n (number heads.RefusedType)) (nat_eq n (number heads.Target)) (nat_eq n (number heads.RegisterInteger)) (nat_eq n (number heads.Word)) (refusal n) e
   where
-    by_tests : (a b c d : Bool) (k : FaultKind) → a || (b || (c || (d || false))) ≡ false → cond c Profile (cond (b || (a || false)) Profile k) ≡ k
+    by_tests : (a b c d : Bool) (k : TokenFault) → a || (b || (c || (d || false))) ≡ false → cond c Profile (cond (b || (a || false)) Profile k) ≡ k
     by_tests true b c d k e = absurd cc
     by_tests false true c d k e = absurd cc
     by_tests false false true d k e = absurd cc
@@ -219,10 +219,10 @@ part_told : (t : Tok) (ts : List Tok) → contains OUT (number t.head) ≡ true 
 unfolding begun_at
 part_told t ts e = told_first (part_at true) _ t ts (first_part_told t ts e)
 
-abbrev fine : Unit {0} → Result (Unit {0}) FaultKind
+abbrev fine : Unit {0} → Result (Unit {0}) TokenFault
 fine u = Ok u
 
-abbrev failed : FaultKind → Result (Unit {0}) FaultKind
+abbrev failed : TokenFault → Result (Unit {0}) TokenFault
 failed k = Err k
 
 no_mark : (wanted : Head) → contains OUT (number wanted) ≡ false → (n : ℕ) → contains OUT n ≡ true → nat_eq n (number wanted) ≡ false
@@ -241,7 +241,7 @@ mark_told wanted a t ts e = ap (λ (b : Bool). token_means t ts (cond b (fine tt
 
 mark_same : (wanted : Head) (t : Tok) (ts : List Tok) → contains OUT (number t.head) ≡ false → mark_at false wanted (t ∷ ts) ≡ mark_at true wanted (t ∷ ts)
 unfolding is_class
-mark_same wanted t ts e = ap (λ (k : FaultKind). token_means t ts (cond (nat_eq (number t.head) (number wanted)) (fine tt) (failed k))) (sym (out_not (number t.head) e))
+mark_same wanted t ts e = ap (λ (k : TokenFault). token_means t ts (cond (nat_eq (number t.head) (number wanted)) (fine tt) (failed k))) (sym (out_not (number t.head) e))
 
 closing_told : (a : Aggregate) (t : Tok) (ts : List Tok) → contains OUT (number t.head) ≡ true → closing_at true a (t ∷ ts) ≡ fault_at (memory_refusal (number t.head)) (t ∷ ts)
 unfolding brace_at

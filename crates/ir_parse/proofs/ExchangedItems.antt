@@ -20,8 +20,8 @@ use Rattle.ir_read.specs.Lawful.{ends}
 use Rattle.ir_read.specs.Readers.{Reader, done, fault_at, follow, ◌>>=◌, token_means, pick}
 use Rattle.ir_read.specs.Rules.{disjoint, in_range, is_class, is_valued}
 use Rattle.ir_read.specs.declared.fault.Fault.{Fault}
-use Rattle.ir_read.specs.declared.fault.FaultKind.TheVariants.{Profile, Limit}
-use Rattle.ir_read.specs.declared.fault.FaultKind.{FaultKind}
+use Rattle.ir_read.specs.declared.fault.TokenFault.TheVariants.{Profile, Limit}
+use Rattle.ir_read.specs.declared.fault.TokenFault.{TokenFault}
 use Rattle.ir_heads.specs.AttributesAt.{HEAD, attribute_group_at}
 use Rattle.ir_read.specs.Classes.{tokens, IsReal, refusal, the, the_at}
 use Rattle.ir_heads.specs.FunctionHeads.{name_refusal}
@@ -73,10 +73,10 @@ TARGETS = number heads.Target ∷ TYPES
 abbrev behind_targets : Reader Tok Found
 behind_targets = pick (among tokens COMDAT) (left_out_at comdat_line_at) (pick (among tokens LOCAL) (kept_at type_line_at) (kept_at attribute_group_at))
 
-abbrev fine : Unit {0} → Result (Unit {0}) FaultKind
+abbrev fine : Unit {0} → Result (Unit {0}) TokenFault
 fine u = Ok u
 
-abbrev failed : FaultKind → Result (Unit {0}) FaultKind
+abbrev failed : TokenFault → Result (Unit {0}) TokenFault
 failed k = Err k
 
 not_class : (wanted : ℕ) (n : ℕ) → contains (wanted ∷ []) n ≡ false → nat_eq n wanted ≡ false
@@ -90,7 +90,7 @@ refused_first : {B : Type 0} (wanted : Head) (h : Unit {0} → Reader Tok B) (t 
 unfolding is_class
 refused_first wanted h t ts e = ap (λ (b : Bool). follow (token_means t ts (cond b (fine tt) (failed (refusal (number t.head))))) h) (not_class (number wanted) (number t.head) e)
 
-then_refused : {A B : Type 0} (f : Reader Tok A) (h : A → Reader Tok B) (k : FaultKind) (t : Tok) (ts : List Tok) → f (t ∷ ts) ≡ fault_at k (t ∷ ts) → (f >>= h) (t ∷ ts) ≡ fault_at k (t ∷ ts)
+then_refused : {A B : Type 0} (f : Reader Tok A) (h : A → Reader Tok B) (k : TokenFault) (t : Tok) (ts : List Tok) → f (t ∷ ts) ≡ fault_at k (t ∷ ts) → (f >>= h) (t ∷ ts) ≡ fault_at k (t ∷ ts)
 then_refused {A} f h k t ts e = ap (λ (r : Result (A × List Tok) Fault). follow r h) e
 
 target_refuses : (t : Tok) (ts : List Tok) → contains TYPES (number t.head) ≡ true → kept_at target_line_at (t ∷ ts) ≡ fault_at (refusal (number t.head)) (t ∷ ts)
@@ -164,7 +164,7 @@ unnamed_read t rest q =
 line_of_target : Exchanges (form.◌>>=◌ (form.either layout_line triple_line) (λ i. form.gives (found i))) (pick (among tokens LAYOUT) layout_line_at triple_line_at >>= λ i. done (found i))
 line_of_target = seq (alt LAYOUT refl layout_line_exchanged triple_line_exchanged) (λ i. nothing (found i))
 
-unnamed_goes_on : (t : Tok) (rest : List Tok) (o : Result Found FaultKind) → is_target t.head ≡ true → unnamed_at (t ∷ rest) ≡ ends o (t ∷ rest) → ⊥
+unnamed_goes_on : (t : Tok) (rest : List Tok) (o : Result Found TokenFault) → is_target t.head ≡ true → unnamed_at (t ∷ rest) ≡ ends o (t ∷ rest) → ⊥
 unnamed_goes_on t rest o q d =
     let p = placed_of line_of_target rest (t ∷ rest) o (sym (unnamed_read t rest q ∙ target_read t rest q) ∙ d) in
     omega (arith, ap length p.2, length-append p.0 p.1, p.3)
@@ -241,13 +241,13 @@ within_exchanged room before names = alt_by in_definition ALL_NAMING (inl refl) 
 pub numbered_is : (n : ℕ) → contains NUMBERED_NAME n ≡ true → name_refusal n ≡ Profile
 numbered_is n e = by_tests (nat_eq n (number heads.NumberedGlobal)) (nat_eq n (number heads.NumberedDefinition)) (refusal n) e
   where
-    by_tests : (a b : Bool) (k : FaultKind) → a || false ≡ true → cond (a || (b || false)) Profile k ≡ Profile
+    by_tests : (a b : Bool) (k : TokenFault) → a || false ≡ true → cond (a || (b || false)) Profile k ≡ Profile
     by_tests true b k e = refl
     by_tests false b k e = absurd cc
 
 name_told : (t : Tok) (ts : List Tok) → among tokens NUMBERED_NAME t ≡ true → variable_name_at (t ∷ ts) ≡ fault_at Profile (t ∷ ts)
 unfolding is_valued
-name_told t ts e = ap (λ (b : Bool). token_means t ts (cond b (in_range (global_named t)) (Err (name_refusal (number t.head))))) (apart NUMBERED_NAME NAMES refl (number t.head) e) ∙ ap (λ (k : FaultKind). fault_at k (t ∷ ts)) (numbered_is (number t.head) e)
+name_told t ts e = ap (λ (b : Bool). token_means t ts (cond b (in_range (global_named t)) (Err (name_refusal (number t.head))))) (apart NUMBERED_NAME NAMES refl (number t.head) e) ∙ ap (λ (k : TokenFault). fault_at k (t ∷ ts)) (numbered_is (number t.head) e)
 
 line_told : (t : Tok) (ts : List Tok) → among tokens NUMBERED_NAME t ≡ true → variable_line_at (t ∷ ts) ≡ fault_at Profile (t ∷ ts)
 unfolding variable_line_at
@@ -281,7 +281,7 @@ named_in_piece : (before : Before) (names : ℕ) (front : List Tok) (x : Option 
 unfolding any_piece form.either
 named_in_piece before names front x s = inl s
 
-end_is : {A : Type 0} (k : FaultKind) (o : Result A FaultKind) (us : List Tok) → fault_at k us ≡ ends o us → o ≡ Err k
+end_is : {A : Type 0} (k : TokenFault) (o : Result A TokenFault) (us : List Tok) → fault_at k us ≡ ends o us → o ≡ Err k
 end_is k (Ok a) us e = absurd cc
 end_is {A} k (Err l) us e = ap (λ (x : Fault). Err x.kind) (sym (wrong_is {X = A × List Tok} (record { left = length us; kind = k }) (record { left = length us; kind = l }) e))
 
@@ -296,12 +296,12 @@ module _ (room : ℕ) (before : Before) (names : ℕ) where
       by_head heads.NumberedGlobal e (u, i, g) = (u, i, named_is_piece before names [] u g)
       by_head h e n = absurd cc
 
-  swap_numbered : (t : Tok) (rest : List Tok) (o : Result (Option Item × Position) FaultKind) → among tokens NUMBERED_NAME t ≡ true → named_with room names (t ∷ rest) ≡ ends o (t ∷ rest) → Outcome false in_definition whole_piece (piece_with room before names) [] t.head o
+  swap_numbered : (t : Tok) (rest : List Tok) (o : Result (Option Item × Position) TokenFault) → among tokens NUMBERED_NAME t ≡ true → named_with room names (t ∷ rest) ≡ ends o (t ∷ rest) → Outcome false in_definition whole_piece (piece_with room before names) [] t.head o
   swap_numbered t rest o e d =
-      subst (λ (x : Result (Option Item × Position) FaultKind). Outcome false in_definition whole_piece (piece_with room before names) [] t.head x) (sym (end_is Profile o (t ∷ rest) (sym (numbered_told room names t rest e) ∙ d)))
+      subst (λ (x : Result (Option Item × Position) TokenFault). Outcome false in_definition whole_piece (piece_with room before names) [] t.head x) (sym (end_is Profile o (t ∷ rest) (sym (numbered_told room names t rest e) ∙ d)))
       (numbered_too t e ((named_exchanged room names).swap [] t rest (Err Profile) (numbered_told room names t rest e)))
 
-  swap_piece : (front : List Tok) (t : Tok) (rest : List Tok) (o : Result (Option Item × Position) FaultKind) → piece_with room before names (front ++ t ∷ rest) ≡ ends o (t ∷ rest) → Outcome false in_definition whole_piece (piece_with room before names) front t.head o
+  swap_piece : (front : List Tok) (t : Tok) (rest : List Tok) (o : Result (Option Item × Position) TokenFault) → piece_with room before names (front ++ t ∷ rest) ≡ ends o (t ∷ rest) → Outcome false in_definition whole_piece (piece_with room before names) front t.head o
   swap_piece [] t rest o d = by_test (among tokens NUMBERED_NAME t) refl d
     where
       by_test : (b : Bool) → among tokens NUMBERED_NAME t ≡ b → cond b (named_with room names (t ∷ rest)) (within_at room before names (t ∷ rest)) ≡ ends o (t ∷ rest) → Outcome false in_definition whole_piece (piece_with room before names) [] t.head o
@@ -329,7 +329,7 @@ module _ (room : ℕ) (before : Before) (names : ℕ) where
       by_test true d = (named_exchanged room names).placed (t ∷ ts) e d
       by_test false d = (within_exchanged room before names).placed (t ∷ ts) e d
 
-  local_piece : (front : List Tok) (t : Tok) (rest rest' : List Tok) (o : Result (Option Item × Position) FaultKind) → piece_with room before names (front ++ t ∷ rest) ≡ ends o (t ∷ rest) → piece_with room before names (front ++ t ∷ rest') ≡ ends o (t ∷ rest')
+  local_piece : (front : List Tok) (t : Tok) (rest rest' : List Tok) (o : Result (Option Item × Position) TokenFault) → piece_with room before names (front ++ t ∷ rest) ≡ ends o (t ∷ rest) → piece_with room before names (front ++ t ∷ rest') ≡ ends o (t ∷ rest')
   local_piece [] t rest rest' o d = by_test (among tokens NUMBERED_NAME t) d
     where
       by_test : (b : Bool) → cond b (named_with room names (t ∷ rest)) (within_at room before names (t ∷ rest)) ≡ ends o (t ∷ rest) → cond b (named_with room names (t ∷ rest')) (within_at room before names (t ∷ rest')) ≡ ends o (t ∷ rest')

@@ -8,7 +8,7 @@ use Rattle.ir_lex.specs.declared.head.Head.{Head}
 use Rattle.ir_read.specs.Alphabet.{among, contains}
 use Rattle.ir_read.specs.Forms as form
 use Rattle.ir_read.specs.Rules.{is_among, is_class}
-use Rattle.ir_read.specs.declared.fault.FaultKind.{FaultKind}
+use Rattle.ir_read.specs.declared.fault.TokenFault.{TokenFault}
 use Rattle.ir_instructions.specs.Addressing.{any_slots}
 use Rattle.ir_read.specs.Classes.{one_of, refusal, the, tokens}
 use Rattle.ir_read.specs.Operands.{LOCAL, named}
@@ -38,13 +38,13 @@ use Rattle.ir_parse.proofs.ExchangedPhis.{phi_exchanged}
 use Rattle.ir_parse.proofs.ExchangedTokens.{one_sample}
 use Rattle.ir_parse.proofs.ExchangedWords.{equals_exchanged}
 
-abbrev fine : Unit {0} → Result (Unit {0}) FaultKind
+abbrev fine : Unit {0} → Result (Unit {0}) TokenFault
 fine u = Ok u
 
-abbrev failed : FaultKind → Result (Unit {0}) FaultKind
+abbrev failed : TokenFault → Result (Unit {0}) TokenFault
 failed k = Err k
 
-abbrev good : Opcode → Result Opcode FaultKind
+abbrev good : Opcode → Result Opcode TokenFault
 good o = Ok o
 
 any_local_exchanged : Exchanges any_local local_at

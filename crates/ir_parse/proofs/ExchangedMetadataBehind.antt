@@ -13,8 +13,8 @@ use Rattle.ir_read.specs.Lawful.{ends}
 use Rattle.ir_read.specs.Readers.{Reader, ◌>>=◌, token_at}
 use Rattle.ir_read.specs.Rules.{disjoint}
 use Rattle.ir_read.specs.Runs.{Step, bad, last, onward}
-use Rattle.ir_read.specs.declared.fault.FaultKind.TheVariants.{Syntax}
-use Rattle.ir_read.specs.declared.fault.FaultKind.{FaultKind}
+use Rattle.ir_read.specs.declared.fault.TokenFault.TheVariants.{Syntax}
+use Rattle.ir_read.specs.declared.fault.TokenFault.{TokenFault}
 use Rattle.ir_read.specs.Classes.{tokens}
 use Rattle.ir_read.specs.Metadata.{META, ends_line, line_step}
 use Rattle.ir_read.specs.MetadataAt.{PAREN, CURLY, NAMED}
@@ -30,7 +30,7 @@ use Rattle.ir_parse.proofs.ExchangedTokens.{elsewhere_sample, one_sample}
 use Rattle.ir_parse.proofs.ExchangedWords.{meta_exchanged}
 
 -- what goes on a line may be any token but some, and closes no bracket
-goes_on_never : (apart : List ℕ) → disjoint apart TELLING ≡ true → (t : Tok) (k : FaultKind) → line_goes_on apart t ≡ Err k → contains TELLING (number t.head) ≡ true → ⊥
+goes_on_never : (apart : List ℕ) → disjoint apart TELLING ≡ true → (t : Tok) (k : TokenFault) → line_goes_on apart t ≡ Err k → contains TELLING (number t.head) ≡ true → ⊥
 unfolding line_goes_on
 goes_on_never apart d t k e i = by_test (among tokens apart t) refl e
   where
@@ -65,7 +65,7 @@ line_rest_exchanged bad = loosely (nothing tt)
 line_rest_exchanged last = loosely (nothing tt)
 line_rest_exchanged (onward bs) = line_exchanged bs
 
-line_rest_after : (s : Step (List Bracket)) (t : Tok) (rest : List Tok) (o : Result (Unit {0}) FaultKind) → line_rest_at s (t ∷ rest) ≡ ends o (t ∷ rest) → OutcomeAt false nowhere (line_rest s) (line_rest_at s) true [] t.head o
+line_rest_after : (s : Step (List Bracket)) (t : Tok) (rest : List Tok) (o : Result (Unit {0}) TokenFault) → line_rest_at s (t ∷ rest) ≡ ends o (t ∷ rest) → OutcomeAt false nowhere (line_rest s) (line_rest_at s) true [] t.head o
 line_rest_after bad t rest o d = nothing_after tt t rest o d
 line_rest_after last t rest o d = nothing_after tt t rest o d
 line_rest_after (onward bs) t rest o d = line_after bs t rest o d

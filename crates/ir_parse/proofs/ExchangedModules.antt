@@ -15,8 +15,8 @@ use Rattle.ir_read.specs.Forms as form
 use Rattle.ir_read.specs.Lawful.{Broad, IsBound, UpTo, ends}
 use Rattle.ir_read.specs.Readers.{Reader, done, ended, fault_at, follow, ◌>>=◌, pick, whole_of}
 use Rattle.ir_read.specs.declared.fault.Fault.{Fault}
-use Rattle.ir_read.specs.declared.fault.FaultKind.TheVariants.{Syntax, Profile, Number, Limit}
-use Rattle.ir_read.specs.declared.fault.FaultKind.{FaultKind}
+use Rattle.ir_read.specs.declared.fault.TokenFault.TheVariants.{Syntax, Profile, Number, Limit}
+use Rattle.ir_read.specs.declared.fault.TokenFault.{TokenFault}
 use Rattle.ir_heads.specs.AttributesAt.{HEAD}
 use Rattle.ir_read.specs.Classes.{tokens, refusal}
 use Rattle.ir_heads.specs.FunctionHeads.{NUMBERED, name_refusal}
@@ -98,11 +98,11 @@ module _ (room : ℕ) where
   type_refuses before names t ts d e =
       passed NUMBERED_NAME (named_with room names) (within_at room before names) t ts (apart TYPES NUMBERED_NAME refl (number t.head) e)
       ∙ passed (NUMBERED_NAME ++ NAMING) (cond (nat_eq names 0) (fault_at Limit) (named_with room names)) (other_at before names) t ts (apart TYPES (NUMBERED_NAME ++ NAMING) refl (number t.head) e)
-      ∙ other_refuses before names t ts d e ∙ ap (λ (k : FaultKind). fault_at k (t ∷ ts)) (plain_name (number t.head) e)
+      ∙ other_refuses before names t ts d e ∙ ap (λ (k : TokenFault). fault_at k (t ∷ ts)) (plain_name (number t.head) e)
 
   number_refuses : (before : Before) (names : ℕ) (t : Tok) (ts : List Tok) → contains NUMBERED_NAME (number t.head) ≡ true → piece_with room before names (t ∷ ts) ≡ fault_at (item_refusal t) (t ∷ ts)
   number_refuses before names t ts e =
-      taken_first NUMBERED_NAME (named_with room names) (within_at room before names) t ts e ∙ numbered_told room names t ts e ∙ ap (λ (k : FaultKind). fault_at k (t ∷ ts)) (sym (numbered_is (number t.head) e))
+      taken_first NUMBERED_NAME (named_with room names) (within_at room before names) t ts e ∙ numbered_told room names t ts e ∙ ap (λ (k : TokenFault). fault_at k (t ∷ ts)) (sym (numbered_is (number t.head) e))
 
   extra_told : (before : Before) (names : ℕ) (t : Tok) (ts : List Tok) → contains (STARTS before) (number t.head) ≡ true → contains (beginnings before) (number t.head) ≡ false → piece_with room before names (t ∷ ts) ≡ fault_at (item_refusal t) (t ∷ ts)
   extra_told befores.Declaration names t ts s b = elim (split NUMBERED_NAME (HEAD ++ ITEM) (number t.head) s) [ inl e ↦ number_refuses befores.Declaration names t ts e | inr e ↦ absurd (both (sym e ∙ b)) ]
@@ -239,13 +239,13 @@ all_never front t rest is d e = by_result (all_items_at FURTHER_PARAMETERS (firs
 
 -- at an item's place a lifetime marker is told to be left out
 marker_told : (front : List Tok) (t : Tok) → nat_eq (number t.head) (number heads.LifetimeMarker) ≡ true → Outcome false in_module any_module all_at front t.head (Err (item_refusal t))
-marker_told front t e = subst (λ (k : FaultKind). Outcome false in_module any_module all_at front t.head (Err k)) (sym (ap name_refusal (same (number t.head) (number heads.LifetimeMarker) e))) (by_head t.head e)
+marker_told front t e = subst (λ (k : TokenFault). Outcome false in_module any_module all_at front t.head (Err k)) (sym (ap name_refusal (same (number t.head) (number heads.LifetimeMarker) e))) (by_head t.head e)
   where
     by_head : (h : Head) → nat_eq (number h) (number heads.LifetimeMarker) ≡ true → Outcome false in_module any_module all_at front h (Err Profile)
     by_head heads.LifetimeMarker e = tt
     by_head h e = absurd (differ e)
 
-pub module_exchanged : (front : List Tok) (t : Tok) (rest : List Tok) (k : FaultKind) → module_of (front ++ t ∷ rest) ≡ wrong (record { left = length (t ∷ rest); kind = k }) → contains SOMEWHERE (number t.head) ≡ true → Outcome false in_module any_module all_at front t.head (Err k)
+pub module_exchanged : (front : List Tok) (t : Tok) (rest : List Tok) (k : TokenFault) → module_of (front ++ t ∷ rest) ≡ wrong (record { left = length (t ∷ rest); kind = k }) → contains SOMEWHERE (number t.head) ≡ true → Outcome false in_module any_module all_at front t.head (Err k)
 module_exchanged front t rest k d e = by_result (all_at (front ++ t ∷ rest)) refl (module_is (front ++ t ∷ rest) ∙ d)
   where
     by_end : (is : List Item) (left : List Tok) → all_at (front ++ t ∷ rest) ≡ reads is left → ended item_refusal is left ≡ wrong (record { left = length (t ∷ rest); kind = k }) → Outcome false in_module any_module all_at front t.head (Err k)
@@ -257,7 +257,7 @@ module_exchanged front t rest k d e = by_result (all_at (front ++ t ∷ rest)) r
         by_class (nat_eq (number t.head) (number heads.LifetimeMarker)) refl (q ∙ ap (λ (y : List Tok). reads is y) (sym c.1)) (ap (λ (x : Fault). x.kind) (wrong_is {X = List Item} (record { left = length (u ∷ us); kind = item_refusal u }) (record { left = length (t ∷ rest); kind = k }) h)) (cons_is t u rest us c.1).0 e
       where
         by_class : (b : Bool) → nat_eq (number t.head) (number heads.LifetimeMarker) ≡ b → all_at (front ++ t ∷ rest) ≡ reads is (t ∷ rest) → item_refusal u ≡ k → t ≡ u → b || contains STAND_INS (number t.head) ≡ true → Outcome false in_module any_module all_at front t.head (Err k)
-        by_class true p q' i j e' = subst (λ (x : FaultKind). Outcome false in_module any_module all_at front t.head (Err x)) (ap item_refusal j ∙ i) (marker_told front t p)
+        by_class true p q' i j e' = subst (λ (x : TokenFault). Outcome false in_module any_module all_at front t.head (Err x)) (ap item_refusal j ∙ i) (marker_told front t p)
         by_class false p q' i j e' = absurd (all_never front t rest is q' e')
 
     by_result : (r : Result (List Item × List Tok) Fault) → all_at (front ++ t ∷ rest) ≡ r → whole_of item_refusal r ≡ wrong (record { left = length (t ∷ rest); kind = k }) → Outcome false in_module any_module all_at front t.head (Err k)
@@ -270,17 +270,17 @@ module_broad : Broad tokens any_module (items_at FURTHER_PARAMETERS GLOBAL_NAMES
 unfolding any_module
 module_broad = (items_rule FURTHER_PARAMETERS GLOBAL_NAMES).law.broad
 
-module_read : (ts : List Tok) (is : List Item) → any_module ts is → (module_of ts ≡ Ok is) ⊎ ((left : ℕ) × (k : FaultKind) × IsBound k × (module_of ts ≡ Err (record { left = left; kind = k })))
+module_read : (ts : List Tok) (is : List Item) → any_module ts is → (module_of ts ≡ Ok is) ⊎ ((left : ℕ) × (k : TokenFault) × IsBound k × (module_of ts ≡ Err (record { left = left; kind = k })))
 unfolding module_of
 module_read ts is s = by_up (subst (λ (us : List Tok). UpTo tokens us (items_at FURTHER_PARAMETERS GLOBAL_NAMES us) (reads is [])) (append-nil ts) (module_broad.reads ts [] is s tt))
   where
-    by_up : UpTo tokens ts (items_at FURTHER_PARAMETERS GLOBAL_NAMES ts) (reads is []) → (whole_of item_refusal (items_at FURTHER_PARAMETERS GLOBAL_NAMES ts) ≡ Ok is) ⊎ ((left : ℕ) × (k : FaultKind) × IsBound k × (whole_of item_refusal (items_at FURTHER_PARAMETERS GLOBAL_NAMES ts) ≡ Err (record { left = left; kind = k })))
+    by_up : UpTo tokens ts (items_at FURTHER_PARAMETERS GLOBAL_NAMES ts) (reads is []) → (whole_of item_refusal (items_at FURTHER_PARAMETERS GLOBAL_NAMES ts) ≡ Ok is) ⊎ ((left : ℕ) × (k : TokenFault) × IsBound k × (whole_of item_refusal (items_at FURTHER_PARAMETERS GLOBAL_NAMES ts) ≡ Err (record { left = left; kind = k })))
     by_up (inl e) = inl (ap (whole_of item_refusal) e)
     by_up (inr w) = inr (length (w.bad ∷ w.rest), w.kind, w.bound, ap (whole_of item_refusal) w.ends)
 
 -- behind these tokens a module is refused at this one
 abbrev Refused : List Tok → Tok → Type 0
-Refused front u = (rest : List Tok) → (k : FaultKind) × (IsBound k → ⊥) × (module_of (front ++ u ∷ rest) ≡ wrong (record { left = length (u ∷ rest); kind = k }))
+Refused front u = (rest : List Tok) → (k : TokenFault) × (IsBound k → ⊥) × (module_of (front ++ u ∷ rest) ≡ wrong (record { left = length (u ∷ rest); kind = k }))
 
 none_at : (front : List Tok) (u : Tok) → Refused front u → Extends any_module (front ++ u ∷ []) → ⊥
 none_at front u refused v =
@@ -288,7 +288,7 @@ none_at front u refused v =
     let r = refused v.0 in
     by_read v.1 (u ∷ v.0) r.0 r.1 r.2 (module_read (front ++ u ∷ v.0) v.1 s)
   where
-    by_read : (is : List Item) (us : List Tok) (k : FaultKind) → (IsBound k → ⊥) → module_of (front ++ us) ≡ wrong (record { left = length us; kind = k }) → (module_of (front ++ us) ≡ Ok is) ⊎ ((left : ℕ) × (k : FaultKind) × IsBound k × (module_of (front ++ us) ≡ Err (record { left = left; kind = k }))) → ⊥
+    by_read : (is : List Item) (us : List Tok) (k : TokenFault) → (IsBound k → ⊥) → module_of (front ++ us) ≡ wrong (record { left = length us; kind = k }) → (module_of (front ++ us) ≡ Ok is) ⊎ ((left : ℕ) × (k : TokenFault) × IsBound k × (module_of (front ++ us) ≡ Err (record { left = left; kind = k }))) → ⊥
     by_read is us k n d (inl e) = never is (record { left = length us; kind = k }) (sym e ∙ d)
       where
         never : (is : List Item) (f : Fault) → Ok is ≡ wrong f → ⊥
@@ -300,7 +300,7 @@ none_goes_on front u stuck = none_at front u (λ rest. let r = stuck rest in (r.
 
 -- ---- a token that is told to be left out where one of these classes goes on, and else against the syntax
 
-abbrev pub Placed : List ℕ → List Tok → FaultKind → Type 0
+abbrev pub Placed : List ℕ → List Tok → TokenFault → Type 0
 Placed classes front Syntax = (u : Tok) → among tokens classes u ≡ true → Extends any_module (front ++ u ∷ []) → ⊥
 Placed classes front Profile = (u : Tok) × (among tokens classes u ≡ true) × Goes any_module front u
 Placed classes front Number = Unit {0}
@@ -311,19 +311,19 @@ module _ (classes : List ℕ) (angled : Bool) (front : List Tok) (t : Tok) (q : 
     (told : IsTold angled t.head (Stuck all_at front) (Goes any_module front) → (u : Tok) × (among tokens classes u ≡ true) × Goes any_module front u) (not_told : NotTold angled t.head (Stuck all_at front) (Goes any_module front) (in_module front tt) → (u : Tok) → among tokens classes u ≡ true → Stuck all_at front u)
     (stays : (is : List Item) → OutcomeAt false in_module any_module all_at angled front t.head (Ok is) → (u : Tok) → among tokens classes u ≡ true → Stays all_at front is u) where
   -- what is said there
-  said : (rest : List Tok) (o : Result (List Item) FaultKind) → all_at (front ++ t ∷ rest) ≡ ends o (t ∷ rest) → OutcomeAt false in_module any_module all_at angled front t.head o
+  said : (rest : List Tok) (o : Result (List Item) TokenFault) → all_at (front ++ t ∷ rest) ≡ ends o (t ∷ rest) → OutcomeAt false in_module any_module all_at angled front t.head o
   said rest o d = subst (λ (b : Bool). OutcomeAt false in_module any_module all_at b front t.head o) q (all_exchanged.swap front t rest o d)
 
   items_end : (rest : List Tok) (is : List Item) → all_at (front ++ t ∷ rest) ≡ reads is (t ∷ rest) → Placed classes front Syntax
-  items_end rest is d u i = none_at front u (λ rest'. (Syntax, λ b. b, sym (module_is (front ++ u ∷ rest')) ∙ ap (whole_of item_refusal) (stays is (said rest (Ok is) d) u i rest') ∙ ap (λ (k : FaultKind). wrong (record { left = length (u ∷ rest'); kind = k })) (others u i)))
+  items_end rest is d u i = none_at front u (λ rest'. (Syntax, λ b. b, sym (module_is (front ++ u ∷ rest')) ∙ ap (whole_of item_refusal) (stays is (said rest (Ok is) d) u i rest') ∙ ap (λ (k : TokenFault). wrong (record { left = length (u ∷ rest'); kind = k })) (others u i)))
 
-  by_kind : (k : FaultKind) → OutcomeAt false in_module any_module all_at angled front t.head (Err k) → Placed classes front k
+  by_kind : (k : TokenFault) → OutcomeAt false in_module any_module all_at angled front t.head (Err k) → Placed classes front k
   by_kind Syntax o = λ u i. none_goes_on front u (not_told o u i)
   by_kind Profile o = told o
   by_kind Number o = tt
   by_kind Limit o = tt
 
-  placed : (rest : List Tok) (k : FaultKind) → module_of (front ++ t ∷ rest) ≡ wrong (record { left = length (t ∷ rest); kind = k }) → Placed classes front k
+  placed : (rest : List Tok) (k : TokenFault) → module_of (front ++ t ∷ rest) ≡ wrong (record { left = length (t ∷ rest); kind = k }) → Placed classes front k
   placed rest k d = by_result (all_at (front ++ t ∷ rest)) refl (module_is (front ++ t ∷ rest) ∙ d)
     where
       by_end : (is : List Item) (left : List Tok) → all_at (front ++ t ∷ rest) ≡ reads is left → ended item_refusal is left ≡ wrong (record { left = length (t ∷ rest); kind = k }) → Placed classes front k
@@ -361,7 +361,7 @@ number_stays heads.Number is front e (inl stays) = stays
 number_stays heads.Number is front e (inr w) = absurd w.1
 number_stays h is front e o = absurd (differ e)
 
-pub vector_placed : (front : List Tok) (t : Tok) → among tokens (number heads.Number ∷ []) t ≡ true → is_angled front ≡ true → (rest : List Tok) (k : FaultKind) → module_of (front ++ t ∷ rest) ≡ wrong (record { left = length (t ∷ rest); kind = k }) → Placed OPEN_BRACE front k
+pub vector_placed : (front : List Tok) (t : Tok) → among tokens (number heads.Number ∷ []) t ≡ true → is_angled front ≡ true → (rest : List Tok) (k : TokenFault) → module_of (front ++ t ∷ rest) ≡ wrong (record { left = length (t ∷ rest); kind = k }) → Placed OPEN_BRACE front k
 vector_placed front t n q =
     placed OPEN_BRACE true front t q (refused_syntax (number heads.Number) refl t n) (refused_syntax (number heads.OpenBrace) refl) (number_told t.head (Stuck all_at front) (Goes any_module front) n) (number_not t.head (Stuck all_at front) (Goes any_module front) (in_module front tt) n) (λ is. number_stays t.head is front n)
 
@@ -380,6 +380,6 @@ string_stays b heads.Str is front e (inl stays) = stays
 string_stays b heads.Str is front e (inr w) = absurd w.1
 string_stays b h is front e o = absurd (differ e)
 
-pub string_placed : (front : List Tok) (t : Tok) → among tokens STRING t ≡ true → (rest : List Tok) (k : FaultKind) → module_of (front ++ t ∷ rest) ≡ wrong (record { left = length (t ∷ rest); kind = k }) → Placed STRING front k
+pub string_placed : (front : List Tok) (t : Tok) → among tokens STRING t ≡ true → (rest : List Tok) (k : TokenFault) → module_of (front ++ t ∷ rest) ≡ wrong (record { left = length (t ∷ rest); kind = k }) → Placed STRING front k
 string_placed front t n =
     placed STRING (is_angled front) front t refl (refused_syntax (number heads.Str) refl t n) (refused_syntax (number heads.Str) refl) (string_told (is_angled front) t.head (Stuck all_at front) (Goes any_module front) n) (string_not (is_angled front) t.head (Stuck all_at front) (Goes any_module front) (in_module front tt) n) (λ is. string_stays (is_angled front) t.head is front n)

@@ -11,8 +11,8 @@ use Rattle.ir_read.specs.Balanced.{Move, none_open, stays}
 use Rattle.ir_read.specs.Readers.{fault_at, done, follow, ◌>>=◌, many_at}
 use Rattle.ir_read.specs.Runs.{Run, Step, bad, last, onward, run_at}
 use Rattle.ir_read.specs.declared.fault.Fault.{Fault}
-use Rattle.ir_read.specs.declared.fault.FaultKind.TheVariants.{Syntax}
-use Rattle.ir_read.specs.declared.fault.FaultKind.{FaultKind}
+use Rattle.ir_read.specs.declared.fault.TokenFault.TheVariants.{Syntax}
+use Rattle.ir_read.specs.declared.fault.TokenFault.{TokenFault}
 use Rattle.ir_read.specs.Brackets.{move_of}
 use Rattle.ir_read.specs.Classes.{one_of, one_of_at, tokens}
 use Rattle.ir_read.specs.Metadata.{META, node, attached, attachment, attachments, ended_by, ends_line, line_step, open_behind, rest_of_line, metadata_line}
@@ -52,7 +52,7 @@ unfolding attachments_at
 no_attachments t rest e = ap (λ (n : ℕ). follow (cond (contains COMMA n) ((attachment_at >>= λ a. many_at (among tokens COMMA) attachment_at (length rest) >>= λ more. done (a ∷ more)) (t ∷ rest)) (reads [] (t ∷ rest))) (λ _. done tt)) (target_is t.head e)
 
 -- a fault at a token is none behind it
-not_behind : (bs : List Bracket) (t : Tok) (rest : List Tok) (k : FaultKind) → run_at line_step bs rest ≡ fault_at k (t ∷ rest) → ⊥
+not_behind : (bs : List Bracket) (t : Tok) (rest : List Tok) (k : TokenFault) → run_at line_step bs rest ≡ fault_at k (t ∷ rest) → ⊥
 not_behind bs t rest k d =
     let v = (line_rule bs).law.viable rest (record { left = length (t ∷ rest); kind = k }) d in
     omega (arith, ap length v.whole, length-append v.front v.rest, v.here)
@@ -73,7 +73,7 @@ stays_fits ends bs = by_test (ends && none_open bs)
 pub stays_in_line : (bs : List Bracket) (t : Tok) → move_of t.head ≡ stays → line_step bs t ≡ bad → ⊥
 stays_in_line bs t e d = stays_fits t.ends_line bs (ap (λ (m : Move Bracket). ended_by t.ends_line (open_behind m bs)) (sym e) ∙ d)
 
-never_run : (bs : List Bracket) (front : List Tok) (t : Tok) (rest : List Tok) (k : FaultKind) → run_at line_step bs (front ++ t ∷ rest) ≡ fault_at k (t ∷ rest) → move_of t.head ≡ stays → ⊥
+never_run : (bs : List Bracket) (front : List Tok) (t : Tok) (rest : List Tok) (k : TokenFault) → run_at line_step bs (front ++ t ∷ rest) ≡ fault_at k (t ∷ rest) → move_of t.head ≡ stays → ⊥
 never_run bs [] t rest k d e = by_step (line_step bs t) refl d
   where
     by_step : (p : Step (List Bracket)) → line_step bs t ≡ p → read p t rest ≡ fault_at k (t ∷ rest) → ⊥
@@ -94,7 +94,7 @@ pub line_exchanged : (bs : List Bracket) → Swaps false true nowhere (Run line_
 line_exchanged bs = anywhere (line_rule bs) (λ front t rest k d i. never_run bs front t rest k d (steady_stays t.head i)) (λ front rest a d q. refl)
 
 -- also behind `<`
-pub line_after : (bs : List Bracket) (t : Tok) (rest : List Tok) (o : Result (Unit {0}) FaultKind) → run_at line_step bs (t ∷ rest) ≡ ends o (t ∷ rest) → OutcomeAt false nowhere (Run line_step bs) (run_at line_step bs) true [] t.head o
+pub line_after : (bs : List Bracket) (t : Tok) (rest : List Tok) (o : Result (Unit {0}) TokenFault) → run_at line_step bs (t ∷ rest) ≡ ends o (t ∷ rest) → OutcomeAt false nowhere (Run line_step bs) (run_at line_step bs) true [] t.head o
 line_after bs t rest o d = ends_anywhere (line_rule bs) (λ front t rest k d i. never_run bs front t rest k d (steady_stays t.head i)) true [] t rest o d
 
 pub rest_of_line_exchanged : (ends : Bool) → Swaps false true nowhere (rest_of_line ends) (rest_of_line_at ends)

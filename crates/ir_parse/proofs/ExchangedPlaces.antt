@@ -7,8 +7,8 @@ use Rattle.ir_lex.specs.declared.head.Head.{Head}
 use Rattle.ir_read.proofs.Composed.{wrong}
 use Rattle.ir_read.proofs.Rules.{within_of}
 use Rattle.ir_read.specs.Alphabet.{among, contains}
-use Rattle.ir_read.specs.declared.fault.FaultKind.TheVariants.{Syntax, Profile}
-use Rattle.ir_read.specs.declared.fault.FaultKind.{FaultKind}
+use Rattle.ir_read.specs.declared.fault.TokenFault.TheVariants.{Syntax, Profile}
+use Rattle.ir_read.specs.declared.fault.TokenFault.{TokenFault}
 use Rattle.ir_read.specs.Classes.{IsReal, tokens}
 use Rattle.ir_heads.specs.FunctionHeads.{GLOBAL, NUMBERED}
 use Rattle.ir_read.specs.Operands.{REG}
@@ -75,10 +75,10 @@ module _ (front : List Tok) (t : Tok) (rest : List Tok) where
   none_of : (classes : List ℕ) → NoneGoesOn classes front → SomeGoesOn classes front → ⊥
   none_of classes n (u, i, r, (more, is, s, r')) = n u i (more, is, s)
 
-  abbrev Refused : FaultKind → Type 0
+  abbrev Refused : TokenFault → Type 0
   Refused k = module_of (front ++ t ∷ rest) ≡ wrong (record { left = length (t ∷ rest); kind = k })
 
-  said : (k : FaultKind) → Refused k → (classes : List ℕ) → (contains classes (number t.head) ≡ true → contains SOMEWHERE (number t.head) ≡ true) → contains classes (number t.head) ≡ true → Outcome false in_module any_module all_at front t.head (Err k)
+  said : (k : TokenFault) → Refused k → (classes : List ℕ) → (contains classes (number t.head) ≡ true → contains SOMEWHERE (number t.head) ≡ true) → contains classes (number t.head) ≡ true → Outcome false in_module any_module all_at front t.head (Err k)
   said k e classes within c = module_exchanged front t rest k e (within c)
 
   in_types : contains TYPE (number t.head) ≡ true → contains SOMEWHERE (number t.head) ≡ true

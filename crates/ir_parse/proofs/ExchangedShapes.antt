@@ -14,9 +14,9 @@ use Rattle.ir_read.specs.Forms.{Form}
 use Rattle.ir_read.specs.Lawful.{IsBound, ends}
 use Rattle.ir_read.specs.Readers.{Reader, fault_at, follow, ◌>>=◌, token_means}
 use Rattle.ir_read.specs.Rules.{in_range, is_class, is_valued}
-use Rattle.ir_read.specs.declared.fault.FaultKind.TheVariants.{Number, Limit, Profile}
+use Rattle.ir_read.specs.declared.fault.TokenFault.TheVariants.{Number, Limit, Profile}
 use Rattle.ir_read.specs.declared.fault.Fault.{Fault}
-use Rattle.ir_read.specs.declared.fault.FaultKind.{FaultKind}
+use Rattle.ir_read.specs.declared.fault.TokenFault.{TokenFault}
 use Rattle.ir_lex.specs.declared.head.Head.{Head}
 use Rattle.ir_read.specs.Ahead.{BRACKETS}
 use Rattle.ir_read.specs.Classes.{tokens, IsReal, refusal, the, the_at}
@@ -43,10 +43,10 @@ use Rattle.ir_parse.proofs.ExchangedWords.{close_angle_exchanged, close_brace_ex
 
 -- ---- scalars and type names
 
-abbrev refuse : FaultKind → Result Typed FaultKind
+abbrev refuse : TokenFault → Result Typed TokenFault
 refuse k = Err k
 
-err_is : (k l : FaultKind) → refuse k ≡ refuse l → k ≡ l
+err_is : (k l : TokenFault) → refuse k ≡ refuse l → k ≡ l
 err_is k l e = cc
 
 -- a scalar has room in 2^31 bytes
@@ -74,7 +74,7 @@ pub leaf_outside : (room : Room) (t : Tok) → among tokens LEAF t ≡ false →
 unfolding leaf_means is_leaf is_valued
 leaf_outside room t e = let h = left_false (nat_eq (number t.head) (number heads.Local)) (among tokens SCALAR t) e in rw (h.0, h.1) refl
 
-leaf_inside : (room : Room) (t : Tok) → among tokens LEAF t ≡ true → (k : FaultKind) → leaf_means room t ≡ Err k → IsBound k
+leaf_inside : (room : Room) (t : Tok) → among tokens LEAF t ≡ true → (k : TokenFault) → leaf_means room t ≡ Err k → IsBound k
 unfolding leaf_means is_leaf is_valued
 leaf_inside room t p k d = by_tests (nat_eq (number t.head) (number heads.Local)) (among tokens SCALAR t) (has_room room t) (type_name t) p d
   where
@@ -153,7 +153,7 @@ structure_exchanged part each = seq (one_sample OPEN_BRACE line_of (mark heads.O
 same : (n m : ℕ) → nat_eq n m ≡ true → n ≡ m
 same n m h = grind arith
 
-abbrev fine : Unit {0} → Result (Unit {0}) FaultKind
+abbrev fine : Unit {0} → Result (Unit {0}) TokenFault
 fine u = Ok u
 
 module _ {B : Type 0} {wide : Unit {0} → Form Tok B} {h : Unit {0} → Reader Tok B} (laws : (u : Unit {0}) → Exchanges (wide u) (h u)) where
@@ -192,13 +192,13 @@ module _ {B : Type 0} {wide : Unit {0} → Form Tok B} {h : Unit {0} → Reader 
   told_number heads.Number e = λ _. brace_goes
   told_number k e = absurd cc
 
-  after_angle : (t : Tok) (rest : List Tok) (o : Result B FaultKind) → behind_one_at (t ∷ rest) ≡ ends o (t ∷ rest) → OutcomeAt false nowhere behind_one behind_one_at true [] t.head o
+  after_angle : (t : Tok) (rest : List Tok) (o : Result B TokenFault) → behind_one_at (t ∷ rest) ≡ ends o (t ∷ rest) → OutcomeAt false nowhere behind_one behind_one_at true [] t.head o
   after_angle t rest o d = by_test (nat_eq (number t.head) (number heads.Number)) refl
     where
       by_test : (b : Bool) → nat_eq (number t.head) (number heads.Number) ≡ b → OutcomeAt false nowhere behind_one behind_one_at true [] t.head o
       by_test true e =
           let w = err_ends (record { left = length (t ∷ rest); kind = Profile }) o (t ∷ rest) (sym (number_told t rest e) ∙ d) in
-          subst (λ (x : Result B FaultKind). OutcomeAt false nowhere behind_one behind_one_at true [] t.head x) (ap (λ (x : Fault). Err x.kind) w.2 ∙ sym w.1) (told_number t.head e)
+          subst (λ (x : Result B TokenFault). OutcomeAt false nowhere behind_one behind_one_at true [] t.head x) (ap (λ (x : Fault). Err x.kind) w.2 ∙ sym w.1) (told_number t.head e)
       by_test false e = same_at false nowhere behind_one behind_one_at [] t.head o e (behind_law.swap [] t rest o d)
 
 -- `<`, and `{` behind it

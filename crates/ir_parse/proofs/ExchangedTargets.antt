@@ -15,8 +15,8 @@ use Rattle.ir_read.specs.Forms as form
 use Rattle.ir_read.specs.Lawful.{IsBound}
 use Rattle.ir_read.specs.Readers.{token_at}
 use Rattle.ir_read.specs.Rules.{is_class, disjoint}
-use Rattle.ir_read.specs.declared.fault.FaultKind.TheVariants.{Profile}
-use Rattle.ir_read.specs.declared.fault.FaultKind.{FaultKind}
+use Rattle.ir_read.specs.declared.fault.TokenFault.TheVariants.{Profile}
+use Rattle.ir_read.specs.declared.fault.TokenFault.{TokenFault}
 use Rattle.ir_read.specs.Classes.{tokens, IsReal, refusal, the, the_at, one_of, one_of_at, itself}
 use Rattle.ir_read.specs.Operands.{REG}
 use Rattle.ir_heads.specs.Targets.{STRING, fits_item, has_64_bits, fits_layout, is_layout, layout_line, triple_line, target_line, source_line, comdat_line}
@@ -85,7 +85,7 @@ pub comdat_name_exchanged : Exchanges (the heads.ComdatName) (the_at heads.Comda
 unfolding is_class
 comdat_name_exchanged = plain_class heads.ComdatName (the_rule heads.ComdatName (sample kinds.Comdat heads.ComdatName (codes "$a")) refl comdat_name_real) refl
 
-abbrev failed : FaultKind → Result Tok FaultKind
+abbrev failed : TokenFault → Result Tok TokenFault
 failed k = Err k
 
 empty_string : Tok
@@ -99,7 +99,7 @@ empty_real : IsReal empty_string
 unfolding empty_string
 empty_real = string_real
 
-layout_stuck : (u : Tok) → among tokens STRING u ≡ false → (k : FaultKind) × (IsBound k → ⊥) × (is_layout u ≡ Err k)
+layout_stuck : (u : Tok) → among tokens STRING u ≡ false → (k : TokenFault) × (IsBound k → ⊥) × (is_layout u ≡ Err k)
 unfolding is_layout
 layout_stuck u e = (refusal (number u.head), not_bound (number u.head), by_class (nat_eq (number u.head) (number heads.Str)) e)
   where
@@ -110,10 +110,10 @@ layout_stuck u e = (refusal (number u.head), not_bound (number u.head), by_class
 layout_no_angle : (t a : Tok) → among tokens OPEN_ANGLE t ≡ true → is_layout t ≡ Ok a → ⊥
 layout_no_angle t a i e = let s = layout_stuck t (apart OPEN_ANGLE STRING refl (number t.head) i) in refused s.0 (sym s.2 ∙ e)
   where
-    refused : (k : FaultKind) → failed k ≡ Ok a → ⊥
+    refused : (k : TokenFault) → failed k ≡ Ok a → ⊥
     refused k e = cc
 
-no_string : (bs : List ℕ) → disjoint bs STRING ≡ true → (u : Tok) → among tokens bs u ≡ true → (k : FaultKind) × (IsBound k → ⊥) × (is_layout u ≡ Err k)
+no_string : (bs : List ℕ) → disjoint bs STRING ≡ true → (u : Tok) → among tokens bs u ≡ true → (k : TokenFault) × (IsBound k → ⊥) × (is_layout u ≡ Err k)
 no_string bs d u i = layout_stuck u (apart bs STRING d (number u.head) i)
 
 -- where no string stands
@@ -133,11 +133,11 @@ unfolding empty_string
 layout_told heads.Str e = (empty_string, refl, ([], empty_string, empty_fits, (empty_real, tt)))
 layout_told h e = absurd cc
 
-layout_says : (t : Tok) (k : FaultKind) → is_layout t ≡ Err k → Says (form.token is_layout) is_layout t.head k
+layout_says : (t : Tok) (k : TokenFault) → is_layout t ≡ Err k → Says (form.token is_layout) is_layout t.head k
 unfolding is_layout
 layout_says t k d = by_class (nat_eq (number t.head) (number heads.Str)) refl d
   where
-    err_is : (k l : FaultKind) → failed k ≡ failed l → k ≡ l
+    err_is : (k l : TokenFault) → failed k ≡ failed l → k ≡ l
     err_is k l e = cc
 
     by_fit : (b : Bool) → cond b (Ok t) (failed Profile) ≡ failed k → Profile ≡ k
@@ -145,8 +145,8 @@ layout_says t k d = by_class (nat_eq (number t.head) (number heads.Str)) refl d
     by_fit false e = err_is Profile k e
 
     by_class : (b : Bool) → nat_eq (number t.head) (number heads.Str) ≡ b → cond b (cond (fits_layout (content t.kind t.text)) (Ok t) (failed Profile)) (failed (refusal (number t.head))) ≡ failed k → Says (form.token is_layout) is_layout t.head k
-    by_class true p d = subst (λ (x : FaultKind). Says (form.token is_layout) is_layout t.head x) (by_fit (fits_layout (content t.kind t.text)) d) (layout_told t.head p)
-    by_class false p d = subst (λ (x : FaultKind). Says (form.token is_layout) is_layout t.head x) (err_is (refusal (number t.head)) k d) (layout_class t.head (ap (λ (b : Bool). b || false) p))
+    by_class true p d = subst (λ (x : TokenFault). Says (form.token is_layout) is_layout t.head x) (by_fit (fits_layout (content t.kind t.text)) d) (layout_told t.head p)
+    by_class false p d = subst (λ (x : TokenFault). Says (form.token is_layout) is_layout t.head x) (err_is (refusal (number t.head)) k d) (layout_class t.head (ap (λ (b : Bool). b || false) p))
 
 pub layout_exchanged : Exchanges (form.token is_layout) (token_at is_layout)
 layout_exchanged = single (form.token is_layout) is_layout layout_no_angle (λ t a e. e) (empty_string ∷ [], empty_string, empty_fits, (empty_real, tt)) layout_says

@@ -12,7 +12,7 @@ use Rattle.ir_tree.specs.declared.operand.Reg.TheVariants.{Int, Ptr}
 use Rattle.ir_tree.specs.declared.operand.Reg.{Reg}
 use Rattle.ir_read.specs.Readers.{Reader, fault_at, follow, ◌>>=◌}
 use Rattle.ir_read.specs.declared.fault.Fault.{Fault}
-use Rattle.ir_read.specs.declared.fault.FaultKind.TheVariants.{Syntax}
+use Rattle.ir_read.specs.declared.fault.TokenFault.TheVariants.{Syntax}
 use Rattle.ir_read.specs.Classes.{IsReal}
 use Rattle.ir_read.specs.Operands.{reg_of}
 use Rattle.ir_read.specs.OperandsAt.{reg_at}

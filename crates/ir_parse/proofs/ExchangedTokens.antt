@@ -16,8 +16,8 @@ use Rattle.ir_read.specs.Forms.{Form}
 use Rattle.ir_read.specs.Lawful.{IsBound}
 use Rattle.ir_read.specs.Readers.{token_at, Reader, fault_at, follow, ◌>>=◌, token_means}
 use Rattle.ir_read.specs.Rules.{Rule, disjoint, in_range, is_among, is_class, is_exact, is_valued}
-use Rattle.ir_read.specs.declared.fault.FaultKind.TheVariants.{Syntax, Profile, Number, Limit}
-use Rattle.ir_read.specs.declared.fault.FaultKind.{FaultKind}
+use Rattle.ir_read.specs.declared.fault.TokenFault.TheVariants.{Syntax, Profile, Number, Limit}
+use Rattle.ir_read.specs.declared.fault.TokenFault.{TokenFault}
 use Rattle.ir_read.specs.Classes.{tokens, IsReal, refusal, the, the_at, one_of, one_of_at}
 use Rattle.ir_heads.specs.FunctionHeads.{name_refusal}
 use Rattle.ir_read.specs.Operands.{REG, memory_refusal, type_refusal}
@@ -45,7 +45,7 @@ left_false : (a b : Bool) → a || b ≡ true → a ≡ false → b ≡ true
 left_false true b h e = absurd cc
 left_false false b h e = h
 
-bound_is : (k : FaultKind) → IsBound k → (k ≡ Number → ⊥) → (k ≡ Limit → ⊥) → ⊥
+bound_is : (k : TokenFault) → IsBound k → (k ≡ Number → ⊥) → (k ≡ Limit → ⊥) → ⊥
 bound_is Number b n l = n refl
 bound_is Limit b n l = l refl
 bound_is Syntax b n l = b
@@ -107,15 +107,15 @@ by_telling P type target integer global definition marker string other heads.Lif
 by_telling P type target integer global definition marker string other heads.Str = string
 by_telling P type target integer global definition marker string other h = other h differ
 
-module _ {A : Type 0} (place : Place) (wide : Form Tok A) (meaning : Tok → Result A FaultKind) where
-  bound_says : (h : Head) (k : FaultKind) → IsBound k → SaysAt place wide meaning h k
+module _ {A : Type 0} (place : Place) (wide : Form Tok A) (meaning : Tok → Result A TokenFault) where
+  bound_says : (h : Head) (k : TokenFault) → IsBound k → SaysAt place wide meaning h k
   bound_says h Number b = tt
   bound_says h Limit b = tt
   bound_says h Syntax b = absurd b
   bound_says h Profile b = absurd b
 
   -- of no other class anything is said
-  pub elsewhere_at : (h : Head) (k : FaultKind) → (contains TELLING (number h) ≡ true → ⊥) → SaysAt place wide meaning h k
+  pub elsewhere_at : (h : Head) (k : TokenFault) → (contains TELLING (number h) ≡ true → ⊥) → SaysAt place wide meaning h k
   elsewhere_at h Number n = tt
   elsewhere_at h Limit n = tt
   elsewhere_at heads.RefusedType k n = absurd (n refl)
@@ -131,39 +131,39 @@ module _ {A : Type 0} (place : Place) (wide : Form Tok A) (meaning : Tok → Res
   elsewhere_at h Profile n = tt
 
   -- a meaning that refuses what isn't of these classes by its class, and what is for its range alone
-  module _ (wanted : List ℕ) (refuse : ℕ → FaultKind) (unbound : (n : ℕ) → IsBound (refuse n) → ⊥) (outside : (t : Tok) → among tokens wanted t ≡ false → meaning t ≡ Err (refuse (number t.head))) (inside : (t : Tok) → among tokens wanted t ≡ true → (k : FaultKind) → meaning t ≡ Err k → IsBound k) where
-    same_kind : (k l : FaultKind) → (m : Result A FaultKind) → m ≡ Err k → m ≡ Err l → k ≡ l
+  module _ (wanted : List ℕ) (refuse : ℕ → TokenFault) (unbound : (n : ℕ) → IsBound (refuse n) → ⊥) (outside : (t : Tok) → among tokens wanted t ≡ false → meaning t ≡ Err (refuse (number t.head))) (inside : (t : Tok) → among tokens wanted t ≡ true → (k : TokenFault) → meaning t ≡ Err k → IsBound k) where
+    same_kind : (k l : TokenFault) → (m : Result A TokenFault) → m ≡ Err k → m ≡ Err l → k ≡ l
     same_kind k l m d e = cc
 
-    pub says_at : ((h : Head) → contains wanted (number h) ≡ false → SaysAt place wide meaning h (refuse (number h))) → (t : Tok) (k : FaultKind) → meaning t ≡ Err k → SaysAt place wide meaning t.head k
+    pub says_at : ((h : Head) → contains wanted (number h) ≡ false → SaysAt place wide meaning h (refuse (number h))) → (t : Tok) (k : TokenFault) → meaning t ≡ Err k → SaysAt place wide meaning t.head k
     says_at each t k d = by_test (among tokens wanted t) refl
       where
         by_test : (b : Bool) → among tokens wanted t ≡ b → SaysAt place wide meaning t.head k
         by_test true p = bound_says t.head k (inside t p k d)
-        by_test false p = subst (λ (x : FaultKind). SaysAt place wide meaning t.head x) (same_kind (refuse (number t.head)) k (meaning t) (outside t p) d) (each t.head p)
+        by_test false p = subst (λ (x : TokenFault). SaysAt place wide meaning t.head x) (same_kind (refuse (number t.head)) k (meaning t) (outside t p) d) (each t.head p)
 
-module _ {A : Type 0} (wide : Form Tok A) (meaning : Tok → Result A FaultKind) where
-  pub elsewhere : (h : Head) (k : FaultKind) → (contains TELLING (number h) ≡ true → ⊥) → Says wide meaning h k
+module _ {A : Type 0} (wide : Form Tok A) (meaning : Tok → Result A TokenFault) where
+  pub elsewhere : (h : Head) (k : TokenFault) → (contains TELLING (number h) ≡ true → ⊥) → Says wide meaning h k
   elsewhere = elsewhere_at nowhere wide meaning
 
-  module _ (wanted : List ℕ) (refuse : ℕ → FaultKind) (unbound : (n : ℕ) → IsBound (refuse n) → ⊥) (outside : (t : Tok) → among tokens wanted t ≡ false → meaning t ≡ Err (refuse (number t.head))) (inside : (t : Tok) → among tokens wanted t ≡ true → (k : FaultKind) → meaning t ≡ Err k → IsBound k) where
-    stuck_outside : (u : Tok) → among tokens wanted u ≡ false → (k : FaultKind) × (IsBound k → ⊥) × (meaning u ≡ Err k)
+  module _ (wanted : List ℕ) (refuse : ℕ → TokenFault) (unbound : (n : ℕ) → IsBound (refuse n) → ⊥) (outside : (t : Tok) → among tokens wanted t ≡ false → meaning t ≡ Err (refuse (number t.head))) (inside : (t : Tok) → among tokens wanted t ≡ true → (k : TokenFault) → meaning t ≡ Err k → IsBound k) where
+    stuck_outside : (u : Tok) → among tokens wanted u ≡ false → (k : TokenFault) × (IsBound k → ⊥) × (meaning u ≡ Err k)
     stuck_outside u e = (refuse (number u.head), unbound (number u.head), outside u e)
 
-    pub no_word : wordless wanted ≡ true → (w : Tok) → among tokens WORD w ≡ true → (k : FaultKind) × (IsBound k → ⊥) × (meaning w ≡ Err k)
+    pub no_word : wordless wanted ≡ true → (w : Tok) → among tokens WORD w ≡ true → (k : TokenFault) × (IsBound k → ⊥) × (meaning w ≡ Err k)
     no_word p w i = stuck_outside w (apart (OPEN_ANGLE ++ WORD) wanted p (number w.head) (within_of WORD (OPEN_ANGLE ++ WORD) refl (number w.head) i))
 
-    pub none_taken : (h : Head) → plain_at wanted h ≡ true → contains wanted (number h) ≡ false → (u : Tok) → among tokens (stands_for false h) u ≡ true → (k : FaultKind) × (IsBound k → ⊥) × (meaning u ≡ Err k)
+    pub none_taken : (h : Head) → plain_at wanted h ≡ true → contains wanted (number h) ≡ false → (u : Tok) → among tokens (stands_for false h) u ≡ true → (k : TokenFault) × (IsBound k → ⊥) × (meaning u ≡ Err k)
     none_taken h p n u i = stuck_outside u (apart (stands_for false h) wanted (left_false (contains wanted (number h)) (disjoint (stands_for false h) wanted) p n) (number u.head) i)
 
-    pub says_by : ((h : Head) → contains wanted (number h) ≡ false → Says wide meaning h (refuse (number h))) → (t : Tok) (k : FaultKind) → meaning t ≡ Err k → Says wide meaning t.head k
+    pub says_by : ((h : Head) → contains wanted (number h) ≡ false → Says wide meaning h (refuse (number h))) → (t : Tok) (k : TokenFault) → meaning t ≡ Err k → Says wide meaning t.head k
     says_by = says_at nowhere wide meaning wanted refuse unbound outside inside
 
 -- `<` isn't taken
-pub refuses_angle : {A : Type 0} (meaning : Tok → Result A FaultKind) (wanted : List ℕ) (refuse : ℕ → FaultKind) → ((t : Tok) → among tokens wanted t ≡ false → meaning t ≡ Err (refuse (number t.head))) → disjoint OPEN_ANGLE wanted ≡ true → (t : Tok) (a : A) → among tokens OPEN_ANGLE t ≡ true → meaning t ≡ Ok a → ⊥
+pub refuses_angle : {A : Type 0} (meaning : Tok → Result A TokenFault) (wanted : List ℕ) (refuse : ℕ → TokenFault) → ((t : Tok) → among tokens wanted t ≡ false → meaning t ≡ Err (refuse (number t.head))) → disjoint OPEN_ANGLE wanted ≡ true → (t : Tok) (a : A) → among tokens OPEN_ANGLE t ≡ true → meaning t ≡ Ok a → ⊥
 refuses_angle {A} meaning wanted refuse outside d t a i e = taken_refused (refuse (number t.head)) a (sym (outside t (apart OPEN_ANGLE wanted d (number t.head) i)) ∙ e)
   where
-    taken_refused : (k : FaultKind) (a : A) → Err k ≡ Ok a → ⊥
+    taken_refused : (k : TokenFault) (a : A) → Err k ≡ Ok a → ⊥
     taken_refused k a e = cc
 
 pub plain_angle : (wanted : List ℕ) → plain wanted ≡ true → disjoint OPEN_ANGLE wanted ≡ true
@@ -186,7 +186,7 @@ memory_not_bound n b = bound_is (memory_refusal n) b (memory_not_number n) (memo
 name_not_bound : (n : ℕ) → IsBound (name_refusal n) → ⊥
 name_not_bound n b = bound_is (name_refusal n) b (name_not_number n) (name_not_limit n)
 
-module _ {A : Type 0} (wide : Form Tok A) (meaning : Tok → Result A FaultKind) (wanted : List ℕ) (inside : (t : Tok) → among tokens wanted t ≡ true → (k : FaultKind) → meaning t ≡ Err k → IsBound k) where
+module _ {A : Type 0} (wide : Form Tok A) (meaning : Tok → Result A TokenFault) (wanted : List ℕ) (inside : (t : Tok) → among tokens wanted t ≡ true → (k : TokenFault) → meaning t ≡ Err k → IsBound k) where
   abbrev i8 : Tok
   i8 = word heads.MemoryInteger (codes "i8")
 
@@ -211,7 +211,7 @@ module _ {A : Type 0} (wide : Form Tok A) (meaning : Tok → Result A FaultKind)
         (λ n. none_taken wide meaning wanted refusal not_bound outside inside heads.Str (plain_string wanted) n)
         (λ h t _. elsewhere wide meaning h (refusal (number h)) t)
 
-    pub says_plainly : (t : Tok) (k : FaultKind) → meaning t ≡ Err k → Says wide meaning t.head k
+    pub says_plainly : (t : Tok) (k : TokenFault) → meaning t ≡ Err k → Says wide meaning t.head k
     says_plainly = says_by wide meaning wanted refusal not_bound outside inside plainly
 
   -- ---- where a type may stand
@@ -231,7 +231,7 @@ module _ {A : Type 0} (wide : Form Tok A) (meaning : Tok → Result A FaultKind)
         (λ n. none_taken wide meaning wanted type_refusal type_not_bound outside inside heads.Str (plain_string wanted) n)
         (λ h t _. elsewhere wide meaning h (type_refusal (number h)) t)
 
-    pub says_typed : (t : Tok) (k : FaultKind) → meaning t ≡ Err k → Says wide meaning t.head k
+    pub says_typed : (t : Tok) (k : TokenFault) → meaning t ≡ Err k → Says wide meaning t.head k
     says_typed = says_by wide meaning wanted type_refusal type_not_bound outside inside typed
 
   -- ---- where a shape may stand
@@ -251,7 +251,7 @@ module _ {A : Type 0} (wide : Form Tok A) (meaning : Tok → Result A FaultKind)
         (λ n. none_taken wide meaning wanted memory_refusal memory_not_bound outside inside heads.Str (plain_string wanted) n)
         (λ h t _. elsewhere wide meaning h (memory_refusal (number h)) t)
 
-    pub says_shaped : (t : Tok) (k : FaultKind) → meaning t ≡ Err k → Says wide meaning t.head k
+    pub says_shaped : (t : Tok) (k : TokenFault) → meaning t ≡ Err k → Says wide meaning t.head k
     says_shaped = says_by wide meaning wanted memory_refusal memory_not_bound outside inside shaped
 
   -- ---- where a name may stand
@@ -274,22 +274,22 @@ module _ {A : Type 0} (wide : Form Tok A) (meaning : Tok → Result A FaultKind)
         (λ n. none_taken wide meaning wanted name_refusal name_not_bound outside inside heads.Str (plain_string wanted) n)
         (λ h t _. elsewhere wide meaning h (name_refusal (number h)) t)
 
-    pub says_named : (t : Tok) (k : FaultKind) → meaning t ≡ Err k → Says wide meaning t.head k
+    pub says_named : (t : Tok) (k : TokenFault) → meaning t ≡ Err k → Says wide meaning t.head k
     says_named = says_by wide meaning wanted name_refusal name_not_bound outside inside named
 
 -- ---- readers of tokens
 
 -- of a rule for one token
-pub of_token : {A : Type 0} {wide : Form Tok A} {xs ms : List ℕ} {e : Bool} (meaning : Tok → Result A FaultKind) → Rule tokens (form.token meaning) wide (token_at meaning) xs ms e → ((t : Tok) (a : A) → among tokens OPEN_ANGLE t ≡ true → meaning t ≡ Ok a → ⊥) → ((t : Tok) (k : FaultKind) → meaning t ≡ Err k → Says wide meaning t.head k) → Exchanges wide (token_at meaning)
+pub of_token : {A : Type 0} {wide : Form Tok A} {xs ms : List ℕ} {e : Bool} (meaning : Tok → Result A TokenFault) → Rule tokens (form.token meaning) wide (token_at meaning) xs ms e → ((t : Tok) (a : A) → among tokens OPEN_ANGLE t ≡ true → meaning t ≡ Ok a → ⊥) → ((t : Tok) (k : TokenFault) → meaning t ≡ Err k → Says wide meaning t.head k) → Exchanges wide (token_at meaning)
 of_token {wide = wide} meaning rule refuses says = single wide meaning refuses (λ t a e. rule.law.contains (t ∷ []) a e) (let z = rule.law.some in (z.0, z.1, rule.law.contains z.0 z.1 z.2, z.3)) says
 
-abbrev pub refuse : {A : Type 0} → FaultKind → Result A FaultKind
+abbrev pub refuse : {A : Type 0} → TokenFault → Result A TokenFault
 refuse k = Err k
 
-abbrev fine : Unit {0} → Result (Unit {0}) FaultKind
+abbrev fine : Unit {0} → Result (Unit {0}) TokenFault
 fine u = Ok u
 
-pub class_inside : (refuse' : ℕ → FaultKind) (wanted : ℕ) (t : Tok) → among tokens (wanted ∷ []) t ≡ true → (k : FaultKind) → is_class tokens refuse' wanted t ≡ Err k → IsBound k
+pub class_inside : (refuse' : ℕ → TokenFault) (wanted : ℕ) (t : Tok) → among tokens (wanted ∷ []) t ≡ true → (k : TokenFault) → is_class tokens refuse' wanted t ≡ Err k → IsBound k
 unfolding is_class
 class_inside refuse' wanted t p k d = by_test (nat_eq (number t.head) wanted) p d
   where
@@ -297,7 +297,7 @@ class_inside refuse' wanted t p k d = by_test (nat_eq (number t.head) wanted) p 
     by_test true p d = absurd cc
     by_test false p d = absurd cc
 
-pub class_outside : (refuse' : ℕ → FaultKind) (wanted : ℕ) (t : Tok) → among tokens (wanted ∷ []) t ≡ false → is_class tokens refuse' wanted t ≡ Err (refuse' (number t.head))
+pub class_outside : (refuse' : ℕ → TokenFault) (wanted : ℕ) (t : Tok) → among tokens (wanted ∷ []) t ≡ false → is_class tokens refuse' wanted t ≡ Err (refuse' (number t.head))
 unfolding is_class
 class_outside refuse' wanted t p = by_test (nat_eq (number t.head) wanted) p
   where
@@ -305,7 +305,7 @@ class_outside refuse' wanted t p = by_test (nat_eq (number t.head) wanted) p
     by_test true p = absurd cc
     by_test false p = refl
 
-pub one_inside : {A : Type 0} (refuse' : ℕ → FaultKind) (wanted : List ℕ) (value : Tok → A) (t : Tok) → among tokens wanted t ≡ true → (k : FaultKind) → is_among tokens refuse' wanted value t ≡ Err k → IsBound k
+pub one_inside : {A : Type 0} (refuse' : ℕ → TokenFault) (wanted : List ℕ) (value : Tok → A) (t : Tok) → among tokens wanted t ≡ true → (k : TokenFault) → is_among tokens refuse' wanted value t ≡ Err k → IsBound k
 unfolding is_among
 one_inside {A} refuse' wanted value t p k d = by_test (among tokens wanted t) p d
   where
@@ -313,15 +313,15 @@ one_inside {A} refuse' wanted value t p k d = by_test (among tokens wanted t) p 
     by_test true p d = absurd cc
     by_test false p d = absurd cc
 
-pub one_outside : {A : Type 0} (refuse' : ℕ → FaultKind) (wanted : List ℕ) (value : Tok → A) (t : Tok) → among tokens wanted t ≡ false → is_among tokens refuse' wanted value t ≡ Err (refuse' (number t.head))
+pub one_outside : {A : Type 0} (refuse' : ℕ → TokenFault) (wanted : List ℕ) (value : Tok → A) (t : Tok) → among tokens wanted t ≡ false → is_among tokens refuse' wanted value t ≡ Err (refuse' (number t.head))
 unfolding is_among
 one_outside refuse' wanted value t p = ap (λ (b : Bool). cond b (Ok (value t)) (Err (refuse' (number t.head)))) p
 
-pub valued_inside : {A : Type 0} (refuse' : ℕ → FaultKind) (wanted : List ℕ) (value : Tok → Option A) (t : Tok) → among tokens wanted t ≡ true → (k : FaultKind) → is_valued tokens refuse' wanted value t ≡ Err k → IsBound k
+pub valued_inside : {A : Type 0} (refuse' : ℕ → TokenFault) (wanted : List ℕ) (value : Tok → Option A) (t : Tok) → among tokens wanted t ≡ true → (k : TokenFault) → is_valued tokens refuse' wanted value t ≡ Err k → IsBound k
 unfolding is_valued
 valued_inside {A} refuse' wanted value t p k d = by_test (among tokens wanted t) (value t) p d
   where
-    number_is : (k : FaultKind) → refuse {A = A} Number ≡ refuse k → Number ≡ k
+    number_is : (k : TokenFault) → refuse {A = A} Number ≡ refuse k → Number ≡ k
     number_is k e = cc
 
     by_test : (b : Bool) (o : Option A) → b ≡ true → cond b (in_range o) (refuse (refuse' (number t.head))) ≡ refuse k → IsBound k
@@ -329,7 +329,7 @@ valued_inside {A} refuse' wanted value t p k d = by_test (among tokens wanted t)
     by_test true (Some a) p d = absurd cc
     by_test false o p d = absurd cc
 
-pub valued_outside : {A : Type 0} (refuse' : ℕ → FaultKind) (wanted : List ℕ) (value : Tok → Option A) (t : Tok) → among tokens wanted t ≡ false → is_valued tokens refuse' wanted value t ≡ Err (refuse' (number t.head))
+pub valued_outside : {A : Type 0} (refuse' : ℕ → TokenFault) (wanted : List ℕ) (value : Tok → Option A) (t : Tok) → among tokens wanted t ≡ false → is_valued tokens refuse' wanted value t ≡ Err (refuse' (number t.head))
 unfolding is_valued
 valued_outside refuse' wanted value t p = ap (λ (b : Bool). cond b (in_range (value t)) (Err (refuse' (number t.head)))) p
 
@@ -364,30 +364,30 @@ memory_one {A} wanted value rule p q' u i r e each = of_token (is_among tokens m
 
 -- a type of a register that passes a test: one does, and one that memory holds doesn't
 module _ {A : Type 0} (wanted : List ℕ) (passes : Tok → Bool) (value : Tok → A) where
-  abbrev tested : Tok → Result A FaultKind
+  abbrev tested : Tok → Result A TokenFault
   tested = is_exact tokens type_refusal wanted passes value
 
   abbrev APART : List ℕ
   APART = number heads.Str ∷ number heads.OpenAngle ∷ number heads.Word ∷ number heads.RefusedType ∷ number heads.Target ∷ number heads.Global ∷ number heads.NumberedGlobal ∷ number heads.NumberedDefinition ∷ []
 
-  both_true : (b c : Bool) (a : A) (k : FaultKind) → b ≡ true → c ≡ true → cond (b && c) (Ok a) (Err k) ≡ Ok a
+  both_true : (b c : Bool) (a : A) (k : TokenFault) → b ≡ true → c ≡ true → cond (b && c) (Ok a) (Err k) ≡ Ok a
   both_true true true a k p q = refl
   both_true true false a k p q = absurd cc
   both_true false c a k p q = absurd cc
 
-  right_no : (b c : Bool) (a : A) (k : FaultKind) → c ≡ false → cond (b && c) (Ok a) (refuse k) ≡ refuse k
+  right_no : (b c : Bool) (a : A) (k : TokenFault) → c ≡ false → cond (b && c) (Ok a) (refuse k) ≡ refuse k
   right_no true true a k q = absurd cc
   right_no true false a k q = refl
   right_no false c a k q = refl
 
-  left_no : (b c : Bool) (a : A) (k : FaultKind) → b ≡ false → cond (b && c) (Ok a) (refuse k) ≡ refuse k
+  left_no : (b c : Bool) (a : A) (k : TokenFault) → b ≡ false → cond (b && c) (Ok a) (refuse k) ≡ refuse k
   left_no true c a k q = absurd cc
   left_no false c a k q = refl
 
-  err_is : (k l : FaultKind) → refuse {A = A} l ≡ refuse k → l ≡ k
+  err_is : (k l : TokenFault) → refuse {A = A} l ≡ refuse k → l ≡ k
   err_is k l e = cc
 
-  kind_of : (b : Bool) (a : A) (k l : FaultKind) → cond b (Ok a) (refuse l) ≡ refuse k → l ≡ k
+  kind_of : (b : Bool) (a : A) (k l : TokenFault) → cond b (Ok a) (refuse l) ≡ refuse k → l ≡ k
   kind_of true a k l e = absurd cc
   kind_of false a k l e = err_is k l e
 
@@ -396,22 +396,22 @@ module _ {A : Type 0} (wanted : List ℕ) (passes : Tok → Bool) (value : Tok �
     unfolding is_exact
     passing = (u, i, ([], value u, both_true (among tokens wanted u) (passes u) (value u) (type_refusal (number u.head)) j q, (r, tt)))
 
-    failing : (u : Tok) × (among tokens MEMORY u ≡ true) × IsReal u × ((k : FaultKind) × (IsBound k → ⊥) × (tested u ≡ Err k))
+    failing : (u : Tok) × (among tokens MEMORY u ≡ true) × IsReal u × ((k : TokenFault) × (IsBound k → ⊥) × (tested u ≡ Err k))
     unfolding is_exact
     failing = (v, k, r', (type_refusal (number v.head), type_not_bound (number v.head), right_no (among tokens wanted v) (passes v) (value v) (type_refusal (number v.head)) n))
 
     no_global : (n : ℕ) → contains (number heads.Global ∷ []) n ≡ true → contains wanted n ≡ false
     no_global n p = apart APART wanted none n (within_of (number heads.Global ∷ []) APART refl n p)
 
-    stuck_global : (g : Tok) → among tokens (number heads.Global ∷ []) g ≡ true → (k : FaultKind) × (IsBound k → ⊥) × (tested g ≡ Err k)
+    stuck_global : (g : Tok) → among tokens (number heads.Global ∷ []) g ≡ true → (k : TokenFault) × (IsBound k → ⊥) × (tested g ≡ Err k)
     unfolding is_exact
     stuck_global g p = (type_refusal (number g.head), type_not_bound (number g.head), left_no (among tokens wanted g) (passes g) (value g) (type_refusal (number g.head)) (no_global (number g.head) p))
 
-    stuck_word : (w : Tok) → among tokens WORD w ≡ true → (k : FaultKind) × (IsBound k → ⊥) × (tested w ≡ Err k)
+    stuck_word : (w : Tok) → among tokens WORD w ≡ true → (k : TokenFault) × (IsBound k → ⊥) × (tested w ≡ Err k)
     unfolding is_exact
     stuck_word w i = (type_refusal (number w.head), type_not_bound (number w.head), left_no (among tokens wanted w) (passes w) (value w) (type_refusal (number w.head)) (apart APART wanted none (number w.head) (within_of WORD APART refl (number w.head) i)))
 
-    stuck_string : (u : Tok) → among tokens STRING u ≡ true → (k : FaultKind) × (IsBound k → ⊥) × (tested u ≡ Err k)
+    stuck_string : (u : Tok) → among tokens STRING u ≡ true → (k : TokenFault) × (IsBound k → ⊥) × (tested u ≡ Err k)
     unfolding is_exact
     stuck_string u i = (type_refusal (number u.head), type_not_bound (number u.head), left_no (among tokens wanted u) (passes u) (value u) (type_refusal (number u.head)) (apart APART wanted none (number u.head) (within_of STRING APART refl (number u.head) i)))
 
@@ -426,15 +426,15 @@ module _ {A : Type 0} (wanted : List ℕ) (passes : Tok → Bool) (value : Tok �
         (λ u p. stuck_string u p)
         (λ h t. elsewhere (form.token tested) tested h (type_refusal (number h)) t)
 
-    exact_says : (t : Tok) (k : FaultKind) → tested t ≡ Err k → Says (form.token tested) tested t.head k
+    exact_says : (t : Tok) (k : TokenFault) → tested t ≡ Err k → Says (form.token tested) tested t.head k
     unfolding is_exact
-    exact_says t k e = subst (λ (x : FaultKind). Says (form.token tested) tested t.head x) (kind_of (among tokens wanted t && passes t) (value t) k (type_refusal (number t.head)) e) (exact_class t.head)
+    exact_says t k e = subst (λ (x : TokenFault). Says (form.token tested) tested t.head x) (kind_of (among tokens wanted t && passes t) (value t) k (type_refusal (number t.head)) e) (exact_class t.head)
 
     tested_no_angle : (t : Tok) (a : A) → among tokens OPEN_ANGLE t ≡ true → tested t ≡ Ok a → ⊥
     unfolding is_exact
     tested_no_angle t a i e = refused (type_refusal (number t.head)) a (sym (left_no (among tokens wanted t) (passes t) (value t) (type_refusal (number t.head)) (apart APART wanted none (number t.head) (within_of OPEN_ANGLE APART refl (number t.head) i))) ∙ e)
       where
-        refused : (k : FaultKind) (a : A) → refuse {A = A} k ≡ Ok a → ⊥
+        refused : (k : TokenFault) (a : A) → refuse {A = A} k ≡ Ok a → ⊥
         refused k a e = cc
 
     pub exact_type : {xs ms : List ℕ} {e : Bool} → Rule tokens (form.token tested) (form.token tested) (token_at tested) xs ms e → Exchanges (form.token tested) (token_at tested)
@@ -459,7 +459,7 @@ pub loose_class : {xs ms : List ℕ} {e : Bool} (wanted : Head) → Rule tokens 
 loose_class wanted rule p = single_at true nowhere (the wanted) (is_class tokens refusal (number wanted)) (λ u b j d. refl) (λ u b d. d) (let z = rule.law.some in (z.0, z.1, rule.law.contains z.0 z.1 z.2, z.3)) (says_plainly (the wanted) (is_class tokens refusal (number wanted)) (number wanted ∷ []) (class_inside refusal (number wanted)) (class_outside refusal (number wanted)) p)
 
 -- a meaning that refuses none that is left out in some places only
-pub elsewhere_sample : {A : Type 0} (meaning : Tok → Result A FaultKind) → ((t : Tok) (k : FaultKind) → meaning t ≡ Err k → contains TELLING (number t.head) ≡ true → ⊥) → (t : Tok) (a : A) → meaning t ≡ Ok a → IsReal t → Swaps false true nowhere (form.token meaning) (token_at meaning)
+pub elsewhere_sample : {A : Type 0} (meaning : Tok → Result A TokenFault) → ((t : Tok) (k : TokenFault) → meaning t ≡ Err k → contains TELLING (number t.head) ≡ true → ⊥) → (t : Tok) (a : A) → meaning t ≡ Ok a → IsReal t → Swaps false true nowhere (form.token meaning) (token_at meaning)
 elsewhere_sample meaning never t a e r = single_at true nowhere (form.token meaning) meaning (λ u b i d. refl) (λ u b d. d) (t ∷ [], a, e, (r, tt)) (λ u k d. elsewhere (form.token meaning) meaning u.head k (never u k d))
 
 -- ---- words, of which `target` is none
@@ -479,14 +479,14 @@ abbrev pub worded : List ℕ → Bool
 worded wanted = disjoint OPEN_ANGLE wanted && spoken wanted
 
 module _ {A : Type 0} (wanted : List ℕ) (value : Tok → A) (p : worded wanted ≡ true) where
-  abbrev one_word : Tok → Result A FaultKind
+  abbrev one_word : Tok → Result A TokenFault
   one_word = is_among tokens refusal wanted value
 
   word_goes : contains wanted (number heads.Word) ≡ true → Goes (one_of wanted value) [] a_word
   unfolding is_among
   word_goes e = ([], value a_word, ap (λ (b : Bool). cond b (Ok (value a_word)) (Err (refusal (number heads.Word)))) e, (a_word_real, tt))
 
-  abbrev taken_none : (h : Head) → plain_at wanted h ≡ true → contains wanted (number h) ≡ false → (u : Tok) → among tokens (stands_for false h) u ≡ true → (k : FaultKind) × (IsBound k → ⊥) × (one_word u ≡ Err k)
+  abbrev taken_none : (h : Head) → plain_at wanted h ≡ true → contains wanted (number h) ≡ false → (u : Tok) → among tokens (stands_for false h) u ≡ true → (k : TokenFault) × (IsBound k → ⊥) × (one_word u ≡ Err k)
   taken_none = none_taken (one_of wanted value) one_word wanted refusal not_bound (one_outside refusal wanted value) (one_inside refusal wanted value)
 
   parts_of : (contains wanted (number heads.Word) ≡ true) × (plain_at wanted heads.RefusedType ≡ true) × (plain_at wanted heads.RegisterInteger ≡ true) × (plain_at wanted heads.NumberedGlobal ≡ true) × (plain_at wanted heads.NumberedDefinition ≡ true)
@@ -522,10 +522,10 @@ angle_not_bound n b = by_test (nat_eq n (number heads.Number)) b
     by_test false b = not_bound n b
 
 module _ (wanted : ℕ) (p : plain (wanted ∷ []) ≡ true) where
-  abbrev behind_angle : Tok → Result (Unit {0}) FaultKind
+  abbrev behind_angle : Tok → Result (Unit {0}) TokenFault
   behind_angle = is_class tokens angle_refusal wanted
 
-  abbrev angle_taken : (h : Head) → plain_at (wanted ∷ []) h ≡ true → contains (wanted ∷ []) (number h) ≡ false → (u : Tok) → among tokens (stands_for false h) u ≡ true → (k : FaultKind) × (IsBound k → ⊥) × (behind_angle u ≡ Err k)
+  abbrev angle_taken : (h : Head) → plain_at (wanted ∷ []) h ≡ true → contains (wanted ∷ []) (number h) ≡ false → (u : Tok) → among tokens (stands_for false h) u ≡ true → (k : TokenFault) × (IsBound k → ⊥) × (behind_angle u ≡ Err k)
   angle_taken = none_taken (form.token behind_angle) behind_angle (wanted ∷ []) angle_refusal angle_not_bound (class_outside angle_refusal wanted) (class_inside angle_refusal wanted)
 
   angle_parts : (plain_at (wanted ∷ []) heads.RefusedType ≡ true) × (plain_at (wanted ∷ []) heads.Target ≡ true) × (plain_at (wanted ∷ []) heads.RegisterInteger ≡ true) × (plain_at (wanted ∷ []) heads.NumberedGlobal ≡ true) × (plain_at (wanted ∷ []) heads.NumberedDefinition ≡ true)
@@ -548,7 +548,7 @@ module _ (wanted : ℕ) (p : plain (wanted ∷ []) ≡ true) where
       (λ n. angle_taken heads.Str (plain_string (wanted ∷ [])) n)
       (λ h t _. elsewhere (form.token behind_angle) behind_angle h (angle_refusal (number h)) t)
 
-  pub angle_says : (t : Tok) (k : FaultKind) → behind_angle t ≡ Err k → Says (form.token behind_angle) behind_angle t.head k
+  pub angle_says : (t : Tok) (k : TokenFault) → behind_angle t ≡ Err k → Says (form.token behind_angle) behind_angle t.head k
   angle_says = says_by (form.token behind_angle) behind_angle (wanted ∷ []) angle_refusal angle_not_bound (class_outside angle_refusal wanted) (class_inside angle_refusal wanted) angle_class
 
 -- ---- names

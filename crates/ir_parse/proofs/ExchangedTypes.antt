@@ -11,8 +11,8 @@ use Rattle.ir_read.specs.Forms.{Form, Star}
 use Rattle.ir_read.specs.Readers.{Reader, done, fault_at, follow, ◌>>=◌, token_means, token_at, pick, many_at, star_at}
 use Rattle.ir_read.specs.Rules.{is_among, is_class}
 use Rattle.ir_read.specs.declared.fault.Fault.{Fault}
-use Rattle.ir_read.specs.declared.fault.FaultKind.TheVariants.{Profile}
-use Rattle.ir_read.specs.declared.fault.FaultKind.{FaultKind}
+use Rattle.ir_read.specs.declared.fault.TokenFault.TheVariants.{Profile}
+use Rattle.ir_read.specs.declared.fault.TokenFault.{TokenFault}
 use Rattle.ir_read.specs.Classes.{tokens, refusal, the, the_at}
 use Rattle.ir_read.specs.Operands.{REFUSED_TYPES, REG, type_refusal}
 use Rattle.ir_parse.specs.Refusals.{WORD}
@@ -29,7 +29,7 @@ ANY_TYPES = OTHERS ++ REG
 same : (n m : ℕ) → nat_eq n m ≡ true → n ≡ m
 same n m h = grind arith
 
-abbrev refuse : {A : Type 0} → FaultKind → Result A FaultKind
+abbrev refuse : {A : Type 0} → TokenFault → Result A TokenFault
 refuse k = Err k
 
 -- of other tokens only those of registers are types
@@ -68,13 +68,13 @@ unfolding is_among
 type_told {A} value t ts e = ap (λ (b : Bool). token_means t ts (cond b (Ok (value t)) (Err (type_refusal (number t.head))))) (no_reg (number t.head) e)
 
 module _ (closer : Head) (other : contains OTHERS (number closer) ≡ false) where
-  abbrev pub typed_end : Tok → Result (Unit {0}) FaultKind
+  abbrev pub typed_end : Tok → Result (Unit {0}) TokenFault
   typed_end = is_class tokens type_refusal (number closer)
 
-  abbrev plain_end : Tok → Result (Unit {0}) FaultKind
+  abbrev plain_end : Tok → Result (Unit {0}) TokenFault
   plain_end = is_class tokens refusal (number closer)
 
-  abbrev fine : Unit {0} → Result (Unit {0}) FaultKind
+  abbrev fine : Unit {0} → Result (Unit {0}) TokenFault
   fine u = Ok u
 
   same_end : (t : Tok) → contains OTHERS (number t.head) ≡ false → typed_end t ≡ plain_end t
@@ -101,11 +101,11 @@ module _ (closer : Head) (other : contains OTHERS (number closer) ≡ false) whe
 
     ends_same : (t : Tok) (ts : List Tok) → contains OTHERS (number t.head) ≡ false → ends_plainly (t ∷ ts) ≡ ends_typed (t ∷ ts)
     unfolding ends_plainly ends_typed
-    ends_same t ts e = ap (λ (m : Result (Unit {0}) FaultKind). follow (token_means t ts m) k) (sym (same_end t e))
+    ends_same t ts e = ap (λ (m : Result (Unit {0}) TokenFault). follow (token_means t ts m) k) (sym (same_end t e))
 
     ends_told : (t : Tok) (ts : List Tok) → contains OTHERS (number t.head) ≡ true → ends_typed (t ∷ ts) ≡ fault_at (type_refusal (number t.head)) (t ∷ ts)
     unfolding ends_typed
-    ends_told t ts e = ap (λ (m : Result (Unit {0}) FaultKind). follow (token_means t ts m) k) (end_told t e)
+    ends_told t ts e = ap (λ (m : Result (Unit {0}) TokenFault). follow (token_means t ts m) k) (end_told t e)
 
     -- types, or none
     module _ (f : Reader Tok A) (told : (t : Tok) (ts : List Tok) → contains OTHERS (number t.head) ≡ true → f (t ∷ ts) ≡ fault_at (type_refusal (number t.head)) (t ∷ ts)) where

@@ -16,7 +16,7 @@ use Rattle.ir_read.specs.Forms as form
 use Rattle.ir_read.specs.Readers as reader
 use Rattle.ir_read.specs.Readers.{pick}
 use Rattle.ir_read.specs.Rules.{in_range, is_among, is_class, is_valued}
-use Rattle.ir_read.specs.declared.fault.FaultKind.{FaultKind}
+use Rattle.ir_read.specs.declared.fault.TokenFault.{TokenFault}
 use Rattle.ir_read.specs.Classes.{tokens, IsReal, the, the_at, one_of, one_of_at}
 use Rattle.ir_heads.specs.FunctionHeads.{LINKAGES, linkage_word, QUALIFIERS, nothing_of, name_refusal}
 use Rattle.ir_instructions.specs.InstructionsAt.{ALIGN}
@@ -50,7 +50,7 @@ named_comdat_real : IsReal (sample kinds.Comdat heads.ComdatName (codes "$a"))
 unfolding best_fit rest_fit label_len number_len word_len name_len meta_len dots_len other_len string_len has is_bad is_zero_name head_of
 named_comdat_real = record { behind = []; some = refl; fits = refl; good = refl; class = refl }
 
-abbrev good : Tok → Result Tok FaultKind
+abbrev good : Tok → Result Tok TokenFault
 good x = Ok x
 
 any_name : (ts : List Tok) (a : Tok) → variable_name ts a → any_variable_name ts a

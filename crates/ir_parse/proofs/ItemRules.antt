@@ -11,7 +11,7 @@ use Rattle.ir_lex.specs.Rows.{best_fit, rest_fit, label_len, number_len, word_le
 use Rattle.ir_read.specs.Alphabet.{among, contains}
 use Rattle.ir_read.specs.Chained.{Chain, chain_at}
 use Rattle.ir_read.specs.Forms as form
-use Rattle.ir_read.specs.declared.fault.FaultKind.TheVariants.{Limit}
+use Rattle.ir_read.specs.declared.fault.TokenFault.TheVariants.{Limit}
 use Rattle.ir_read.specs.Readers.{fault_at, pick}
 use Rattle.ir_read.specs.Rules.{Rule, Opens, is_class, disjoint, subset}
 use Rattle.ir_read.proofs.Chains.{chain_lawful}

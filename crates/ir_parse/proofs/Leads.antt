@@ -10,7 +10,7 @@ use Rattle.ir_read.specs.Lawful.{Broad, Stops, UpTo}
 use Rattle.ir_read.specs.Readers.{Reader, done, fault_at, follow, ◌>>=◌, many_at, next_is, pick}
 use Rattle.ir_read.specs.Rules.{Rule, disjoint, subset}
 use Rattle.ir_read.specs.declared.fault.Fault.{Fault}
-use Rattle.ir_read.specs.declared.fault.FaultKind.TheVariants.{Syntax, Limit}
+use Rattle.ir_read.specs.declared.fault.TokenFault.TheVariants.{Syntax, Limit}
 use Rattle.ir_read.proofs.Composed.{bounded_too, follow_up, limit_up}
 use Rattle.ir_read.proofs.Rules.{apart_from, within_of}
 use Rattle.ir_read.specs.Classes.{tokens}

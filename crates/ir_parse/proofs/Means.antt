@@ -10,7 +10,7 @@ use Rattle.ir_read.specs.Chained.{Chain}
 use Rattle.ir_read.specs.Forms as form
 use Rattle.ir_read.specs.Forms.{Form}
 use Rattle.ir_read.specs.Rules.{in_range, is_among, is_exact, is_valued}
-use Rattle.ir_read.specs.declared.fault.FaultKind.{FaultKind}
+use Rattle.ir_read.specs.declared.fault.TokenFault.{TokenFault}
 use Rattle.ir_bodies.specs.Successive.{Successive}
 use Rattle.ir_read.specs.Classes.{tokens}
 use Rattle.ir_parse.specs.Sized.{IsSized}
@@ -66,7 +66,7 @@ token_means {A} {E} {meaning} {P} f = record { of = of }
     of (t ∷ []) a s h = f t a s.0 h
     of (t ∷ u ∷ ts) a s h = absurd h
 
-pub accepted : {A : Type 0} (b : Bool) (r : Result A FaultKind) (k : FaultKind) (a : A) → cond b r (Err k) ≡ Ok a → (b ≡ true) × (r ≡ Ok a)
+pub accepted : {A : Type 0} (b : Bool) (r : Result A TokenFault) (k : TokenFault) (a : A) → cond b r (Err k) ≡ Ok a → (b ≡ true) × (r ≡ Ok a)
 accepted true r k a e = (refl, e)
 accepted false r k a e = absurd cc
 
@@ -74,7 +74,7 @@ pub valued : {A : Type 0} (o : Option A) (a : A) → in_range o ≡ Ok a → o �
 valued None a e = absurd cc
 valued (Some b) a e = let same : b ≡ a = cc in ap (λ x. Some x) same
 
-pub among_means : {A : Type 0} (refuse : ℕ → FaultKind) (classes : List ℕ) (value : Tok → A) {P : A → Type 0}
+pub among_means : {A : Type 0} (refuse : ℕ → TokenFault) (classes : List ℕ) (value : Tok → A) {P : A → Type 0}
     → ((t : Tok) → IsSized t → contains classes (number t.head) ≡ true → P (value t)) → Means (form.token (is_among tokens refuse classes value)) P
 unfolding is_among
 among_means {A} refuse classes value {P} f =
@@ -82,7 +82,7 @@ among_means {A} refuse classes value {P} f =
     let yes = accepted (contains classes (number t.head)) (Ok (value t)) (refuse (number t.head)) a h in
     let same : value t ≡ a = cc (yes.1) in subst P same (f t s yes.0))
 
-pub exact_means : {A : Type 0} (refuse : ℕ → FaultKind) (classes : List ℕ) (test : Tok → Bool) (value : Tok → A) {P : A → Type 0}
+pub exact_means : {A : Type 0} (refuse : ℕ → TokenFault) (classes : List ℕ) (test : Tok → Bool) (value : Tok → A) {P : A → Type 0}
     → ((t : Tok) → IsSized t → contains classes (number t.head) ≡ true → P (value t)) → Means (form.token (is_exact tokens refuse classes test value)) P
 unfolding is_exact
 exact_means {A} refuse classes test value {P} f =
@@ -90,7 +90,7 @@ exact_means {A} refuse classes test value {P} f =
     let yes = accepted (contains classes (number t.head) && test t) (Ok (value t)) (refuse (number t.head)) a h in
     let same : value t ≡ a = cc (yes.1) in subst P same (f t s (and_parts (contains classes (number t.head)) (test t) yes.0).0))
 
-pub valued_means : {A : Type 0} (refuse : ℕ → FaultKind) (classes : List ℕ) {value : Tok → Option A} {P : A → Type 0}
+pub valued_means : {A : Type 0} (refuse : ℕ → TokenFault) (classes : List ℕ) {value : Tok → Option A} {P : A → Type 0}
     → ((t : Tok) (a : A) → IsSized t → value t ≡ Some a → P a) → Means (form.token (is_valued tokens refuse classes value)) P
 unfolding is_valued
 valued_means {A} refuse classes {value} {P} f =

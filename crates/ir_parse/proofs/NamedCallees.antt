@@ -18,8 +18,8 @@ use Rattle.ir_read.specs.Lawful.{IsBound, UpTo}
 use Rattle.ir_read.specs.Readers.{Reader, done, fault_at, ◌>>=◌, pick, token_means, whole_of}
 use Rattle.ir_read.specs.Rules.{Rule, disjoint, in_range, is_among, is_class, is_valued, subset}
 use Rattle.ir_read.specs.declared.fault.Fault.{Fault}
-use Rattle.ir_read.specs.declared.fault.FaultKind.TheVariants.{Syntax, Profile, Limit}
-use Rattle.ir_read.specs.declared.fault.FaultKind.{FaultKind}
+use Rattle.ir_read.specs.declared.fault.TokenFault.TheVariants.{Syntax, Profile, Limit}
+use Rattle.ir_read.specs.declared.fault.TokenFault.{TokenFault}
 use Rattle.ir_instructions.specs.Addressing.{any_slots}
 use Rattle.ir_heads.specs.AttributesAt.{definition_attributes_at}
 use Rattle.ir_read.specs.Classes.{NUMERALS, itself, one_of, one_of_at, refusal, the, tokens}
@@ -66,7 +66,7 @@ use Rattle.ir_parse.proofs.ItemRules.{MORE, there_rule}
 use Rattle.ir_parse.specs.NamedCalls.{before_callee, before_named_callee, in_block, in_blocks, in_definition, in_lines, in_module}
 use Rattle.ir_parse.proofs.Leads.{Leads, Opening, Reading, chain_leads, chain_opening, first_leads, leads_after, leads_behind, leads_one, leads_other, many_leads, opening_first, opening_within, reading, star_opening, successive_leads}
 
-abbrev fine : Unit {0} → Result (Unit {0}) FaultKind
+abbrev fine : Unit {0} → Result (Unit {0}) TokenFault
 fine u = Ok u
 
 same : (n m : ℕ) → nat_eq n m ≡ true → n ≡ m
@@ -171,7 +171,7 @@ call_opcode : (h : Head) → nat_eq (number h) (number heads.Call) ≡ true → 
 call_opcode heads.Call e = refl
 call_opcode h e = absurd cc
 
-abbrev given : Opcode → Result Opcode FaultKind
+abbrev given : Opcode → Result Opcode TokenFault
 given o = Ok o
 
 -- a first word of this class is read as this instruction

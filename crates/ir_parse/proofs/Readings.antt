@@ -17,7 +17,7 @@ use Rattle.ir_parse.specs.Kinds.{name_fault}
 use Rattle.ir_parse.specs.Laws.{Apart, Decided, OneFault, OneReading}
 use Rattle.ir_parse.specs.Reading.{Reads}
 use Rattle.ir_parse.specs.Stages.{module_in}
-use Rattle.ir_parse.specs.declared.fault.FaultKind.{FaultKind}
+use Rattle.ir_tree.specs.declared.fault_kind.FaultKind.{FaultKind}
 use Rattle.ir_tree.specs.declared.failure.Failure.{Failure}
 use Rattle.ir_tree.specs.declared.failure.Failure.TheVariants as errors
 use Rattle.ir_parse.specs.declared.fault.ReadFault.{ReadFault}

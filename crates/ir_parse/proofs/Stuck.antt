@@ -9,7 +9,7 @@ use Rattle.ir_read.specs.Faults.{Dead, Extends, StopsAt}
 use Rattle.ir_read.specs.Lawful.{Lawful}
 use Rattle.ir_read.specs.Readers.{Reader}
 use Rattle.ir_read.specs.declared.fault.Fault.{Fault}
-use Rattle.ir_read.specs.declared.fault.FaultKind.TheVariants.{Number}
+use Rattle.ir_read.specs.declared.fault.TokenFault.TheVariants.{Number}
 use Rattle.ir_read.proofs.Composed.{cut_is}
 use Rattle.ir_read.proofs.Whole as whole
 use Rattle.ir_read.specs.Classes.{tokens}
@@ -20,9 +20,9 @@ use Rattle.ir_parse.specs.Modules.{FURTHER_PARAMETERS, GLOBAL_NAMES, any_module,
 use Rattle.ir_parse.proofs.ItemRules.{ANY, items_rule}
 use Rattle.ir_parse.specs.Answers.{IsStopped, stopped_kind}
 use Rattle.ir_parse.specs.FirstFault.{IsStuck, IsTold, Stuck, end_kind, line_of}
-use Rattle.ir_parse.specs.declared.fault.FaultKind as told
+use Rattle.ir_tree.specs.declared.fault_kind.FaultKind.{FaultKind}
 use Rattle.ir_parse.specs.declared.fault.ReadFault.{ReadFault}
-use Rattle.ir_parse.specs.declared.fault.FaultKind.TheVariants as kinds
+use Rattle.ir_tree.specs.declared.fault_kind.FaultKind.TheVariants as kinds
 use Rattle.ir_parse.proofs.StuckTold.{one_kind, refused_for}
 
 -- ---- what is read
@@ -114,13 +114,13 @@ last_left all n = sym (drop-map tok (length all - n) all) ∙ ap (λ k. drop (k 
 
 pub stuck_so : (all : List Token) (b : Bool) (end : ℕ) (f : Fault) (fault : ReadFault) → module_of (toks all) ≡ Err f → IsStopped (last_tokens all f.left) b end f.kind fault → Stuck (toks all) b end fault.line fault.kind
 stuck_so all b end f fault e s =
-    subst (λ (k : told.FaultKind). Stuck (toks all) b end fault.line k) (sym s.1)
+    subst (λ (k : FaultKind). Stuck (toks all) b end fault.line k) (sym s.1)
     (subst (λ (n : ℕ). Stuck (toks all) b end n (stopped_kind (last_tokens all f.left) b f.kind)) (sym s.0) (stuck_at (toks all) b end f (last_tokens all f.left) e (last_left all f.left)))
 
 pub behind_so : (all : List Token) (is : List Item) (b : Bool) (end : ℕ) (fault : ReadFault) → module_of (toks all) ≡ Ok is → b ≡ false → fault.line ≡ end → fault.kind ≡ end_kind b → Stuck (toks all) b end fault.line fault.kind
 behind_so all is b end fault e n l k =
     subst (λ (c : Bool). Stuck (toks all) c end fault.line fault.kind) (sym n)
-    (subst (λ (d : told.FaultKind). Stuck (toks all) false end fault.line d) (sym (k ∙ ap end_kind n))
+    (subst (λ (d : FaultKind). Stuck (toks all) false end fault.line d) (sym (k ∙ ap end_kind n))
     (subst (λ (m : ℕ). Stuck (toks all) false end m kinds.Lex) (sym l) (stuck_behind (toks all) is end (read_so (toks all) is e))))
 
 pub whole_so : (all : List Token) (is : List Item) (b : Bool) → module_of (toks all) ≡ Ok is → b ≡ true → (b ≡ true) × whole_module (toks all) is
@@ -142,7 +142,7 @@ earlier (t ∷ front) rest (u ∷ front') rest' e lt =
     let i = earlier front rest front' rest' r lt in
     (i.0, i.1, i.2, i.3, ap (λ (x : Tok). x ∷ front') (sym h) ∙ ap (λ (x : List Tok). t ∷ x) i.4)
 
-not_earlier : (ts : List Tok) (b : Bool) (end line here : ℕ) (kind other : told.FaultKind) (s : Stuck ts b end line kind) (r : Stuck ts b end here other) → length r.rest < length s.rest → ⊥
+not_earlier : (ts : List Tok) (b : Bool) (end line here : ℕ) (kind other : FaultKind) (s : Stuck ts b end line kind) (r : Stuck ts b end here other) → length r.rest < length s.rest → ⊥
 not_earlier ts b end line here kind other s r lt =
     let e = earlier s.front s.rest r.front r.rest (sym s.parts ∙ r.parts) lt in
     let d : Extends whole_module (s.front ++ e.0 ∷ []) → ⊥ = subst (λ (us : List Tok). IsStuck s.front us b) e.3 s.stuck in
@@ -159,11 +159,11 @@ compared (suc m) (suc n) = raised (compared m n)
     raised (inr (inl l)) = inr (inl (omega (arith, l)))
     raised (inr (inr e)) = inr (inr (ap suc e))
 
-one_told : (front rest : List Tok) (b : Bool) (kind other : told.FaultKind) → IsTold front rest b kind → IsTold front rest b other → kind ≡ other
+one_told : (front rest : List Tok) (b : Bool) (kind other : FaultKind) → IsTold front rest b kind → IsTold front rest b other → kind ≡ other
 one_told front [] b kind other k o = k ∙ sym o
 one_told front (t ∷ rest) b kind other k o = one_kind front t kind other k o
 
-pub one_place : (ts : List Tok) (b : Bool) (end line here : ℕ) (kind other : told.FaultKind) → Stuck ts b end line kind → Stuck ts b end here other → (line ≡ here) × (kind ≡ other)
+pub one_place : (ts : List Tok) (b : Bool) (end line here : ℕ) (kind other : FaultKind) → Stuck ts b end line kind → Stuck ts b end here other → (line ≡ here) × (kind ≡ other)
 one_place ts b end line here kind other s r = by (compared (length s.rest) (length r.rest))
   where
     by_length : length s.rest ≡ length r.rest → (line ≡ here) × (kind ≡ other)
@@ -179,7 +179,7 @@ one_place ts b end line here kind other s r = by (compared (length s.rest) (leng
     by (inr (inr l)) = by_length l
 
 -- what the grammar has is stuck nowhere
-pub not_stuck : (ts : List Tok) (is : List Item) (end line : ℕ) (kind : told.FaultKind) → whole_module ts is → Stuck ts true end line kind → ⊥
+pub not_stuck : (ts : List Tok) (is : List Item) (end line : ℕ) (kind : FaultKind) → whole_module ts is → Stuck ts true end line kind → ⊥
 not_stuck ts is end line kind h s = by s.rest s.parts s.stuck
   where
     by : (rest : List Tok) → ts ≡ s.front ++ rest → IsStuck s.front rest true → ⊥

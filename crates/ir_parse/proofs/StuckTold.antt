@@ -7,8 +7,8 @@ use Rattle.ir_read.specs.Alphabet.{among, contains, is_literal}
 use Rattle.ir_read.specs.Faults as faults
 use Rattle.ir_read.specs.Faults.{FitsBound, FitsKind}
 use Rattle.ir_read.specs.declared.fault.Fault.{Fault}
-use Rattle.ir_read.specs.declared.fault.FaultKind.{FaultKind}
-use Rattle.ir_read.specs.declared.fault.FaultKind.TheVariants.{Syntax, Profile, Number, Limit}
+use Rattle.ir_read.specs.declared.fault.TokenFault.{TokenFault}
+use Rattle.ir_read.specs.declared.fault.TokenFault.TheVariants.{Syntax, Profile, Number, Limit}
 use Rattle.ir_read.proofs.Composed.{cons_is, cut_is, wrong}
 use Rattle.ir_read.proofs.Rules.{apart_from}
 use Rattle.ir_read.specs.Classes.{tokens}
@@ -17,8 +17,8 @@ use Rattle.ir_heads.specs.Targets.{STRING}
 use Rattle.ir_parse.specs.Modules.{any_module, module_of, whole_module}
 use Rattle.ir_parse.specs.Kinds.{grammar_fault}
 use Rattle.ir_parse.specs.Refusals.{BeginsVector, GoesOn, INTEGER, IsRefusedFor, LeftOut, MARKER, NumberGoesOn, REFUSED_EVERYWHERE, TARGET, TYPE, WithinRange, everywhere, of_integer, of_marker, of_name, of_target, of_type, of_vector}
-use Rattle.ir_parse.specs.declared.fault.FaultKind as told_kind
-use Rattle.ir_parse.specs.declared.fault.FaultKind.TheVariants as kinds
+use Rattle.ir_tree.specs.declared.fault_kind.FaultKind.{FaultKind}
+use Rattle.ir_tree.specs.declared.fault_kind.FaultKind.TheVariants as kinds
 use Rattle.ir_parse.proofs.ExchangedPlaces.{left_out, no_string, not_left_out, string_left_out}
 use Rattle.ir_parse.proofs.Told.{AllowedAt, REFUSED_SOMEWHERE, never_class}
 use Rattle.ir_parse.proofs.ToldModules.{module_kind, module_limit, module_told}
@@ -68,7 +68,7 @@ module _ (front : List Tok) (t : Tok) (rest : List Tok) where
   within : faults.NoNumberGoesOn tokens whole_module ts left → faults.NoneGoesOn tokens any_module ts left → WithinRange front t
   within n l = (λ v. l front t rest refl refl (v.0, v.1, v.2), λ v. n front t rest refl refl v.0 v.1 v.2 (v.4.0, v.4.1, v.4.2))
 
-  abbrev Refused : FaultKind → Type 0
+  abbrev Refused : TokenFault → Type 0
   Refused k = module_of ts ≡ wrong (record { left = left; kind = k })
 
   -- what the next token allows, but for a string
@@ -84,13 +84,13 @@ module _ (front : List Tok) (t : Tok) (rest : List Tok) where
   by_string true c e a w = (w, string_left_out front t rest e c)
   by_string false c e a w = (refl, w, left_out front t rest e (somewhere c a))
 
-  by_kind : (k : FaultKind) → Refused k → AllowedAt front (t ∷ rest) k → FitsKind tokens whole_module ts left k → FitsBound tokens any_module ts left k → IsRefusedFor front t (grammar_fault t k)
+  by_kind : (k : TokenFault) → Refused k → AllowedAt front (t ∷ rest) k → FitsKind tokens whole_module ts left k → FitsBound tokens any_module ts left k → IsRefusedFor front t (grammar_fault t k)
   by_kind Syntax e a n l = (within n l, no_string front t rest e, not_left_out front t rest e (everywhere_not a))
   by_kind Profile e a n l = by_string (among tokens STRING t) refl e a (within n l)
   by_kind Number e a n l = (other_number n, λ v. bool_not literal (λ q. l front t rest refl refl q (v.0, v.1, v.2)))
   by_kind Limit e a n l = (past_limit l, λ v. bool_is literal (λ q. n front t rest refl refl v.0 q v.1 v.2 (v.4.0, v.4.1, v.4.2)))
 
-  pub refused_for : (k : FaultKind) → Refused k → IsRefusedFor front t (grammar_fault t k)
+  pub refused_for : (k : TokenFault) → Refused k → IsRefusedFor front t (grammar_fault t k)
   refused_for k e =
       let f : Fault = record { left = left; kind = k } in
       let m = module_told ts f e in
@@ -117,7 +117,7 @@ module _ (front : List Tok) (t : Tok) where
   no_limit_and_number : IsRefusedFor front t kinds.Limit → IsRefusedFor front t kinds.Number → ⊥
   no_limit_and_number l n = both (sym (l.1 n.0) ∙ n.1 l.0)
 
-  pub one_kind : (kind other : told_kind.FaultKind) → IsRefusedFor front t kind → IsRefusedFor front t other → kind ≡ other
+  pub one_kind : (kind other : FaultKind) → IsRefusedFor front t kind → IsRefusedFor front t other → kind ≡ other
   one_kind kinds.Limit kinds.Limit a b = refl
   one_kind kinds.Limit kinds.Number a b = absurd (no_limit_and_number a b)
   one_kind kinds.Limit kinds.Layout a b = absurd (b.0.0 a.0)

@@ -7,8 +7,8 @@ use Rattle.ir_lex.specs.Heads.{number}
 use Rattle.ir_lex.specs.Rows.{begins as begins_by}
 use Rattle.ir_lex.specs.Tok.{Tok}
 use Rattle.ir_read.specs.declared.fault.Fault.{Fault}
-use Rattle.ir_read.specs.declared.fault.FaultKind.{FaultKind}
-use Rattle.ir_read.specs.declared.fault.FaultKind.TheVariants.{Syntax, Profile, Number, Limit}
+use Rattle.ir_read.specs.declared.fault.TokenFault.{TokenFault}
+use Rattle.ir_read.specs.declared.fault.TokenFault.TheVariants.{Syntax, Profile, Number, Limit}
 use Rattle.ir_read.specs.Alphabet.{among, contains}
 use Rattle.ir_read.specs.Balanced.{Brackets, Move, opens, closes, stays, moved, none_open}
 use Rattle.ir_read.specs.Balanced as balanced
@@ -43,14 +43,14 @@ last_of p (u ∷ []) t h = h
 last_of p (u ∷ v ∷ us) t h = last_of p (v ∷ us) t h
 
 -- a token of this class may be refused for this
-abbrev pub Allowed : ℕ → FaultKind → Type 0
+abbrev pub Allowed : ℕ → TokenFault → Type 0
 Allowed class Syntax = contains REFUSED_EVERYWHERE class ≡ false
 Allowed class Profile = contains MAY class ≡ true
 Allowed class Number = contains REFUSED_EVERYWHERE class ≡ false
 Allowed class Limit = contains REFUSED_EVERYWHERE class ≡ false
 
 -- and a number directly behind `<`
-abbrev pub AllowedAt : List Tok → List Tok → FaultKind → Type 0
+abbrev pub AllowedAt : List Tok → List Tok → TokenFault → Type 0
 AllowedAt before [] kind = Unit {0}
 AllowedAt before (t ∷ ts) kind = Allowed (number t.head) kind ⊎ BeginsVector before t
 
@@ -68,7 +68,7 @@ pub record TellsBehind {A : Type 0} (classes : List ℕ) (f : Reader Tok A) : Ty
   pub each : (before ts : List Tok) → last_is (among tokens classes) before ≡ true → Fits before ts (f ts)
 
 -- at the first token
-here : (before : List Tok) (t : Tok) (ts : List Tok) (kind : FaultKind) → Allowed (number t.head) kind
+here : (before : List Tok) (t : Tok) (ts : List Tok) (kind : TokenFault) → Allowed (number t.head) kind
     → (front : List Tok) × (rest : List Tok) × (t ∷ ts ≡ front ++ rest) × (length rest ≡ length (t ∷ ts)) × AllowedAt (before ++ front) rest kind
 here before t ts kind k = ([], t ∷ ts, refl, refl, inl k)
 
@@ -135,14 +135,14 @@ maybe begins l = alt begins (seq l (λ a. nothing (Some a))) (nothing None)
 
 -- ---- single tokens
 
-abbrev pub AllowedBy : {A : Type 0} → Tok → Result A FaultKind → Type 0
+abbrev pub AllowedBy : {A : Type 0} → Tok → Result A TokenFault → Type 0
 AllowedBy t (Ok a) = Unit {0}
 AllowedBy t (Err kind) = Allowed (number t.head) kind
 
-pub single : {A : Type 0} (meaning : Tok → Result A FaultKind) → ((t : Tok) → AllowedBy t (meaning t)) → Tells (token_at meaning)
+pub single : {A : Type 0} (meaning : Tok → Result A TokenFault) → ((t : Tok) → AllowedBy t (meaning t)) → Tells (token_at meaning)
 single {A} meaning fits = record { each = by }
   where
-    by_meaning : (before : List Tok) (t : Tok) (ts : List Tok) (m : Result A FaultKind) → AllowedBy t m → Fits before (t ∷ ts) (token_means t ts m)
+    by_meaning : (before : List Tok) (t : Tok) (ts : List Tok) (m : Result A TokenFault) → AllowedBy t m → Fits before (t ∷ ts) (token_means t ts m)
     by_meaning before t ts (Ok a) k = (t ∷ [], refl)
     by_meaning before t ts (Err kind) k = here before t ts kind k
 
@@ -151,26 +151,26 @@ single {A} meaning fits = record { each = by }
     by before (t ∷ ts) = by_meaning before t ts (meaning t) (fits t)
 
 -- each class is refused for what it allows
-abbrev pub Refuses : (ℕ → FaultKind) → Type 0
+abbrev pub Refuses : (ℕ → TokenFault) → Type 0
 Refuses refusal = (n : ℕ) → Allowed n (refusal n)
 
-test : {A : Type 0} (t : Tok) (b : Bool) (a : A) (kind : FaultKind) → Allowed (number t.head) kind → AllowedBy t (cond b (Ok a) (Err kind))
+test : {A : Type 0} (t : Tok) (b : Bool) (a : A) (kind : TokenFault) → Allowed (number t.head) kind → AllowedBy t (cond b (Ok a) (Err kind))
 test t true a kind k = tt
 test t false a kind k = k
 
-pub class : (refusal : ℕ → FaultKind) → Refuses refusal → (wanted : ℕ) → Tells (token_at (is_class tokens refusal wanted))
+pub class : (refusal : ℕ → TokenFault) → Refuses refusal → (wanted : ℕ) → Tells (token_at (is_class tokens refusal wanted))
 unfolding is_class
 class refusal r wanted = single (is_class tokens refusal wanted) (λ t. test t (nat_eq (number t.head) wanted) tt (refusal (number t.head)) (r (number t.head)))
 
-pub one : {A : Type 0} (refusal : ℕ → FaultKind) → Refuses refusal → (wanted : List ℕ) (value : Tok → A) → Tells (token_at (is_among tokens refusal wanted value))
+pub one : {A : Type 0} (refusal : ℕ → TokenFault) → Refuses refusal → (wanted : List ℕ) (value : Tok → A) → Tells (token_at (is_among tokens refusal wanted value))
 unfolding is_among
 one refusal r wanted value = single (is_among tokens refusal wanted value) (λ t. test t (among tokens wanted t) (value t) (refusal (number t.head)) (r (number t.head)))
 
-pub exact : {A : Type 0} (refusal : ℕ → FaultKind) → Refuses refusal → (wanted : List ℕ) (passes : Tok → Bool) (value : Tok → A) → Tells (token_at (is_exact tokens refusal wanted passes value))
+pub exact : {A : Type 0} (refusal : ℕ → TokenFault) → Refuses refusal → (wanted : List ℕ) (passes : Tok → Bool) (value : Tok → A) → Tells (token_at (is_exact tokens refusal wanted passes value))
 unfolding is_exact
 exact refusal r wanted passes value = single (is_exact tokens refusal wanted passes value) (λ t. test t (among tokens wanted t && passes t) (value t) (refusal (number t.head)) (r (number t.head)))
 
-pub value_allowed : {A : Type 0} (refusal : ℕ → FaultKind) → Refuses refusal → (wanted : List ℕ) → disjoint wanted REFUSED_EVERYWHERE ≡ true → (value : Tok → Option A) (t : Tok) → AllowedBy t (is_valued tokens refusal wanted value t)
+pub value_allowed : {A : Type 0} (refusal : ℕ → TokenFault) → Refuses refusal → (wanted : List ℕ) → disjoint wanted REFUSED_EVERYWHERE ≡ true → (value : Tok → Option A) (t : Tok) → AllowedBy t (is_valued tokens refusal wanted value t)
 unfolding is_valued
 value_allowed {A} refusal r wanted d value t = by_test (among tokens wanted t) refl
   where
@@ -182,7 +182,7 @@ value_allowed {A} refusal r wanted d value t = by_test (among tokens wanted t) r
     by_test true p = by_value (value t) (never_among wanted d t p)
     by_test false p = r (number t.head)
 
-pub valued : {A : Type 0} (refusal : ℕ → FaultKind) → Refuses refusal → (wanted : List ℕ) → disjoint wanted REFUSED_EVERYWHERE ≡ true → (value : Tok → Option A) → Tells (token_at (is_valued tokens refusal wanted value))
+pub valued : {A : Type 0} (refusal : ℕ → TokenFault) → Refuses refusal → (wanted : List ℕ) → disjoint wanted REFUSED_EVERYWHERE ≡ true → (value : Tok → Option A) → Tells (token_at (is_valued tokens refusal wanted value))
 valued refusal r wanted d value = single (is_valued tokens refusal wanted value) (value_allowed refusal r wanted d value)
 
 -- ---- readers that take a token at least
@@ -194,10 +194,10 @@ Shorter ts (Err e) = Unit {0}
 pub record Takes {A : Type 0} (f : Reader Tok A) : Type 0 where
   pub some : (ts : List Tok) → Shorter ts (f ts)
 
-pub takes_token : {A : Type 0} (meaning : Tok → Result A FaultKind) → Takes (token_at meaning)
+pub takes_token : {A : Type 0} (meaning : Tok → Result A TokenFault) → Takes (token_at meaning)
 takes_token {A} meaning = record { some = by }
   where
-    by_meaning : (t : Tok) (ts : List Tok) (m : Result A FaultKind) → Shorter (t ∷ ts) (token_means t ts m)
+    by_meaning : (t : Tok) (ts : List Tok) (m : Result A TokenFault) → Shorter (t ∷ ts) (token_means t ts m)
     by_meaning t ts (Ok a) = omega arith
     by_meaning t ts (Err kind) = tt
 
@@ -345,7 +345,7 @@ pub never_class : (class : ℕ) → disjoint (class ∷ []) REFUSED_EVERYWHERE �
 never_class class d n e = is_false (contains REFUSED_EVERYWHERE n) (λ q. apart_from (class ∷ []) REFUSED_EVERYWHERE d n (alone n class e) q)
 
 -- of these classes what the format leaves out is told
-left_out : (xs : List ℕ) → subset xs MAY ≡ true → (n : ℕ) (kind : FaultKind) → Allowed n kind → Allowed n (cond (contains xs n) Profile kind)
+left_out : (xs : List ℕ) → subset xs MAY ≡ true → (n : ℕ) (kind : TokenFault) → Allowed n kind → Allowed n (cond (contains xs n) Profile kind)
 left_out xs s n kind k = by_test (contains xs n) refl
   where
     by_test : (b : Bool) → contains xs n ≡ b → Allowed n (cond b Profile kind)
@@ -401,7 +401,7 @@ behind_one {A} {B} {h} classes value m = record { each = by }
     by before [] = ([], [], refl, refl, tt)
     by before (t ∷ ts) = by_test before t ts (among tokens classes t) refl
 
-abbrev taken : Bool → FaultKind → Result (Unit {0}) FaultKind
+abbrev taken : Bool → TokenFault → Result (Unit {0}) TokenFault
 taken b kind = cond b (Ok tt) (Err kind)
 
 pub brace_behind_told : TellsBehind OPEN_ANGLE brace_behind_angle_at

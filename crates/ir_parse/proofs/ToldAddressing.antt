@@ -5,7 +5,7 @@ use Rattle.ir_lex.specs.declared.head.Head.TheVariants as heads
 use Rattle.ir_lex.specs.Tok.{Tok}
 use Rattle.ir_tree.specs.declared.operand.Reg.TheVariants.{Ptr}
 use Rattle.ir_read.specs.Alphabet.{among}
-use Rattle.ir_read.specs.declared.fault.FaultKind.TheVariants.{Limit}
+use Rattle.ir_read.specs.declared.fault.TokenFault.TheVariants.{Limit}
 use Rattle.ir_read.specs.Ahead.{ALIGNED}
 use Rattle.ir_read.specs.Classes.{tokens, refusal}
 use Rattle.ir_read.specs.declared.raw.Operand.{Operand}

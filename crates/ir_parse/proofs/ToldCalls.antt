@@ -21,7 +21,7 @@ use Rattle.ir_parse.proofs.ToldValues.{address_told, operand_told}
 use Rattle.ir_bodies.specs.Calls.{is_type, marker_refusal}
 use Rattle.ir_bodies.specs.CallsAt.{CONVENTION, CONVENTIONS, MARKER, convention_at, conventions_at, written_type_at, further_type_at, types_behind_at, some_types_at, listed_types_at, types_at, argument_behind_at, argument_at, further_argument_at, arguments_behind_at, some_arguments_at, any_arguments_at, type_again_at, argument_of_at, further_of_at, each_further_at, each_behind_at, some_of_at, arguments_of_at, arguments_at, called_value_at, marker_at, unmarked_at, unmarked_value_at, callee_at, maybe_types_at, called_at, calling_with_at, calling_of_at, calling_at, tail_calling_at}
 use Rattle.std.proofs.Common.{nat_eq, Bool, true, false, cond, ◌≡◌, refl}
-use Rattle.ir_read.specs.declared.fault.FaultKind.TheVariants.{Syntax}
+use Rattle.ir_read.specs.declared.fault.TokenFault.TheVariants.{Syntax}
 
 pub convention_told : Tells convention_at
 unfolding convention_at

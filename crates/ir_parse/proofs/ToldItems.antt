@@ -4,7 +4,7 @@ use Rattle.std.specs.Prelude.{ℕ, Bool, nat_eq}
 use Rattle.ir_lex.specs.declared.head.Head.TheVariants as heads
 use Rattle.ir_lex.specs.Tok.{Tok}
 use Rattle.ir_read.specs.Alphabet.{among}
-use Rattle.ir_read.specs.declared.fault.FaultKind.TheVariants.{Limit}
+use Rattle.ir_read.specs.declared.fault.TokenFault.TheVariants.{Limit}
 use Rattle.ir_read.specs.Readers.{Reader, fault_at, pick}
 use Rattle.ir_bodies.specs.BlocksAt.{definition_at}
 use Rattle.ir_parse.proofs.ToldBlocks.{definition_told}

@@ -14,7 +14,7 @@ use Rattle.ir_read.specs.MetadataBehind.{BANG, BRACES, line_goes_on, fitting}
 use Rattle.ir_read.specs.MetadataBehindAt.{line_rest_at, goes_on_but_at, named_node_at, line_end_or_at, behind_mark_at, marked_at, node_yet_at, node_or_line_at, behind_name_at, metadata_behind_at}
 use Rattle.ir_read.specs.Rules.{disjoint}
 use Rattle.std.proofs.Common.{Err, cond, true, false, Bool, ◌≡◌, refl}
-use Rattle.ir_read.specs.declared.fault.FaultKind.TheVariants.{Syntax}
+use Rattle.ir_read.specs.declared.fault.TokenFault.TheVariants.{Syntax}
 use Rattle.ir_parse.specs.Refusals.{REFUSED_EVERYWHERE}
 
 pub line_rest_told : (s : Step (List Bracket)) → Tells (line_rest_at s)

@@ -7,7 +7,7 @@ use Rattle.ir_read.specs.Faults.{FitsBound, FitsKind, StopsAt}
 use Rattle.ir_read.specs.Lawful.{Lawful}
 use Rattle.ir_read.specs.Readers.{Reader, ended, whole_of}
 use Rattle.ir_read.specs.declared.fault.Fault.{Fault}
-use Rattle.ir_read.specs.declared.fault.FaultKind.TheVariants.{Number, Limit}
+use Rattle.ir_read.specs.declared.fault.TokenFault.TheVariants.{Number, Limit}
 use Rattle.ir_read.proofs.Composed.{wrong, wrong_is}
 use Rattle.ir_read.proofs.Bounds.{whole_bound}
 use Rattle.ir_read.proofs.Whole as whole

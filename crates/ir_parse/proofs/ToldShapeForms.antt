@@ -16,7 +16,7 @@ use Rattle.ir_operands.specs.ShapeForms.{line_of, leaf_means, NUMBER, count_of, 
 use Rattle.ir_read.specs.Shapes.{Written}
 use Rattle.ir_operands.specs.ShapeFormsAt.{CLOSE_BRACE, leaf_at, innermost_at, count_at, elements_at, array_at, further_at, begins, more_members_at, members_at, structure_at, packed_behind_at, packed_at, shape_over_at, shape_at, memory_shape_at}
 use Rattle.std.proofs.Common.{Ok, Err, cond, ◌&&◌, ◌≡◌, refl}
-use Rattle.ir_read.specs.declared.fault.FaultKind.TheVariants.{Limit as limit}
+use Rattle.ir_read.specs.declared.fault.TokenFault.TheVariants.{Limit as limit}
 use Rattle.ir_read.specs.Operands.{SCALAR, LOCAL, memory_refusal}
 
 leaf_means_allowed : (room : Room) (t : Tok) → AllowedBy t (leaf_means room t)

@@ -1,10 +1,10 @@
 -- What reading answers.
 use Rattle.std.specs.Prelude.{◌≡◌, ℕ, Bool, List, [], ◌∷◌, Result, Ok, Err}
 use Rattle.ir_lex.specs.Tok.{Tok}
-use Rattle.ir_read.specs.declared.fault.FaultKind as grammar_kind
+use Rattle.ir_read.specs.declared.fault.TokenFault.{TokenFault}
 use Rattle.ir_names.specs.declared.fault.Fault as names
 use Rattle.ir_tree.specs.declared.module.Module.{Module}
-use Rattle.ir_parse.specs.declared.fault.FaultKind.{FaultKind}
+use Rattle.ir_tree.specs.declared.fault_kind.FaultKind.{FaultKind}
 use Rattle.ir_tree.specs.declared.failure.Failure.{Failure}
 use Rattle.ir_tree.specs.declared.failure.Failure.TheVariants as errors
 use Rattle.ir_parse.specs.declared.fault.ReadFault.{ReadFault}
@@ -26,11 +26,11 @@ IsRefused line kind (Err (errors.Fault f)) = (f.line ≡ line) × (f.kind ≡ ki
 -- ---- faults as they are made
 
 -- where these tokens are left and the grammar refuses the first of them
-abbrev pub stopped_kind : List Tok → Bool → grammar_kind.FaultKind → FaultKind
+abbrev pub stopped_kind : List Tok → Bool → TokenFault → FaultKind
 stopped_kind [] whole kind = end_kind whole
 stopped_kind (t ∷ rest) whole kind = grammar_fault t kind
 
-abbrev pub IsStopped : List Tok → Bool → ℕ → grammar_kind.FaultKind → ReadFault → Type 0
+abbrev pub IsStopped : List Tok → Bool → ℕ → TokenFault → ReadFault → Type 0
 IsStopped rest whole end kind f = (f.line ≡ line_of rest end) × (f.kind ≡ stopped_kind rest whole kind)
 
 abbrev pub IsNameFault : names.Fault → ReadFault → Type 0

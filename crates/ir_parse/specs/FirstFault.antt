@@ -7,8 +7,8 @@ use Rattle.ir_names.specs.declared.fault.Fault as names
 use Rattle.ir_read.specs.Classes.{tokens}
 use Rattle.ir_read.specs.declared.raw.Item.{Item}
 use Rattle.ir_parse.specs.Modules.{whole_module}
-use Rattle.ir_parse.specs.declared.fault.FaultKind.{FaultKind}
-use Rattle.ir_parse.specs.declared.fault.FaultKind.TheVariants as kinds
+use Rattle.ir_tree.specs.declared.fault_kind.FaultKind.{FaultKind}
+use Rattle.ir_tree.specs.declared.fault_kind.FaultKind.TheVariants as kinds
 use Rattle.ir_parse.specs.Kinds.{name_fault}
 use Rattle.ir_parse.specs.Refusals.{IsRefusedFor}
 use Rattle.ir_parse.specs.Stages.{module_in}

@@ -6,7 +6,7 @@ use Rattle.ir_lex.specs.Heads.{number}
 use Rattle.ir_lex.specs.Tok.{Tok}
 use Rattle.ir_read.specs.Alphabet.{among}
 use Rattle.ir_read.specs.Chained.{chain_at}
-use Rattle.ir_read.specs.declared.fault.FaultKind.TheVariants.{Limit}
+use Rattle.ir_read.specs.declared.fault.TokenFault.TheVariants.{Limit}
 use Rattle.ir_read.specs.Readers.{Reader, ◌>>=◌, done, fault_at, pick, star_at}
 use Rattle.ir_bodies.specs.BlocksAt.{DEFINE, definition_at}
 use Rattle.ir_globals.specs.TypeDefinitionsAt.{type_line_at}

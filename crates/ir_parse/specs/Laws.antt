@@ -2,7 +2,7 @@
 use Rattle.std.specs.Prelude.{◌≡◌, ◌⊎◌, ℕ, List}
 use Rattle.ir_tree.specs.declared.module.Module.{Module}
 use Rattle.ir_tree.specs.Wholes.{IsParsed}
-use Rattle.ir_parse.specs.declared.fault.FaultKind.{FaultKind}
+use Rattle.ir_tree.specs.declared.fault_kind.FaultKind.{FaultKind}
 use Rattle.ir_parse.specs.Reading.{Reads}
 use Rattle.ir_parse.specs.FirstFault.{FirstFault}
 

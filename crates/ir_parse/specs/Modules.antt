@@ -4,7 +4,7 @@ use Rattle.ir_lex.specs.declared.token.Token.{Token}
 use Rattle.ir_lex.specs.Heads.{number}
 use Rattle.ir_lex.specs.Tok.{Tok, toks}
 use Rattle.ir_read.specs.declared.fault.Fault.{Fault}
-use Rattle.ir_read.specs.declared.fault.FaultKind.{FaultKind}
+use Rattle.ir_read.specs.declared.fault.TokenFault.{TokenFault}
 use Rattle.ir_read.specs.Forms.{Form}
 use Rattle.ir_read.specs.Readers.{whole_of}
 use Rattle.ir_heads.specs.FunctionHeads.{name_refusal}
@@ -31,7 +31,7 @@ any_module = any_items GLOBAL_NAMES
 -- ---- reading one
 
 -- why a token can't stand where an item may begin
-abbrev pub item_refusal : Tok → FaultKind
+abbrev pub item_refusal : Tok → TokenFault
 item_refusal t = name_refusal (number t.head)
 
 unfoldable pub module_of : List Tok → Result (List Item) Fault

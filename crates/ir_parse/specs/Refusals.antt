@@ -12,8 +12,8 @@ use Rattle.ir_heads.specs.Targets.{STRING}
 use Rattle.ir_operands.specs.ShapeForms.{OPEN_ANGLE, OPEN_BRACE}
 use Rattle.ir_parse.specs.Modules.{any_module, whole_module}
 use Rattle.ir_parse.specs.NamedCalls.{in_module}
-use Rattle.ir_parse.specs.declared.fault.FaultKind.{FaultKind}
-use Rattle.ir_parse.specs.declared.fault.FaultKind.TheVariants as kinds
+use Rattle.ir_tree.specs.declared.fault_kind.FaultKind.{FaultKind}
+use Rattle.ir_tree.specs.declared.fault_kind.FaultKind.TheVariants as kinds
 
 -- ---- what goes on
 

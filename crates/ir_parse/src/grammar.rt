@@ -8,14 +8,12 @@ ghost use Rattle.ir_parse.specs.Answers.{IsStopped};
 ghost use Rattle.ir_parse.specs.FirstFault.{Stuck, end_kind};
 ghost use Rattle.ir_parse.specs.Kinds.{refused_kind, grammar_fault};
 
-use crate::fault::{FaultKind, ReadError, ReadFault};
+use crate::fault::{ReadError, ReadFault};
 use crate::items::items_into;
 use ir_heads::name_refusal;
 use ir_lex::{Head, Lexed, Token};
-use ir_read::{
-    Fault as Refusal, FaultKind as RefusalKind, Item, ReadError as GrammarError, Tokens,
-};
-use ir_tree::Text;
+use ir_read::{Fault as Refusal, Item, ReadError as GrammarError, TokenFault, Tokens};
+use ir_tree::{FaultKind, Text};
 use std::alloc::{AllocError, Global};
 
 // How many parameters may stand behind the first of a function.
@@ -55,14 +53,14 @@ fn refused_kind(alloc: Global, t: &Token) -> Result<FaultKind, AllocError>
 }
 
 /// Why the grammar refuses a token.
-fn grammar_fault(alloc: Global, t: &Token, kind: RefusalKind) -> Result<FaultKind, AllocError>
+fn grammar_fault(alloc: Global, t: &Token, kind: TokenFault) -> Result<FaultKind, AllocError>
     ensures { IfOk result (λ k. k ≡ grammar_fault (tok t.now) kind) }
 {
     match kind {
-        RefusalKind::Syntax => Ok(FaultKind::Syntax),
-        RefusalKind::Profile => refused_kind(alloc, t),
-        RefusalKind::Number => Ok(FaultKind::Number),
-        RefusalKind::Limit => Ok(FaultKind::Limit),
+        TokenFault::Syntax => Ok(FaultKind::Syntax),
+        TokenFault::Profile => refused_kind(alloc, t),
+        TokenFault::Number => Ok(FaultKind::Number),
+        TokenFault::Limit => Ok(FaultKind::Limit),
     }
 }
 

@@ -25,7 +25,7 @@ use ir_heads::{
 use ir_lex::Head;
 use ir_operands::push;
 use ir_read::{
-    Before, Fault, FaultKind, Item, Position, ReadError, Tokens, attached_at, expect,
+    Before, Fault, Item, Position, ReadError, TokenFault, Tokens, attached_at, expect,
     metadata_behind_at, metadata_line_at, node_yet_at,
 };
 use std::alloc::Global;
@@ -340,7 +340,7 @@ fn named_at(
     if names == 0 {
         return Err(ReadError::Fault(Fault {
             left: tokens.left(),
-            kind: FaultKind::Limit,
+            kind: TokenFault::Limit,
         }));
     }
     let before = naming_at(alloc, room, items, tokens)?;

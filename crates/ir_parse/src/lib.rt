@@ -32,7 +32,7 @@ mod targets;
 mod value_lines;
 mod values;
 
-pub use fault::{FaultKind, ReadError, ReadFault};
+pub use fault::{ReadError, ReadFault};
 pub use laws::{decided, one_reading, read_is_parsed};
 pub use reading::parse;
 pub use resolved::{

@@ -9,7 +9,7 @@ ghost use Rattle.ir_parse.specs.Answers.{Answers, IsFaultOf, IsRead, IsRefused};
 ghost use Rattle.ir_parse.specs.Stages.{module_in};
 ghost use Rattle.ir_parse.specs.FirstFault.{FirstFault};
 ghost use Rattle.ir_parse.specs.Reading.{Reads};
-ghost use Rattle.ir_parse.specs.declared.fault.FaultKind.{FaultKind};
+ghost use Rattle.ir_tree.specs.declared.fault_kind.FaultKind.{FaultKind};
 
 use crate::fault::{ReadError, ReadFault, name_fault};
 use crate::grammar::items_in;

@@ -10,8 +10,8 @@ use Rattle.ir_lex.specs.Quotes.{is_zero_name}
 use Rattle.ir_lex.specs.Rows.{begins, best_fit, rest_fit, label_len, number_len, word_len, name_len, meta_len, dots_len, other_len, string_len}
 use Rattle.ir_lex.specs.Tok.{Tok}
 use Rattle.ir_read.specs.Alphabet.{contains, among, is_number}
-use Rattle.ir_read.specs.declared.fault.FaultKind.{FaultKind}
-use Rattle.ir_read.specs.declared.fault.FaultKind.TheVariants.{Syntax, Profile, Number, Limit}
+use Rattle.ir_read.specs.declared.fault.TokenFault.{TokenFault}
+use Rattle.ir_read.specs.declared.fault.TokenFault.TheVariants.{Syntax, Profile, Number, Limit}
 use Rattle.ir_read.specs.Forms as form
 use Rattle.ir_read.specs.Lawful.{SameRefusal}
 use Rattle.ir_read.specs.Readers.{token_at}
@@ -24,10 +24,10 @@ use Rattle.ir_read.proofs.Singles.{sample, not_number, not_limit, number_real}
 abbrev NUMBER : List ℕ
 NUMBER = number heads.Number ∷ []
 
-abbrev fault : FaultKind → Result ℕ FaultKind
+abbrev fault : TokenFault → Result ℕ TokenFault
 fault k = Err k
 
-abbrev aligned_by : Bool → Bool → List ℕ → Result ℕ FaultKind
+abbrev aligned_by : Bool → Bool → List ℕ → Result ℕ TokenFault
 aligned_by is_number fits text = cond is_number (cond fits (Ok (decimal text)) (Err Number)) (Err Syntax)
 
 one : Tok
@@ -40,7 +40,7 @@ range t e = by_class (nat_eq (number t.head) (number heads.Number)) refl e
     same : (n m : ℕ) → nat_eq n m ≡ true → m ≡ n
     same n m h = grind arith
 
-    never : (k l : FaultKind) → fault k ≡ fault l → k ≡ l
+    never : (k l : TokenFault) → fault k ≡ fault l → k ≡ l
     never k l e = cc
 
     is_one : (n : ℕ) → nat_eq n (number heads.Number) ≡ true → contains tokens.numerals n ≡ true
@@ -54,7 +54,7 @@ not_past : (t : Tok) → is_alignment t ≡ fault Limit → ⊥
 unfolding is_alignment alignment_of
 not_past t e = by_class (nat_eq (number t.head) (number heads.Number)) e
   where
-    never : (k l : FaultKind) → fault k ≡ fault l → k ≡ l
+    never : (k l : TokenFault) → fault k ≡ fault l → k ≡ l
     never k l e = cc
 
     no_limit : Number ≡ Limit → ⊥
@@ -72,13 +72,13 @@ alike : (t u : Tok) → is_number tokens t ≡ true → tokens.class u ≡ token
 unfolding is_alignment alignment_of
 alike t u n e = by_class (nat_eq (number t.head) (number heads.Number)) (nat_eq (number u.head) (number heads.Number)) (ap (λ (m : ℕ). nat_eq m (number heads.Number)) (sym e))
   where
-    refused_alike : (k l : FaultKind) → k ≡ l → SameRefusal {A = ℕ} (Err k) (Err l)
+    refused_alike : (k l : TokenFault) → k ≡ l → SameRefusal {A = ℕ} (Err k) (Err l)
     refused_alike Number l e = tt
     refused_alike Syntax l e = (l, refl)
     refused_alike Profile l e = (l, refl)
     refused_alike Limit l e = tt
 
-    by_fit : (b : Bool) (m : Result ℕ FaultKind) → SameRefusal {A = ℕ} (cond b (Ok (decimal t.text)) (Err Number)) m
+    by_fit : (b : Bool) (m : Result ℕ TokenFault) → SameRefusal {A = ℕ} (cond b (Ok (decimal t.text)) (Err Number)) m
     by_fit true m = tt
     by_fit false m = tt
 

@@ -2,8 +2,8 @@
 use Rattle.std.proofs.Common.{◌≡◌, ℕ, zero, suc, ◌+◌, ◌<◌, Bool, true, false, cond, ◌&&◌, not, List, [], ◌∷◌, ◌++◌, length, Result, Ok, Err, refl, sym, ap, subst, ◌∙◌, append_assoc, arith, inl, inr}
 use Rattle.std.proofs.lemmas.List.{length-append}
 use Rattle.ir_read.specs.declared.fault.Fault.{Fault}
-use Rattle.ir_read.specs.declared.fault.FaultKind.{FaultKind}
-use Rattle.ir_read.specs.declared.fault.FaultKind.TheVariants.{Syntax, Profile, Number, Limit}
+use Rattle.ir_read.specs.declared.fault.TokenFault.{TokenFault}
+use Rattle.ir_read.specs.declared.fault.TokenFault.TheVariants.{Syntax, Profile, Number, Limit}
 use Rattle.ir_read.specs.Alphabet.{Alphabet, AllReal, is_literal, is_number}
 use Rattle.ir_read.specs.Chained.{Chain, stops_here, chain_within, chain_at}
 use Rattle.ir_read.specs.Faults.{LimitGoesOn, NumberGoesOn}
@@ -18,7 +18,7 @@ and_parts false b h = absurd cc
 
 -- ---- what a list of values ended with, without its first
 
-abbrev joined : {A : Type 0} → A → Result (List A) FaultKind → Result (List A) FaultKind
+abbrev joined : {A : Type 0} → A → Result (List A) TokenFault → Result (List A) TokenFault
 joined a (Ok m) = Ok (a ∷ m)
 joined a (Err k) = Err k
 
@@ -26,11 +26,11 @@ module _ {T A : Type 0} (a : A) where
   abbrev in_front : Result (List A × List T) Fault → Result (List A × List T) Fault
   in_front r = follow r (λ m. done (a ∷ m))
 
-  ends_in_front : (o : Result (List A) FaultKind) (us : List T) → in_front (ends o us) ≡ ends (joined a o) us
+  ends_in_front : (o : Result (List A) TokenFault) (us : List T) → in_front (ends o us) ≡ ends (joined a o) us
   ends_in_front (Ok m) us = refl
   ends_in_front (Err k) us = refl
 
-  without : (r : Result (List A × List T) Fault) (o : Result (List A) FaultKind) (us : List T) → in_front r ≡ ends o us → (o' : Result (List A) FaultKind) × (r ≡ ends o' us) × (o ≡ joined a o')
+  without : (r : Result (List A × List T) Fault) (o : Result (List A) TokenFault) (us : List T) → in_front r ≡ ends o us → (o' : Result (List A) TokenFault) × (r ≡ ends o' us) × (o ≡ joined a o')
   without (Ok y) (Ok v) us h =
       let e = reads_is (a ∷ y.0) v y.1 us h in
       (Ok y.0, ap (λ (x : List T). reads y.0 x) e.1, ap (λ (x : List A). Ok x) (sym e.0))
@@ -38,7 +38,7 @@ module _ {T A : Type 0} (a : A) where
   without (Err e) (Ok v) us h = absurd cc
   without (Err e) (Err k) us h = (Err k, h, refl)
 
-  swapped_in_front : (o : Result (List A) FaultKind) (r : Result (List A × List T) Fault) (literal : Bool) (u : T) (rest : List T) → Swapped literal o r u rest → Swapped literal (joined a o) (in_front r) u rest
+  swapped_in_front : (o : Result (List A) TokenFault) (r : Result (List A × List T) Fault) (literal : Bool) (u : T) (rest : List T) → Swapped literal o r u rest → Swapped literal (joined a o) (in_front r) u rest
   swapped_in_front (Ok m) r literal u rest s = ap in_front s
   swapped_in_front (Err Number) r literal u rest s = tt
   swapped_in_front (Err Syntax) r literal u rest s = (s.0, ap in_front s.1)
@@ -332,17 +332,17 @@ module _ {T : Type 0} (alphabet : Alphabet T) where
     same_stop s [] t rest rest' = refl
     same_stop s (u ∷ front) t rest rest' = refl
 
-    behind_chain : (n : ℕ) (s : S) (ts us : List T) (o : Result (List A) FaultKind) → length ts < n → at_most n s ts ≡ ends o us → (front : List T) × (rest : List T) × (ts ≡ front ++ rest) × (length rest ≡ length us)
+    behind_chain : (n : ℕ) (s : S) (ts us : List T) (o : Result (List A) TokenFault) → length ts < n → at_most n s ts ≡ ends o us → (front : List T) × (rest : List T) × (ts ≡ front ++ rest) × (length rest ≡ length us)
     behind_chain n s ts us (Ok m) lt h = let p = sound_chain n s ts us m h in (p.0, us, p.1, refl)
     behind_chain n s ts us (Err k) lt h = let v = viable_chain n s ts (record { left = length us; kind = k }) lt h in (v.front, v.rest, v.whole, v.here)
 
-    nothing_read : (front : List T) (t : T) (rest rest' : List T) (o : Result (List A) FaultKind) → reads [] (front ++ t ∷ rest) ≡ ends o (t ∷ rest) → (front ≡ []) × (o ≡ Ok [])
+    nothing_read : (front : List T) (t : T) (rest rest' : List T) (o : Result (List A) TokenFault) → reads [] (front ++ t ∷ rest) ≡ ends o (t ∷ rest) → (front ≡ []) × (o ≡ Ok [])
     nothing_read front t rest rest' (Ok m) h =
         let p = reads_is [] m (front ++ t ∷ rest) (t ∷ rest) h in
         ((cut_is front (t ∷ rest) [] (t ∷ rest) p.1 refl).0, ap (λ (x : List A). Ok x) (sym p.0))
     nothing_read front t rest rest' (Err k) h = absurd cc
 
-    err_ends : (e : Fault) (o : Result (List A) FaultKind) (us : List T) → wrong e ≡ ends o us → (kind : FaultKind) × (o ≡ Err kind) × (e ≡ record { left = length us; kind = kind })
+    err_ends : (e : Fault) (o : Result (List A) TokenFault) (us : List T) → wrong e ≡ ends o us → (kind : TokenFault) × (o ≡ Err kind) × (e ≡ record { left = length us; kind = kind })
     err_ends e (Ok b) us d = absurd cc
     err_ends e (Err kind) us d = (kind, refl, wrong_is e (record { left = length us; kind = kind }) d)
 
@@ -354,7 +354,7 @@ module _ {T : Type 0} (alphabet : Alphabet T) where
       mid_is : mid ≡ there ++ t ∷ rest
       piece : f s (here ++ (there ++ t ∷ rest)) ≡ reads x (there ++ t ∷ rest)
 
-    cut_at : (n : ℕ) (s : S) (front : List T) (t : T) (rest : List T) (x : A × S) (mid : List T) (o : Result (List A) FaultKind) → length mid < n → f s (front ++ t ∷ rest) ≡ reads x mid → at_most n x.1 mid ≡ ends o (t ∷ rest) → Cut s front t rest x mid
+    cut_at : (n : ℕ) (s : S) (front : List T) (t : T) (rest : List T) (x : A × S) (mid : List T) (o : Result (List A) TokenFault) → length mid < n → f s (front ++ t ∷ rest) ≡ reads x mid → at_most n x.1 mid ≡ ends o (t ∷ rest) → Cut s front t rest x mid
     cut_at n s front t rest x mid o lt i d =
         let p = (laws s).sound (front ++ t ∷ rest) mid x i in
         let q = behind_chain n x.1 mid (t ∷ rest) o lt d in
@@ -364,7 +364,7 @@ module _ {T : Type 0} (alphabet : Alphabet T) where
         let before : front ++ t ∷ rest ≡ p.0 ++ (q.0 ++ t ∷ rest) = ap (λ (y : List T). y ++ t ∷ rest) cut.0 ∙ append_assoc p.0 q.0 (t ∷ rest) in
         record { here = p.0; there = q.0; front_is = cut.0; mid_is = mid_is; piece = ap (f s) (sym before) ∙ i ∙ ap (reads x) mid_is }
 
-    local_chain : (n : ℕ) (s : S) (front : List T) (t : T) (rest rest' : List T) (o : Result (List A) FaultKind) → length (front ++ t ∷ rest) < n → at_most n s (front ++ t ∷ rest) ≡ ends o (t ∷ rest) → at_most n s (front ++ t ∷ rest') ≡ ends o (t ∷ rest')
+    local_chain : (n : ℕ) (s : S) (front : List T) (t : T) (rest rest' : List T) (o : Result (List A) TokenFault) → length (front ++ t ∷ rest) < n → at_most n s (front ++ t ∷ rest) ≡ ends o (t ∷ rest) → at_most n s (front ++ t ∷ rest') ≡ ends o (t ∷ rest')
     local_chain zero s front t rest rest' o lt h = absurd (omega (arith, lt))
     local_chain (suc n) s front t rest rest' o lt h =
         by_stop (at_most (suc n) s (front ++ t ∷ rest') ≡ ends o (t ∷ rest')) n s (front ++ t ∷ rest) (ends o (t ∷ rest)) h (λ e d. stopped e d)
@@ -373,14 +373,14 @@ module _ {T : Type 0} (alphabet : Alphabet T) where
         stopped : stop s (front ++ t ∷ rest) ≡ true → reads [] (front ++ t ∷ rest) ≡ ends o (t ∷ rest) → at_most (suc n) s (front ++ t ∷ rest') ≡ ends o (t ∷ rest')
         stopped e d =
             let z = nothing_read front t rest rest' o d in
-            stop_gives (suc n) s (front ++ t ∷ rest') (sym (same_stop s front t rest rest') ∙ e) ∙ ap (λ (x : List T). reads [] (x ++ t ∷ rest')) z.0 ∙ ap (λ (x : Result (List A) FaultKind). ends x (t ∷ rest')) (sym z.1)
+            stop_gives (suc n) s (front ++ t ∷ rest') (sym (same_stop s front t rest rest') ∙ e) ∙ ap (λ (x : List T). reads [] (x ++ t ∷ rest')) z.0 ∙ ap (λ (x : Result (List A) TokenFault). ends x (t ∷ rest')) (sym z.1)
 
-        by_piece : ((next : S) (front' : List T) (o' : Result (List A) FaultKind) → length (front' ++ t ∷ rest) < n → at_most n next (front' ++ t ∷ rest) ≡ ends o' (t ∷ rest) → at_most n next (front' ++ t ∷ rest') ≡ ends o' (t ∷ rest')) → (r : Result ((A × S) × List T) Fault) → f s (front ++ t ∷ rest) ≡ r → follow r (further n) ≡ ends o (t ∷ rest)
+        by_piece : ((next : S) (front' : List T) (o' : Result (List A) TokenFault) → length (front' ++ t ∷ rest) < n → at_most n next (front' ++ t ∷ rest) ≡ ends o' (t ∷ rest) → at_most n next (front' ++ t ∷ rest') ≡ ends o' (t ∷ rest')) → (r : Result ((A × S) × List T) Fault) → f s (front ++ t ∷ rest) ≡ r → follow r (further n) ≡ ends o (t ∷ rest)
             → follow (f s (front ++ t ∷ rest')) (further n) ≡ ends o (t ∷ rest')
         by_piece again (Err k) i d =
             let w = err_ends k o (t ∷ rest) d in
             let one : f s (front ++ t ∷ rest') ≡ fault_at w.0 (t ∷ rest') = (laws s).local front t rest rest' (Err w.0) (i ∙ ap wrong w.2) in
-            ap (λ (y : Result ((A × S) × List T) Fault). follow y (further n)) one ∙ ap (λ (x : Result (List A) FaultKind). ends x (t ∷ rest')) (sym w.1)
+            ap (λ (y : Result ((A × S) × List T) Fault). follow y (further n)) one ∙ ap (λ (x : Result (List A) TokenFault). ends x (t ∷ rest')) (sym w.1)
         by_piece again (Ok x) i d =
             let w = without x.0.0 (at_most n x.0.1 x.1) o (t ∷ rest) d in
             let less : length x.1 < n = omega (arith, lt, shorter s (front ++ t ∷ rest) x.1 x.0 i) in
@@ -388,13 +388,13 @@ module _ {T : Type 0} (alphabet : Alphabet T) where
             let one : f s (c.here ++ (c.there ++ t ∷ rest')) ≡ reads x.0 (c.there ++ t ∷ rest') = local_mid alphabet (laws s) c.here c.there t rest rest' x.0 c.piece in
             let two : at_most n x.0.1 (c.there ++ t ∷ rest') ≡ ends w.0 (t ∷ rest') = again x.0.1 c.there w.0 (subst (λ (y : List T). length y < n) c.mid_is less) (ap (at_most n x.0.1) (sym c.mid_is) ∙ w.1) in
             let before : front ++ t ∷ rest' ≡ c.here ++ (c.there ++ t ∷ rest') = ap (λ (y : List T). y ++ t ∷ rest') c.front_is ∙ append_assoc c.here c.there (t ∷ rest') in
-            ap (λ (y : List T). follow (f s y) (further n)) before ∙ ap (λ (y : Result ((A × S) × List T) Fault). follow y (further n)) one ∙ ap (in_front x.0.0) two ∙ ends_in_front x.0.0 w.0 (t ∷ rest') ∙ ap (λ (y : Result (List A) FaultKind). ends y (t ∷ rest')) (sym w.2)
+            ap (λ (y : List T). follow (f s y) (further n)) before ∙ ap (λ (y : Result ((A × S) × List T) Fault). follow y (further n)) one ∙ ap (in_front x.0.0) two ∙ ends_in_front x.0.0 w.0 (t ∷ rest') ∙ ap (λ (y : Result (List A) TokenFault). ends y (t ∷ rest')) (sym w.2)
 
     swap_mid : (s : S) (front mid : List T) (t u : T) (rest rest' : List T) (x : A × S) → is_number alphabet t ≡ true → alphabet.class u ≡ alphabet.class t → f s (front ++ (mid ++ t ∷ rest)) ≡ reads x (mid ++ t ∷ rest) → f s (front ++ (mid ++ u ∷ rest')) ≡ reads x (mid ++ u ∷ rest')
     swap_mid s front [] t u rest rest' x n n' i = (laws s).swap front t u rest rest' (Ok x) n n' i
     swap_mid s front (v ∷ mid) t u rest rest' x n n' i = (laws s).local front v (mid ++ t ∷ rest) (mid ++ u ∷ rest') (Ok x) i
 
-    swap_err : (n : ℕ) (s : S) (k : FaultKind) (front : List T) (literal : Bool) (u : T) (rest' : List T) → Swapped {A = A × S} literal (Err k) (f s (front ++ u ∷ rest')) u rest' → Swapped {A = List A} literal (Err k) (follow (f s (front ++ u ∷ rest')) (further n)) u rest'
+    swap_err : (n : ℕ) (s : S) (k : TokenFault) (front : List T) (literal : Bool) (u : T) (rest' : List T) → Swapped {A = A × S} literal (Err k) (f s (front ++ u ∷ rest')) u rest' → Swapped {A = List A} literal (Err k) (follow (f s (front ++ u ∷ rest')) (further n)) u rest'
     swap_err n s Number front literal u rest' w = tt
     swap_err n s Syntax front literal u rest' w = (w.0, ap (λ (y : Result ((A × S) × List T) Fault). follow y (further n)) w.1)
     swap_err n s Profile front literal u rest' w = (w.0, ap (λ (y : Result ((A × S) × List T) Fault). follow y (further n)) w.1)
@@ -404,7 +404,7 @@ module _ {T : Type 0} (alphabet : Alphabet T) where
     swapped_stop s [] t u rest rest' n n' = ap (λ (b : Bool). final s && not b) (alike s t u n n')
     swapped_stop s (v ∷ front) t u rest rest' n n' = refl
 
-    swap_chain : (n : ℕ) (s : S) (front : List T) (t u : T) (rest rest' : List T) (o : Result (List A) FaultKind) → length (front ++ t ∷ rest) < n → is_number alphabet t ≡ true → alphabet.class u ≡ alphabet.class t → at_most n s (front ++ t ∷ rest) ≡ ends o (t ∷ rest) → Swapped (is_literal alphabet t) o (at_most n s (front ++ u ∷ rest')) u rest'
+    swap_chain : (n : ℕ) (s : S) (front : List T) (t u : T) (rest rest' : List T) (o : Result (List A) TokenFault) → length (front ++ t ∷ rest) < n → is_number alphabet t ≡ true → alphabet.class u ≡ alphabet.class t → at_most n s (front ++ t ∷ rest) ≡ ends o (t ∷ rest) → Swapped (is_literal alphabet t) o (at_most n s (front ++ u ∷ rest')) u rest'
     swap_chain zero s front t u rest rest' o lt m m' h = absurd (omega (arith, lt))
     swap_chain (suc n) s front t u rest rest' o lt m m' h =
         by_stop (Swapped (is_literal alphabet t) o (at_most (suc n) s (front ++ u ∷ rest')) u rest') n s (front ++ t ∷ rest) (ends o (t ∷ rest)) h (λ e d. stopped e d)
@@ -414,13 +414,13 @@ module _ {T : Type 0} (alphabet : Alphabet T) where
         stopped e d =
             let z = nothing_read front t rest rest' o d in
             let there : at_most (suc n) s (front ++ u ∷ rest') ≡ reads [] (u ∷ rest') = stop_gives (suc n) s (front ++ u ∷ rest') (sym (swapped_stop s front t u rest rest' m m') ∙ e) ∙ ap (λ (x : List T). reads [] (x ++ u ∷ rest')) z.0 in
-            subst (λ (y : Result (List A) FaultKind). Swapped (is_literal alphabet t) y (at_most (suc n) s (front ++ u ∷ rest')) u rest') (sym z.1) there
+            subst (λ (y : Result (List A) TokenFault). Swapped (is_literal alphabet t) y (at_most (suc n) s (front ++ u ∷ rest')) u rest') (sym z.1) there
 
-        by_piece : ((next : S) (front' : List T) (o' : Result (List A) FaultKind) → length (front' ++ t ∷ rest) < n → at_most n next (front' ++ t ∷ rest) ≡ ends o' (t ∷ rest) → Swapped (is_literal alphabet t) o' (at_most n next (front' ++ u ∷ rest')) u rest') → (r : Result ((A × S) × List T) Fault) → f s (front ++ t ∷ rest) ≡ r → follow r (further n) ≡ ends o (t ∷ rest)
+        by_piece : ((next : S) (front' : List T) (o' : Result (List A) TokenFault) → length (front' ++ t ∷ rest) < n → at_most n next (front' ++ t ∷ rest) ≡ ends o' (t ∷ rest) → Swapped (is_literal alphabet t) o' (at_most n next (front' ++ u ∷ rest')) u rest') → (r : Result ((A × S) × List T) Fault) → f s (front ++ t ∷ rest) ≡ r → follow r (further n) ≡ ends o (t ∷ rest)
             → Swapped (is_literal alphabet t) o (follow (f s (front ++ u ∷ rest')) (further n)) u rest'
         by_piece again (Err k) i d =
             let w = err_ends k o (t ∷ rest) d in
-            subst (λ (y : Result (List A) FaultKind). Swapped (is_literal alphabet t) y (follow (f s (front ++ u ∷ rest')) (further n)) u rest') (sym w.1) (swap_err n s w.0 front (is_literal alphabet t) u rest' ((laws s).swap front t u rest rest' (Err w.0) m m' (i ∙ ap wrong w.2)))
+            subst (λ (y : Result (List A) TokenFault). Swapped (is_literal alphabet t) y (follow (f s (front ++ u ∷ rest')) (further n)) u rest') (sym w.1) (swap_err n s w.0 front (is_literal alphabet t) u rest' ((laws s).swap front t u rest rest' (Err w.0) m m' (i ∙ ap wrong w.2)))
         by_piece again (Ok x) i d =
             let w = without x.0.0 (at_most n x.0.1 x.1) o (t ∷ rest) d in
             let less : length x.1 < n = omega (arith, lt, shorter s (front ++ t ∷ rest) x.1 x.0 i) in
@@ -430,7 +430,7 @@ module _ {T : Type 0} (alphabet : Alphabet T) where
             let before : front ++ u ∷ rest' ≡ c.here ++ (c.there ++ u ∷ rest') = ap (λ (y : List T). y ++ u ∷ rest') c.front_is ∙ append_assoc c.here c.there (u ∷ rest') in
             let whole : follow (f s (front ++ u ∷ rest')) (further n) ≡ in_front x.0.0 (at_most n x.0.1 (c.there ++ u ∷ rest')) = ap (λ (y : List T). follow (f s y) (further n)) before ∙ ap (λ (y : Result ((A × S) × List T) Fault). follow y (further n)) one in
             let three : Swapped (is_literal alphabet t) (joined x.0.0 w.0) (follow (f s (front ++ u ∷ rest')) (further n)) u rest' = subst (λ (y : Result (List A × List T) Fault). Swapped (is_literal alphabet t) (joined x.0.0 w.0) y u rest') (sym whole) (swapped_in_front x.0.0 w.0 (at_most n x.0.1 (c.there ++ u ∷ rest')) (is_literal alphabet t) u rest' two) in
-            subst (λ (y : Result (List A) FaultKind). Swapped (is_literal alphabet t) y (follow (f s (front ++ u ∷ rest')) (further n)) u rest') (sym w.2) three
+            subst (λ (y : Result (List A) TokenFault). Swapped (is_literal alphabet t) y (follow (f s (front ++ u ∷ rest')) (further n)) u rest') (sym w.2) three
 
     -- with room enough it doesn't matter how much there is
     pub roomy : (n m : ℕ) (s : S) (ts : List T) → length ts < n → length ts < m → at_most n s ts ≡ at_most m s ts
@@ -469,13 +469,13 @@ module _ {T : Type 0} (alphabet : Alphabet T) where
       };
     }
       where
-        local_here : (front : List T) (t : T) (rest rest' : List T) (o : Result (List A) FaultKind) → here_is s (front ++ t ∷ rest) ≡ ends o (t ∷ rest) → here_is s (front ++ t ∷ rest') ≡ ends o (t ∷ rest')
+        local_here : (front : List T) (t : T) (rest rest' : List T) (o : Result (List A) TokenFault) → here_is s (front ++ t ∷ rest) ≡ ends o (t ∷ rest) → here_is s (front ++ t ∷ rest') ≡ ends o (t ∷ rest')
         local_here front t rest rest' o h =
             let n : ℕ = suc (length (front ++ t ∷ rest) + length (front ++ t ∷ rest')) in
             let one : at_most n s (front ++ t ∷ rest) ≡ ends o (t ∷ rest) = roomy n (suc (length (front ++ t ∷ rest))) s (front ++ t ∷ rest) (omega arith) (omega arith) ∙ h in
             roomy (suc (length (front ++ t ∷ rest'))) n s (front ++ t ∷ rest') (omega arith) (omega arith) ∙ local_chain n s front t rest rest' o (omega arith) one
 
-        swap_here : (front : List T) (t u : T) (rest rest' : List T) (o : Result (List A) FaultKind) → is_number alphabet t ≡ true → alphabet.class u ≡ alphabet.class t → here_is s (front ++ t ∷ rest) ≡ ends o (t ∷ rest) → Swapped (is_literal alphabet t) o (here_is s (front ++ u ∷ rest')) u rest'
+        swap_here : (front : List T) (t u : T) (rest rest' : List T) (o : Result (List A) TokenFault) → is_number alphabet t ≡ true → alphabet.class u ≡ alphabet.class t → here_is s (front ++ t ∷ rest) ≡ ends o (t ∷ rest) → Swapped (is_literal alphabet t) o (here_is s (front ++ u ∷ rest')) u rest'
         swap_here front t u rest rest' o m m' h =
             let n : ℕ = suc (length (front ++ t ∷ rest) + length (front ++ u ∷ rest')) in
             let one : at_most n s (front ++ t ∷ rest) ≡ ends o (t ∷ rest) = roomy n (suc (length (front ++ t ∷ rest))) s (front ++ t ∷ rest) (omega arith) (omega arith) ∙ h in

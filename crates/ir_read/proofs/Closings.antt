@@ -2,8 +2,8 @@
 use Rattle.std.proofs.Common.{◌≡◌, ℕ, true, false, Option, Some, None, List, [], ◌∷◌, ◌++◌, length, Result, Ok, Err, refl, sym, ap, subst, ◌∙◌, arith, inl}
 use Rattle.std.proofs.lemmas.List.{length-append}
 use Rattle.ir_read.specs.declared.fault.Fault.{Fault}
-use Rattle.ir_read.specs.declared.fault.FaultKind.{FaultKind}
-use Rattle.ir_read.specs.declared.fault.FaultKind.TheVariants.{Syntax, Number, Limit}
+use Rattle.ir_read.specs.declared.fault.TokenFault.{TokenFault}
+use Rattle.ir_read.specs.declared.fault.TokenFault.TheVariants.{Syntax, Number, Limit}
 use Rattle.ir_read.specs.Alphabet.{Alphabet, AllReal, is_literal, is_number}
 use Rattle.ir_read.specs.Balanced.{Brackets, Move, moved, Closing, closing_at, HaveClosers, none_open}
 use Rattle.ir_read.specs.Lawful.{Lawful, GoesOn, Swapped, ends}
@@ -69,16 +69,16 @@ module _ {T B : Type 0} (alphabet : Alphabet T) (brackets : Brackets T B) (have 
             real = v.real;
           }
 
-  local_closing : (bs : List B) (front : List T) (t : T) (rest rest' : List T) (o : Result (Unit {0}) FaultKind) → closing_at brackets bs (front ++ t ∷ rest) ≡ ends o (t ∷ rest) → closing_at brackets bs (front ++ t ∷ rest') ≡ ends o (t ∷ rest')
+  local_closing : (bs : List B) (front : List T) (t : T) (rest rest' : List T) (o : Result (Unit {0}) TokenFault) → closing_at brackets bs (front ++ t ∷ rest) ≡ ends o (t ∷ rest) → closing_at brackets bs (front ++ t ∷ rest') ≡ ends o (t ∷ rest')
   local_closing [] front t rest rest' (Ok u) h =
       let c = cut_is front (t ∷ rest) [] (t ∷ rest) (reads_is tt u (front ++ t ∷ rest) (t ∷ rest) h).1 refl in
       ap (λ (x : List T). reads tt (x ++ t ∷ rest')) c.0
   local_closing [] front t rest rest' (Err k) h = absurd cc
   local_closing (b ∷ bs) [] t rest rest' o h = by_move (moved brackets (brackets.move t) b bs) o h
     where
-      by_move : (m : Option (List B)) (o : Result (Unit {0}) FaultKind) → elim m as (λ x. Result (Unit {0} × List T) Fault) [ None ↦ fault_at Syntax (t ∷ rest) | Some stack ↦ closing_at brackets stack rest ] ≡ ends o (t ∷ rest) → elim m as (λ x. Result (Unit {0} × List T) Fault) [ None ↦ fault_at Syntax (t ∷ rest') | Some stack ↦ closing_at brackets stack rest' ] ≡ ends o (t ∷ rest')
+      by_move : (m : Option (List B)) (o : Result (Unit {0}) TokenFault) → elim m as (λ x. Result (Unit {0} × List T) Fault) [ None ↦ fault_at Syntax (t ∷ rest) | Some stack ↦ closing_at brackets stack rest ] ≡ ends o (t ∷ rest) → elim m as (λ x. Result (Unit {0} × List T) Fault) [ None ↦ fault_at Syntax (t ∷ rest') | Some stack ↦ closing_at brackets stack rest' ] ≡ ends o (t ∷ rest')
       by_move None (Ok u) h = absurd cc
-      by_move None (Err k) h = ap (λ (x : FaultKind). fault_at x (t ∷ rest')) (ap (λ (x : Fault). x.kind) (wrong_is (record { left = length (t ∷ rest); kind = Syntax }) (record { left = length (t ∷ rest); kind = k }) h))
+      by_move None (Err k) h = ap (λ (x : TokenFault). fault_at x (t ∷ rest')) (ap (λ (x : Fault). x.kind) (wrong_is (record { left = length (t ∷ rest); kind = Syntax }) (record { left = length (t ∷ rest); kind = k }) h))
       by_move (Some stack) (Ok u) h = let s = sound_closing stack rest (t ∷ rest) u h in absurd (omega (arith, ap length s.1, length-append s.0 (t ∷ rest)))
       by_move (Some stack) (Err k) h = let v = viable_closing stack rest (record { left = length (t ∷ rest); kind = k }) h in absurd (omega (arith, ap length v.whole, v.here, length-append v.front v.rest))
   local_closing (b ∷ bs) (v ∷ front) t rest rest' o h = by_move (moved brackets (brackets.move v) b bs) (λ stack. local_closing stack front t rest rest' o) h
@@ -87,19 +87,19 @@ module _ {T B : Type 0} (alphabet : Alphabet T) (brackets : Brackets T B) (have 
           → elim m as (λ x. Result (Unit {0} × List T) Fault) [ None ↦ fault_at Syntax (v ∷ (front ++ t ∷ rest)) | Some stack ↦ closing_at brackets stack (front ++ t ∷ rest) ] ≡ ends o (t ∷ rest) → elim m as (λ x. Result (Unit {0} × List T) Fault) [ None ↦ fault_at Syntax (v ∷ (front ++ t ∷ rest')) | Some stack ↦ closing_at brackets stack (front ++ t ∷ rest') ] ≡ ends o (t ∷ rest')
       by_move None again h = absurd (too_long o h)
         where
-          too_long : (o : Result (Unit {0}) FaultKind) → fault_at Syntax (v ∷ (front ++ t ∷ rest)) ≡ ends o (t ∷ rest) → ⊥
+          too_long : (o : Result (Unit {0}) TokenFault) → fault_at Syntax (v ∷ (front ++ t ∷ rest)) ≡ ends o (t ∷ rest) → ⊥
           too_long (Ok u) h = cc
           too_long (Err k) h = omega (arith, ap (λ (x : Fault). x.left) (wrong_is (record { left = length (v ∷ (front ++ t ∷ rest)); kind = Syntax }) (record { left = length (t ∷ rest); kind = k }) h), length-append front (t ∷ rest))
       by_move (Some stack) again h = again stack h
 
-  swap_closing : (bs : List B) (front : List T) (t u : T) (rest rest' : List T) (o : Result (Unit {0}) FaultKind) → is_number alphabet t ≡ true → alphabet.class u ≡ alphabet.class t → closing_at brackets bs (front ++ t ∷ rest) ≡ ends o (t ∷ rest) → Swapped (is_literal alphabet t) o (closing_at brackets bs (front ++ u ∷ rest')) u rest'
+  swap_closing : (bs : List B) (front : List T) (t u : T) (rest rest' : List T) (o : Result (Unit {0}) TokenFault) → is_number alphabet t ≡ true → alphabet.class u ≡ alphabet.class t → closing_at brackets bs (front ++ t ∷ rest) ≡ ends o (t ∷ rest) → Swapped (is_literal alphabet t) o (closing_at brackets bs (front ++ u ∷ rest')) u rest'
   swap_closing [] front t u rest rest' (Ok x) n m h =
       let c = cut_is front (t ∷ rest) [] (t ∷ rest) (reads_is tt x (front ++ t ∷ rest) (t ∷ rest) h).1 refl in
       ap (λ (y : List T). reads tt (y ++ u ∷ rest')) c.0
   swap_closing [] front t u rest rest' (Err k) n m h = absurd cc
   swap_closing (b ∷ bs) [] t u rest rest' o n m h = absurd (never o (sym (ap (λ (x : Move B). elim (moved brackets x b bs) as (λ y. Result (Unit {0} × List T) Fault) [ None ↦ fault_at Syntax (t ∷ rest) | Some stack ↦ closing_at brackets stack rest ]) (have.number_stays t n)) ∙ h))
     where
-      never : (o : Result (Unit {0}) FaultKind) → closing_at brackets (b ∷ bs) rest ≡ ends o (t ∷ rest) → ⊥
+      never : (o : Result (Unit {0}) TokenFault) → closing_at brackets (b ∷ bs) rest ≡ ends o (t ∷ rest) → ⊥
       never (Ok x) h = let s = sound_closing (b ∷ bs) rest (t ∷ rest) x h in omega (arith, ap length s.1, length-append s.0 (t ∷ rest))
       never (Err k) h = let v = viable_closing (b ∷ bs) rest (record { left = length (t ∷ rest); kind = k }) h in omega (arith, ap length v.whole, v.here, length-append v.front v.rest)
   swap_closing (b ∷ bs) (v ∷ front) t u rest rest' o n m h = by_move (moved brackets (brackets.move v) b bs) (λ stack. swap_closing stack front t u rest rest' o n m) h
@@ -108,7 +108,7 @@ module _ {T B : Type 0} (alphabet : Alphabet T) (brackets : Brackets T B) (have 
           → elim p as (λ x. Result (Unit {0} × List T) Fault) [ None ↦ fault_at Syntax (v ∷ (front ++ t ∷ rest)) | Some stack ↦ closing_at brackets stack (front ++ t ∷ rest) ] ≡ ends o (t ∷ rest) → Swapped (is_literal alphabet t) o (elim p as (λ x. Result (Unit {0} × List T) Fault) [ None ↦ fault_at Syntax (v ∷ (front ++ u ∷ rest')) | Some stack ↦ closing_at brackets stack (front ++ u ∷ rest') ]) u rest'
       by_move None again h = absurd (too_long o h)
         where
-          too_long : (o : Result (Unit {0}) FaultKind) → fault_at Syntax (v ∷ (front ++ t ∷ rest)) ≡ ends o (t ∷ rest) → ⊥
+          too_long : (o : Result (Unit {0}) TokenFault) → fault_at Syntax (v ∷ (front ++ t ∷ rest)) ≡ ends o (t ∷ rest) → ⊥
           too_long (Ok x) h = cc
           too_long (Err k) h = omega (arith, ap (λ (x : Fault). x.left) (wrong_is (record { left = length (v ∷ (front ++ t ∷ rest)); kind = Syntax }) (record { left = length (t ∷ rest); kind = k }) h), length-append front (t ∷ rest))
       by_move (Some stack) again h = again stack h

@@ -2,8 +2,8 @@
 use Rattle.std.proofs.Common.{◌≡◌, ℕ, zero, suc, ◌+◌, ◌≤◌, Bool, true, false, cond, ◌||◌, ◌&&◌, List, [], ◌∷◌, ◌++◌, length, Result, Ok, Err, refl, sym, ap, subst, ◌∙◌, append_assoc, arith, ◌⊎◌, inl, inr}
 use Rattle.std.proofs.lemmas.List.{append-nil, length-append}
 use Rattle.ir_read.specs.declared.fault.Fault.{Fault}
-use Rattle.ir_read.specs.declared.fault.FaultKind.{FaultKind}
-use Rattle.ir_read.specs.declared.fault.FaultKind.TheVariants.{Syntax, Profile, Number, Limit}
+use Rattle.ir_read.specs.declared.fault.TokenFault.{TokenFault}
+use Rattle.ir_read.specs.declared.fault.TokenFault.TheVariants.{Syntax, Profile, Number, Limit}
 use Rattle.ir_read.specs.Alphabet.{Alphabet, AllReal, is_literal, is_number}
 use Rattle.ir_read.specs.Faults.{LimitGoesOn, NumberGoesOn}
 use Rattle.ir_read.specs.Forms as form
@@ -106,14 +106,14 @@ module _ {T : Type 0} (alphabet : Alphabet T) where
     complete_gives : (front rest : List T) (b : A) → front ≡ [] → b ≡ a → reads a (front ++ rest) ≡ reads b rest
     complete_gives front rest b e d = rw (e, d) refl
 
-    local_gives : (front : List T) (t : T) (rest rest' : List T) (o : Result A FaultKind) → reads a (front ++ t ∷ rest) ≡ ends o (t ∷ rest) → reads a (front ++ t ∷ rest') ≡ ends o (t ∷ rest')
+    local_gives : (front : List T) (t : T) (rest rest' : List T) (o : Result A TokenFault) → reads a (front ++ t ∷ rest) ≡ ends o (t ∷ rest) → reads a (front ++ t ∷ rest') ≡ ends o (t ∷ rest')
     local_gives front t rest rest' (Ok b) h =
         let p = reads_is a b (front ++ t ∷ rest) (t ∷ rest) h in
         let q = cut_is front (t ∷ rest) [] (t ∷ rest) p.1 refl in
         rw (q.0, p.0) refl
     local_gives front t rest rest' (Err k) h = absurd cc
 
-    swap_gives : (front : List T) (t u : T) (rest rest' : List T) (o : Result A FaultKind) → is_number alphabet t ≡ true → alphabet.class u ≡ alphabet.class t → reads a (front ++ t ∷ rest) ≡ ends o (t ∷ rest) → Swapped (is_literal alphabet t) o (reads a (front ++ u ∷ rest')) u rest'
+    swap_gives : (front : List T) (t u : T) (rest rest' : List T) (o : Result A TokenFault) → is_number alphabet t ≡ true → alphabet.class u ≡ alphabet.class t → reads a (front ++ t ∷ rest) ≡ ends o (t ∷ rest) → Swapped (is_literal alphabet t) o (reads a (front ++ u ∷ rest')) u rest'
     swap_gives front t u rest rest' (Ok b) n n' h =
         let p = reads_is a b (front ++ t ∷ rest) (t ∷ rest) h in
         let q = cut_is front (t ∷ rest) [] (t ∷ rest) p.1 refl in
@@ -145,14 +145,14 @@ module _ {T : Type 0} (alphabet : Alphabet T) where
 
   -- ---- one token
 
-  refused : {A : Type 0} (l k : FaultKind) → l ≡ k → (m : Result A FaultKind) → SameRefusal {A = A} (Err l) m → (k ≡ Number → ⊥) → (k ≡ Limit → ⊥) → (u : T) (rest : List T) → (k' : FaultKind) × (token_means u rest m ≡ fault_at k' (u ∷ rest))
+  refused : {A : Type 0} (l k : TokenFault) → l ≡ k → (m : Result A TokenFault) → SameRefusal {A = A} (Err l) m → (k ≡ Number → ⊥) → (k ≡ Limit → ⊥) → (u : T) (rest : List T) → (k' : TokenFault) × (token_means u rest m ≡ fault_at k' (u ∷ rest))
   refused Number k e m s never bounded u rest = absurd (never (sym e))
   refused Syntax k e m s never bounded u rest = (s.0, ap (token_means u rest) s.1)
   refused Profile k e m s never bounded u rest = (s.0, ap (token_means u rest) s.1)
   refused Limit k e m s never bounded u rest = absurd (bounded (sym e))
 
-  module _ {A : Type 0} (meaning : T → Result A FaultKind) (first : T → Bool) where
-    sound_means : (t : T) (ts rest : List T) (a : A) (m : Result A FaultKind) → meaning t ≡ m → token_means t ts m ≡ reads a rest → (front : List T) × (t ∷ ts ≡ front ++ rest) × form.token meaning front a
+  module _ {A : Type 0} (meaning : T → Result A TokenFault) (first : T → Bool) where
+    sound_means : (t : T) (ts rest : List T) (a : A) (m : Result A TokenFault) → meaning t ≡ m → token_means t ts m ≡ reads a rest → (front : List T) × (t ∷ ts ≡ front ++ rest) × form.token meaning front a
     sound_means t ts rest a (Ok b) d e = let h = reads_is b a ts rest e in (t ∷ [], ap (λ (x : List T). t ∷ x) h.1, d ∙ ap (λ (x : A). Ok x) h.0)
     sound_means t ts rest a (Err k) d e = absurd cc
 
@@ -169,7 +169,7 @@ module _ {T : Type 0} (alphabet : Alphabet T) where
     starts_token h t [] a g = h t a g
     starts_token h t (u ∷ ts) a g = absurd g
 
-    viable_means : (t : T) (ts : List T) (e : Fault) (m : Result A FaultKind) → token_means t ts m ≡ wrong e → length (t ∷ ts) ≡ e.left
+    viable_means : (t : T) (ts : List T) (e : Fault) (m : Result A TokenFault) → token_means t ts m ≡ wrong e → length (t ∷ ts) ≡ e.left
     viable_means t ts e (Ok b) h = absurd cc
     viable_means t ts e (Err k) h = ap (λ (x : Fault). x.left) (wrong_is _ e h)
 
@@ -177,7 +177,7 @@ module _ {T : Type 0} (alphabet : Alphabet T) where
     viable_token sample b s rl [] e h = record { front = []; rest = []; whole = refl; here = ap (λ (x : Fault). x.left) (wrong_is _ e h); more = sample ∷ []; value = b; spelled = s; real = (rl, tt) }
     viable_token sample b s rl (t ∷ ts) e h = record { front = []; rest = t ∷ ts; whole = refl; here = viable_means t ts e (meaning t) h; more = sample ∷ []; value = b; spelled = s; real = (rl, tt) }
 
-    local_means : (t : T) (u : T) (front rest rest' : List T) (o m : Result A FaultKind) → token_means t (front ++ u ∷ rest) m ≡ ends o (u ∷ rest) → token_means t (front ++ u ∷ rest') m ≡ ends o (u ∷ rest')
+    local_means : (t : T) (u : T) (front rest rest' : List T) (o m : Result A TokenFault) → token_means t (front ++ u ∷ rest) m ≡ ends o (u ∷ rest) → token_means t (front ++ u ∷ rest') m ≡ ends o (u ∷ rest')
     local_means t u front rest rest' (Ok a) (Ok b) h =
         let p = reads_is b a (front ++ u ∷ rest) (u ∷ rest) h in
         let q = cut_is front (u ∷ rest) [] (u ∷ rest) p.1 refl in
@@ -188,7 +188,7 @@ module _ {T : Type 0} (alphabet : Alphabet T) where
         let l = ap (λ (x : Fault). x.left) (wrong_is (record { left = length (t ∷ (front ++ u ∷ rest)); kind = l }) (record { left = length (u ∷ rest); kind = k }) h) in
         absurd (omega (arith, l, length-append front (u ∷ rest)))
 
-    local_here : (t : T) (rest rest' : List T) (o m : Result A FaultKind) → token_means t rest m ≡ ends o (t ∷ rest) → token_means t rest' m ≡ ends o (t ∷ rest')
+    local_here : (t : T) (rest rest' : List T) (o m : Result A TokenFault) → token_means t rest m ≡ ends o (t ∷ rest) → token_means t rest' m ≡ ends o (t ∷ rest')
     local_here t rest rest' (Ok a) (Ok b) h = absurd (omega (arith, ap length (reads_is b a rest (t ∷ rest) h).1))
     local_here t rest rest' (Ok a) (Err k) h = absurd cc
     local_here t rest rest' (Err k) (Ok b) h = absurd cc
@@ -196,15 +196,15 @@ module _ {T : Type 0} (alphabet : Alphabet T) where
         let d = ap (λ (x : Fault). x.kind) (wrong_is (record { left = length (t ∷ rest); kind = l }) (record { left = length (t ∷ rest); kind = k }) h) in
         rw d refl
 
-    local_token : (front : List T) (t : T) (rest rest' : List T) (o : Result A FaultKind) → token_at meaning (front ++ t ∷ rest) ≡ ends o (t ∷ rest) → token_at meaning (front ++ t ∷ rest') ≡ ends o (t ∷ rest')
+    local_token : (front : List T) (t : T) (rest rest' : List T) (o : Result A TokenFault) → token_at meaning (front ++ t ∷ rest) ≡ ends o (t ∷ rest) → token_at meaning (front ++ t ∷ rest') ≡ ends o (t ∷ rest')
     local_token [] t rest rest' o h = local_here t rest rest' o (meaning t) h
     local_token (u ∷ front) t rest rest' o h = local_means u t front rest rest' o (meaning u) h
 
-    number_means : (t : T) (ts : List T) (left : ℕ) (m : Result A FaultKind) → meaning t ≡ m → token_means t ts m ≡ wrong (record { left = left; kind = Number }) → (meaning t ≡ Err Number) × (length (t ∷ ts) ≡ left)
+    number_means : (t : T) (ts : List T) (left : ℕ) (m : Result A TokenFault) → meaning t ≡ m → token_means t ts m ≡ wrong (record { left = left; kind = Number }) → (meaning t ≡ Err Number) × (length (t ∷ ts) ≡ left)
     number_means t ts left (Ok b) d h = absurd cc
     number_means t ts left (Err k) d h =
         let e = wrong_is (record { left = length (t ∷ ts); kind = k }) (record { left = left; kind = Number }) h in
-        (d ∙ ap (λ (x : FaultKind). Err x) (ap (λ (x : Fault). x.kind) e), ap (λ (x : Fault). x.left) e)
+        (d ∙ ap (λ (x : TokenFault). Err x) (ap (λ (x : Fault). x.kind) e), ap (λ (x : Fault). x.left) e)
 
     number_token : IsRanged alphabet meaning → (ts : List T) (left : ℕ) → token_at meaning ts ≡ wrong (record { left = left; kind = Number }) → NumberGoesOn alphabet (form.token meaning) ts left
     number_token ranged [] left h = absurd (never (ap (λ (x : Fault). x.kind) (wrong_is (record { left = 0; kind = Syntax }) (record { left = left; kind = Number }) h)))
@@ -223,11 +223,11 @@ module _ {T : Type 0} (alphabet : Alphabet T) where
         never e = cc
     limit_token ranged (t ∷ ts) left h = by_means (meaning t) refl h
       where
-        by_means : (m : Result A FaultKind) → meaning t ≡ m → token_means t ts m ≡ wrong (record { left = left; kind = Limit }) → ⊥
+        by_means : (m : Result A TokenFault) → meaning t ≡ m → token_means t ts m ≡ wrong (record { left = left; kind = Limit }) → ⊥
         by_means (Ok b) d h = cc
-        by_means (Err k) d h = ranged.never t (d ∙ ap (λ (x : FaultKind). Err x) (ap (λ (x : Fault). x.kind) (wrong_is (record { left = length (t ∷ ts); kind = k }) (record { left = left; kind = Limit }) h)))
+        by_means (Err k) d h = ranged.never t (d ∙ ap (λ (x : TokenFault). Err x) (ap (λ (x : Fault). x.kind) (wrong_is (record { left = length (t ∷ ts); kind = k }) (record { left = left; kind = Limit }) h)))
 
-    swap_here : (literal : Bool) (t u : T) (rest rest' : List T) (o m m' : Result A FaultKind) → SameRefusal m m' → (m ≡ Err Limit → ⊥) → token_means t rest m ≡ ends o (t ∷ rest) → Swapped literal o (token_means u rest' m') u rest'
+    swap_here : (literal : Bool) (t u : T) (rest rest' : List T) (o m m' : Result A TokenFault) → SameRefusal m m' → (m ≡ Err Limit → ⊥) → token_means t rest m ≡ ends o (t ∷ rest) → Swapped literal o (token_means u rest' m') u rest'
     swap_here literal t u rest rest' (Ok a) (Ok b) m' s n h = absurd (omega (arith, ap length (reads_is b a rest (t ∷ rest) h).1))
     swap_here literal t u rest rest' (Ok a) (Err k) m' s n h = absurd cc
     swap_here literal t u rest rest' (Err k) (Ok b) m' s n h = absurd cc
@@ -236,7 +236,7 @@ module _ {T : Type 0} (alphabet : Alphabet T) where
     swap_here literal t u rest rest' (Err Profile) (Err l) m' s n h = refused l Profile (ap (λ (x : Fault). x.kind) (wrong_is (record { left = length (t ∷ rest); kind = l }) (record { left = length (t ∷ rest); kind = Profile }) h)) m' s (λ e. cc) (λ e. cc) u rest'
     swap_here literal t u rest rest' (Err Limit) (Err l) m' s n h = absurd (n (ap (λ (x : Fault). Err x.kind) (wrong_is (record { left = length (t ∷ rest); kind = l }) (record { left = length (t ∷ rest); kind = Limit }) h)))
 
-    swap_means : (t u v : T) (front rest rest' : List T) (o m : Result A FaultKind) → token_means v (front ++ t ∷ rest) m ≡ ends o (t ∷ rest) → Swapped (is_literal alphabet t) o (token_means v (front ++ u ∷ rest') m) u rest'
+    swap_means : (t u v : T) (front rest rest' : List T) (o m : Result A TokenFault) → token_means v (front ++ t ∷ rest) m ≡ ends o (t ∷ rest) → Swapped (is_literal alphabet t) o (token_means v (front ++ u ∷ rest') m) u rest'
     swap_means t u v front rest rest' (Ok a) (Ok b) h =
         let p = reads_is b a (front ++ t ∷ rest) (t ∷ rest) h in
         let q = cut_is front (t ∷ rest) [] (t ∷ rest) p.1 refl in
@@ -247,7 +247,7 @@ module _ {T : Type 0} (alphabet : Alphabet T) where
         let e = ap (λ (x : Fault). x.left) (wrong_is (record { left = length (v ∷ (front ++ t ∷ rest)); kind = l }) (record { left = length (t ∷ rest); kind = k }) h) in
         absurd (omega (arith, e, length-append front (t ∷ rest)))
 
-    swap_token : IsRanged alphabet meaning → (front : List T) (t u : T) (rest rest' : List T) (o : Result A FaultKind) → is_number alphabet t ≡ true → alphabet.class u ≡ alphabet.class t → token_at meaning (front ++ t ∷ rest) ≡ ends o (t ∷ rest) → Swapped (is_literal alphabet t) o (token_at meaning (front ++ u ∷ rest')) u rest'
+    swap_token : IsRanged alphabet meaning → (front : List T) (t u : T) (rest rest' : List T) (o : Result A TokenFault) → is_number alphabet t ≡ true → alphabet.class u ≡ alphabet.class t → token_at meaning (front ++ t ∷ rest) ≡ ends o (t ∷ rest) → Swapped (is_literal alphabet t) o (token_at meaning (front ++ u ∷ rest')) u rest'
     swap_token ranged [] t u rest rest' o n n' h = swap_here (is_literal alphabet t) t u rest rest' o (meaning t) (meaning u) (ranged.alike t u n n') (λ e. ranged.never t e) h
     swap_token ranged (v ∷ front) t u rest rest' o n n' h = swap_means t u v front rest rest' o (meaning v) h
 
@@ -277,7 +277,7 @@ module _ {T : Type 0} (alphabet : Alphabet T) where
   -- ---- one behind another
 
   -- a list that two cuts share: the second cut lies behind the first
-  pub behind : {A : Type 0} {g wide : Form T A} {f : Reader T A} {first more : T → Bool} {empty : Bool} → Lawful alphabet g wide f first more empty → (ts us : List T) (o : Result A FaultKind) → f ts ≡ ends o us → (front : List T) × (rest : List T) × (ts ≡ front ++ rest) × (length rest ≡ length us)
+  pub behind : {A : Type 0} {g wide : Form T A} {f : Reader T A} {first more : T → Bool} {empty : Bool} → Lawful alphabet g wide f first more empty → (ts us : List T) (o : Result A TokenFault) → f ts ≡ ends o us → (front : List T) × (rest : List T) × (ts ≡ front ++ rest) × (length rest ≡ length us)
   behind law ts us (Ok a) h = let s = law.sound ts us a h in (s.0, us, s.1, refl)
   behind law ts us (Err k) h = let v = law.viable ts _ h in (v.front, v.rest, v.whole, v.here)
 
@@ -404,11 +404,11 @@ module _ {T : Type 0} (alphabet : Alphabet T) where
           real = all_real (v.good ∷ v.more) s.0 v.real s.3;
         }
 
-    err_ends : (e : Fault) (o : Result B FaultKind) (us : List T) → wrong e ≡ ends o us → (kind : FaultKind) × (o ≡ Err kind) × (e ≡ record { left = length us; kind = kind })
+    err_ends : (e : Fault) (o : Result B TokenFault) (us : List T) → wrong e ≡ ends o us → (kind : TokenFault) × (o ≡ Err kind) × (e ≡ record { left = length us; kind = kind })
     err_ends e (Ok b) us d = absurd cc
     err_ends e (Err kind) us d = (kind, refl, wrong_is e (record { left = length us; kind = kind }) d)
 
-    local_both : (front : List T) (t : T) (rest rest' : List T) (o : Result B FaultKind) (r : Result (A × List T) Fault) → f (front ++ t ∷ rest) ≡ r → follow r h ≡ ends o (t ∷ rest) → (f >>= h) (front ++ t ∷ rest') ≡ ends o (t ∷ rest')
+    local_both : (front : List T) (t : T) (rest rest' : List T) (o : Result B TokenFault) (r : Result (A × List T) Fault) → f (front ++ t ∷ rest) ≡ r → follow r h ≡ ends o (t ∷ rest) → (f >>= h) (front ++ t ∷ rest') ≡ ends o (t ∷ rest')
     local_both front t rest rest' o (Err e) i d =
         let w = err_ends e o (t ∷ rest) d in
         let one : f (front ++ t ∷ rest') ≡ fault_at w.0 (t ∷ rest') = law.local front t rest rest' (Err w.0) (i ∙ ap wrong w.2) in
@@ -460,7 +460,7 @@ module _ {T : Type 0} (alphabet : Alphabet T) where
           real = all_real v.more s.0 v.real s.3;
         }
 
-    swap_err : (k : FaultKind) (front : List T) (t u : T) (rest rest' : List T) → Swapped {A = A} (is_literal alphabet t) (Err k) (f (front ++ u ∷ rest')) u rest' → Swapped {A = B} (is_literal alphabet t) (Err k) ((f >>= h) (front ++ u ∷ rest')) u rest'
+    swap_err : (k : TokenFault) (front : List T) (t u : T) (rest rest' : List T) → Swapped {A = A} (is_literal alphabet t) (Err k) (f (front ++ u ∷ rest')) u rest' → Swapped {A = B} (is_literal alphabet t) (Err k) ((f >>= h) (front ++ u ∷ rest')) u rest'
     swap_err Number front t u rest rest' s = tt
     swap_err Syntax front t u rest rest' s = (s.0, ap (λ (y : Result (A × List T) Fault). follow y h) s.1)
     swap_err Profile front t u rest rest' s = (s.0, ap (λ (y : Result (A × List T) Fault). follow y h) s.1)
@@ -470,10 +470,10 @@ module _ {T : Type 0} (alphabet : Alphabet T) where
     swap_mid front [] t u rest rest' a n n' i = law.swap front t u rest rest' (Ok a) n n' i
     swap_mid front (v ∷ mid) t u rest rest' a n n' i = law.local front v (mid ++ t ∷ rest) (mid ++ u ∷ rest') (Ok a) i
 
-    swap_both : (front : List T) (t u : T) (rest rest' : List T) (o : Result B FaultKind) (r : Result (A × List T) Fault) → is_number alphabet t ≡ true → alphabet.class u ≡ alphabet.class t → f (front ++ t ∷ rest) ≡ r → follow r h ≡ ends o (t ∷ rest) → Swapped (is_literal alphabet t) o ((f >>= h) (front ++ u ∷ rest')) u rest'
+    swap_both : (front : List T) (t u : T) (rest rest' : List T) (o : Result B TokenFault) (r : Result (A × List T) Fault) → is_number alphabet t ≡ true → alphabet.class u ≡ alphabet.class t → f (front ++ t ∷ rest) ≡ r → follow r h ≡ ends o (t ∷ rest) → Swapped (is_literal alphabet t) o ((f >>= h) (front ++ u ∷ rest')) u rest'
     swap_both front t u rest rest' o (Err e) n n' i d =
         let w = err_ends e o (t ∷ rest) d in
-        subst (λ (x : Result B FaultKind). Swapped (is_literal alphabet t) x ((f >>= h) (front ++ u ∷ rest')) u rest') (sym w.1) (swap_err w.0 front t u rest rest' (law.swap front t u rest rest' (Err w.0) n n' (i ∙ ap wrong w.2)))
+        subst (λ (x : Result B TokenFault). Swapped (is_literal alphabet t) x ((f >>= h) (front ++ u ∷ rest')) u rest') (sym w.1) (swap_err w.0 front t u rest rest' (law.swap front t u rest rest' (Err w.0) n n' (i ∙ ap wrong w.2)))
     swap_both front t u rest rest' o (Ok x) n n' i d =
         let p = law.sound (front ++ t ∷ rest) x.1 x.0 i in
         let q = behind (laws x.0) x.1 (t ∷ rest) o d in
@@ -652,7 +652,7 @@ module _ {T : Type 0} (alphabet : Alphabet T) where
         by_test true d = either_one (t ∷ ts) e.left (law.viable (t ∷ ts) e d)
         by_test false d = either_other (t ∷ ts) e.left (law'.viable (t ∷ ts) e d)
 
-    local_pick : (front : List T) (t : T) (rest rest' : List T) (o : Result A FaultKind) → pick begins f f' (front ++ t ∷ rest) ≡ ends o (t ∷ rest) → pick begins f f' (front ++ t ∷ rest') ≡ ends o (t ∷ rest')
+    local_pick : (front : List T) (t : T) (rest rest' : List T) (o : Result A TokenFault) → pick begins f f' (front ++ t ∷ rest) ≡ ends o (t ∷ rest) → pick begins f f' (front ++ t ∷ rest') ≡ ends o (t ∷ rest')
     local_pick [] t rest rest' o d = by_test (begins t) d
       where
         by_test : (b : Bool) → cond b (f (t ∷ rest)) (f' (t ∷ rest)) ≡ ends o (t ∷ rest) → cond b (f (t ∷ rest')) (f' (t ∷ rest')) ≡ ends o (t ∷ rest')
@@ -696,7 +696,7 @@ module _ {T : Type 0} (alphabet : Alphabet T) where
         by_test true d = limit_one (t ∷ ts) left (law.limit (t ∷ ts) left d)
         by_test false d = limit_other (t ∷ ts) left (law'.limit (t ∷ ts) left d)
 
-    swap_pick : (front : List T) (t u : T) (rest rest' : List T) (o : Result A FaultKind) → is_number alphabet t ≡ true → alphabet.class u ≡ alphabet.class t → pick begins f f' (front ++ t ∷ rest) ≡ ends o (t ∷ rest) → Swapped (is_literal alphabet t) o (pick begins f f' (front ++ u ∷ rest')) u rest'
+    swap_pick : (front : List T) (t u : T) (rest rest' : List T) (o : Result A TokenFault) → is_number alphabet t ≡ true → alphabet.class u ≡ alphabet.class t → pick begins f f' (front ++ t ∷ rest) ≡ ends o (t ∷ rest) → Swapped (is_literal alphabet t) o (pick begins f f' (front ++ u ∷ rest')) u rest'
     swap_pick [] t u rest rest' o n n' d = by_test (begins t) (begins u) (alike t u n n') d
       where
         by_test : (b b' : Bool) → b ≡ b' → cond b (f (t ∷ rest)) (f' (t ∷ rest)) ≡ ends o (t ∷ rest) → Swapped (is_literal alphabet t) o (cond b' (f (u ∷ rest')) (f' (u ∷ rest'))) u rest'
@@ -780,16 +780,16 @@ module _ {T : Type 0} (alphabet : Alphabet T) where
         by_test true d = record { front = []; rest = t ∷ ts; whole = refl; here = ap (λ (x : Fault). x.left) (wrong_is _ e d); more = []; value = []; spelled = refl; real = tt }
         by_test false d = absurd cc
 
-    no_less : (o : Result (List A) FaultKind) (u : T) (us : List T) (b : Bool) (t : T) (rest rest' : List T) → cond b (fault_at Limit (u ∷ (us ++ t ∷ rest))) (reads {A = List A} [] (u ∷ (us ++ t ∷ rest))) ≡ ends o (t ∷ rest) → ⊥
+    no_less : (o : Result (List A) TokenFault) (u : T) (us : List T) (b : Bool) (t : T) (rest rest' : List T) → cond b (fault_at Limit (u ∷ (us ++ t ∷ rest))) (reads {A = List A} [] (u ∷ (us ++ t ∷ rest))) ≡ ends o (t ∷ rest) → ⊥
     no_less (Ok a) u us true t rest rest' d = cc
     no_less (Ok a) u us false t rest rest' d = omega (arith, ap length (reads_is [] a (u ∷ (us ++ t ∷ rest)) (t ∷ rest) d).1, length-append us (t ∷ rest))
     no_less (Err k) u us true t rest rest' d = omega (arith, ap (λ (x : Fault). x.left) (wrong_is (record { left = length (u ∷ (us ++ t ∷ rest)); kind = Limit }) (record { left = length (t ∷ rest); kind = k }) d), length-append us (t ∷ rest))
     no_less (Err k) u us false t rest rest' d = cc
 
-    local_zero : (front : List T) (t : T) (rest rest' : List T) (o : Result (List A) FaultKind) → many_at begins f zero (front ++ t ∷ rest) ≡ ends o (t ∷ rest) → many_at begins f zero (front ++ t ∷ rest') ≡ ends o (t ∷ rest')
+    local_zero : (front : List T) (t : T) (rest rest' : List T) (o : Result (List A) TokenFault) → many_at begins f zero (front ++ t ∷ rest) ≡ ends o (t ∷ rest) → many_at begins f zero (front ++ t ∷ rest') ≡ ends o (t ∷ rest')
     local_zero [] t rest rest' o d = by_test (begins t) o d
       where
-        by_test : (b : Bool) (o : Result (List A) FaultKind) → cond b (fault_at Limit (t ∷ rest)) (reads {A = List A} [] (t ∷ rest)) ≡ ends o (t ∷ rest) → cond b (fault_at Limit (t ∷ rest')) (reads {A = List A} [] (t ∷ rest')) ≡ ends o (t ∷ rest')
+        by_test : (b : Bool) (o : Result (List A) TokenFault) → cond b (fault_at Limit (t ∷ rest)) (reads {A = List A} [] (t ∷ rest)) ≡ ends o (t ∷ rest) → cond b (fault_at Limit (t ∷ rest')) (reads {A = List A} [] (t ∷ rest')) ≡ ends o (t ∷ rest')
         by_test true (Ok a) d = absurd cc
         by_test true (Err k) d = rw (ap (λ (x : Fault). x.kind) (wrong_is (record { left = length (t ∷ rest); kind = Limit }) (record { left = length (t ∷ rest); kind = k }) d)) refl
         by_test false (Ok a) d = rw (reads_is [] a (t ∷ rest) (t ∷ rest) d).0 refl
@@ -807,16 +807,16 @@ module _ {T : Type 0} (alphabet : Alphabet T) where
         by_test true d = limit (ap (λ (x : Fault). x.kind) (wrong_is (record { left = length (t ∷ ts); kind = Limit }) (record { left = left; kind = Number }) d))
         by_test false d = cc
 
-    swap_zero : (front : List T) (t u : T) (rest rest' : List T) (o : Result (List A) FaultKind) → is_number alphabet t ≡ true → alphabet.class u ≡ alphabet.class t → many_at begins f zero (front ++ t ∷ rest) ≡ ends o (t ∷ rest) → Swapped (is_literal alphabet t) o (many_at begins f zero (front ++ u ∷ rest')) u rest'
+    swap_zero : (front : List T) (t u : T) (rest rest' : List T) (o : Result (List A) TokenFault) → is_number alphabet t ≡ true → alphabet.class u ≡ alphabet.class t → many_at begins f zero (front ++ t ∷ rest) ≡ ends o (t ∷ rest) → Swapped (is_literal alphabet t) o (many_at begins f zero (front ++ u ∷ rest')) u rest'
     swap_zero [] t u rest rest' o n n' d = by_test (begins t) (begins u) (alike t u n n') o d
       where
-        refuses : (k : FaultKind) → Swapped {A = List A} (is_literal alphabet t) (Err k) (fault_at Limit (u ∷ rest')) u rest'
+        refuses : (k : TokenFault) → Swapped {A = List A} (is_literal alphabet t) (Err k) (fault_at Limit (u ∷ rest')) u rest'
         refuses Number = tt
         refuses Syntax = (Limit, refl)
         refuses Profile = (Limit, refl)
         refuses Limit = λ _. (Limit, refl)
 
-        by_test : (b b' : Bool) → b ≡ b' → (o : Result (List A) FaultKind) → cond b (fault_at Limit (t ∷ rest)) (reads {A = List A} [] (t ∷ rest)) ≡ ends o (t ∷ rest) → Swapped (is_literal alphabet t) o (cond b' (fault_at Limit (u ∷ rest')) (reads {A = List A} [] (u ∷ rest'))) u rest'
+        by_test : (b b' : Bool) → b ≡ b' → (o : Result (List A) TokenFault) → cond b (fault_at Limit (t ∷ rest)) (reads {A = List A} [] (t ∷ rest)) ≡ ends o (t ∷ rest) → Swapped (is_literal alphabet t) o (cond b' (fault_at Limit (u ∷ rest')) (reads {A = List A} [] (u ∷ rest'))) u rest'
         by_test true false e o d = absurd cc
         by_test false true e o d = absurd cc
         by_test true true e (Ok a) d = absurd cc
@@ -1013,14 +1013,14 @@ module _ {T : Type 0} (alphabet : Alphabet T) where
       };
     }
       where
-        local_star : (front : List T) (t : T) (rest rest' : List T) (o : Result (List A) FaultKind) → star_at begins f (front ++ t ∷ rest) ≡ ends o (t ∷ rest) → star_at begins f (front ++ t ∷ rest') ≡ ends o (t ∷ rest')
+        local_star : (front : List T) (t : T) (rest rest' : List T) (o : Result (List A) TokenFault) → star_at begins f (front ++ t ∷ rest) ≡ ends o (t ∷ rest) → star_at begins f (front ++ t ∷ rest') ≡ ends o (t ∷ rest')
         local_star front t rest rest' o d =
             let n : ℕ = length (front ++ t ∷ rest) + length (front ++ t ∷ rest') in
             let one : many_at begins f n (front ++ t ∷ rest) ≡ ends o (t ∷ rest) = roomy n (length (front ++ t ∷ rest)) (front ++ t ∷ rest) (omega arith) (omega arith) ∙ d in
             let two = (laws_at n).local front t rest rest' o one in
             roomy (length (front ++ t ∷ rest')) n (front ++ t ∷ rest') (omega arith) (omega arith) ∙ two
 
-        swap_star : (front : List T) (t u : T) (rest rest' : List T) (o : Result (List A) FaultKind) → is_number alphabet t ≡ true → alphabet.class u ≡ alphabet.class t → star_at begins f (front ++ t ∷ rest) ≡ ends o (t ∷ rest) → Swapped (is_literal alphabet t) o (star_at begins f (front ++ u ∷ rest')) u rest'
+        swap_star : (front : List T) (t u : T) (rest rest' : List T) (o : Result (List A) TokenFault) → is_number alphabet t ≡ true → alphabet.class u ≡ alphabet.class t → star_at begins f (front ++ t ∷ rest) ≡ ends o (t ∷ rest) → Swapped (is_literal alphabet t) o (star_at begins f (front ++ u ∷ rest')) u rest'
         swap_star front t u rest rest' o n n' d =
             let m : ℕ = length (front ++ t ∷ rest) + length (front ++ u ∷ rest') in
             let one : many_at begins f m (front ++ t ∷ rest) ≡ ends o (t ∷ rest) = roomy m (length (front ++ t ∷ rest)) (front ++ t ∷ rest) (omega arith) (omega arith) ∙ d in
@@ -1061,14 +1061,14 @@ module _ {T : Type 0} (alphabet : Alphabet T) where
         by_test true d = record { front = []; rest = t ∷ ts; whole = refl; here = ap (λ (x : Fault). x.left) (wrong_is _ e d); more = law.some.0; value = law.some.1; spelled = law.some.2; real = law.some.3 }
         by_test false d = law.viable (t ∷ ts) e d
 
-    apart_ends : (o : Result A FaultKind) (u : T) (us : List T) (t : T) (rest : List T) → fault_at Limit (u ∷ (us ++ t ∷ rest)) ≡ ends o (t ∷ rest) → ⊥
+    apart_ends : (o : Result A TokenFault) (u : T) (us : List T) (t : T) (rest : List T) → fault_at Limit (u ∷ (us ++ t ∷ rest)) ≡ ends o (t ∷ rest) → ⊥
     apart_ends (Ok a) u us t rest d = cc
     apart_ends (Err k) u us t rest d = omega (arith, ap (λ (x : Fault). x.left) (wrong_is (record { left = length (u ∷ (us ++ t ∷ rest)); kind = Limit }) (record { left = length (t ∷ rest); kind = k }) d), length-append us (t ∷ rest))
 
-    local_barred : (front : List T) (t : T) (rest rest' : List T) (o : Result A FaultKind) → barred (front ++ t ∷ rest) ≡ ends o (t ∷ rest) → barred (front ++ t ∷ rest') ≡ ends o (t ∷ rest')
+    local_barred : (front : List T) (t : T) (rest rest' : List T) (o : Result A TokenFault) → barred (front ++ t ∷ rest) ≡ ends o (t ∷ rest) → barred (front ++ t ∷ rest') ≡ ends o (t ∷ rest')
     local_barred [] t rest rest' o d = by_test (begins t) o d
       where
-        by_test : (b : Bool) (o : Result A FaultKind) → cond b (fault_at Limit (t ∷ rest)) (f (t ∷ rest)) ≡ ends o (t ∷ rest) → cond b (fault_at Limit (t ∷ rest')) (f (t ∷ rest')) ≡ ends o (t ∷ rest')
+        by_test : (b : Bool) (o : Result A TokenFault) → cond b (fault_at Limit (t ∷ rest)) (f (t ∷ rest)) ≡ ends o (t ∷ rest) → cond b (fault_at Limit (t ∷ rest')) (f (t ∷ rest')) ≡ ends o (t ∷ rest')
         by_test true (Ok a) d = absurd cc
         by_test true (Err k) d = rw (ap (λ (x : Fault). x.kind) (wrong_is (record { left = length (t ∷ rest); kind = Limit }) (record { left = length (t ∷ rest); kind = k }) d)) refl
         by_test false o d = law.local [] t rest rest' o d
@@ -1102,10 +1102,10 @@ module _ {T : Type 0} (alphabet : Alphabet T) where
             record { front = []; bad = t; rest = ts; whole = refl; here = ap (λ (x : Fault). x.left) (wrong_is (record { left = length (t ∷ ts); kind = Limit }) (record { left = left; kind = Limit }) d); more = o.0; value = o.1; spelled = o.2; real = o.3 }
         by_test false e d = widely (t ∷ ts) left (law.limit (t ∷ ts) left d)
 
-    swap_barred : (front : List T) (t u : T) (rest rest' : List T) (o : Result A FaultKind) → is_number alphabet t ≡ true → alphabet.class u ≡ alphabet.class t → barred (front ++ t ∷ rest) ≡ ends o (t ∷ rest) → Swapped (is_literal alphabet t) o (barred (front ++ u ∷ rest')) u rest'
+    swap_barred : (front : List T) (t u : T) (rest rest' : List T) (o : Result A TokenFault) → is_number alphabet t ≡ true → alphabet.class u ≡ alphabet.class t → barred (front ++ t ∷ rest) ≡ ends o (t ∷ rest) → Swapped (is_literal alphabet t) o (barred (front ++ u ∷ rest')) u rest'
     swap_barred [] t u rest rest' o n n' d = by_test (begins t) (begins u) (alike t u n n') o d
       where
-        refuses : (k : FaultKind) → Swapped {A = A} (is_literal alphabet t) (Err k) (fault_at Limit (u ∷ rest')) u rest'
+        refuses : (k : TokenFault) → Swapped {A = A} (is_literal alphabet t) (Err k) (fault_at Limit (u ∷ rest')) u rest'
         refuses Number = tt
         refuses Syntax = (Limit, refl)
         refuses Profile = (Limit, refl)
@@ -1115,8 +1115,8 @@ module _ {T : Type 0} (alphabet : Alphabet T) where
         both e = cc
 
         -- only a literal may be past a limit where others of its class aren't
-        bounded : (k : FaultKind) (r : Result (A × List T) Fault) → Limit ≡ k → is_literal alphabet t ≡ true → Swapped {A = A} (is_literal alphabet t) (Err k) r u rest'
-        bounded k r e l = subst (λ (x : FaultKind). Swapped {A = A} (is_literal alphabet t) (Err x) r u rest') e (λ n. absurd (both (sym l ∙ n)))
+        bounded : (k : TokenFault) (r : Result (A × List T) Fault) → Limit ≡ k → is_literal alphabet t ≡ true → Swapped {A = A} (is_literal alphabet t) (Err k) r u rest'
+        bounded k r e l = subst (λ (x : TokenFault). Swapped {A = A} (is_literal alphabet t) (Err x) r u rest') e (λ n. absurd (both (sym l ∙ n)))
 
         literal_or : (b b' : Bool) → (b ≡ b') ⊎ ((empty ≡ false) × (b ≡ true → is_literal alphabet t ≡ true)) → b ≡ true → b' ≡ false → is_literal alphabet t ≡ true
         literal_or true true e p q = absurd cc
@@ -1135,7 +1135,7 @@ module _ {T : Type 0} (alphabet : Alphabet T) where
         taken a [] e s p = both (sym (law.nothing a s) ∙ p)
         taken a (v ∷ front) e s p = omega (arith, ap length e, length-append front (t ∷ rest))
 
-        by_test : (b b' : Bool) → (b ≡ b') ⊎ ((empty ≡ false) × (b ≡ true → is_literal alphabet t ≡ true)) → (o : Result A FaultKind) → cond b (fault_at Limit (t ∷ rest)) (f (t ∷ rest)) ≡ ends o (t ∷ rest) → Swapped (is_literal alphabet t) o (cond b' (fault_at Limit (u ∷ rest')) (f (u ∷ rest'))) u rest'
+        by_test : (b b' : Bool) → (b ≡ b') ⊎ ((empty ≡ false) × (b ≡ true → is_literal alphabet t ≡ true)) → (o : Result A TokenFault) → cond b (fault_at Limit (t ∷ rest)) (f (t ∷ rest)) ≡ ends o (t ∷ rest) → Swapped (is_literal alphabet t) o (cond b' (fault_at Limit (u ∷ rest')) (f (u ∷ rest'))) u rest'
         by_test true false e (Ok a) d = absurd cc
         by_test true false e (Err k) d = bounded k (f (u ∷ rest')) (ap (λ (x : Fault). x.kind) (wrong_is (record { left = length (t ∷ rest); kind = Limit }) (record { left = length (t ∷ rest); kind = k }) d)) (literal_or true false e refl refl)
         by_test false true e (Ok a) d = let s = law.sound (t ∷ rest) (t ∷ rest) a d in absurd (taken a s.0 s.1 s.2 (same_or false true e refl refl))

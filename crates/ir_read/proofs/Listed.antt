@@ -1,7 +1,7 @@
 -- The reader of lists of numbers reads them.
 use Rattle.std.proofs.Common.{◌≡◌, ℕ, suc, nat_lt, Bool, true, false, cond, List, [], ◌∷◌, Ok, Err, refl, ap, arith}
 use Rattle.ir_read.specs.declared.fault.Fault.{Fault}
-use Rattle.ir_read.specs.declared.fault.FaultKind.TheVariants.{Syntax, Number, Limit}
+use Rattle.ir_read.specs.declared.fault.TokenFault.TheVariants.{Syntax, Number, Limit}
 use Rattle.ir_read.specs.Alphabet.{among, is_number}
 use Rattle.ir_read.specs.Faults.{StopsAt, FitsBound, FitsKind}
 use Rattle.ir_read.specs.Forms as form

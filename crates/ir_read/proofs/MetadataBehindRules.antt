@@ -8,8 +8,8 @@ use Rattle.ir_lex.specs.Heads.{number}
 use Rattle.ir_lex.specs.Tok.{Tok}
 use Rattle.ir_read.specs.Alphabet.{among, contains, is_number}
 use Rattle.ir_read.specs.Balanced.{Move, opens, closes, stays}
-use Rattle.ir_read.specs.declared.fault.FaultKind.{FaultKind}
-use Rattle.ir_read.specs.declared.fault.FaultKind.TheVariants.{Syntax, Number, Limit}
+use Rattle.ir_read.specs.declared.fault.TokenFault.{TokenFault}
+use Rattle.ir_read.specs.declared.fault.TokenFault.TheVariants.{Syntax, Number, Limit}
 use Rattle.ir_read.specs.Forms as form
 use Rattle.ir_read.specs.Lawful.{IsRanged, SameRefusal}
 use Rattle.ir_read.specs.Readers as reader
@@ -58,9 +58,9 @@ others apart = but apart EVERY
 -- ---- a line that goes on
 
 abbrev Leads : Type 0
-Leads = Result (Step (List Bracket)) FaultKind
+Leads = Result (Step (List Bracket)) TokenFault
 
-abbrev refuse : FaultKind → Leads
+abbrev refuse : TokenFault → Leads
 refuse k = Err k
 
 never_number : (b : Bool) (s : Step (List Bracket)) → cond b (refuse Syntax) (fitting s) ≡ refuse Number → ⊥

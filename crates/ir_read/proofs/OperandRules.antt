@@ -14,8 +14,8 @@ use Rattle.ir_lex.specs.Tok.{Tok}
 use Rattle.ir_tree.specs.declared.operand.Reg.{Reg}
 use Rattle.ir_tree.specs.declared.operand.Reg.TheVariants.{Int, Ptr}
 use Rattle.ir_read.specs.Alphabet.{among, contains}
-use Rattle.ir_read.specs.declared.fault.FaultKind.{FaultKind}
-use Rattle.ir_read.specs.declared.fault.FaultKind.TheVariants.{Profile, Number, Limit}
+use Rattle.ir_read.specs.declared.fault.TokenFault.{TokenFault}
+use Rattle.ir_read.specs.declared.fault.TokenFault.TheVariants.{Profile, Number, Limit}
 use Rattle.ir_read.specs.Rules.{Rule, IsWithin, is_class}
 use Rattle.ir_read.proofs.Rules as rules
 use Rattle.ir_read.specs.Classes.{tokens, refusal, IsReal, NUMERALS}
@@ -30,10 +30,10 @@ use Rattle.ir_read.proofs.Words.{int_32_real, int_1_real, void_real, null_real, 
 
 -- ---- why a token can't stand where a type may
 
-abbrev by_test : Bool → FaultKind → FaultKind
+abbrev by_test : Bool → TokenFault → TokenFault
 by_test b k = cond b Profile k
 
-neither : (b : Bool) (k l : FaultKind) → (Profile ≡ l → ⊥) → (k ≡ l → ⊥) → by_test b k ≡ l → ⊥
+neither : (b : Bool) (k l : TokenFault) → (Profile ≡ l → ⊥) → (k ≡ l → ⊥) → by_test b k ≡ l → ⊥
 neither true k l p q e = p e
 neither false k l p q e = q e
 

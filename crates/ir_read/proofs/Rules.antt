@@ -2,8 +2,8 @@
 use Rattle.std.proofs.Common.{◌≡◌, ℕ, nat_eq, Bool, true, false, cond, Option, Some, None, ◌||◌, ◌&&◌, not, List, [], ◌∷◌, ◌++◌, length, Result, Ok, Err, refl, sym, ap, subst, ◌∙◌, ◌⊎◌, inl, inr, arith}
 use Rattle.std.proofs.lemmas.List.{length-append}
 use Rattle.ir_read.specs.declared.fault.Fault.{Fault}
-use Rattle.ir_read.specs.declared.fault.FaultKind.{FaultKind}
-use Rattle.ir_read.specs.declared.fault.FaultKind.TheVariants.{Syntax, Profile, Number, Limit}
+use Rattle.ir_read.specs.declared.fault.TokenFault.{TokenFault}
+use Rattle.ir_read.specs.declared.fault.TokenFault.TheVariants.{Syntax, Profile, Number, Limit}
 use Rattle.ir_read.specs.Alphabet.{Alphabet, AllReal, among, contains, is_literal, is_number}
 use Rattle.ir_read.specs.Forms as form
 use Rattle.ir_read.specs.Forms.{Form, Many, upto, optional}
@@ -77,7 +77,7 @@ joined xs ys b n h = elim (or_parts (contains xs n) (b && contains ys n) h) [
 
 -- ---- single tokens
 
-test_ok : {A : Type 0} (b : Bool) (a c : A) (k : FaultKind) → cond b (Ok a) (Err k) ≡ Ok c → b ≡ true
+test_ok : {A : Type 0} (b : Bool) (a c : A) (k : TokenFault) → cond b (Ok a) (Err k) ≡ Ok c → b ≡ true
 test_ok true a c k h = refl
 test_ok false a c k h = absurd cc
 
@@ -85,21 +85,21 @@ or_with_false : (b : Bool) → b ≡ true → b || false ≡ true
 or_with_false true h = refl
 or_with_false false h = h
 
-same_refl : {A : Type 0} (m : Result A FaultKind) → SameRefusal m m
+same_refl : {A : Type 0} (m : Result A TokenFault) → SameRefusal m m
 same_refl (Ok a) = tt
 same_refl (Err Number) = tt
 same_refl (Err Syntax) = (Syntax, refl)
 same_refl (Err Profile) = (Profile, refl)
 same_refl (Err Limit) = tt
 
-abbrev refuse : {A : Type 0} → FaultKind → Result A FaultKind
+abbrev refuse : {A : Type 0} → TokenFault → Result A TokenFault
 refuse k = Err k
 
-err_is : {A : Type 0} (k l : FaultKind) → refuse {A = A} k ≡ refuse {A = A} l → k ≡ l
+err_is : {A : Type 0} (k l : TokenFault) → refuse {A = A} k ≡ refuse {A = A} l → k ≡ l
 err_is k l e = cc
 
 -- a test refuses as it is told to
-test_refuses : {A : Type 0} (b : Bool) (a : A) (k l : FaultKind) → (k ≡ l → ⊥) → cond b (Ok a) (Err k) ≡ refuse {A = A} l → ⊥
+test_refuses : {A : Type 0} (b : Bool) (a : A) (k l : TokenFault) → (k ≡ l → ⊥) → cond b (Ok a) (Err k) ≡ refuse {A = A} l → ⊥
 test_refuses true a k l never e = cc
 test_refuses {A} false a k l never e = never (err_is {A = A} k l e)
 
@@ -195,14 +195,14 @@ module _ {T : Type 0} (alphabet : Alphabet T) where
       by_result (Err d) e = let v = law.law.viable (t ∷ []) d e in by_viable v.front v.rest v.more v.value v.whole (v.here ∙ opens t h d e) v.spelled v.real
 
   -- a meaning that refuses no number for its range, and takes all numbers alike
-  pub plainly_ranged : {A : Type 0} (meaning : T → Result A FaultKind) → ((t : T) → meaning t ≡ Err Number → ⊥) → ((t : T) → meaning t ≡ Err Limit → ⊥) → ((t u : T) → is_number alphabet t ≡ true → alphabet.class u ≡ alphabet.class t → meaning t ≡ meaning u) → IsRanged alphabet meaning
+  pub plainly_ranged : {A : Type 0} (meaning : T → Result A TokenFault) → ((t : T) → meaning t ≡ Err Number → ⊥) → ((t : T) → meaning t ≡ Err Limit → ⊥) → ((t u : T) → is_number alphabet t ≡ true → alphabet.class u ≡ alphabet.class t → meaning t ≡ meaning u) → IsRanged alphabet meaning
   plainly_ranged {A} meaning never unlimited same' = record {
     range = λ t e. absurd (never t e);
-    alike = λ t u n m. subst (λ (x : Result A FaultKind). SameRefusal (meaning t) x) (same' t u n m) (same_refl (meaning t));
+    alike = λ t u n m. subst (λ (x : Result A TokenFault). SameRefusal (meaning t) x) (same' t u n m) (same_refl (meaning t));
     never = unlimited;
   }
 
-  pub class_rule : (refusal : ℕ → FaultKind) → ((n : ℕ) → refusal n ≡ Number → ⊥) → ((n : ℕ) → refusal n ≡ Limit → ⊥) → (wanted : ℕ) (sample : T) → is_class alphabet refusal wanted sample ≡ Ok tt → alphabet.Real sample
+  pub class_rule : (refusal : ℕ → TokenFault) → ((n : ℕ) → refusal n ≡ Number → ⊥) → ((n : ℕ) → refusal n ≡ Limit → ⊥) → (wanted : ℕ) (sample : T) → is_class alphabet refusal wanted sample ≡ Ok tt → alphabet.Real sample
       → Rule alphabet (form.token (is_class alphabet refusal wanted)) (form.token (is_class alphabet refusal wanted)) (token_at (is_class alphabet refusal wanted)) (wanted ∷ []) [] false
   unfolding is_class
   class_rule refusal not_number not_limit wanted sample s rl = record {
@@ -230,7 +230,7 @@ module _ {T : Type 0} (alphabet : Alphabet T) where
 
   -- ---- a token of several classes
 
-  pub among_rule : {A : Type 0} (refusal : ℕ → FaultKind) → ((n : ℕ) → refusal n ≡ Number → ⊥) → ((n : ℕ) → refusal n ≡ Limit → ⊥) → (wanted : List ℕ) (value : T → A) (sample : T) → among alphabet wanted sample ≡ true → alphabet.Real sample
+  pub among_rule : {A : Type 0} (refusal : ℕ → TokenFault) → ((n : ℕ) → refusal n ≡ Number → ⊥) → ((n : ℕ) → refusal n ≡ Limit → ⊥) → (wanted : List ℕ) (value : T → A) (sample : T) → among alphabet wanted sample ≡ true → alphabet.Real sample
       → Rule alphabet (form.token (is_among alphabet refusal wanted value)) (form.token (is_among alphabet refusal wanted value)) (token_at (is_among alphabet refusal wanted value)) wanted [] false
   unfolding is_among
   among_rule {A} refusal not_number not_limit wanted value sample s rl = record {
@@ -246,8 +246,8 @@ module _ {T : Type 0} (alphabet : Alphabet T) where
       begins : (t : T) (a : A) → is_among alphabet refusal wanted value t ≡ Ok a → among alphabet wanted t ≡ true
       begins t a h = test_ok (among alphabet wanted t) (value t) a (refusal (alphabet.class t)) h
 
-      refused_alike : (k l : FaultKind) → k ≡ l → SameRefusal {A = A} (Err k) (Err l)
-      refused_alike k l e = subst (λ (x : FaultKind). SameRefusal {A = A} (Err k) (Err x)) e (same_refl (Err k))
+      refused_alike : (k l : TokenFault) → k ≡ l → SameRefusal {A = A} (Err k) (Err l)
+      refused_alike k l e = subst (λ (x : TokenFault). SameRefusal {A = A} (Err k) (Err x)) e (same_refl (Err k))
 
       by_test : (b c : Bool) → b ≡ c → (t u : T) → alphabet.class t ≡ alphabet.class u → SameRefusal {A = A} (cond b (Ok (value t)) (Err (refusal (alphabet.class t)))) (cond c (Ok (value u)) (Err (refusal (alphabet.class u))))
       by_test true c e t u d = tt
@@ -255,7 +255,7 @@ module _ {T : Type 0} (alphabet : Alphabet T) where
       by_test false false e t u d = refused_alike (refusal (alphabet.class t)) (refusal (alphabet.class u)) (ap refusal d)
 
   -- a token that passes a test, of classes that write no number
-  pub exact_rule : {A : Type 0} (refusal : ℕ → FaultKind) → ((n : ℕ) → refusal n ≡ Number → ⊥) → ((n : ℕ) → refusal n ≡ Limit → ⊥) → (wanted : List ℕ) → disjoint alphabet.numerals wanted ≡ true → (test : T → Bool) (value : T → A) (sample : T) → among alphabet wanted sample ≡ true → test sample ≡ true → alphabet.Real sample
+  pub exact_rule : {A : Type 0} (refusal : ℕ → TokenFault) → ((n : ℕ) → refusal n ≡ Number → ⊥) → ((n : ℕ) → refusal n ≡ Limit → ⊥) → (wanted : List ℕ) → disjoint alphabet.numerals wanted ≡ true → (test : T → Bool) (value : T → A) (sample : T) → among alphabet wanted sample ≡ true → test sample ≡ true → alphabet.Real sample
       → Rule alphabet (form.token (is_exact alphabet refusal wanted test value)) (form.token (is_exact alphabet refusal wanted test value)) (token_at (is_exact alphabet refusal wanted test value)) wanted [] false
   unfolding is_exact
   exact_rule {A} refusal not_number not_limit wanted none test value sample s q rl = record {
@@ -269,15 +269,15 @@ module _ {T : Type 0} (alphabet : Alphabet T) where
         sample (value sample) (both_true (among alphabet wanted sample) (test sample) (value sample) (refusal (alphabet.class sample)) s q) rl;
   }
     where
-      both_true : (b c : Bool) (a : A) (k : FaultKind) → b ≡ true → c ≡ true → cond (b && c) (Ok a) (Err k) ≡ Ok a
+      both_true : (b c : Bool) (a : A) (k : TokenFault) → b ≡ true → c ≡ true → cond (b && c) (Ok a) (Err k) ≡ Ok a
       both_true true true a k p q = refl
       both_true true false a k p q = absurd cc
       both_true false c a k p q = absurd cc
 
-      refused : (b c : Bool) (a : A) (k : FaultKind) (b' c' : Bool) (a' : A) (k' : FaultKind) → b ≡ false → b' ≡ false → k ≡ k' → SameRefusal {A = A} (cond (b && c) (Ok a) (Err k)) (cond (b' && c') (Ok a') (Err k'))
+      refused : (b c : Bool) (a : A) (k : TokenFault) (b' c' : Bool) (a' : A) (k' : TokenFault) → b ≡ false → b' ≡ false → k ≡ k' → SameRefusal {A = A} (cond (b && c) (Ok a) (Err k)) (cond (b' && c') (Ok a') (Err k'))
       refused true c a k b' c' a' k' p q e = absurd cc
       refused false c a k true c' a' k' p q e = absurd cc
-      refused false c a k false c' a' k' p q e = subst (λ (x : FaultKind). SameRefusal {A = A} (Err k) (Err x)) e (same_refl (Err k))
+      refused false c a k false c' a' k' p q e = subst (λ (x : TokenFault). SameRefusal {A = A} (Err k) (Err x)) e (same_refl (Err k))
 
   -- the same in wider sets
   pub broader : {A : Type 0} {g wide : Form T A} {f : Reader T A} {xs ms : List ℕ} {e : Bool} (xs' ms' : List ℕ) → Rule alphabet g wide f xs ms e → subset xs xs' ≡ true → subset ms ms' ≡ true → Rule alphabet g wide f xs' ms' e
@@ -286,7 +286,7 @@ module _ {T : Type 0} (alphabet : Alphabet T) where
 
   -- ---- a token of several classes that may write a number
 
-  pub valued_rule : {A : Type 0} (refusal : ℕ → FaultKind) → ((n : ℕ) → refusal n ≡ Number → ⊥) → ((n : ℕ) → refusal n ≡ Limit → ⊥) → (wanted : List ℕ) (value : T → Option A)
+  pub valued_rule : {A : Type 0} (refusal : ℕ → TokenFault) → ((n : ℕ) → refusal n ≡ Number → ⊥) → ((n : ℕ) → refusal n ≡ Limit → ⊥) → (wanted : List ℕ) (value : T → Option A)
       → ((t : T) → among alphabet wanted t ≡ true → value t ≡ None → IsWithin alphabet wanted value t) → (sample : T) (b : A) → among alphabet wanted sample ≡ true → value sample ≡ Some b → alphabet.Real sample
       → Rule alphabet (form.token (is_valued alphabet refusal wanted value)) (form.token (is_valued alphabet refusal wanted value)) (token_at (is_valued alphabet refusal wanted value)) wanted [] false
   unfolding is_valued
@@ -304,11 +304,11 @@ module _ {T : Type 0} (alphabet : Alphabet T) where
       is_ok : (t : T) (a : A) → among alphabet wanted t ≡ true → value t ≡ Some a → is_valued alphabet refusal wanted value t ≡ Ok a
       is_ok t a p q = ap (λ (c : Bool). cond c (in_range (value t)) (Err (refusal (alphabet.class t)))) p ∙ ap in_range q
 
-      begins : (c : Bool) (o : Option A) (a : A) (k : FaultKind) → cond c (in_range o) (Err k) ≡ Ok a → c ≡ true
+      begins : (c : Bool) (o : Option A) (a : A) (k : TokenFault) → cond c (in_range o) (Err k) ≡ Ok a → c ≡ true
       begins true o a k h = refl
       begins false o a k h = absurd cc
 
-      never : (c : Bool) (o : Option A) (k : FaultKind) → (k ≡ Limit → ⊥) → cond c (in_range o) (Err k) ≡ refuse {A = A} Limit → ⊥
+      never : (c : Bool) (o : Option A) (k : TokenFault) → (k ≡ Limit → ⊥) → cond c (in_range o) (Err k) ≡ refuse {A = A} Limit → ⊥
       never true None k p e = cc
       never true (Some a) k p e = cc
       never false o k p e = p (err_is {A = A} k Limit e)
@@ -320,20 +320,20 @@ module _ {T : Type 0} (alphabet : Alphabet T) where
       by_range t true (Some a) p q e = absurd cc
       by_range t false o p q e = absurd (not_number (alphabet.class t) (err_is {A = A} (refusal (alphabet.class t)) Number e))
 
-      refused_alike : (k l : FaultKind) → k ≡ l → SameRefusal {A = A} (Err k) (Err l)
-      refused_alike k l e = subst (λ (x : FaultKind). SameRefusal {A = A} (Err k) (Err x)) e (same_refl (Err k))
+      refused_alike : (k l : TokenFault) → k ≡ l → SameRefusal {A = A} (Err k) (Err l)
+      refused_alike k l e = subst (λ (x : TokenFault). SameRefusal {A = A} (Err k) (Err x)) e (same_refl (Err k))
 
-      by_test : (c d : Bool) → c ≡ d → (o p : Option A) (k l : FaultKind) → k ≡ l → SameRefusal {A = A} (cond c (in_range o) (Err k)) (cond d (in_range p) (Err l))
+      by_test : (c d : Bool) → c ≡ d → (o p : Option A) (k l : TokenFault) → k ≡ l → SameRefusal {A = A} (cond c (in_range o) (Err k)) (cond d (in_range p) (Err l))
       by_test true d e None p k l h = tt
       by_test true d e (Some a) p k l h = tt
       by_test false true e o p k l h = absurd cc
       by_test false false e o p k l h = refused_alike k l h
 
-  abbrev good : {A : Type 0} → A → Result A FaultKind
+  abbrev good : {A : Type 0} → A → Result A TokenFault
   good x = Ok x
 
   -- a name of several classes, whatever number it writes
-  pub any_broad : {A : Type 0} (refusal : ℕ → FaultKind) (wanted : List ℕ) (value : T → Option A) (any : T → A) → ((t : T) (a : A) → value t ≡ Some a → a ≡ any t) → disjoint wanted alphabet.literals ≡ true → Broad alphabet (form.token (is_among alphabet refusal wanted any)) (token_at (is_valued alphabet refusal wanted value)) (among alphabet wanted) (among alphabet []) false
+  pub any_broad : {A : Type 0} (refusal : ℕ → TokenFault) (wanted : List ℕ) (value : T → Option A) (any : T → A) → ((t : T) (a : A) → value t ≡ Some a → a ≡ any t) → disjoint wanted alphabet.literals ≡ true → Broad alphabet (form.token (is_among alphabet refusal wanted any)) (token_at (is_valued alphabet refusal wanted value)) (among alphabet wanted) (among alphabet []) false
   unfolding is_among is_valued
   any_broad {A} refusal wanted value any same' names = record { starts = starts; nothing = λ a s. absurd s; reads = λ front rest a s d. reads front rest a s }
     where
@@ -362,10 +362,10 @@ module _ {T : Type 0} (alphabet : Alphabet T) where
 
   -- ---- tokens that begin something of a form
 
-  abbrev fine : Unit {0} → Result (Unit {0}) FaultKind
+  abbrev fine : Unit {0} → Result (Unit {0}) TokenFault
   fine u = Ok u
 
-  class_is_fine : (k : FaultKind) (b : Bool) → b || false ≡ true → cond b (fine tt) (Err k) ≡ fine tt
+  class_is_fine : (k : TokenFault) (b : Bool) → b || false ≡ true → cond b (fine tt) (Err k) ≡ fine tt
   class_is_fine k true h = refl
   class_is_fine k false h = absurd cc
 
@@ -376,11 +376,11 @@ module _ {T : Type 0} (alphabet : Alphabet T) where
     | inr r ↦ elim (contains-parts xs ys n r) [ inl p ↦ inl (or_intro (nat_eq n x) (contains xs n) (inr p)) | inr q ↦ inr q ]
   ]
 
-  pub opens_class : (refusal : ℕ → FaultKind) (wanted : ℕ) → Opens alphabet (wanted ∷ []) (form.token (is_class alphabet refusal wanted))
+  pub opens_class : (refusal : ℕ → TokenFault) (wanted : ℕ) → Opens alphabet (wanted ∷ []) (form.token (is_class alphabet refusal wanted))
   unfolding is_class
   opens_class refusal wanted t h = ([], tt, class_is_fine (refusal (alphabet.class t)) (nat_eq (alphabet.class t) wanted) h, tt)
 
-  pub opens_among : {A : Type 0} (refusal : ℕ → FaultKind) (wanted : List ℕ) (value : T → A) → Opens alphabet wanted (form.token (is_among alphabet refusal wanted value))
+  pub opens_among : {A : Type 0} (refusal : ℕ → TokenFault) (wanted : List ℕ) (value : T → A) → Opens alphabet wanted (form.token (is_among alphabet refusal wanted value))
   unfolding is_among
   opens_among refusal wanted value t h = ([], value t, ap (λ (b : Bool). cond b (Ok (value t)) (Err (refusal (alphabet.class t)))) h, tt)
 

@@ -2,8 +2,8 @@
 use Rattle.std.proofs.Common.{◌≡◌, ℕ, true, false, List, [], ◌∷◌, ◌++◌, length, Result, Ok, Err, refl, sym, ap, subst, arith, inl}
 use Rattle.std.proofs.lemmas.List.{length-append}
 use Rattle.ir_read.specs.declared.fault.Fault.{Fault}
-use Rattle.ir_read.specs.declared.fault.FaultKind.{FaultKind}
-use Rattle.ir_read.specs.declared.fault.FaultKind.TheVariants.{Syntax, Number, Limit}
+use Rattle.ir_read.specs.declared.fault.TokenFault.{TokenFault}
+use Rattle.ir_read.specs.declared.fault.TokenFault.TheVariants.{Syntax, Number, Limit}
 use Rattle.ir_read.specs.Alphabet.{Alphabet, is_literal, is_number}
 use Rattle.ir_read.specs.Lawful.{Lawful, GoesOn, Swapped, ends}
 use Rattle.ir_read.specs.Readers.{fault_at}
@@ -60,26 +60,26 @@ module _ {T S : Type 0} (alphabet : Alphabet T) (step : S → T → Step S) (hav
           }
 
   -- a reading takes a token at least
-  not_here : (s : S) (ts : List T) (t : T) (o : Result (Unit {0}) FaultKind) → run_at step s ts ≡ ends o (t ∷ ts) → ⊥
+  not_here : (s : S) (ts : List T) (t : T) (o : Result (Unit {0}) TokenFault) → run_at step s ts ≡ ends o (t ∷ ts) → ⊥
   not_here s ts t (Ok u) h = let r = sound_run s ts (t ∷ ts) u h in omega (arith, ap length r.1, length-append r.0 (t ∷ ts))
   not_here s ts t (Err k) h = let v = viable_run s ts (record { left = length (t ∷ ts); kind = k }) h in omega (arith, ap length v.whole, v.here, length-append v.front v.rest)
 
-  not_so_long : (o : Result (Unit {0}) FaultKind) (front : List T) (v t : T) (rest : List T) → fault_at Syntax (v ∷ (front ++ t ∷ rest)) ≡ ends o (t ∷ rest) → ⊥
+  not_so_long : (o : Result (Unit {0}) TokenFault) (front : List T) (v t : T) (rest : List T) → fault_at Syntax (v ∷ (front ++ t ∷ rest)) ≡ ends o (t ∷ rest) → ⊥
   not_so_long (Ok u) front v t rest h = cc
   not_so_long (Err k) front v t rest h = omega (arith, ap (λ (x : Fault). x.left) (wrong_is (record { left = length (v ∷ (front ++ t ∷ rest)); kind = Syntax }) (record { left = length (t ∷ rest); kind = k }) h), length-append front (t ∷ rest))
 
-  local_last : (front : List T) (t : T) (rest rest' : List T) (o : Result (Unit {0}) FaultKind) → reads tt (front ++ t ∷ rest) ≡ ends o (t ∷ rest) → reads tt (front ++ t ∷ rest') ≡ ends o (t ∷ rest')
+  local_last : (front : List T) (t : T) (rest rest' : List T) (o : Result (Unit {0}) TokenFault) → reads tt (front ++ t ∷ rest) ≡ ends o (t ∷ rest) → reads tt (front ++ t ∷ rest') ≡ ends o (t ∷ rest')
   local_last front t rest rest' (Ok u) h =
       let c = cut_is front (t ∷ rest) [] (t ∷ rest) (reads_is tt u (front ++ t ∷ rest) (t ∷ rest) h).1 refl in
       ap (λ (x : List T). reads tt (x ++ t ∷ rest')) c.0
   local_last front t rest rest' (Err k) h = absurd cc
 
-  local_run : (s : S) (front : List T) (t : T) (rest rest' : List T) (o : Result (Unit {0}) FaultKind) → run_at step s (front ++ t ∷ rest) ≡ ends o (t ∷ rest) → run_at step s (front ++ t ∷ rest') ≡ ends o (t ∷ rest')
+  local_run : (s : S) (front : List T) (t : T) (rest rest' : List T) (o : Result (Unit {0}) TokenFault) → run_at step s (front ++ t ∷ rest) ≡ ends o (t ∷ rest) → run_at step s (front ++ t ∷ rest') ≡ ends o (t ∷ rest')
   local_run s [] t rest rest' o h = by_step (step s t) o h
     where
-      by_step : (p : Step S) (o : Result (Unit {0}) FaultKind) → read p t rest ≡ ends o (t ∷ rest) → read p t rest' ≡ ends o (t ∷ rest')
+      by_step : (p : Step S) (o : Result (Unit {0}) TokenFault) → read p t rest ≡ ends o (t ∷ rest) → read p t rest' ≡ ends o (t ∷ rest')
       by_step bad (Ok u) h = absurd cc
-      by_step bad (Err k) h = ap (λ (x : FaultKind). fault_at x (t ∷ rest')) (ap (λ (x : Fault). x.kind) (wrong_is (record { left = length (t ∷ rest); kind = Syntax }) (record { left = length (t ∷ rest); kind = k }) h))
+      by_step bad (Err k) h = ap (λ (x : TokenFault). fault_at x (t ∷ rest')) (ap (λ (x : Fault). x.kind) (wrong_is (record { left = length (t ∷ rest); kind = Syntax }) (record { left = length (t ∷ rest); kind = k }) h))
       by_step last (Ok u) h = absurd (omega (arith, ap length (reads_is tt u rest (t ∷ rest) h).1))
       by_step last (Err k) h = absurd cc
       by_step (onward next) o h = absurd (not_here next rest t o h)
@@ -91,16 +91,16 @@ module _ {T S : Type 0} (alphabet : Alphabet T) (step : S → T → Step S) (hav
       by_step last again h = local_last front t rest rest' o h
       by_step (onward next) again h = again next h
 
-  swap_last : (front : List T) (t u : T) (rest rest' : List T) (o : Result (Unit {0}) FaultKind) → reads tt (front ++ t ∷ rest) ≡ ends o (t ∷ rest) → Swapped (is_literal alphabet t) o (reads tt (front ++ u ∷ rest')) u rest'
+  swap_last : (front : List T) (t u : T) (rest rest' : List T) (o : Result (Unit {0}) TokenFault) → reads tt (front ++ t ∷ rest) ≡ ends o (t ∷ rest) → Swapped (is_literal alphabet t) o (reads tt (front ++ u ∷ rest')) u rest'
   swap_last front t u rest rest' (Ok x) h =
       let c = cut_is front (t ∷ rest) [] (t ∷ rest) (reads_is tt x (front ++ t ∷ rest) (t ∷ rest) h).1 refl in
       ap (λ (y : List T). reads tt (y ++ u ∷ rest')) c.0
   swap_last front t u rest rest' (Err k) h = absurd cc
 
-  swap_run : (s : S) (front : List T) (t u : T) (rest rest' : List T) (o : Result (Unit {0}) FaultKind) → is_number alphabet t ≡ true → alphabet.class u ≡ alphabet.class t → run_at step s (front ++ t ∷ rest) ≡ ends o (t ∷ rest) → Swapped (is_literal alphabet t) o (run_at step s (front ++ u ∷ rest')) u rest'
+  swap_run : (s : S) (front : List T) (t u : T) (rest rest' : List T) (o : Result (Unit {0}) TokenFault) → is_number alphabet t ≡ true → alphabet.class u ≡ alphabet.class t → run_at step s (front ++ t ∷ rest) ≡ ends o (t ∷ rest) → Swapped (is_literal alphabet t) o (run_at step s (front ++ u ∷ rest')) u rest'
   swap_run s [] t u rest rest' o n n' h = by_step (step s t) refl o h
     where
-      by_step : (p : Step S) → step s t ≡ p → (o : Result (Unit {0}) FaultKind) → read p t rest ≡ ends o (t ∷ rest) → Swapped (is_literal alphabet t) o (run_at step s (u ∷ rest')) u rest'
+      by_step : (p : Step S) → step s t ≡ p → (o : Result (Unit {0}) TokenFault) → read p t rest ≡ ends o (t ∷ rest) → Swapped (is_literal alphabet t) o (run_at step s (u ∷ rest')) u rest'
       by_step bad d o h = absurd (have.number_fits s t n d)
       by_step last d (Ok x) h = absurd (omega (arith, ap length (reads_is tt x rest (t ∷ rest) h).1))
       by_step last d (Err k) h = absurd cc
@@ -114,7 +114,7 @@ module _ {T S : Type 0} (alphabet : Alphabet T) (step : S → T → Step S) (hav
       by_step (onward next) again h = again next h
 
   -- no fault is of another kind
-  only_syntax : (kind : FaultKind) → (Syntax ≡ kind → ⊥) → (s : S) (ts : List T) (left : ℕ) → run_at step s ts ≡ wrong {X = Unit {0} × List T} (record { left = left; kind = kind }) → ⊥
+  only_syntax : (kind : TokenFault) → (Syntax ≡ kind → ⊥) → (s : S) (ts : List T) (left : ℕ) → run_at step s ts ≡ wrong {X = Unit {0} × List T} (record { left = left; kind = kind }) → ⊥
   only_syntax kind never s [] left h = never (ap (λ (x : Fault). x.kind) (wrong_is (record { left = 0; kind = Syntax }) (record { left = left; kind = kind }) h))
   only_syntax kind never s (t ∷ ts) left h = by_step (step s t) (λ next. only_syntax kind never next ts left) h
     where

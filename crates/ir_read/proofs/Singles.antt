@@ -12,8 +12,8 @@ use Rattle.ir_lex.specs.Quotes.{is_zero_name}
 use Rattle.ir_lex.specs.Rows.{best_fit, rest_fit, label_len, number_len, word_len, name_len, meta_len, dots_len, other_len, string_len}
 use Rattle.ir_lex.specs.Tok.{Tok}
 use Rattle.ir_read.specs.Alphabet.{contains, among}
-use Rattle.ir_read.specs.declared.fault.FaultKind.{FaultKind}
-use Rattle.ir_read.specs.declared.fault.FaultKind.TheVariants.{Syntax, Profile, Number, Limit}
+use Rattle.ir_read.specs.declared.fault.TokenFault.{TokenFault}
+use Rattle.ir_read.specs.declared.fault.TokenFault.TheVariants.{Syntax, Profile, Number, Limit}
 use Rattle.ir_read.specs.Rules.{Rule, Opens, is_class}
 use Rattle.ir_read.proofs.Rules as rules
 use Rattle.ir_read.specs.Classes.{tokens, IsReal, REFUSED, refusal, the, the_at, one_of, one_of_at}
@@ -28,7 +28,7 @@ mark = sample kinds.Other
 abbrev pub word : Head → List ℕ → Tok
 word = sample kinds.Word
 
-abbrev by_refused : Bool → FaultKind
+abbrev by_refused : Bool → TokenFault
 by_refused b = cond b Profile Syntax
 
 pub not_number : (n : ℕ) → refusal n ≡ Number → ⊥

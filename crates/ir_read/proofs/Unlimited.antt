@@ -2,7 +2,7 @@
 use Rattle.std.proofs.Common.{◌≡◌, ℕ, zero, suc, ◌+◌, ◌≤◌, Bool, true, false, ◌||◌, List, [], ◌∷◌, ◌++◌, length, Result, Ok, Err, refl, sym, ap, subst, ◌∙◌, arith, inl, inr}
 use Rattle.std.proofs.lemmas.List.{append-nil, length-append}
 use Rattle.ir_read.specs.declared.fault.Fault.{Fault}
-use Rattle.ir_read.specs.declared.fault.FaultKind.{FaultKind}
+use Rattle.ir_read.specs.declared.fault.TokenFault.{TokenFault}
 use Rattle.ir_read.specs.Alphabet.{Alphabet, is_literal, is_number}
 use Rattle.ir_read.specs.Forms as form
 use Rattle.ir_read.specs.Forms.{Form, Many, Star}
@@ -144,13 +144,13 @@ module _ {T : Type 0} (alphabet : Alphabet T) {A : Type 0} (g wide : Form T A) (
     };
   }
     where
-      local_all : (front : List T) (t : T) (rest rest' : List T) (o : Result (List A) FaultKind) → star_at begins f (front ++ t ∷ rest) ≡ ends o (t ∷ rest) → star_at begins f (front ++ t ∷ rest') ≡ ends o (t ∷ rest')
+      local_all : (front : List T) (t : T) (rest rest' : List T) (o : Result (List A) TokenFault) → star_at begins f (front ++ t ∷ rest) ≡ ends o (t ∷ rest) → star_at begins f (front ++ t ∷ rest') ≡ ends o (t ∷ rest')
       local_all front t rest rest' o d =
           let n : ℕ = length (front ++ t ∷ rest) + length (front ++ t ∷ rest') in
           let one = (first_lawful n).local front t rest rest' o (are_first n (front ++ t ∷ rest) (omega arith) ∙ d) in
           sym (are_first n (front ++ t ∷ rest') (omega arith)) ∙ one
 
-      swap_all : (front : List T) (t u : T) (rest rest' : List T) (o : Result (List A) FaultKind) → is_number alphabet t ≡ true → alphabet.class u ≡ alphabet.class t → star_at begins f (front ++ t ∷ rest) ≡ ends o (t ∷ rest) → Swapped (is_literal alphabet t) o (star_at begins f (front ++ u ∷ rest')) u rest'
+      swap_all : (front : List T) (t u : T) (rest rest' : List T) (o : Result (List A) TokenFault) → is_number alphabet t ≡ true → alphabet.class u ≡ alphabet.class t → star_at begins f (front ++ t ∷ rest) ≡ ends o (t ∷ rest) → Swapped (is_literal alphabet t) o (star_at begins f (front ++ u ∷ rest')) u rest'
       swap_all front t u rest rest' o n n' d =
           let m : ℕ = length (front ++ t ∷ rest) + length (front ++ u ∷ rest') in
           let one = (first_lawful m).swap front t u rest rest' o n n' (are_first m (front ++ t ∷ rest) (omega arith) ∙ d) in

@@ -3,8 +3,8 @@ use Rattle.std.proofs.Common.{◌≡◌, ℕ, Bool, false, List, [], ◌∷◌, 
 use Rattle.std.specs.Prelude.{IfOk, IfErr}
 use Rattle.std.proofs.lemmas.List.{append-nil}
 use Rattle.ir_read.specs.declared.fault.Fault.{Fault}
-use Rattle.ir_read.specs.declared.fault.FaultKind.{FaultKind}
-use Rattle.ir_read.specs.declared.fault.FaultKind.TheVariants.{Syntax, Profile, Number, Limit}
+use Rattle.ir_read.specs.declared.fault.TokenFault.{TokenFault}
+use Rattle.ir_read.specs.declared.fault.TokenFault.TheVariants.{Syntax, Profile, Number, Limit}
 use Rattle.ir_tree.specs.declared.failure.Failure.{Failure}
 use Rattle.ir_tree.specs.declared.failure.Failure.TheVariants as errors
 use Rattle.ir_read.specs.Alphabet.{Alphabet, is_literal}
@@ -16,7 +16,7 @@ use Rattle.ir_read.specs.Readers.{Reader, fault_at, Gives, ended, whole_of}
 use Rattle.ir_read.proofs.Composed.{reads, reads_is, wrong, wrong_is, right, right_is, cut_is}
 
 module _ {T : Type 0} (alphabet : Alphabet T) where
-  module _ {A : Type 0} (g wide : Form T A) (f : Reader T A) (first more : T → Bool) (empty : Bool) (extra : T → FaultKind) (not_number : (t : T) → extra t ≡ Number → ⊥) (law : Lawful alphabet g wide f first more empty) where
+  module _ {A : Type 0} (g wide : Form T A) (f : Reader T A) (first more : T → Bool) (empty : Bool) (extra : T → TokenFault) (not_number : (t : T) → extra t ≡ Number → ⊥) (law : Lawful alphabet g wide f first more empty) where
     pub reads_all : (ts : List T) (a : A) → g ts a → f ts ≡ reads a []
     reads_all ts a s = ap f (sym (append-nil ts)) ∙ law.complete ts [] a s tt
 
@@ -37,7 +37,7 @@ module _ {T : Type 0} (alphabet : Alphabet T) where
     pub whole_sound : (ts : List T) (b : A) → whole_of extra (f ts) ≡ right b → g ts b
     whole_sound ts b d = by_result ts b (f ts) refl d
 
-    pub dead_err : (front rest : List T) (k : FaultKind) → f (front ++ rest) ≡ fault_at k rest → Dead g front rest
+    pub dead_err : (front rest : List T) (k : TokenFault) → f (front ++ rest) ≡ fault_at k rest → Dead g front rest
     dead_err front [] k h = λ a s. apart a (sym (reads_all front a s) ∙ ap f (sym (append-nil front)) ∙ h)
       where
         apart : (a : A) → reads {T = T} a [] ≡ fault_at k [] → ⊥
@@ -108,7 +108,7 @@ module _ {T : Type 0} (alphabet : Alphabet T) where
 
     -- ---- the kind
 
-    swapped_dead : (front : List T) (u : T) → ((rest' : List T) → (r : Result A FaultKind) × (f (front ++ u ∷ rest') ≡ ends r (u ∷ rest'))) → Extends g (front ++ u ∷ []) → ⊥
+    swapped_dead : (front : List T) (u : T) → ((rest' : List T) → (r : Result A TokenFault) × (f (front ++ u ∷ rest') ≡ ends r (u ∷ rest'))) → Extends g (front ++ u ∷ []) → ⊥
     swapped_dead front u h v =
         let regrouped : (front ++ u ∷ []) ++ v.0 ≡ front ++ u ∷ v.0 = append_assoc front (u ∷ []) v.0 in
         let one : f (front ++ u ∷ v.0) ≡ reads v.1 [] = ap f (sym regrouped) ∙ reads_all ((front ++ u ∷ []) ++ v.0) v.1 v.2 in
@@ -118,17 +118,17 @@ module _ {T : Type 0} (alphabet : Alphabet T) where
         never : (us : List T) → [] ≡ u ∷ us → ⊥
         never us e = cc
 
-        apart : (a : A) (us : List T) (r : Result A FaultKind) → reads a [] ≡ ends r (u ∷ us) → ⊥
+        apart : (a : A) (us : List T) (r : Result A TokenFault) → reads a [] ≡ ends r (u ∷ us) → ⊥
         apart a us (Ok b) e = never us (reads_is a b [] (u ∷ us) e).1
         apart a us (Err k) e = cc
 
-    of_swapped : (literal : Bool) (k : FaultKind) (r : Result (A × List T) Fault) (u : T) (rest : List T) → (k ≡ Number → ⊥) → (k ≡ Limit → literal ≡ false) → Swapped {A = A} literal (Err k) r u rest → (o : Result A FaultKind) × (r ≡ ends o (u ∷ rest))
+    of_swapped : (literal : Bool) (k : TokenFault) (r : Result (A × List T) Fault) (u : T) (rest : List T) → (k ≡ Number → ⊥) → (k ≡ Limit → literal ≡ false) → Swapped {A = A} literal (Err k) r u rest → (o : Result A TokenFault) × (r ≡ ends o (u ∷ rest))
     of_swapped literal Number r u rest never named s = absurd (never refl)
     of_swapped literal Syntax r u rest never named s = (Err s.0, s.1)
     of_swapped literal Profile r u rest never named s = (Err s.0, s.1)
     of_swapped literal Limit r u rest never named s = let w = s (named refl) in (Err w.0, w.1)
 
-    no_number_err : (ts : List T) (left : ℕ) (k : FaultKind) → (k ≡ Number → ⊥) → (k ≡ Limit → ⊥) → f ts ≡ wrong (record { left = left; kind = k }) → NoNumberGoesOn alphabet g ts left
+    no_number_err : (ts : List T) (left : ℕ) (k : TokenFault) → (k ≡ Number → ⊥) → (k ≡ Limit → ⊥) → f ts ≡ wrong (record { left = left; kind = k }) → NoNumberGoesOn alphabet g ts left
     no_number_err ts left k never bounded h front t rest whole here n u m =
         swapped_dead front u (λ rest'. of_swapped (is_literal alphabet t) k (f (front ++ u ∷ rest')) u rest' never (λ e. absurd (bounded e)) (law.swap front t u rest rest' (Err k) n m (ap f (sym whole) ∙ h ∙ ap (λ (l : ℕ). wrong (record { left = l; kind = k })) (sym here))))
 
@@ -145,18 +145,18 @@ module _ {T : Type 0} (alphabet : Alphabet T) where
     kind_err : (ts : List T) (e : Fault) → f ts ≡ wrong e → FitsKind alphabet g ts e.left e.kind
     kind_err ts e h = by_kind e.kind refl
       where
-        by_kind : (k : FaultKind) → e.kind ≡ k → FitsKind alphabet g ts e.left k
-        by_kind Number d = law.number ts e.left (h ∙ ap (λ (k : FaultKind). wrong (record { left = e.left; kind = k })) d)
-        by_kind Syntax d = no_number_err ts e.left Syntax (λ x. cc) (λ x. cc) (h ∙ ap (λ (k : FaultKind). wrong (record { left = e.left; kind = k })) d)
-        by_kind Profile d = no_number_err ts e.left Profile (λ x. cc) (λ x. cc) (h ∙ ap (λ (k : FaultKind). wrong (record { left = e.left; kind = k })) d)
-        by_kind Limit d = no_name_err ts e.left (h ∙ ap (λ (k : FaultKind). wrong (record { left = e.left; kind = k })) d)
+        by_kind : (k : TokenFault) → e.kind ≡ k → FitsKind alphabet g ts e.left k
+        by_kind Number d = law.number ts e.left (h ∙ ap (λ (k : TokenFault). wrong (record { left = e.left; kind = k })) d)
+        by_kind Syntax d = no_number_err ts e.left Syntax (λ x. cc) (λ x. cc) (h ∙ ap (λ (k : TokenFault). wrong (record { left = e.left; kind = k })) d)
+        by_kind Profile d = no_number_err ts e.left Profile (λ x. cc) (λ x. cc) (h ∙ ap (λ (k : TokenFault). wrong (record { left = e.left; kind = k })) d)
+        by_kind Limit d = no_name_err ts e.left (h ∙ ap (λ (k : TokenFault). wrong (record { left = e.left; kind = k })) d)
 
     kind_ended : (ts rest : List T) (a : A) (e : Fault) → f ts ≡ reads a rest → ended extra a rest ≡ wrong e → FitsKind alphabet g ts e.left e.kind
     kind_ended ts [] a e h d = absurd cc
     kind_ended ts (t ∷ rest) a e h d =
         subst (λ (x : Fault). FitsKind alphabet g ts x.left x.kind) (wrong_is (record { left = length (t ∷ rest); kind = extra t }) e d) (by_kind (extra t) (not_number t))
       where
-        by_kind : (k : FaultKind) → (k ≡ Number → ⊥) → FitsKind alphabet g ts (length (t ∷ rest)) k
+        by_kind : (k : TokenFault) → (k ≡ Number → ⊥) → FitsKind alphabet g ts (length (t ∷ rest)) k
         by_kind Number never = absurd (never refl)
         by_kind Syntax never = no_number_ok ts t rest a h
         by_kind Profile never = no_number_ok ts t rest a h

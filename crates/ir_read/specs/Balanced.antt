@@ -1,7 +1,7 @@
 -- Balanced groups, without recursion: the brackets that are open are a list.
 use Rattle.std.specs.Prelude.{◌≡◌, Bool, true, false, if◌then◌else◌, Option, Some, None, Result, Ok, List, [], ◌∷◌}
 use Rattle.ir_read.specs.declared.fault.Fault.{Fault}
-use Rattle.ir_read.specs.declared.fault.FaultKind.TheVariants.{Syntax}
+use Rattle.ir_read.specs.declared.fault.TokenFault.TheVariants.{Syntax}
 use Rattle.ir_read.specs.Alphabet.{Alphabet, is_number}
 use Rattle.ir_read.specs.Forms.{Form}
 use Rattle.ir_read.specs.Readers.{Reader, fault_at}

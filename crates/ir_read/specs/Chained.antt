@@ -1,6 +1,6 @@
 -- Pieces of a form one behind another, where each leaves a state for the next: lists that nest without recursion.
 use Rattle.std.specs.Prelude.{◌≡◌, ℕ, zero, suc, Bool, true, ◌&&◌, not, if◌then◌else◌, List, [], ◌∷◌, ◌++◌, length}
-use Rattle.ir_read.specs.declared.fault.FaultKind.TheVariants.{Syntax}
+use Rattle.ir_read.specs.declared.fault.TokenFault.TheVariants.{Syntax}
 use Rattle.ir_read.specs.Forms.{Form}
 use Rattle.ir_read.specs.Readers.{Reader, fault_at, done, ◌>>=◌, next_is}
 

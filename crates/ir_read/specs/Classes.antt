@@ -7,8 +7,8 @@ use Rattle.ir_lex.specs.Lexing.{is_bad}
 use Rattle.ir_lex.specs.Rows.{best_fit, fit}
 use Rattle.ir_lex.specs.Tok.{Tok}
 use Rattle.ir_read.specs.Alphabet.{Alphabet, contains}
-use Rattle.ir_read.specs.declared.fault.FaultKind.{FaultKind}
-use Rattle.ir_read.specs.declared.fault.FaultKind.TheVariants.{Syntax, Profile}
+use Rattle.ir_read.specs.declared.fault.TokenFault.{TokenFault}
+use Rattle.ir_read.specs.declared.fault.TokenFault.TheVariants.{Syntax, Profile}
 use Rattle.ir_read.specs.Forms.{Form, token}
 use Rattle.ir_read.specs.Readers.{Reader, token_at}
 use Rattle.ir_read.specs.Rules.{is_class, is_among}
@@ -36,7 +36,7 @@ tokens = record { class = λ t. number t.head; numerals = NUMERALS; literals = L
 abbrev pub REFUSED : List ℕ
 REFUSED = number heads.ReservedGlobal ∷ number heads.LifetimeMarker ∷ number heads.RefusedMark ∷ number heads.RefusedInteger ∷ number heads.RefusedAttribute ∷ number heads.RefusedWord ∷ []
 
-abbrev pub refusal : ℕ → FaultKind
+abbrev pub refusal : ℕ → TokenFault
 refusal class = if contains REFUSED class then Profile else Syntax
 
 -- a token of this class

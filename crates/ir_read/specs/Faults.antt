@@ -1,8 +1,8 @@
 -- The first token at which no reading goes on, and the kind of a fault there.
 use Rattle.std.specs.Prelude.{◌≡◌, ℕ, true, false, List, [], ◌∷◌, ◌++◌, length}
 use Rattle.ir_read.specs.declared.fault.Fault.{Fault}
-use Rattle.ir_read.specs.declared.fault.FaultKind.{FaultKind}
-use Rattle.ir_read.specs.declared.fault.FaultKind.TheVariants.{Syntax, Profile, Number, Limit}
+use Rattle.ir_read.specs.declared.fault.TokenFault.{TokenFault}
+use Rattle.ir_read.specs.declared.fault.TokenFault.TheVariants.{Syntax, Profile, Number, Limit}
 use Rattle.ir_tree.specs.declared.failure.Failure.{Failure}
 use Rattle.ir_tree.specs.declared.failure.Failure.TheVariants as errors
 use Rattle.ir_read.specs.Alphabet.{Alphabet, AllReal, is_literal, is_number}
@@ -57,7 +57,7 @@ module _ {T : Type 0} (alphabet : Alphabet T) where
 
   -- a fault is a number out of range only where a token that writes another, of the same class, goes on there; where one does, it is
   -- that, or of a literal a limit
-  abbrev pub FitsKind : {A : Type 0} → Form T A → List T → ℕ → FaultKind → Type 0
+  abbrev pub FitsKind : {A : Type 0} → Form T A → List T → ℕ → TokenFault → Type 0
   FitsKind g ts left Number = NumberGoesOn g ts left
   FitsKind g ts left Syntax = NoNumberGoesOn g ts left
   FitsKind g ts left Profile = NoNumberGoesOn g ts left
@@ -85,7 +85,7 @@ module _ {T : Type 0} (alphabet : Alphabet T) where
       (front : List T) (t : T) (rest : List T) → ts ≡ front ++ t ∷ rest → length (t ∷ rest) ≡ left → is_literal alphabet t ≡ true → Extends wide (front ++ t ∷ []) → ⊥
 
   -- without the limits none goes on with the token, unless the fault is of a limit, or of a name whose number is out of range
-  abbrev pub FitsBound : {A : Type 0} → Form T A → List T → ℕ → FaultKind → Type 0
+  abbrev pub FitsBound : {A : Type 0} → Form T A → List T → ℕ → TokenFault → Type 0
   FitsBound wide ts left Limit = LimitGoesOn wide ts left
   FitsBound wide ts left Number = NoLiteralGoesOn wide ts left
   FitsBound wide ts left Syntax = NoneGoesOn wide ts left

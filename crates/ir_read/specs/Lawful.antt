@@ -1,15 +1,15 @@
 -- What ties a reader to the form that it reads.
 use Rattle.std.specs.Prelude.{◌≡◌, ◌⊎◌, ℕ, Bool, true, false, List, [], ◌∷◌, ◌++◌, length, Result, Ok, Err}
 use Rattle.ir_read.specs.declared.fault.Fault.{Fault}
-use Rattle.ir_read.specs.declared.fault.FaultKind.{FaultKind}
-use Rattle.ir_read.specs.declared.fault.FaultKind.TheVariants.{Syntax, Profile, Number, Limit}
+use Rattle.ir_read.specs.declared.fault.TokenFault.{TokenFault}
+use Rattle.ir_read.specs.declared.fault.TokenFault.TheVariants.{Syntax, Profile, Number, Limit}
 use Rattle.ir_read.specs.Alphabet.{Alphabet, AllReal, is_literal, is_number}
 use Rattle.ir_read.specs.Faults.{NumberGoesOn, LimitGoesOn}
 use Rattle.ir_read.specs.Forms.{Form}
 use Rattle.ir_read.specs.Readers.{Reader, fault_at}
 
 -- how a reading ended, and the tokens that were left
-abbrev pub ends : {T A : Type 0} → Result A FaultKind → List T → Result (A × List T) Fault
+abbrev pub ends : {T A : Type 0} → Result A TokenFault → List T → Result (A × List T) Fault
 ends (Ok a) rest = Ok (a, rest)
 ends (Err kind) rest = fault_at kind rest
 
@@ -20,23 +20,23 @@ Stops more (t ∷ ts) = more t ≡ false
 
 -- what reading gives where a token that writes another number stands in the place of the next one, which writes one: of a number
 -- that is out of range, or of a literal past a limit, nothing is said
-abbrev pub Swapped : {T A : Type 0} → Bool → Result A FaultKind → Result (A × List T) Fault → T → List T → Type 0
+abbrev pub Swapped : {T A : Type 0} → Bool → Result A TokenFault → Result (A × List T) Fault → T → List T → Type 0
 Swapped literal (Ok a) r u rest = r ≡ Ok (a, u ∷ rest)
 Swapped literal (Err Number) r u rest = Unit {0}
-Swapped literal (Err Syntax) r u rest = (k : FaultKind) × (r ≡ fault_at k (u ∷ rest))
-Swapped literal (Err Profile) r u rest = (k : FaultKind) × (r ≡ fault_at k (u ∷ rest))
-Swapped literal (Err Limit) r u rest = literal ≡ false → (k : FaultKind) × (r ≡ fault_at k (u ∷ rest))
+Swapped literal (Err Syntax) r u rest = (k : TokenFault) × (r ≡ fault_at k (u ∷ rest))
+Swapped literal (Err Profile) r u rest = (k : TokenFault) × (r ≡ fault_at k (u ∷ rest))
+Swapped literal (Err Limit) r u rest = literal ≡ false → (k : TokenFault) × (r ≡ fault_at k (u ∷ rest))
 
 -- a refusal of a token that writes a number, but for its range or a limit, is a refusal of each of its class
-abbrev pub SameRefusal : {A : Type 0} → Result A FaultKind → Result A FaultKind → Type 0
+abbrev pub SameRefusal : {A : Type 0} → Result A TokenFault → Result A TokenFault → Type 0
 SameRefusal {A} (Ok a) m = Unit {0}
 SameRefusal {A} (Err Number) m = Unit {0}
-SameRefusal {A} (Err Syntax) m = (k : FaultKind) × (m ≡ Err k)
-SameRefusal {A} (Err Profile) m = (k : FaultKind) × (m ≡ Err k)
+SameRefusal {A} (Err Syntax) m = (k : TokenFault) × (m ≡ Err k)
+SameRefusal {A} (Err Profile) m = (k : TokenFault) × (m ≡ Err k)
 SameRefusal {A} (Err Limit) m = Unit {0}
 
 -- a range or a limit ends a reading that goes on without them
-abbrev pub IsBound : FaultKind → Type 0
+abbrev pub IsBound : TokenFault → Type 0
 IsBound Number = Unit {0}
 IsBound Limit = Unit {0}
 IsBound Syntax = ⊥
@@ -48,7 +48,7 @@ module _ {T : Type 0} (alphabet : Alphabet T) where
     pub front : List T
     pub bad : T
     pub rest : List T
-    pub kind : FaultKind
+    pub kind : TokenFault
     pub whole : ts ≡ front ++ bad ∷ rest
     pub bound : IsBound kind
     pub named : kind ≡ Number → is_literal alphabet bad ≡ false
@@ -76,7 +76,7 @@ module _ {T : Type 0} (alphabet : Alphabet T) where
     pub real : AllReal alphabet more
 
   -- what a meaning says of tokens that write numbers
-  pub record IsRanged {A : Type 0} (meaning : T → Result A FaultKind) : Type 0 where
+  pub record IsRanged {A : Type 0} (meaning : T → Result A TokenFault) : Type 0 where
     -- out of range is said of these alone, and another one of the same class is in range
     pub range : (t : T) → meaning t ≡ Err Number → (is_number alphabet t ≡ true) × (u : T) × (b : A) × (alphabet.class u ≡ alphabet.class t) × (meaning u ≡ Ok b) × alphabet.Real u
     pub alike : (t u : T) → is_number alphabet t ≡ true → alphabet.class u ≡ alphabet.class t → SameRefusal (meaning t) (meaning u)
@@ -96,11 +96,11 @@ module _ {T : Type 0} (alphabet : Alphabet T) where
     -- what stands before a fault goes on somehow
     pub viable : (ts : List T) (e : Fault) → f ts ≡ Err e → GoesOn g ts e.left
     -- what is read, and where it stops, depends on the tokens up to the next one alone
-    pub local : (front : List T) (t : T) (rest rest' : List T) (o : Result A FaultKind) → f (front ++ t ∷ rest) ≡ ends o (t ∷ rest) → f (front ++ t ∷ rest') ≡ ends o (t ∷ rest')
+    pub local : (front : List T) (t : T) (rest rest' : List T) (o : Result A TokenFault) → f (front ++ t ∷ rest) ≡ ends o (t ∷ rest) → f (front ++ t ∷ rest') ≡ ends o (t ∷ rest')
     -- where a number is out of range, another one goes on
     pub number : (ts : List T) (left : ℕ) → f ts ≡ Err (record { left = left; kind = Number }) → NumberGoesOn alphabet g ts left
     -- a fault but of a range, or of a literal's limit, at a token that writes a number comes for each of its class there
-    pub swap : (front : List T) (t u : T) (rest rest' : List T) (o : Result A FaultKind) → is_number alphabet t ≡ true → alphabet.class u ≡ alphabet.class t → f (front ++ t ∷ rest) ≡ ends o (t ∷ rest) → Swapped (is_literal alphabet t) o (f (front ++ u ∷ rest')) u rest'
+    pub swap : (front : List T) (t u : T) (rest rest' : List T) (o : Result A TokenFault) → is_number alphabet t ≡ true → alphabet.class u ≡ alphabet.class t → f (front ++ t ∷ rest) ≡ ends o (t ∷ rest) → Swapped (is_literal alphabet t) o (f (front ++ u ∷ rest')) u rest'
     -- what is spelled so is spelled so without the limits
     pub contains : (ts : List T) (a : A) → g ts a → wide ts a
     -- a fault of a limit stands where a reading without the limits goes on

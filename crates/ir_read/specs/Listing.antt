@@ -2,8 +2,8 @@
 -- at most so many behind the first.
 use Rattle.std.specs.Prelude.{ℕ, suc, nat_lt, if◌then◌else◌, List, [], ◌∷◌, Result, Ok, Err}
 use Rattle.ir_read.specs.declared.fault.Fault.{Fault}
-use Rattle.ir_read.specs.declared.fault.FaultKind.{FaultKind}
-use Rattle.ir_read.specs.declared.fault.FaultKind.TheVariants.{Syntax, Number}
+use Rattle.ir_read.specs.declared.fault.TokenFault.{TokenFault}
+use Rattle.ir_read.specs.declared.fault.TokenFault.TheVariants.{Syntax, Number}
 use Rattle.ir_read.specs.Alphabet.{Alphabet, among}
 use Rattle.ir_read.specs.Forms as form
 use Rattle.ir_read.specs.Forms.{Form}
@@ -26,14 +26,14 @@ class_of (numeral n) = 3
 abbrev pub signs : Alphabet Sign
 signs = record { class = class_of; numerals = 3 ∷ []; literals = 3 ∷ []; Real = λ t. Unit {0} }
 
-abbrev pub not_here : ℕ → FaultKind
+abbrev pub not_here : ℕ → TokenFault
 not_here n = Syntax
 
-abbrev pub sign : ℕ → Sign → Result (Unit {0}) FaultKind
+abbrev pub sign : ℕ → Sign → Result (Unit {0}) TokenFault
 sign = is_class signs not_here
 
 -- a number that is at most this
-unfoldable pub within : ℕ → Sign → Result ℕ FaultKind
+unfoldable pub within : ℕ → Sign → Result ℕ TokenFault
 within most opening = Err Syntax
 within most closing = Err Syntax
 within most comma = Err Syntax

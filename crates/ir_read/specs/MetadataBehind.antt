@@ -5,8 +5,8 @@ use Rattle.ir_lex.specs.declared.head.Head.TheVariants as heads
 use Rattle.ir_lex.specs.Heads.{number}
 use Rattle.ir_lex.specs.Tok.{Tok}
 use Rattle.ir_read.specs.Alphabet.{among, contains}
-use Rattle.ir_read.specs.declared.fault.FaultKind.{FaultKind}
-use Rattle.ir_read.specs.declared.fault.FaultKind.TheVariants.{Syntax}
+use Rattle.ir_read.specs.declared.fault.TokenFault.{TokenFault}
+use Rattle.ir_read.specs.declared.fault.TokenFault.TheVariants.{Syntax}
 use Rattle.ir_read.specs.Forms.{Form, ◌>>=◌, either, gives, optional, token}
 use Rattle.ir_read.specs.Runs.{Step, bad, last, onward, Run}
 use Rattle.ir_read.specs.Brackets.{group}
@@ -26,12 +26,12 @@ BRACES = number heads.OpenBrace ∷ number heads.OpenParen ∷ []
 
 -- ---- a line that goes on, but not with one of these tokens
 
-abbrev pub fitting : Step (List Bracket) → Result (Step (List Bracket)) FaultKind
+abbrev pub fitting : Step (List Bracket) → Result (Step (List Bracket)) TokenFault
 fitting bad = Err Syntax
 fitting last = Ok last
 fitting (onward bs) = Ok (onward bs)
 
-unfoldable pub line_goes_on : List ℕ → Tok → Result (Step (List Bracket)) FaultKind
+unfoldable pub line_goes_on : List ℕ → Tok → Result (Step (List Bracket)) TokenFault
 line_goes_on apart t = if among tokens apart t then Err Syntax else fitting (line_step [] t)
 
 abbrev pub line_rest : Step (List Bracket) → Form Tok (Unit {0})

@@ -10,8 +10,8 @@ use Rattle.ir_lex.specs.Tok.{Tok}
 use Rattle.ir_tree.specs.declared.operand.Reg.{Reg}
 use Rattle.ir_tree.specs.declared.operand.Reg.TheVariants.{Int, Ptr}
 use Rattle.ir_read.specs.Alphabet.{contains}
-use Rattle.ir_read.specs.declared.fault.FaultKind.{FaultKind}
-use Rattle.ir_read.specs.declared.fault.FaultKind.TheVariants.{Syntax, Profile}
+use Rattle.ir_read.specs.declared.fault.TokenFault.{TokenFault}
+use Rattle.ir_read.specs.declared.fault.TokenFault.TheVariants.{Syntax, Profile}
 use Rattle.ir_read.specs.Forms.{Form, ◌>>=◌, either, gives, token}
 use Rattle.ir_read.specs.Rules.{in_range, is_among, is_exact, is_valued}
 use Rattle.ir_read.specs.Classes.{tokens, refusal, the}
@@ -36,11 +36,11 @@ abbrev pub REFUSED_TYPES : List ℕ
 REFUSED_TYPES = number heads.Target ∷ number heads.RefusedType ∷ []
 
 -- where a type may stand
-abbrev pub type_refusal : ℕ → FaultKind
+abbrev pub type_refusal : ℕ → TokenFault
 type_refusal class = if contains REFUSED_TYPES class then Profile else refusal class
 
 -- where a type of memory must stand
-abbrev pub memory_refusal : ℕ → FaultKind
+abbrev pub memory_refusal : ℕ → TokenFault
 memory_refusal class = if nat_eq class (number heads.RegisterInteger) then Profile else type_refusal class
 
 -- the width of iN, where the class has it that N is 1 to 64
@@ -148,14 +148,14 @@ operand_by h r t = None
 abbrev pub operand_of : Reg → Tok → Option Operand
 operand_of r t = operand_by t.head r t
 
-abbrev pub number_means : Reg → Tok → Result Operand FaultKind
+abbrev pub number_means : Reg → Tok → Result Operand TokenFault
 number_means (Int w) t = in_range (bits_of (Int w) t)
 number_means Ptr t = Err Syntax
 
-abbrev pub local_value : Tok → Result Operand FaultKind
+abbrev pub local_value : Tok → Result Operand TokenFault
 local_value t = in_range (option_map operands.Local (named t))
 
-abbrev pub global_value : Tok → Result Operand FaultKind
+abbrev pub global_value : Tok → Result Operand TokenFault
 global_value t = in_range (option_map operands.Global (named t))
 
 -- Local / Number / true / false / null / poison / Global

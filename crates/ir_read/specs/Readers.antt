@@ -2,8 +2,8 @@
 use Rattle.std.specs.List.{fold}
 use Rattle.std.specs.Prelude.{◌≡◌, ℕ, zero, suc, Bool, false, if◌then◌else◌, Option, Some, None, Result, Ok, Err, List, [], ◌∷◌, length}
 use Rattle.ir_read.specs.declared.fault.Fault.{Fault}
-use Rattle.ir_read.specs.declared.fault.FaultKind.{FaultKind}
-use Rattle.ir_read.specs.declared.fault.FaultKind.TheVariants.{Syntax, Limit}
+use Rattle.ir_read.specs.declared.fault.TokenFault.{TokenFault}
+use Rattle.ir_read.specs.declared.fault.TokenFault.TheVariants.{Syntax, Limit}
 use Rattle.ir_tree.specs.declared.failure.Failure.{Failure}
 use Rattle.ir_tree.specs.declared.failure.Failure.TheVariants as errors
 
@@ -11,7 +11,7 @@ abbrev pub Reader : Type 0 → Type 0 → Type 0
 Reader T A = List T → Result (A × List T) Fault
 
 -- a fault at the first of these tokens, or at the end
-abbrev pub fault_at : {T A : Type 0} → FaultKind → Reader T A
+abbrev pub fault_at : {T A : Type 0} → TokenFault → Reader T A
 fault_at kind ts = Err (record { left = length ts; kind = kind })
 
 abbrev pub done : {T A : Type 0} → A → Reader T A
@@ -25,11 +25,11 @@ infixl 10 ◌>>=◌
 abbrev pub ◌>>=◌ : {T A B : Type 0} → Reader T A → (A → Reader T B) → Reader T B
 ◌>>=◌ first second ts = follow (first ts) second
 
-abbrev pub token_means : {T A : Type 0} → T → List T → Result A FaultKind → Result (A × List T) Fault
+abbrev pub token_means : {T A : Type 0} → T → List T → Result A TokenFault → Result (A × List T) Fault
 token_means t ts (Ok a) = Ok (a, ts)
 token_means t ts (Err kind) = fault_at kind (t ∷ ts)
 
-abbrev pub token_at : {T A : Type 0} → (T → Result A FaultKind) → Reader T A
+abbrev pub token_at : {T A : Type 0} → (T → Result A TokenFault) → Reader T A
 token_at meaning [] = fault_at Syntax []
 token_at meaning (t ∷ ts) = token_means t ts (meaning t)
 
@@ -66,11 +66,11 @@ abbrev pub star_at : {T A : Type 0} → (T → Bool) → Reader T A → Reader T
 star_at begins one ts = many_at begins one (length ts) ts
 
 -- a reading of all tokens; what is left over is refused at its first token
-abbrev pub ended : {T A : Type 0} → (T → FaultKind) → A → List T → Result A Fault
+abbrev pub ended : {T A : Type 0} → (T → TokenFault) → A → List T → Result A Fault
 ended extra a [] = Ok a
 ended extra a (t ∷ rest) = Err (record { left = length (t ∷ rest); kind = extra t })
 
-abbrev pub whole_of : {T A : Type 0} → (T → FaultKind) → Result (A × List T) Fault → Result A Fault
+abbrev pub whole_of : {T A : Type 0} → (T → TokenFault) → Result (A × List T) Fault → Result A Fault
 whole_of extra (Ok x) = ended extra x.0 x.1
 whole_of extra (Err e) = Err e
 

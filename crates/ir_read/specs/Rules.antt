@@ -1,7 +1,7 @@
 -- The laws of readers that choose by sets of classes, so that what is asked of the sets computes.
 use Rattle.std.specs.Prelude.{◌≡◌, ℕ, nat_eq, Bool, true, ◌&&◌, not, if◌then◌else◌, Option, Some, None, List, [], ◌∷◌, Result, Ok, Err}
-use Rattle.ir_read.specs.declared.fault.FaultKind.{FaultKind}
-use Rattle.ir_read.specs.declared.fault.FaultKind.TheVariants.{Number}
+use Rattle.ir_read.specs.declared.fault.TokenFault.{TokenFault}
+use Rattle.ir_read.specs.declared.fault.TokenFault.TheVariants.{Number}
 use Rattle.ir_read.specs.Alphabet.{Alphabet, AllReal, among, contains, is_number}
 use Rattle.ir_read.specs.Forms.{Form}
 use Rattle.ir_read.specs.Lawful.{Lawful}
@@ -16,25 +16,25 @@ subset [] ys = true
 subset (x ∷ xs) ys = contains ys x && subset xs ys
 
 -- a value, or what it is written by is out of range
-abbrev pub in_range : {A : Type 0} → Option A → Result A FaultKind
+abbrev pub in_range : {A : Type 0} → Option A → Result A TokenFault
 in_range None = Err Number
 in_range (Some a) = Ok a
 
 module _ {T : Type 0} (alphabet : Alphabet T) where
   -- a token of this class; the class of another says why it can't stand here
-  unfoldable pub is_class : (ℕ → FaultKind) → ℕ → T → Result (Unit {0}) FaultKind
+  unfoldable pub is_class : (ℕ → TokenFault) → ℕ → T → Result (Unit {0}) TokenFault
   is_class refusal wanted t = if nat_eq (alphabet.class t) wanted then Ok tt else Err (refusal (alphabet.class t))
 
   -- a token of one of these classes, which means a value; the class of another says why it can't stand here
-  unfoldable pub is_among : {A : Type 0} → (ℕ → FaultKind) → List ℕ → (T → A) → T → Result A FaultKind
+  unfoldable pub is_among : {A : Type 0} → (ℕ → TokenFault) → List ℕ → (T → A) → T → Result A TokenFault
   is_among refusal wanted value t = if among alphabet wanted t then Ok (value t) else Err (refusal (alphabet.class t))
 
   -- a token of one of these classes, which means a value unless the number that it writes is out of range
-  unfoldable pub is_valued : {A : Type 0} → (ℕ → FaultKind) → List ℕ → (T → Option A) → T → Result A FaultKind
+  unfoldable pub is_valued : {A : Type 0} → (ℕ → TokenFault) → List ℕ → (T → Option A) → T → Result A TokenFault
   is_valued refusal wanted value t = if among alphabet wanted t then in_range (value t) else Err (refusal (alphabet.class t))
 
   -- a token of one of these classes that passes a test
-  unfoldable pub is_exact : {A : Type 0} → (ℕ → FaultKind) → List ℕ → (T → Bool) → (T → A) → T → Result A FaultKind
+  unfoldable pub is_exact : {A : Type 0} → (ℕ → TokenFault) → List ℕ → (T → Bool) → (T → A) → T → Result A TokenFault
   is_exact refusal wanted test value t = if among alphabet wanted t && test t then Ok (value t) else Err (refusal (alphabet.class t))
 
   -- where a token writes a number that is out of range, another one of its class has a value

@@ -1,7 +1,7 @@
 -- Forms that go token by token through states, without recursion: each token leads on, ends the form, or fits nowhere.
 use Rattle.std.specs.Prelude.{◌≡◌, true, Result, Ok, List, [], ◌∷◌}
 use Rattle.ir_read.specs.declared.fault.Fault.{Fault}
-use Rattle.ir_read.specs.declared.fault.FaultKind.TheVariants.{Syntax}
+use Rattle.ir_read.specs.declared.fault.TokenFault.TheVariants.{Syntax}
 use Rattle.ir_read.specs.Alphabet.{Alphabet, AllReal, is_number}
 use Rattle.ir_read.specs.Forms.{Form}
 use Rattle.ir_read.specs.Readers.{Reader, fault_at}

@@ -8,7 +8,7 @@ ghost use Rattle.ir_read.specs.BracketViews.{move};
 
 use crate::terminals::expect;
 use crate::tokens::Tokens;
-use crate::{Fault, FaultKind, ReadError};
+use crate::{Fault, ReadError, TokenFault};
 use ir_lex::Head;
 use std::alloc::Global;
 
@@ -82,7 +82,7 @@ fn closing_at(alloc: Global, bracket: Bracket, tokens: &mut Tokens) -> Result<()
         let Some(t) = tokens.take() else {
             return Err(ReadError::Fault(Fault {
                 left,
-                kind: FaultKind::Syntax,
+                kind: TokenFault::Syntax,
             }));
         };
         match move_of(t.head) {
@@ -94,7 +94,7 @@ fn closing_at(alloc: Global, bracket: Bracket, tokens: &mut Tokens) -> Result<()
                 if !inner.same(b) {
                     return Err(ReadError::Fault(Fault {
                         left,
-                        kind: FaultKind::Syntax,
+                        kind: TokenFault::Syntax,
                     }));
                 }
                 let Some(b) = outer.pop() else {

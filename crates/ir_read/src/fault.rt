@@ -4,7 +4,7 @@ use ir_tree::Failure;
 
 /// What is wrong at a token.
 #[derive(Clone, Copy, Debug, PartialEq, Eq)]
-pub enum FaultKind {
+pub enum TokenFault {
     /// No reading goes on with the token, and none of the other kinds fits.
     Syntax,
     /// The token belongs to a part of the language that isn't read.
@@ -20,7 +20,7 @@ pub enum FaultKind {
 #[derive(Clone, Copy, Debug, PartialEq, Eq)]
 pub struct Fault {
     pub left: usize,
-    pub kind: FaultKind,
+    pub kind: TokenFault,
 }
 
 /// Why a reader gave up.

@@ -6,7 +6,7 @@
 
 ghost use Rattle.std.specs.Prelude.{◌≡◌, ℕ, List, [], ◌∷◌, Result, Ok, Err, true, false};
 ghost use Rattle.ir_read.specs.declared.fault.Fault.{Fault};
-ghost use Rattle.ir_read.specs.declared.fault.FaultKind.TheVariants.{Syntax, Number, Limit};
+ghost use Rattle.ir_read.specs.declared.fault.TokenFault.TheVariants.{Syntax, Number, Limit};
 ghost use Rattle.ir_read.specs.Faults.{StopsAt, FitsBound, FitsKind};
 ghost use Rattle.ir_read.specs.Balanced.{Closing, closing_at, none_open};
 ghost use Rattle.ir_read.specs.Groups.{opens, closes, plain, marks, numbered};

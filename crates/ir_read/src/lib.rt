@@ -38,7 +38,7 @@ mod tokens;
 
 pub use address::{Address, Index, Level, Steps};
 pub use brackets::{Bracket, BracketMove, group_at, move_of};
-pub use fault::{Fault, FaultKind, ReadError};
+pub use fault::{Fault, ReadError, TokenFault};
 pub use finished::done;
 pub use laws::{groups, listing_examples, listing_faults, listing_is_read, listing_rule};
 pub use literals::literal;

@@ -10,7 +10,7 @@ ghost use Rattle.ir_read.specs.MetadataAt.{node_at, attached_at, attachment_at, 
 use crate::brackets::{Bracket, BracketMove, group_at, move_of};
 use crate::terminals::{expect, refusal};
 use crate::tokens::Tokens;
-use crate::{Fault, FaultKind, ReadError};
+use crate::{Fault, ReadError, TokenFault};
 use ir_lex::Head;
 use std::alloc::Global;
 
@@ -23,7 +23,7 @@ pub fn meta_at(tokens: &mut Tokens) -> Result<bool, ReadError>
     match tokens.take() {
         None => Err(ReadError::Fault(Fault {
             left,
-            kind: FaultKind::Syntax,
+            kind: TokenFault::Syntax,
         })),
         Some(t) => {
             if matches!(t.head, Head::Meta | Head::Bang) {
@@ -100,7 +100,7 @@ pub fn rest_of_line_at(alloc: Global, ends: bool, tokens: &mut Tokens) -> Result
         let Some(t) = tokens.take() else {
             return Err(ReadError::Fault(Fault {
                 left,
-                kind: FaultKind::Syntax,
+                kind: TokenFault::Syntax,
             }));
         };
         match move_of(t.head) {
@@ -110,7 +110,7 @@ pub fn rest_of_line_at(alloc: Global, ends: bool, tokens: &mut Tokens) -> Result
                 _ => {
                     return Err(ReadError::Fault(Fault {
                         left,
-                        kind: FaultKind::Syntax,
+                        kind: TokenFault::Syntax,
                     }));
                 }
             },

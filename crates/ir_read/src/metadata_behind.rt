@@ -14,7 +14,7 @@ use crate::metadata::{meta_at, rest_of_line_at};
 use crate::places::Before;
 use crate::terminals::{expect, refusal};
 use crate::tokens::Tokens;
-use crate::{Fault, FaultKind, ReadError};
+use crate::{Fault, ReadError, TokenFault};
 use ir_lex::Head;
 use std::alloc::Global;
 
@@ -72,7 +72,7 @@ fn mark_at(tokens: &mut Tokens) -> Result<bool, ReadError>
     match tokens.take() {
         None => Err(ReadError::Fault(Fault {
             left,
-            kind: FaultKind::Syntax,
+            kind: TokenFault::Syntax,
         })),
         Some(t) => {
             if t.head.is(Head::Bang) {

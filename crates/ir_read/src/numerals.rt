@@ -9,7 +9,7 @@ ghost use Rattle.ir_read.specs.Decimals.{decimal, ALIGNMENTS, alignment_of, is_a
 
 use crate::terminals::refusal;
 use crate::tokens::Tokens;
-use crate::{Fault, FaultKind, ReadError};
+use crate::{Fault, ReadError, TokenFault};
 use ir_lex::{Head, Token};
 
 /// The number that these digits write, or `None` from `2^64` on. Leading zeros count for nothing.
@@ -69,7 +69,7 @@ fn is_power(n: u64) -> bool
 
 /// The alignment that a number writes: a power of two from 1 to `2^30`.
 #[tactic(auto, unfolding(crate::specs::Decimals::alignment_of))]
-fn alignment_of(text: &[u8]) -> Result<u64, FaultKind>
+fn alignment_of(text: &[u8]) -> Result<u64, TokenFault>
     ensures { result ≡ alignment_of text.now }
 {
     match decimal(text) {
@@ -77,10 +77,10 @@ fn alignment_of(text: &[u8]) -> Result<u64, FaultKind>
             if is_power(n) && !begins_minus(text) {
                 Ok(n)
             } else {
-                Err(FaultKind::Number)
+                Err(TokenFault::Number)
             }
         }
-        None => Err(FaultKind::Number),
+        None => Err(TokenFault::Number),
     }
 }
 
@@ -94,7 +94,7 @@ fn begins_minus(text: &[u8]) -> bool
 }
 
 #[tactic(auto, unfolding(crate::specs::Decimals::is_alignment))]
-fn alignment_means(t: &Token) -> Result<u64, FaultKind>
+fn alignment_means(t: &Token) -> Result<u64, TokenFault>
     ensures { result ≡ is_alignment (tok t.now) }
 {
     if t.head.is(Head::Number) {
@@ -112,7 +112,7 @@ pub fn alignment_at(tokens: &mut Tokens) -> Result<u64, ReadError>
     match tokens.take() {
         None => Err(ReadError::Fault(Fault {
             left,
-            kind: FaultKind::Syntax,
+            kind: TokenFault::Syntax,
         })),
         Some(t) => match alignment_means(&t) {
             Ok(align) => Ok(align),

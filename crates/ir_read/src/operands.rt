@@ -20,27 +20,27 @@ use crate::numerals::decimal;
 use crate::raw::Operand;
 use crate::terminals::{expect, refusal};
 use crate::tokens::Tokens;
-use crate::{Fault, FaultKind, ReadError};
+use crate::{Fault, ReadError, TokenFault};
 use ir_lex::{Head, Token};
 use ir_tree::Reg;
 use std::alloc::{AllocError, Global};
 
 /// Why a token can't stand where a type may.
-pub fn type_refusal(head: Head) -> FaultKind
+pub fn type_refusal(head: Head) -> TokenFault
     ensures { result ≡ type_refusal (number head) }
 {
     match head {
-        Head::Target | Head::RefusedType => FaultKind::Profile,
+        Head::Target | Head::RefusedType => TokenFault::Profile,
         _ => refusal(head),
     }
 }
 
 /// Why a token can't stand where a type of memory must.
-pub fn memory_refusal(head: Head) -> FaultKind
+pub fn memory_refusal(head: Head) -> TokenFault
     ensures { result ≡ memory_refusal (number head) }
 {
     match head {
-        Head::RegisterInteger => FaultKind::Profile,
+        Head::RegisterInteger => TokenFault::Profile,
         _ => type_refusal(head),
     }
 }
@@ -66,7 +66,7 @@ pub fn reg_of(t: &Token) -> Reg
 }
 
 #[tactic(auto, unfolding(crate::specs::Rules::is_among))]
-fn reg_means(t: &Token) -> Result<Reg, FaultKind>
+fn reg_means(t: &Token) -> Result<Reg, TokenFault>
     ensures exact { result ≡ is_among tokens type_refusal REG reg_of (tok t.now) }
     ensures ranged { IfOk result IsReg }
 {
@@ -85,7 +85,7 @@ pub fn reg_at(tokens: &mut Tokens) -> Result<Reg, ReadError>
     match tokens.take() {
         None => Err(ReadError::Fault(Fault {
             left,
-            kind: FaultKind::Syntax,
+            kind: TokenFault::Syntax,
         })),
         Some(t) => match reg_means(&t) {
             Ok(x) => Ok(x),
@@ -95,7 +95,7 @@ pub fn reg_at(tokens: &mut Tokens) -> Result<Reg, ReadError>
 }
 
 #[tactic(auto, unfolding(crate::specs::Rules::is_among))]
-fn integer_means(t: &Token) -> Result<u8, FaultKind>
+fn integer_means(t: &Token) -> Result<u8, TokenFault>
     ensures exact { result ≡ is_among tokens type_refusal INTEGER width (tok t.now) }
     ensures ranged { IfOk result IsWidth }
 {
@@ -114,7 +114,7 @@ pub fn integer_at(tokens: &mut Tokens) -> Result<u8, ReadError>
     match tokens.take() {
         None => Err(ReadError::Fault(Fault {
             left,
-            kind: FaultKind::Syntax,
+            kind: TokenFault::Syntax,
         })),
         Some(t) => match integer_means(&t) {
             Ok(x) => Ok(x),
@@ -124,7 +124,7 @@ pub fn integer_at(tokens: &mut Tokens) -> Result<u8, ReadError>
 }
 
 #[tactic(auto, unfolding(crate::specs::Rules::is_exact))]
-fn bit_means(t: &Token) -> Result<u8, FaultKind>
+fn bit_means(t: &Token) -> Result<u8, TokenFault>
     ensures exact { result ≡ is_exact tokens type_refusal INTEGER is_bit width (tok t.now) }
     ensures ranged { IfOk result IsWidth }
 {
@@ -150,7 +150,7 @@ pub fn bit_at(tokens: &mut Tokens) -> Result<u8, ReadError>
     match tokens.take() {
         None => Err(ReadError::Fault(Fault {
             left,
-            kind: FaultKind::Syntax,
+            kind: TokenFault::Syntax,
         })),
         Some(t) => match bit_means(&t) {
             Ok(x) => Ok(x),
@@ -160,7 +160,7 @@ pub fn bit_at(tokens: &mut Tokens) -> Result<u8, ReadError>
 }
 
 #[tactic(auto, unfolding(crate::specs::Rules::is_among))]
-fn scalar_means(t: &Token) -> Result<Reg, FaultKind>
+fn scalar_means(t: &Token) -> Result<Reg, TokenFault>
     ensures exact { result ≡ is_among tokens memory_refusal SCALAR reg_of (tok t.now) }
     ensures ranged { IfOk result IsReg }
 {
@@ -179,7 +179,7 @@ pub fn scalar_at(tokens: &mut Tokens) -> Result<Reg, ReadError>
     match tokens.take() {
         None => Err(ReadError::Fault(Fault {
             left,
-            kind: FaultKind::Syntax,
+            kind: TokenFault::Syntax,
         })),
         Some(t) => match scalar_means(&t) {
             Ok(x) => Ok(x),
@@ -189,7 +189,7 @@ pub fn scalar_at(tokens: &mut Tokens) -> Result<Reg, ReadError>
 }
 
 #[tactic(auto, unfolding(crate::specs::Rules::is_among))]
-fn result_means(t: &Token) -> Result<Option<Reg>, FaultKind>
+fn result_means(t: &Token) -> Result<Option<Reg>, TokenFault>
     ensures exact { result ≡ is_among tokens type_refusal RESULT result_of (tok t.now) }
     ensures ranged { IfOk result (λ x. IfSome x IsReg) }
 {
@@ -209,7 +209,7 @@ pub fn result_at(tokens: &mut Tokens) -> Result<Option<Reg>, ReadError>
     match tokens.take() {
         None => Err(ReadError::Fault(Fault {
             left,
-            kind: FaultKind::Syntax,
+            kind: TokenFault::Syntax,
         })),
         Some(t) => match result_means(&t) {
             Ok(x) => Ok(x),
@@ -280,12 +280,12 @@ pub fn group_named(alloc: Global, t: &Token) -> Result<Option<Name>, AllocError>
 }
 
 #[tactic(auto, unfolding(crate::specs::Rules::is_valued))]
-fn local_means(alloc: Global, t: &Token) -> Result<Result<Name, FaultKind>, AllocError>
+fn local_means(alloc: Global, t: &Token) -> Result<Result<Name, TokenFault>, AllocError>
     ensures { IfOk result (λ x. x ≡ is_valued tokens refusal LOCAL named (tok t.now)) }
 {
     if t.head.is(Head::Local) {
         match named(alloc, t)? {
-            None => Ok(Err(FaultKind::Number)),
+            None => Ok(Err(TokenFault::Number)),
             Some(name) => Ok(Ok(name)),
         }
     } else {
@@ -301,7 +301,7 @@ pub fn local_at(alloc: Global, tokens: &mut Tokens) -> Result<Name, ReadError>
     match tokens.take() {
         None => Err(ReadError::Fault(Fault {
             left,
-            kind: FaultKind::Syntax,
+            kind: TokenFault::Syntax,
         })),
         Some(t) => match local_means(alloc, &t)? {
             Ok(x) => Ok(x),
@@ -323,40 +323,40 @@ pub fn global_named(alloc: Global, t: &Token) -> Result<Option<Name>, AllocError
     }
 }
 
-fn number_means(reg: Reg, t: &Token) -> Result<Operand, FaultKind>
+fn number_means(reg: Reg, t: &Token) -> Result<Operand, TokenFault>
     requires { IsReg reg }
     ensures { result ≡ number_means reg (tok t.now) }
 {
     match reg {
-        Reg::Ptr => Err(FaultKind::Syntax),
+        Reg::Ptr => Err(TokenFault::Syntax),
         Reg::Int(width) => match literal(width, t.text) {
-            None => Err(FaultKind::Number),
+            None => Err(TokenFault::Number),
             Some(bits) => Ok(Operand::Number { width, bits }),
         },
     }
 }
 
-fn local_value(alloc: Global, t: &Token) -> Result<Result<Operand, FaultKind>, AllocError>
+fn local_value(alloc: Global, t: &Token) -> Result<Result<Operand, TokenFault>, AllocError>
     ensures { IfOk result (λ x. x ≡ local_value (tok t.now)) }
 {
     match named(alloc, t)? {
-        None => Ok(Err(FaultKind::Number)),
+        None => Ok(Err(TokenFault::Number)),
         Some(name) => Ok(Ok(Operand::Local(name))),
     }
 }
 
 /// A global that is written by its number.
-fn global_value(alloc: Global, t: &Token) -> Result<Result<Operand, FaultKind>, AllocError>
+fn global_value(alloc: Global, t: &Token) -> Result<Result<Operand, TokenFault>, AllocError>
     ensures { IfOk result (λ x. x ≡ global_value (tok t.now)) }
 {
     match named(alloc, t)? {
-        None => Ok(Err(FaultKind::Number)),
+        None => Ok(Err(TokenFault::Number)),
         Some(name) => Ok(Ok(Operand::Global(name))),
     }
 }
 
 /// A global that is written by a name.
-fn global_spelled(alloc: Global, t: &Token) -> Result<Result<Operand, FaultKind>, AllocError>
+fn global_spelled(alloc: Global, t: &Token) -> Result<Result<Operand, TokenFault>, AllocError>
     ensures { IfOk result (λ x. x ≡ Ok (operands.Global (tok t.now))) }
 {
     let name = Name::of(alloc, t)?;
@@ -369,7 +369,7 @@ pub fn operand_means(
     alloc: Global,
     reg: Reg,
     t: &Token,
-) -> Result<Result<Operand, FaultKind>, AllocError>
+) -> Result<Result<Operand, TokenFault>, AllocError>
     requires { IsReg reg }
     ensures { IfOk result (λ x. x ≡ is_valued tokens refusal (classes_of reg) (operand_of reg) (tok t.now)) }
 {
@@ -396,7 +396,7 @@ pub fn simple_at(alloc: Global, reg: Reg, tokens: &mut Tokens) -> Result<Operand
     match tokens.take() {
         None => Err(ReadError::Fault(Fault {
             left,
-            kind: FaultKind::Syntax,
+            kind: TokenFault::Syntax,
         })),
         Some(t) => match operand_means(alloc, reg, &t)? {
             Ok(x) => Ok(x),

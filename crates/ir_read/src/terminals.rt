@@ -7,11 +7,11 @@ ghost use Rattle.ir_read.specs.Readers.{Gives};
 ghost use Rattle.ir_read.specs.Classes.{refusal, the_at};
 
 use crate::tokens::Tokens;
-use crate::{Fault, FaultKind, ReadError};
+use crate::{Fault, ReadError, TokenFault};
 use ir_lex::Head;
 
 /// Why a token of this class can't stand where it isn't wanted.
-pub fn refusal(head: Head) -> FaultKind
+pub fn refusal(head: Head) -> TokenFault
     ensures { result ≡ refusal (number head) }
 {
     match head {
@@ -20,8 +20,8 @@ pub fn refusal(head: Head) -> FaultKind
         | Head::RefusedMark
         | Head::RefusedInteger
         | Head::RefusedAttribute
-        | Head::RefusedWord => FaultKind::Profile,
-        _ => FaultKind::Syntax,
+        | Head::RefusedWord => TokenFault::Profile,
+        _ => TokenFault::Syntax,
     }
 }
 
@@ -34,7 +34,7 @@ pub fn expect(wanted: Head, tokens: &mut Tokens) -> Result<(), ReadError>
     match tokens.take() {
         None => Err(ReadError::Fault(Fault {
             left,
-            kind: FaultKind::Syntax,
+            kind: TokenFault::Syntax,
         })),
         Some(t) => {
             if t.head.is(wanted) {

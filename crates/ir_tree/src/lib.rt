@@ -22,6 +22,7 @@
 mod block;
 mod duplicate;
 mod failure;
+mod fault_kind;
 mod function;
 mod init;
 mod init_node;
@@ -42,6 +43,7 @@ mod verified;
 pub use block::{Block, Case, Terminator};
 pub use duplicate::Duplicate;
 pub use failure::Failure;
+pub use fault_kind::FaultKind;
 pub use function::{Function, Linkage, Param, Variable};
 pub use init::Init;
 pub use init_node::{InitHead, InitPart};

@@ -9,7 +9,8 @@ use Rattle.ir_verify.specs.Modules.{IsLeastFault}
 use Rattle.ir_verify.specs.Orders.{IsBefore}
 use Rattle.ir_verify.specs.declared.fault.VerifyFault.{VerifyFault}
 use Rattle.lto_fault.specs.declared.kind.Kind.{Kind}
-use Rattle.link_one.specs.Accepted.{IsUnread, IsUnsound, Refuses, fault_kind, rule_kind}
+use Rattle.lto_fault.specs.declared.kind.Kind.TheVariants.{Unread, Unsound}
+use Rattle.link_one.specs.Accepted.{IsUnread, IsUnsound, Refuses}
 
 -- ---- a rule has a number of its own
 
@@ -56,13 +57,13 @@ unsound_once one_reading bytes line other kind another a b = same (before_both a
         (subst (λ (ls : List (List ℕ)). IsLeastFault b.m.globals ls b.fault) (sym one.1) b.least)
 
     same : (a.fault.line ≡ b.fault.line) × (number a.fault.kind ≡ number b.fault.kind) → (line ≡ other) × (kind ≡ another)
-    same (lines, kinds) = (a.place ∙ lines ∙ sym b.place, a.told ∙ ap rule_kind (own_number a.fault.kind b.fault.kind kinds) ∙ sym b.told)
+    same (lines, kinds) = (a.place ∙ lines ∙ sym b.place, a.told ∙ ap Unsound (own_number a.fault.kind b.fault.kind kinds) ∙ sym b.told)
 
 unread_once : OneFault → (bytes : List ℕ) (line other : ℕ) (kind another : Kind) → IsUnread bytes line kind → IsUnread bytes other another → (line ≡ other) × (kind ≡ another)
 unread_once one_fault bytes line other kind another a b = same (one_fault bytes line other a.fault b.fault a.first b.first)
   where
     same : (line ≡ other) × (a.fault ≡ b.fault) → (line ≡ other) × (kind ≡ another)
-    same (lines, faults) = (lines, a.told ∙ ap fault_kind faults ∙ sym b.told)
+    same (lines, faults) = (lines, a.told ∙ ap Unread faults ∙ sym b.told)
 
 pub refused_once : OneReading → Apart → OneFault → (bytes : List ℕ) (line other : ℕ) (kind another : Kind) → Refuses bytes line kind → Refuses bytes other another
     → (line ≡ other) × (kind ≡ another)

@@ -2,16 +2,13 @@
 use Rattle.std.specs.Prelude.{◌≡◌, ◌⊎◌, ℕ, List}
 use Rattle.ir_tree.specs.Wholes.{IsVerified}
 use Rattle.ir_tree.specs.declared.module.Module.{Module}
-use Rattle.ir_tree.specs.declared.rule.Rule.{Rule}
-use Rattle.ir_tree.specs.declared.rule.Rule.TheVariants as rule
 use Rattle.ir_parse.specs.FirstFault.{FirstFault}
 use Rattle.ir_parse.specs.Reading.{Reads}
-use Rattle.ir_parse.specs.declared.fault.FaultKind.{FaultKind}
-use Rattle.ir_parse.specs.declared.fault.FaultKind.TheVariants as fault
+use Rattle.ir_tree.specs.declared.fault_kind.FaultKind.{FaultKind}
 use Rattle.ir_verify.specs.Modules.{IsLeastFault}
 use Rattle.ir_verify.specs.declared.fault.VerifyFault.{VerifyFault}
 use Rattle.lto_fault.specs.declared.kind.Kind.{Kind}
-use Rattle.lto_fault.specs.declared.kind.Kind.TheVariants as kind
+use Rattle.lto_fault.specs.declared.kind.Kind.TheVariants.{Unread, Unsound}
 
 -- the bytes are read as this module, which is sound
 pub record Accepts (bytes : List ℕ) (m : Module) : Type 0 where
@@ -21,32 +18,11 @@ pub record Accepts (bytes : List ℕ) (m : Module) : Type 0 where
 
 -- ---- faults
 
-abbrev pub fault_kind : FaultKind → Kind
-fault_kind fault.Lex = kind.Lex
-fault_kind fault.Syntax = kind.Syntax
-fault_kind (fault.Profile word) = kind.Profile word
-fault_kind fault.Number = kind.Number
-fault_kind fault.Limit = kind.Limit
-fault_kind fault.Twice = kind.Twice
-fault_kind fault.Unknown = kind.Unknown
-fault_kind fault.Layout = kind.Layout
-fault_kind fault.Index = kind.Index
-
-abbrev pub rule_kind : Rule → Kind
-rule_kind rule.TypeMismatch = kind.TypeMismatch
-rule_kind rule.NotAvailable = kind.NotAvailable
-rule_kind rule.PhiEdges = kind.PhiEdges
-rule_kind rule.PhiPlace = kind.PhiPlace
-rule_kind rule.EntryBranch = kind.EntryBranch
-rule_kind rule.Index = kind.Index
-rule_kind rule.Cast = kind.Cast
-rule_kind rule.CaseTwice = kind.CaseTwice
-
 -- the bytes are read as no module
 pub record IsUnread (bytes : List ℕ) (line : ℕ) (kind : Kind) : Type 0 where
   pub fault : FaultKind
   pub first : FirstFault bytes line fault
-  pub told : kind ≡ fault_kind fault
+  pub told : kind ≡ Unread fault
 
 -- the bytes are read as a module that isn't sound: this is its least fault
 pub record IsUnsound (bytes : List ℕ) (line : ℕ) (kind : Kind) : Type 0 where
@@ -56,7 +32,7 @@ pub record IsUnsound (bytes : List ℕ) (line : ℕ) (kind : Kind) : Type 0 wher
   pub fault : VerifyFault
   pub least : IsLeastFault m.globals lines fault
   pub place : line ≡ fault.line
-  pub told : kind ≡ rule_kind fault.kind
+  pub told : kind ≡ Unsound fault.kind
 
 abbrev pub Refuses : List ℕ → ℕ → Kind → Type 0
 Refuses bytes line kind = IsUnread bytes line kind ⊎ IsUnsound bytes line kind

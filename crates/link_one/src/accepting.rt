@@ -3,7 +3,6 @@ ghost use Rattle.std.specs.Prelude.{IfErr, IfOk};
 ghost use Rattle.ir_tree.specs.Failures.{IfFault};
 ghost use Rattle.link_one.specs.Accepted.{Accepts, Refuses};
 
-use crate::kind::{fault_kind, rule_kind};
 use ir_parse::{ReadError, parse};
 use ir_tree::{Failure, Verified};
 use ir_verify::{VerifyError, verify};
@@ -34,7 +33,7 @@ pub fn accepted(alloc: Global, bytes: &[u8]) -> Result<Verified, LinkError>
         Err(ReadError::Fault(fault)) => {
             return Err(LinkError::Fault(Unsound {
                 line: fault.line,
-                kind: fault_kind(fault.kind),
+                kind: Kind::Unread(fault.kind),
             }));
         }
     };
@@ -43,7 +42,7 @@ pub fn accepted(alloc: Global, bytes: &[u8]) -> Result<Verified, LinkError>
         Err(VerifyError::NoMemory) => Err(LinkError::NoMemory),
         Err(VerifyError::Fault(fault)) => Err(LinkError::Fault(Unsound {
             line: fault.line,
-            kind: rule_kind(fault.kind),
+            kind: Kind::Unsound(fault.kind),
         })),
     }
 }

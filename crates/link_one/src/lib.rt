@@ -24,7 +24,6 @@
 #![tactic(auto)]
 
 mod accepting;
-mod kind;
 mod laws;
 mod linked;
 mod linked_laws;

@@ -1,11 +1,12 @@
 -- The lines of refusals, part by part.
-use Rattle.std.proofs.Common.{◌≡◌, ◌∙◌, ℕ, List, ◌++◌, refl, ap, append_assoc}
+use Rattle.std.proofs.Common.{◌≡◌, ◌∙◌, ℕ, List, ◌++◌, refl, sym, ap, append_assoc, append-nil}
 use Rattle.std.specs.Prelude.{codes, decimal}
 use Rattle.ir_tree.specs.Names.{quoted}
-use Rattle.lto_fault.specs.Texts.{as_function, as_variable, at_instruction, cause_text, in_both, in_function, kind_text, place_text, refusal_text, symbol_text, target_text}
+use Rattle.ir_tree.specs.declared.fault_kind.FaultKind.TheVariants as fault
+use Rattle.lto_fault.specs.Texts.{as_function, as_variable, at_instruction, cause_text, in_both, in_function, kind_text, place_text, refusal_text, rule_text, symbol_text, target_text}
 use Rattle.lto_fault.specs.declared.cause.Cause.{Cause}
 use Rattle.lto_fault.specs.declared.kind.Kind.{Kind}
-use Rattle.lto_fault.specs.declared.kind.Kind.TheVariants.{Lex, Syntax, Profile, Number, Limit, Twice, Unknown, Layout, Index, TypeMismatch, NotAvailable, PhiEdges, PhiPlace, EntryBranch, Cast, CaseTwice, Batch}
+use Rattle.lto_fault.specs.declared.kind.Kind.TheVariants.{Unread, Unsound, BadLine}
 use Rattle.lto_fault.specs.declared.refusal.Refusal.TheVariants.{BadArguments, DuplicateSymbol, KindClash, NameTaken, NoExport, Refused, TargetClash, Undefined, UndefinedSymbol, Uninit}
 use Rattle.lto_fault.specs.declared.refusal.TargetLine.{TargetLine}
 use Rattle.lto_fault.specs.declared.refusal.TargetLine.TheVariants.{Datalayout, Triple}
@@ -25,23 +26,17 @@ six a b c d e f g = append_assoc ((((a ++ b) ++ c) ++ d) ++ e) f g ∙ five a b 
 -- ---- a file's line
 
 kind_parts : (k : Kind) → kind_text k ≡ kind_words k ++ kind_word k
-kind_parts Lex = refl
-kind_parts Syntax = refl
-kind_parts (Profile word) = refl
-kind_parts Number = refl
-kind_parts Limit = refl
-kind_parts Twice = refl
-kind_parts Unknown = refl
-kind_parts Layout = refl
-kind_parts Index = refl
-kind_parts TypeMismatch = refl
-kind_parts NotAvailable = refl
-kind_parts PhiEdges = refl
-kind_parts PhiPlace = refl
-kind_parts EntryBranch = refl
-kind_parts Cast = refl
-kind_parts CaseTwice = refl
-kind_parts Batch = refl
+kind_parts (Unread fault.Lex) = refl
+kind_parts (Unread fault.Syntax) = refl
+kind_parts (Unread (fault.Profile word)) = refl
+kind_parts (Unread fault.Number) = refl
+kind_parts (Unread fault.Limit) = refl
+kind_parts (Unread fault.Twice) = refl
+kind_parts (Unread fault.Unknown) = refl
+kind_parts (Unread fault.Layout) = refl
+kind_parts (Unread fault.Index) = refl
+kind_parts (Unsound r) = sym (append-nil (rule_text r))
+kind_parts BadLine = refl
 
 pub refused_line : (file : List ℕ) (line : ℕ) (k : Kind)
     → refusal_text (Refused file line k) ≡ codes "thinlto: " ++ (file ++ (codes ":" ++ (decimal line ++ (codes ": " ++ (kind_words k ++ (kind_word k ++ codes "\n"))))))

@@ -1,10 +1,14 @@
 -- The text of each refusal.
 use Rattle.std.specs.Prelude.{ℕ, List, ◌++◌, codes, decimal}
 use Rattle.ir_tree.specs.Names.{quoted}
+use Rattle.ir_tree.specs.declared.fault_kind.FaultKind.{FaultKind}
+use Rattle.ir_tree.specs.declared.fault_kind.FaultKind.TheVariants as fault
+use Rattle.ir_tree.specs.declared.rule.Rule.{Rule}
+use Rattle.ir_tree.specs.declared.rule.Rule.TheVariants as rule
 use Rattle.lto_fault.specs.declared.cause.Cause.{Cause}
 use Rattle.lto_fault.specs.declared.cause.Cause.TheVariants.{DivisionByZero, DivisionOverflow, PoisonDivisor, PoisonBranch, ReachedUnreachable, NoFunction, OtherType, PoisonArgument, BadPointer, ConstantStore, OutOfBounds, Misaligned}
 use Rattle.lto_fault.specs.declared.kind.Kind.{Kind}
-use Rattle.lto_fault.specs.declared.kind.Kind.TheVariants.{Lex, Syntax, Profile, Number, Limit, Twice, Unknown, Layout, Index, TypeMismatch, NotAvailable, PhiEdges, PhiPlace, EntryBranch, Cast, CaseTwice, Batch}
+use Rattle.lto_fault.specs.declared.kind.Kind.TheVariants.{Unread, Unsound, BadLine}
 use Rattle.lto_fault.specs.declared.refusal.Refusal.{Refusal}
 use Rattle.lto_fault.specs.declared.refusal.Refusal.TheVariants.{Usage, ReadFault, Refused, TargetClash, DuplicateSymbol, KindClash, UndefinedSymbol, NoExport, NameTaken, BadArguments, WriteFault, NoMemory, Undefined, Uninit, OutOfSteps}
 use Rattle.lto_fault.specs.declared.refusal.TargetLine.{TargetLine}
@@ -24,24 +28,31 @@ cause_text ConstantStore = codes "store to constant"
 cause_text OutOfBounds = codes "out of bounds"
 cause_text Misaligned = codes "misaligned"
 
+abbrev pub fault_text : FaultKind → List ℕ
+fault_text fault.Lex = codes "bad token"
+fault_text fault.Syntax = codes "syntax"
+fault_text (fault.Profile word) = codes "not in the profile: " ++ word
+fault_text fault.Number = codes "number out of range"
+fault_text fault.Limit = codes "limit passed"
+fault_text fault.Twice = codes "name defined twice"
+fault_text fault.Unknown = codes "unknown name"
+fault_text fault.Layout = codes "layout not supported"
+fault_text fault.Index = codes "bad index"
+
+abbrev pub rule_text : Rule → List ℕ
+rule_text rule.TypeMismatch = codes "type mismatch"
+rule_text rule.NotAvailable = codes "name not available"
+rule_text rule.PhiEdges = codes "phi edges"
+rule_text rule.PhiPlace = codes "phi place"
+rule_text rule.EntryBranch = codes "branch to entry"
+rule_text rule.Index = codes "bad index"
+rule_text rule.Cast = codes "bad cast"
+rule_text rule.CaseTwice = codes "case twice"
+
 abbrev pub kind_text : Kind → List ℕ
-kind_text Lex = codes "bad token"
-kind_text Syntax = codes "syntax"
-kind_text (Profile word) = codes "not in the profile: " ++ word
-kind_text Number = codes "number out of range"
-kind_text Limit = codes "limit passed"
-kind_text Twice = codes "name defined twice"
-kind_text Unknown = codes "unknown name"
-kind_text Layout = codes "layout not supported"
-kind_text Index = codes "bad index"
-kind_text TypeMismatch = codes "type mismatch"
-kind_text NotAvailable = codes "name not available"
-kind_text PhiEdges = codes "phi edges"
-kind_text PhiPlace = codes "phi place"
-kind_text EntryBranch = codes "branch to entry"
-kind_text Cast = codes "bad cast"
-kind_text CaseTwice = codes "case twice"
-kind_text Batch = codes "bad list line"
+kind_text (Unread fault) = fault_text fault
+kind_text (Unsound rule) = rule_text rule
+kind_text BadLine = codes "bad list line"
 
 abbrev pub target_text : TargetLine → List ℕ
 target_text Datalayout = codes "datalayout"

@@ -1,10 +1,10 @@
 //! The line of a refusal.
 ghost use Rattle.std.specs.Prelude.{◌≡◌, ◌≤◌, [], ◌∷◌, ◌++◌, OnOk, codes, decimal};
 ghost use Rattle.ir_tree.specs.Names.{quoted};
-ghost use Rattle.lto_fault.specs.Texts.{cause_text, kind_text, refusal_text, target_text};
+ghost use Rattle.lto_fault.specs.Texts.{cause_text, refusal_text, rule_text, target_text};
 ghost use Rattle.lto_outside.specs.Seen.{stream_seen};
 ghost use Rattle.lto_fault.specs.Pushing.{Hears, Pushes, joined, note_of};
-ghost use Rattle.lto_fault.specs.Parts.{kind_word, kind_words};
+ghost use Rattle.lto_fault.specs.Parts.{fault_words, kind_word, kind_words};
 ghost use Rattle.lto_fault.specs.declared.refusal.Refusal.TheVariants.{OutOfSteps, Refused, TargetClash};
 
 use crate::cause::Cause;
@@ -12,32 +12,50 @@ use crate::kind::Kind;
 use crate::parts::{push_all, push_eight, push_three};
 use crate::refusal::{Refusal, TargetLine};
 use crate::symbol::push_quoted;
-use ir_tree::Text;
+use ir_tree::{FaultKind, Rule, Text};
 use itoa::Buffer;
 use lto_outside::ByteOut;
+
+/// The words of a fault of reading, without the word that isn't covered.
+fn fault_words(fault: &FaultKind) -> &'static [u8]
+    ensures { result.now ≡ fault_words fault.now }
+{
+    match fault {
+        FaultKind::Lex => b"bad token",
+        FaultKind::Syntax => b"syntax",
+        FaultKind::Profile { .. } => b"not in the profile: ",
+        FaultKind::Number => b"number out of range",
+        FaultKind::Limit => b"limit passed",
+        FaultKind::Twice => b"name defined twice",
+        FaultKind::Unknown => b"unknown name",
+        FaultKind::Layout => b"layout not supported",
+        FaultKind::Index => b"bad index",
+    }
+}
+
+fn rule_words(rule: Rule) -> &'static [u8]
+    ensures { result.now ≡ rule_text rule }
+{
+    match rule {
+        Rule::TypeMismatch => b"type mismatch",
+        Rule::NotAvailable => b"name not available",
+        Rule::PhiEdges => b"phi edges",
+        Rule::PhiPlace => b"phi place",
+        Rule::EntryBranch => b"branch to entry",
+        Rule::Index => b"bad index",
+        Rule::Cast => b"bad cast",
+        Rule::CaseTwice => b"case twice",
+    }
+}
 
 /// The words of a kind, without the word that isn't covered.
 fn kind_words(kind: &Kind) -> &'static [u8]
     ensures { result.now ≡ kind_words kind.now }
 {
     match kind {
-        Kind::Lex => b"bad token",
-        Kind::Syntax => b"syntax",
-        Kind::Profile { .. } => b"not in the profile: ",
-        Kind::Number => b"number out of range",
-        Kind::Limit => b"limit passed",
-        Kind::Twice => b"name defined twice",
-        Kind::Unknown => b"unknown name",
-        Kind::Layout => b"layout not supported",
-        Kind::Index => b"bad index",
-        Kind::TypeMismatch => b"type mismatch",
-        Kind::NotAvailable => b"name not available",
-        Kind::PhiEdges => b"phi edges",
-        Kind::PhiPlace => b"phi place",
-        Kind::EntryBranch => b"branch to entry",
-        Kind::Cast => b"bad cast",
-        Kind::CaseTwice => b"case twice",
-        Kind::Batch => b"bad list line",
+        Kind::Unread(fault) => fault_words(fault),
+        Kind::Unsound(rule) => rule_words(*rule),
+        Kind::BadLine => b"bad list line",
     }
 }
 
@@ -46,7 +64,7 @@ fn kind_word(kind: &Kind) -> &[u8]
     ensures { result.now ≡ kind_word kind.now }
 {
     match kind {
-        Kind::Profile { word } => word.as_slice(),
+        Kind::Unread(FaultKind::Profile { word }) => word.as_slice(),
         _ => b"",
     }
 }

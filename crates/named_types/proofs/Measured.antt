@@ -14,7 +14,7 @@ use Rattle.ir_tree.specs.Forms.{Form, forms_of}
 use Rattle.ir_tree.specs.Layout as layout
 use Rattle.ir_tree.specs.Layout.{AreLaidOut}
 use Rattle.ir_names.specs.declared.fault.Fault.{Fault}
-use Rattle.ir_names.specs.declared.fault.FaultKind.TheVariants.{Limit, Unknown}
+use Rattle.ir_names.specs.declared.fault.NameFault.TheVariants.{Limit, Unknown}
 use Rattle.ir_names.specs.Bodies.{allocated}
 use Rattle.ir_names.specs.Keys.{Key, key_of, same_key}
 use Rattle.ir_names.specs.Settled.{◌>>=◌, each}

@@ -9,7 +9,7 @@ ghost use Rattle.named_types.specs.Measures.{IsMeasured, IsKnownIf, IsSmall, IsS
 
 use crate::measure::{Measure, array_of};
 use crate::weigh::{Known, known_at, weigh};
-use ir_names::{FaultKind, ResolveError, TypeNames, Types, allocated, expanded, limit};
+use ir_names::{NameFault, ResolveError, TypeNames, Types, allocated, expanded, limit};
 use ir_read::{Name, Shape, ShapeNode, Typed};
 use std::alloc::{AllocError, Global};
 use std::marker::Model;
@@ -57,7 +57,7 @@ fn measured<'t>(
         Ok(measure) => Ok(Some(Some(measure))),
         Err(ResolveError::NoMemory) => Err(AllocError),
         Err(ResolveError::Fault(fault)) => match fault.kind {
-            FaultKind::Limit => Ok(Some(None)),
+            NameFault::Limit => Ok(Some(None)),
             _ => Ok(None),
         },
     }

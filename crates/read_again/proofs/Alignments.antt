@@ -16,8 +16,8 @@ use Rattle.ir_read.specs.Decimals as read_decimal
 use Rattle.ir_read.specs.Decimals.{ALIGNMENTS, alignment_of, is_alignment}
 use Rattle.ir_tree.specs.Formed.{IsAlignment}
 use Rattle.ir_read.specs.Alphabet.{contains}
-use Rattle.ir_read.specs.declared.fault.FaultKind.{FaultKind}
-use Rattle.ir_read.specs.declared.fault.FaultKind.TheVariants as faults
+use Rattle.ir_read.specs.declared.fault.TokenFault.{TokenFault}
+use Rattle.ir_read.specs.declared.fault.TokenFault.TheVariants as faults
 use Rattle.ir_read.specs.Forms.{Star, token}
 use Rattle.read_again.specs.Reads.{Reads}
 use Rattle.read_again.proofs.Composed.{then, last, nothing, left, right, no_more, one_more}
@@ -70,7 +70,7 @@ alignment_again n a =
     let e : read_decimal.decimal (decimal n) ≡ n = decimal_again n (subst (λ (x : ℕ). x < 2 ^ 64) (sym a.2) (small a.0 a.1)) in
     by_tests (contains ALIGNMENTS (read_decimal.decimal (decimal n))) (begins 45 (decimal n)) (ap (contains ALIGNMENTS) e ∙ is_one n a) (no_minus n) ∙ ap ok e
   where
-    ok : ℕ → Result ℕ FaultKind
+    ok : ℕ → Result ℕ TokenFault
     ok m = Ok m
 
     by_tests : (a b : Bool) → a ≡ true → b ≡ false → cond (a && not b) (ok (read_decimal.decimal (decimal n))) (Err faults.Number) ≡ ok (read_decimal.decimal (decimal n))

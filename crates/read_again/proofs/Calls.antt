@@ -23,7 +23,7 @@ use Rattle.ir_tree.specs.declared.operand.Operand.{Operand}
 use Rattle.ir_tree.specs.declared.operand.Reg.{Reg}
 use Rattle.ir_tree.specs.declared.operand.Reg.TheVariants.{Ptr}
 use Rattle.ir_read.specs.Alphabet.{contains}
-use Rattle.ir_read.specs.declared.fault.FaultKind.{FaultKind}
+use Rattle.ir_read.specs.declared.fault.TokenFault.{TokenFault}
 use Rattle.ir_read.specs.Forms as form
 use Rattle.ir_read.specs.Forms.{Form, Star, token, optional}
 use Rattle.ir_read.specs.Rules.{in_range, is_valued}
@@ -77,7 +77,7 @@ arguments_read (a ∷ as') h =
 -- ---- what is called
 
 -- a token that is taken is taken whatever is said of those that aren't
-module _ {A : Type 0} (refuse other : ℕ → FaultKind) (classes : List ℕ) (value : Tok → Option A) where
+module _ {A : Type 0} (refuse other : ℕ → TokenFault) (classes : List ℕ) (value : Tok → Option A) where
   taken_alike : (t : Tok) (a : A) → is_valued tokens refuse classes value t ≡ Ok a → is_valued tokens other classes value t ≡ Ok a
   unfolding is_valued
   taken_alike t a e = by_test (contains classes (number t.head)) e

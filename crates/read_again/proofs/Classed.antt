@@ -12,7 +12,7 @@ use Rattle.ir_read.specs.Operands.{global_named}
 use Rattle.ir_heads.specs.declared.function_heads.Role.{Role}
 use Rattle.ir_read.specs.declared.raw.Head.{Head}
 use Rattle.ir_read.specs.Alphabet.{contains}
-use Rattle.ir_read.specs.declared.fault.FaultKind.{FaultKind}
+use Rattle.ir_read.specs.declared.fault.TokenFault.{TokenFault}
 use Rattle.ir_read.specs.Forms as form
 use Rattle.ir_read.specs.Forms.{Form, token}
 use Rattle.ir_read.specs.Rules.{in_range, is_valued}
@@ -39,7 +39,7 @@ before_others [] ys h = tt
 before_others (x ∷ xs) ys h = (h.0, before_others xs ys h.1)
 
 -- a token that is kept as it stands
-module _ (refuse : ℕ → FaultKind) (classes : List ℕ) where
+module _ (refuse : ℕ → TokenFault) (classes : List ℕ) where
   same_token : (t a : Tok) → is_valued tokens refuse classes global_named t ≡ Ok a → t ≡ a
   unfolding is_valued
   same_token t a e = by_test (contains classes (number t.head)) e

@@ -25,7 +25,7 @@ use Rattle.ir_tree.specs.declared.operand.Reg.{Reg}
 use Rattle.ir_tree.specs.declared.operand.Reg.TheVariants.{Int, Ptr}
 use Rattle.ir_tree.specs.declared.operand.Symbol as tree_symbol
 use Rattle.ir_read.specs.Alphabet.{contains}
-use Rattle.ir_read.specs.declared.fault.FaultKind.{FaultKind}
+use Rattle.ir_read.specs.declared.fault.TokenFault.{TokenFault}
 use Rattle.ir_read.specs.Forms as form
 use Rattle.ir_read.specs.Forms.{Form, token}
 use Rattle.ir_read.specs.Rules.{is_valued}
@@ -93,7 +93,7 @@ word_means s x text h o e c m p =
 -- ---- symbols
 
 -- two tokens are no single one
-first_of_two : {A : Type 0} {g : Form Tok A} (meaning : Tok → Result A FaultKind) {P : A → Type 0} (p q : Piece) (ps : List Piece) → Reads (form.either g (token meaning)) P (p ∷ q ∷ ps) → Reads g P (p ∷ q ∷ ps)
+first_of_two : {A : Type 0} {g : Form Tok A} (meaning : Tok → Result A TokenFault) {P : A → Type 0} (p q : Piece) (ps : List Piece) → Reads (form.either g (token meaning)) P (p ∷ q ∷ ps) → Reads g P (p ∷ q ∷ ps)
 unfolding form.either
 first_of_two {A} {g} meaning p q ps r = record { value = λ behind line. let a = r.value behind line in (a.0, by_side behind line a.0 a.1, a.2) }
   where

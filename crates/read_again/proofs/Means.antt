@@ -9,7 +9,7 @@ use Rattle.ir_read.specs.Chained.{Chain}
 use Rattle.ir_read.specs.Forms as form
 use Rattle.ir_read.specs.Forms.{Form}
 use Rattle.ir_read.specs.Rules.{in_range, is_among, is_valued}
-use Rattle.ir_read.specs.declared.fault.FaultKind.{FaultKind}
+use Rattle.ir_read.specs.declared.fault.TokenFault.{TokenFault}
 use Rattle.ir_read.specs.Classes.{tokens}
 use Rattle.ir_read.specs.Operands.{global_named}
 use Rattle.ir_read.proofs.OperandRules.{global_is}
@@ -54,7 +54,7 @@ token_means {A} {E} {meaning} {P} f = record { of = of }
     of (t ∷ []) a s h = f t a s.0 h
     of (t ∷ u ∷ ts) a s h = absurd h
 
-pub accepted : {A : Type 0} (b : Bool) (r : Result A FaultKind) (k : FaultKind) (a : A) → cond b r (Err k) ≡ Ok a → (b ≡ true) × (r ≡ Ok a)
+pub accepted : {A : Type 0} (b : Bool) (r : Result A TokenFault) (k : TokenFault) (a : A) → cond b r (Err k) ≡ Ok a → (b ≡ true) × (r ≡ Ok a)
 accepted true r k a e = (refl, e)
 accepted false r k a e = absurd cc
 
@@ -62,7 +62,7 @@ pub valued : {A : Type 0} (o : Option A) (a : A) → in_range o ≡ Ok a → o �
 valued None a e = absurd cc
 valued (Some b) a e = let same : b ≡ a = cc in ap (λ x. Some x) same
 
-pub among_means : {A : Type 0} (refuse : ℕ → FaultKind) (classes : List ℕ) (value : Tok → A) {P : A → Type 0}
+pub among_means : {A : Type 0} (refuse : ℕ → TokenFault) (classes : List ℕ) (value : Tok → A) {P : A → Type 0}
     → ((t : Tok) → IsCut t → contains classes (number t.head) ≡ true → P (value t)) → Means (form.token (is_among tokens refuse classes value)) P
 unfolding is_among
 among_means {A} refuse classes value {P} f =
@@ -70,7 +70,7 @@ among_means {A} refuse classes value {P} f =
     let yes = accepted (contains classes (number t.head)) (Ok (value t)) (refuse (number t.head)) a h in
     let same : value t ≡ a = cc (yes.1) in subst P same (f t s yes.0))
 
-pub valued_means : {A : Type 0} (refuse : ℕ → FaultKind) (classes : List ℕ) {value : Tok → Option A} {P : A → Type 0}
+pub valued_means : {A : Type 0} (refuse : ℕ → TokenFault) (classes : List ℕ) {value : Tok → Option A} {P : A → Type 0}
     → ((t : Tok) (a : A) → IsCut t → value t ≡ Some a → P a) → Means (form.token (is_valued tokens refuse classes value)) P
 unfolding is_valued
 valued_means {A} refuse classes {value} {P} f =
@@ -78,7 +78,7 @@ valued_means {A} refuse classes {value} {P} f =
     let yes = accepted (contains classes (number t.head)) (in_range (value t)) (refuse (number t.head)) a h in f t a s (valued (value t) a yes.1))
 
 -- a global's name, which stands for itself
-pub global_means : (refuse : ℕ → FaultKind) (classes : List ℕ) {P : Tok → Type 0} → ((t : Tok) → IsCut t → contains classes (number t.head) ≡ true → P t) → Means (form.token (is_valued tokens refuse classes global_named)) P
+pub global_means : (refuse : ℕ → TokenFault) (classes : List ℕ) {P : Tok → Type 0} → ((t : Tok) → IsCut t → contains classes (number t.head) ≡ true → P t) → Means (form.token (is_valued tokens refuse classes global_named)) P
 unfolding is_valued
 global_means refuse classes {P} f =
     token_means (λ t a s h.

@@ -38,8 +38,8 @@ use Rattle.ir_tree.specs.declared.operand.Operand.{Operand}
 use Rattle.ir_tree.specs.declared.operand.Reg.{Reg}
 use Rattle.ir_tree.specs.declared.operand.Reg.TheVariants.{Int, Ptr}
 use Rattle.ir_read.specs.Alphabet.{contains}
-use Rattle.ir_read.specs.declared.fault.FaultKind.{FaultKind}
-use Rattle.ir_read.specs.declared.fault.FaultKind.TheVariants as faults
+use Rattle.ir_read.specs.declared.fault.TokenFault.{TokenFault}
+use Rattle.ir_read.specs.declared.fault.TokenFault.TheVariants as faults
 use Rattle.ir_read.specs.Forms.{Form, Star, token}
 use Rattle.read_again.specs.Classes.{binary_class, predicate_class, cast_class}
 use Rattle.read_again.proofs.Classes.{opcode_class, condition_class, conversion_class}
@@ -282,7 +282,7 @@ alignment_again n a =
     let e : read_decimal.decimal (decimal n) ≡ n = decimal_again n (subst (λ (x : ℕ). x < 2 ^ 64) (sym a.2) (small a.0 a.1)) in
     by_tests (contains ALIGNMENTS (read_decimal.decimal (decimal n))) (begins 45 (decimal n)) (ap (contains ALIGNMENTS) e ∙ is_one n a) (no_minus n) ∙ ap ok e
   where
-    ok : ℕ → Result ℕ FaultKind
+    ok : ℕ → Result ℕ TokenFault
     ok m = Ok m
 
     by_tests : (a b : Bool) → a ≡ true → b ≡ false → cond (a && not b) (ok (read_decimal.decimal (decimal n))) (Err faults.Number) ≡ ok (read_decimal.decimal (decimal n))

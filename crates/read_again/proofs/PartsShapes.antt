@@ -27,7 +27,7 @@ use Rattle.ir_tree.specs.Formed.{IsStored}
 use Rattle.ir_tree.specs.Forms.{Form, Forms, int, pointer, array, structure, no_parts, part}
 use Rattle.ir_read.specs.Alphabet.{contains}
 use Rattle.ir_read.specs.Chained.{Chain}
-use Rattle.ir_read.specs.declared.fault.FaultKind.{FaultKind}
+use Rattle.ir_read.specs.declared.fault.TokenFault.{TokenFault}
 use Rattle.read_again.specs.PartsPrinted.{written_shape, written_parts}
 use Rattle.read_again.specs.Reads.{Reads, Any}
 use Rattle.read_again.proofs.Composed.{then, next, last, nothing, left, right, chain_ends, chain_goes_on}
@@ -39,7 +39,7 @@ use Rattle.read_again.proofs.Words.{comma_read, times_read, close_bracket_read, 
 -- ---- scalars
 
 -- a scalar of this class that has room
-leaf_means : (room : Room) (t : Tok) (k : Result Typed FaultKind) → contains SCALAR (number t.head) ≡ true → has_room room t ≡ true → cond (contains SCALAR (number t.head) && has_room room t) (Ok (scalar_typed t)) k ≡ Ok (scalar_typed t)
+leaf_means : (room : Room) (t : Tok) (k : Result Typed TokenFault) → contains SCALAR (number t.head) ≡ true → has_room room t ≡ true → cond (contains SCALAR (number t.head) && has_room room t) (Ok (scalar_typed t)) k ≡ Ok (scalar_typed t)
 leaf_means room t k e h = by_test (contains SCALAR (number t.head)) (has_room room t) e h
   where
     by_test : (a b : Bool) → a ≡ true → b ≡ true → cond (a && b) (Ok (scalar_typed t)) k ≡ Ok (scalar_typed t)

@@ -12,8 +12,8 @@ use Rattle.ir_read.specs.Classes.{refusal, the, one_of, itself}
 use Rattle.ir_heads.specs.Targets.{STRING, fits_layout, is_layout, layout_line, triple_line, target_line}
 use Rattle.ir_tree.specs.Names.{AllBytes}
 use Rattle.ir_read.specs.Alphabet.{contains}
-use Rattle.ir_read.specs.declared.fault.FaultKind.{FaultKind}
-use Rattle.ir_read.specs.declared.fault.FaultKind.TheVariants.{Profile}
+use Rattle.ir_read.specs.declared.fault.TokenFault.{TokenFault}
+use Rattle.ir_read.specs.declared.fault.TokenFault.TheVariants.{Profile}
 use Rattle.ir_read.specs.Forms.{token}
 use Rattle.read_again.proofs.Quoted.{string_content}
 use Rattle.read_again.specs.PartsPrinted.{IsString, IsLayout, IsTriple}
@@ -50,7 +50,7 @@ says : (text : List ℕ) (t : Tok) → AllBytes text → IsToken kinds.Str (stri
 says text t a i = ap (λ k. content k t.text) i.kind ∙ ap (content kinds.Str) i.text ∙ string_content text a
 
 -- a layout is taken where it fits
-abbrev by_fit : Tok → Bool → Result Tok FaultKind
+abbrev by_fit : Tok → Bool → Result Tok TokenFault
 by_fit t b = cond b (Ok t) (Err Profile)
 
 layout_string : (text : List ℕ) → AllBytes text → fits_layout text ≡ true → Reads (token is_layout) (IsString text) (string space text)

@@ -6,7 +6,7 @@ use Rattle.ir_lex.specs.declared.head.Head.{Head}
 use Rattle.ir_lex.specs.declared.token.Kind.{Kind}
 use Rattle.ir_print.specs.Tokens.{piece}
 use Rattle.ir_read.specs.Alphabet.{contains}
-use Rattle.ir_read.specs.declared.fault.FaultKind.{FaultKind}
+use Rattle.ir_read.specs.declared.fault.TokenFault.{TokenFault}
 use Rattle.ir_read.specs.Forms as form
 use Rattle.ir_read.specs.Rules.{in_range, is_class, is_among, is_exact, is_valued}
 use Rattle.ir_read.specs.Classes.{tokens, refusal, the}
@@ -23,10 +23,10 @@ abbrev pub class_of : Kind → List ℕ → ℕ
 class_of kind text = number (head_of kind text [])
 
 -- what such a token means
-abbrev pub Means : {A : Type 0} → (Tok → Result A FaultKind) → (A → Type 0) → Kind → List ℕ → Type 0
+abbrev pub Means : {A : Type 0} → (Tok → Result A TokenFault) → (A → Type 0) → Kind → List ℕ → Type 0
 Means {A} meaning P kind text = (t : Tok) → IsToken kind text t → (a : A) × (meaning t ≡ Ok a) × P a
 
-pub single : {A : Type 0} {meaning : Tok → Result A FaultKind} {P : A → Type 0} (blank : List ℕ) (kind : Kind) (c : ℕ) (cs : List ℕ)
+pub single : {A : Type 0} {meaning : Tok → Result A TokenFault} {P : A → Type 0} (blank : List ℕ) (kind : Kind) (c : ℕ) (cs : List ℕ)
     → Means meaning P kind (c ∷ cs) → Reads (form.token meaning) P (record { blank = blank; kind = kind; first = c; others = cs } ∷ [])
 single blank kind c cs f = record { value = λ behind line. f _ (record { kind = refl; text = refl; head = refl }) }
 
@@ -36,7 +36,7 @@ pub record NonEmpty (text : List ℕ) : Type 0 where
   pub others : List ℕ
   pub whole : text ≡ first ∷ others
 
-pub piece_read : {A : Type 0} {meaning : Tok → Result A FaultKind} {P : A → Type 0} (blank : List ℕ) (kind : Kind) (text : List ℕ)
+pub piece_read : {A : Type 0} {meaning : Tok → Result A TokenFault} {P : A → Type 0} (blank : List ℕ) (kind : Kind) (text : List ℕ)
     → NonEmpty text → Means meaning P kind text → Reads (form.token meaning) P (piece blank kind text)
 piece_read {meaning = meaning} {P = P} blank kind text s f =
     subst (λ (all : List ℕ). Reads (form.token meaning) P (piece blank kind all)) (sym s.whole)
@@ -51,11 +51,11 @@ same n = grind arith
 class_is : (kind : Kind) (text : List ℕ) (t : Tok) (n : ℕ) → IsToken kind text t → class_of kind text ≡ n → number t.head ≡ n
 class_is kind text t n i e = ap number i.head ∙ e
 
-accepted : {A : Type 0} (a : A) (k : FaultKind) (b : Bool) → b ≡ true → cond b (Ok a) (Err k) ≡ Ok a
+accepted : {A : Type 0} (a : A) (k : TokenFault) (b : Bool) → b ≡ true → cond b (Ok a) (Err k) ≡ Ok a
 accepted a k true e = refl
 accepted a k false e = absurd cc
 
-taken : {A : Type 0} (r : Result A FaultKind) (k : FaultKind) (b : Bool) → b ≡ true → cond b r (Err k) ≡ r
+taken : {A : Type 0} (r : Result A TokenFault) (k : TokenFault) (b : Bool) → b ≡ true → cond b r (Err k) ≡ r
 taken r k true e = refl
 taken r k false e = absurd cc
 
@@ -63,25 +63,25 @@ both : (a b : Bool) → a ≡ true → b ≡ true → a && b ≡ true
 both true b d e = e
 both false b d e = absurd cc
 
-pub by_class : (refuse : ℕ → FaultKind) (h : Head) (kind : Kind) (text : List ℕ) → class_of kind text ≡ number h → Means (is_class tokens refuse (number h)) Any kind text
+pub by_class : (refuse : ℕ → TokenFault) (h : Head) (kind : Kind) (text : List ℕ) → class_of kind text ≡ number h → Means (is_class tokens refuse (number h)) Any kind text
 unfolding is_class
 by_class refuse h kind text e t i =
     (tt, accepted tt (refuse (number t.head)) (nat_eq (number t.head) (number h)) (ap (λ (n : ℕ). nat_eq n (number h)) (class_is kind text t (number h) i e) ∙ same (number h)), tt)
 
-pub by_classes : {A : Type 0} {P : A → Type 0} (refuse : ℕ → FaultKind) (classes : List ℕ) (value : Tok → A) (kind : Kind) (text : List ℕ)
+pub by_classes : {A : Type 0} {P : A → Type 0} (refuse : ℕ → TokenFault) (classes : List ℕ) (value : Tok → A) (kind : Kind) (text : List ℕ)
     → contains classes (class_of kind text) ≡ true → ((t : Tok) → IsToken kind text t → P (value t)) → Means (is_among tokens refuse classes value) P kind text
 unfolding is_among
 by_classes refuse classes value kind text e f t i =
     (value t, accepted (value t) (refuse (number t.head)) (contains classes (number t.head)) (ap (contains classes) (class_is kind text t _ i refl) ∙ e), f t i)
 
-pub by_test : {A : Type 0} {P : A → Type 0} (refuse : ℕ → FaultKind) (classes : List ℕ) (test : Tok → Bool) (value : Tok → A) (kind : Kind) (text : List ℕ)
+pub by_test : {A : Type 0} {P : A → Type 0} (refuse : ℕ → TokenFault) (classes : List ℕ) (test : Tok → Bool) (value : Tok → A) (kind : Kind) (text : List ℕ)
     → contains classes (class_of kind text) ≡ true → ((t : Tok) → IsToken kind text t → (test t ≡ true) × P (value t)) → Means (is_exact tokens refuse classes test value) P kind text
 unfolding is_exact
 by_test refuse classes test value kind text e f t i =
     let h = f t i in
     (value t, accepted (value t) (refuse (number t.head)) (contains classes (number t.head) && test t) (both (contains classes (number t.head)) (test t) (ap (contains classes) (class_is kind text t _ i refl) ∙ e) h.0), h.1)
 
-pub by_value : {A : Type 0} {P : A → Type 0} (refuse : ℕ → FaultKind) (classes : List ℕ) (value : Tok → Option A) (kind : Kind) (text : List ℕ)
+pub by_value : {A : Type 0} {P : A → Type 0} (refuse : ℕ → TokenFault) (classes : List ℕ) (value : Tok → Option A) (kind : Kind) (text : List ℕ)
     → contains classes (class_of kind text) ≡ true → ((t : Tok) → IsToken kind text t → (a : A) × (value t ≡ Some a) × P a) → Means (is_valued tokens refuse classes value) P kind text
 unfolding is_valued
 by_value refuse classes value kind text e f t i =

@@ -26,7 +26,7 @@ use Rattle.ir_read.specs.declared.raw.Item.TheVariants as item
 use Rattle.ir_read.specs.Chained.{Chain}
 use Rattle.ir_read.specs.Forms as form
 use Rattle.ir_read.specs.Forms.{Form}
-use Rattle.ir_read.specs.declared.fault.FaultKind.TheVariants.{Profile}
+use Rattle.ir_read.specs.declared.fault.TokenFault.TheVariants.{Profile}
 use Rattle.read_again.proofs.CutInstructions.{each_left, each_right}
 use Rattle.read_again.specs.PrintedLaws.{ItemsAreWithin}
 use Rattle.read_again.specs.Spelled.{ItemSpelled, ItemsSpelled, LayoutSpelled, TypeCounted, count_in, count_of}

@@ -3,7 +3,8 @@ use Rattle.std.specs.Prelude.{◌≡◌, ◌⊎◌, ◌<◌, ◌≤◌, ◌^◌,
 use Rattle.std.specs.List.{AllByRecursion, AllZip}
 use Rattle.std.specs.Str.{bytes_eq}
 use Rattle.lto_fault.specs.declared.kind.Kind.{Kind}
-use Rattle.lto_fault.specs.declared.kind.Kind.TheVariants.{Batch, Limit}
+use Rattle.ir_tree.specs.declared.fault_kind.FaultKind.TheVariants.{Limit}
+use Rattle.lto_fault.specs.declared.kind.Kind.TheVariants.{BadLine, Unread}
 use Rattle.lto_fault.specs.declared.refusal.Refusal.{Refusal}
 use Rattle.lto_outside.specs.Store.{HasPart, Store}
 use Rattle.lto_words.specs.declared.request.LinkOptions.{LinkOptions}
@@ -21,7 +22,7 @@ pub record HoldsList (held : Store) (list : List ℕ) (links : List ListedLink) 
 
 -- bytes past 16 MiB, which is told of line 0, or the number of the first line that is no link
 abbrev pub AreBadLines : List ℕ → ℕ → Kind → Type 0
-AreBadLines bytes line kind = ((2 ^ 24 < length bytes) × (line ≡ 0) × (kind ≡ Limit)) ⊎ ((length bytes ≤ 2 ^ 24) × FirstBadLine bytes line × (kind ≡ Batch))
+AreBadLines bytes line kind = ((2 ^ 24 < length bytes) × (line ≡ 0) × (kind ≡ Unread Limit)) ⊎ ((length bytes ≤ 2 ^ 24) × FirstBadLine bytes line × (kind ≡ BadLine))
 
 pub record HoldsBadList (held : Store) (list : List ℕ) (line : ℕ) (kind : Kind) : Type 0 where
   pub bytes : List ℕ

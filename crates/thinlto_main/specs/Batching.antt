@@ -3,7 +3,8 @@
 use Rattle.std.specs.Prelude.{◌≡◌, ◌≤◌, ◌^◌, ◌⊎◌, ℕ, List, [], ◌∷◌, ◌++◌, length, Option, Some, None, Ok}
 use Rattle.std.specs.List.{AllZip}
 use Rattle.lto_fault.specs.declared.kind.Kind.{Kind}
-use Rattle.lto_fault.specs.declared.kind.Kind.TheVariants.{Batch, Limit}
+use Rattle.ir_tree.specs.declared.fault_kind.FaultKind.TheVariants.{Limit}
+use Rattle.lto_fault.specs.declared.kind.Kind.TheVariants.{BadLine, Unread}
 use Rattle.lto_fault.specs.declared.refusal.Refusal.{Refusal}
 use Rattle.lto_outside.specs.Calls.{Call, DidNoPut, Fetched}
 use Rattle.lto_outside.specs.Cause.{Rose}
@@ -28,8 +29,8 @@ pub record HasListed (list : List ℕ) (links : List ListedLink) (did : List Cal
 
 -- too many bytes, which is told of line 0, or the number of the first line that is no link
 abbrev pub IsBadList : Option (List ℕ) → ℕ → Kind → Type 0
-IsBadList None line kind = (line ≡ 0) × (kind ≡ Limit)
-IsBadList (Some bytes) line kind = (length bytes ≤ 2 ^ 24) × FirstBadLine bytes line × (kind ≡ Batch)
+IsBadList None line kind = (line ≡ 0) × (kind ≡ Unread Limit)
+IsBadList (Some bytes) line kind = (length bytes ≤ 2 ^ 24) × FirstBadLine bytes line × (kind ≡ BadLine)
 
 -- it alone was fetched, and is bad
 pub record ListIsBad (list : List ℕ) (files : FilesSeen) (file : List ℕ) (line : ℕ) (kind : Kind) : Type 0 where

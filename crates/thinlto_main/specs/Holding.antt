@@ -5,7 +5,8 @@ use Rattle.ir_tree.specs.declared.module.Module.{Module}
 use Rattle.lto_outside.specs.Seen.{FilesSeen}
 use Rattle.lto_outside.specs.Store.{Store}
 use Rattle.lto_fault.specs.declared.kind.Kind.{Kind}
-use Rattle.lto_fault.specs.declared.kind.Kind.TheVariants.{Limit}
+use Rattle.ir_tree.specs.declared.fault_kind.FaultKind.TheVariants.{Limit}
+use Rattle.lto_fault.specs.declared.kind.Kind.TheVariants.{Unread}
 use Rattle.lto_fault.specs.declared.refusal.Refusal.{Refusal}
 use Rattle.link_one.specs.Accepted.{Accepts, Refuses}
 use Rattle.link_one.specs.Linking.{IsLinkOf, IsOnlyLinkOf}
@@ -25,7 +26,7 @@ pub record HoldsModule (held : Store) (name : List ℕ) (m : Module) : Type 0 wh
 
 -- bytes past 16 MiB, which is told of line 0, or such as are read as no sound module within the limits
 abbrev pub AreBad : List ℕ → ℕ → Kind → Type 0
-AreBad bytes line kind = ((2 ^ 24 < length bytes) × (line ≡ 0) × (kind ≡ Limit)) ⊎ ((length bytes ≤ 2 ^ 24) × Refuses bytes line kind)
+AreBad bytes line kind = ((2 ^ 24 < length bytes) × (line ≡ 0) × (kind ≡ Unread Limit)) ⊎ ((length bytes ≤ 2 ^ 24) × Refuses bytes line kind)
 
 pub record HoldsBad (held : Store) (name : List ℕ) (line : ℕ) (kind : Kind) : Type 0 where
   pub bytes : List ℕ

@@ -3,7 +3,8 @@ use Rattle.std.specs.Prelude.{◌≡◌, ◌⊎◌, ◌≤◌, ◌^◌, ℕ, Lis
 use Rattle.std.specs.List.{AllZip}
 use Rattle.ir_tree.specs.declared.module.Module.{Module}
 use Rattle.lto_fault.specs.declared.kind.Kind.{Kind}
-use Rattle.lto_fault.specs.declared.kind.Kind.TheVariants.{Limit}
+use Rattle.ir_tree.specs.declared.fault_kind.FaultKind.TheVariants.{Limit}
+use Rattle.lto_fault.specs.declared.kind.Kind.TheVariants.{Unread}
 use Rattle.lto_fault.specs.declared.refusal.Refusal.{Refusal}
 use Rattle.lto_fault.specs.declared.refusal.Refusal.TheVariants.{NoMemory, ReadFault}
 use Rattle.ir_tree.specs.declared.failure.Failure.{Failure}
@@ -25,7 +26,7 @@ IsRead (Some bytes) m = (length bytes ≤ 2 ^ 24) × Accepts bytes m
 
 -- too many, which is told of line 0; or they are read as no sound module within the limits, and this is their first fault
 abbrev pub IsBad : Option (List ℕ) → ℕ → Kind → Type 0
-IsBad None line kind = (line ≡ 0) × (kind ≡ Limit)
+IsBad None line kind = (line ≡ 0) × (kind ≡ Unread Limit)
 IsBad (Some bytes) line kind = (length bytes ≤ 2 ^ 24) × Refuses bytes line kind
 
 -- the bytes, where they are given

@@ -8,7 +8,7 @@ ghost use Rattle.cache_slot.specs.Directory.{dir_of};
 ghost use Rattle.cache_slot.specs.Places.{IsAt};
 ghost use Rattle.lto_words.specs.Links.{GivenFor, PutFailed, puts};
 ghost use Rattle.lto_words.specs.Listing.{FirstBadLine, IsList};
-ghost use Rattle.lto_fault.specs.declared.kind.Kind.TheVariants.{Batch};
+ghost use Rattle.lto_fault.specs.declared.kind.Kind.TheVariants.{BadLine};
 ghost use Rattle.lto_fault.specs.declared.refusal.Refusal.TheVariants.{WriteFault};
 ghost use Rattle.lto_outside.specs.Cause.{Rose};
 ghost use Rattle.lto_outside.specs.Honest.{IsHonest};
@@ -25,7 +25,7 @@ use crate::entry::Ended;
 use crate::link::made;
 use crate::modules::{refused, unfetched};
 use cache_slot::{CachePass, Setting, SharedCache};
-use ir_tree::{Rows, Text};
+use ir_tree::{FaultKind, Rows, Text};
 use lto_fault::{Kind, Refusal};
 use lto_outside::{CacheDisk, Files, Gate};
 use lto_words::{
@@ -39,11 +39,11 @@ use std::thread::Threads;
 /// The links that this file lists, of which these are the bytes.
 fn listed(alloc: Global, list: &FileName, bytes: &[u8]) -> Result<Rows<ListedLink>, Refusal>
     ensures listed { IfOk result (λ links. IsList bytes.now links) }
-    ensures because { IfErr result (Because (record never { refused = λ file line kind. (file ≡ list.now) × FirstBadLine bytes.now line × (kind ≡ Batch); memory = Unit {0} })) }
+    ensures because { IfErr result (Because (record never { refused = λ file line kind. (file ≡ list.now) × FirstBadLine bytes.now line × (kind ≡ BadLine); memory = Unit {0} })) }
 {
     match links(alloc, bytes) {
         Ok(links) => Ok(links),
-        Err(ListError::Fault(bad)) => Err(refused(alloc, list, bad.line, Kind::Batch)),
+        Err(ListError::Fault(bad)) => Err(refused(alloc, list, bad.line, Kind::BadLine)),
         Err(ListError::NoMemory) => Err(Refusal::NoMemory),
     }
 }
@@ -60,7 +60,7 @@ fn links_of<F: Files>(
 {
     match fetch_one(alloc, files, list) {
         Ok(Some(bytes)) => listed(alloc, list, bytes.as_slice()),
-        Ok(None) => Err(refused(alloc, list, 0, Kind::Limit)),
+        Ok(None) => Err(refused(alloc, list, 0, Kind::Unread(FaultKind::Limit))),
         Err(error) => Err(unfetched(error)),
     }
 }

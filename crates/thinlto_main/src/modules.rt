@@ -8,7 +8,7 @@ ghost use Rattle.run_program.specs.Causes.{Because, never};
 ghost use Rattle.thinlto_main.specs.Linking.{suffixes_of};
 ghost use Rattle.thinlto_main.specs.Modules.{AreRead, FirstBad, IsBad, IsRead, bytes_of, reading, unfetched};
 
-use ir_tree::{Rows, Text, Verified};
+use ir_tree::{FaultKind, Rows, Text, Verified};
 use link_one::{LinkError, accepted};
 use lto_fault::{Kind, Refusal};
 use lto_outside::Files;
@@ -44,7 +44,7 @@ fn read_one(alloc: Global, name: &FileName, bytes: &Option<Text>) -> Result<Veri
     ensures because { IfErr result (Because (record never { refused = λ file line kind. (file ≡ name.now) × IsBad bytes.now line kind; memory = Unit {0} })) }
 {
     match bytes {
-        None => Err(refused(alloc, name, 0, Kind::Limit)),
+        None => Err(refused(alloc, name, 0, Kind::Unread(FaultKind::Limit))),
         Some(bytes) => match accepted(alloc, bytes.as_slice()) {
             Ok(module) => Ok(module),
             Err(LinkError::NoMemory) => Err(Refusal::NoMemory),

@@ -1,6 +1,7 @@
 //! First faults of texts: of type definitions and variables, and of functions.
 
-use ir_parse::{FaultKind, ReadError, parse};
+use ir_parse::{ReadError, parse};
+use ir_tree::FaultKind;
 use std::alloc::Global;
 
 /// Why a text is refused, without the word.

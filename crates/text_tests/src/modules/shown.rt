@@ -1,8 +1,8 @@
 //! What a text is read as, in one string.
 
-use ir_parse::{FaultKind, ReadError, ReadFault, parse};
+use ir_parse::{ReadError, ReadFault, parse};
 use ir_print::print;
-use ir_tree::Module;
+use ir_tree::{FaultKind, Module};
 use std::alloc::{AllocError, Global};
 use std::fmt::Write;
 use std::process::Abort;

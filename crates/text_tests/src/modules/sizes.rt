@@ -1,6 +1,7 @@
 //! Prefixes of texts, texts that nest deep, and type names that stand for many shapes.
 
-use ir_parse::{FaultKind, ReadError, parse};
+use ir_parse::{ReadError, parse};
+use ir_tree::FaultKind;
 use std::alloc::{AllocError, Global};
 use std::fmt::Write;
 use std::string::String;

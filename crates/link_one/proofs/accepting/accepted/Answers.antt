@@ -11,5 +11,5 @@ returns-in-Err-Fault-verify-clause-refused c = inr (record {
   fault = c.in-Err-Fault-verify.fault;
   least = c.in-Err-Fault-verify.ensures.fault c.in-Err-Fault-verify.fault (ap (λ (e : Failure VerifyFault). Err e) c.in-Err-Fault-verify.field-0-is);
   place = refl;
-  told = c.rule_kind.ensures;
+  told = refl;
 })
