@@ -1,24 +1,25 @@
-//! What may stand for the value of a local, and where a function names locals.
+//! What may stand for the value of a local, where a function names locals, and uses replaced at points.
 //!
 //! [`candidates`] gives for each local of a function the operand that may stand for its value, if there is one: of a
 //! phi the one operand that it takes beside its own value, of an instruction the operand of the rule table
 //! (`specs/Candidates`). [`settled`] makes of each instruction whose operand rests on a free choice a freeze of that
-//! constant (`specs/Settled`). Whether an operand of an instruction, a terminator or a block is one of some locals is
-//! said by `specs/Naming`, which locals a block defines, or all blocks that aren't reached, by `specs/Apart`. A set of
-//! locals is what answers [`Locals`]. A [`Substitution`] is one table by which uses of locals are both found and
-//! replaced. [`places`] gives for each local the place of the block that defines it, [`places_by_number`] the place of
-//! a block by its number. [`above`] gives an order in which blocks that aren't reached stand as well: dominance in the
-//! graph of the function with an edge more from the entry to each block to which no earlier block leads. Below stand
-//! `ir_tree`, `ir_flow`, `lto_sets`, `fold_rules` and `ir_edit`, and `ir_meaning` for words of the definitions.
+//! constant (`specs/Settled`). Whether operands are among some locals is said by `specs/Naming`, which locals a block
+//! defines, or all blocks that aren't reached, by `specs/Apart`. A set of locals is what answers [`Locals`]. A
+//! [`Substitution`] is one table by which uses of locals are both found and replaced, and [`function_at`] replaces each
+//! use by the value of a [`Fact`] that holds there (`specs/AtPoints`). [`places`] gives the place of the block that
+//! defines each local, [`places_by_number`] that of a block. [`above`] gives an order in which blocks that aren't
+//! reached stand as well: dominance with an edge more from the entry to each block to which no earlier block leads.
+//! Below stand `ir_tree`, `ir_flow`, `lto_sets`, `fold_rules`, `ir_edit`, and `ir_meaning` for words of the
+//! definitions.
 //!
 //! **Promise.** Each call equals its definition. A block that stands above another, and is another, stands above its
 //! predecessors as well ([`is_above`]), but for the entry.
 //!
 //! **Cost.** Each function is one walk, and dominators are those of `ir_flow`: each entry of a phi is compared once,
-//! and whether an operand is a phi of the same block is seen by a look at these, where they are few, and else looked up
-//! in a set that is made once for a block.
+//! and whether an operand is a phi of the same block is seen by a look at these, where they are few, and else in a set
+//! made once for a block. At points a use is looked up in each fact.
 //!
-//! **Not shown.** Here, that a candidate is right: `ir_facts` has the laws.
+//! **Not shown.** Here, that a candidate is right or a fact holds: `ir_facts` has the laws.
 #![tactic(auto)]
 
 mod at_points;

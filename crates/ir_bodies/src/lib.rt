@@ -1,10 +1,10 @@
 //! Reads the bodies of functions as trees with their names as they are written.
 //!
 //! Below stand heads of functions (`ir_heads`), instructions and terminators (`ir_instructions`), operands
-//! (`ir_operands`), names and types (`ir_read`), tokens (`ir_lex`) and the laws of forms (`lto_forms`). `calls` reads
-//! calls, of which those of lifetime markers are dropped; `opcodes` tells by its first word which instruction begins,
-//! `lines` reads it with the name of its result, `blocks` the lines and terminators of all blocks, and `definitions`
-//! the whole. A function has at most 65,535 blocks and 200,000 instructions, terminators not among them.
+//! (`ir_operands`), names, types and the laws of forms (`ir_read`), and tokens (`ir_lex`). `calls` reads calls, of
+//! which those of lifetime markers are dropped; `opcodes` tells by its first word which instruction begins, `lines`
+//! reads it with the name of its result, `blocks` the lines and terminators of all blocks, and `definitions` the whole.
+//! A function has at most 65,535 blocks and 200,000 instructions, terminators not among them.
 //!
 //! **Promise.** [`definition_into`] reads exactly the form of a definition (`specs/Blocks`), and stops at the first
 //! token at which no reading goes on, with a fault that says whether a range or a limit is the cause

@@ -5,10 +5,10 @@
 //! becomes a freeze of that constant, so that it is one value wherever it stands. The definition (`specs/Steps`) is by
 //! facts at points, the greatest solution of equations over the edges. In a sound function a fact whose operand no
 //! unreached block defines holds wherever its local is used, and so does each where blocks are clear of the others, as
-//! tables of places and dominators tell (`specs/Clear`); else these are looked up at points (`point_edit`). [`facts`]
+//! tables of places and dominators tell (`specs/Clear`); else these are looked up at points (`function_at`). [`facts`]
 //! gives the facts themselves, each with the points where it holds, of any formed function (`specs/Points`). Below
-//! stand `fact_sources`, `point_edit`, `ir_tree`, `ir_flow`, `lto_sets`, `ir_edit`, `fold_rules`, and `ir_meaning` for
-//! what is proved.
+//! stand `fact_sources`, `ir_tree`, `ir_flow`, `lto_sets`, `ir_edit`, `fold_rules`, and `ir_meaning` for what is
+//! proved.
 //!
 //! **Promise.** What [`apply`] makes is one function ([`applied_is_one`]), sound, and better in every program
 //! ([`rounds_are_better`]). The facts are one list ([`facts_are_one`]), and hold where locals are used
@@ -30,12 +30,11 @@ mod points;
 mod rounds;
 mod scopes;
 
-pub use fact_sources::candidates;
+pub use fact_sources::{Fact, candidates, function_at};
 pub use laws::{
     applied_is_one, facts_are_one, facts_at_points_agree, facts_hold_at_uses, facts_make_steps,
     formed_functions_have_widths, line_sources_right, phi_sources_are_sole, phi_sources_right,
     rounds_are_better, settled_is_better, steps_are_better, steps_are_sound,
 };
-pub use fact_sources::{Fact, function_at};
 pub use points::facts;
 pub use rounds::{apply, into_applied};

@@ -8,11 +8,10 @@ ghost use Rattle.ir_facts.specs.Points.{AreFacts, EachIsFact, IsFact, line_point
 ghost use Rattle.lto_sets.specs.Sets.{contains};
 
 use crate::flow::{FactFlow, held_behind, opened, phi_of, put};
-use fact_sources::candidates;
+use fact_sources::{Fact, candidates};
 use ir_flow::{Edges, greatest, preds};
 use ir_tree::{Block, Duplicate, Function, Line, Operand};
 use lto_sets::Bits;
-use fact_sources::Fact;
 use std::alloc::{AllocError, Global};
 
 /// The set of the places that are marked. Beside want of memory, `2^32` marks or more are refused as too many for it.

@@ -15,10 +15,11 @@ ghost use Rattle.ir_facts.specs.Steps.{AreRounds, IsApplied, IsRound, IsStep, ca
 use crate::clear::is_clear;
 use crate::in_place::{forward, with_blocks};
 use crate::points::facts_of;
-use fact_sources::{Substitution, any_choice_in, apart, candidates, firm, resting, settled};
+use fact_sources::{
+    Substitution, any_choice_in, apart, candidates, firm, function_at, resting, settled,
+};
 use ir_edit::substitute;
 use ir_tree::{Block, Duplicate, Function, Operand, Rows};
-use fact_sources::function_at;
 use std::alloc::{AllocError, Global};
 use std::collections::HashSet;
 use std::mem::replace;

@@ -2,10 +2,10 @@
 //! names as they are written.
 //!
 //! Below stand lines of the target and attribute groups (`ir_heads`), shapes and operands (`ir_operands`), a class of
-//! tokens of `ir_instructions` in definitions alone, names and types (`ir_read`), tokens (`ir_lex`) and the laws of
-//! forms (`lto_forms`). An initialiser nests as deep as its text does: it is kept as a flat list of parts, with the
-//! aggregates that are open on a stack, so nothing recurses but in shapes. A number for a pointer, or for what is no
-//! scalar, is read and kept, and left to the verifier.
+//! tokens of `ir_instructions` in definitions alone, names, types and the laws of forms (`ir_read`), and tokens
+//! (`ir_lex`). An initialiser nests as deep as its text does: it is kept as a flat list of parts, with the aggregates
+//! that are open on a stack, so nothing recurses but in shapes. A number for a pointer, or for what is no scalar, is
+//! read and kept, and left to the verifier.
 //!
 //! **Promise.** Each call gives what its form says of the tokens, or the first token at which no reading goes on, as
 //! [`variable_line_into`] (`specs/Variables`), [`initialiser_at`] (`specs/Initialisers`) and [`type_line_into`]

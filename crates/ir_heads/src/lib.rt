@@ -1,11 +1,11 @@
 //! Reads heads: attributes, heads of functions, and the lines that tell a module's target, source and comdats.
 //!
-//! Below stand single tokens, names, types, brackets and metadata (`ir_read`), tokens (`ir_lex`), linkages (`ir_tree`)
-//! and the laws of forms (`lto_forms`). `attributes` reads those of parameters, results, calls and definitions, and
-//! attribute groups; all are dropped but `noinline`, `optnone` and the groups that a definition names ([`Kept`]).
-//! `function_heads` reads linkage, result, name and parameters; which linkages and names may stand depends on whether a
-//! body follows ([`Role`]). `targets` takes data layouts of little endian with pointers of 64 bits, and refuses others
-//! as outside the profile (LangRef, "Function Attributes", "Functions", "Data Layout").
+//! Below stand single tokens, names, types, brackets, metadata and the laws of forms (`ir_read`), tokens (`ir_lex`) and
+//! linkages (`ir_tree`). `attributes` reads those of parameters, results, calls and definitions, and attribute groups;
+//! all are dropped but `noinline`, `optnone` and the groups that a definition names ([`Kept`]). `function_heads` reads
+//! linkage, result, name and parameters; which linkages and names may stand depends on whether a body follows
+//! ([`Role`]). `targets` takes data layouts of little endian with pointers of 64 bits, and refuses others as outside
+//! the profile (LangRef, "Function Attributes", "Functions", "Data Layout").
 //!
 //! **Promise.** Each reader gives what the reader on lists of its name gives, value or fault, as [`head_at`]
 //! (`specs/FunctionHeadsAt`) and [`definition_attributes_at`] (`specs/AttributesAt`); lemmas in `proofs/` tie these to

@@ -1,7 +1,7 @@
 //! Reads instructions and terminators, each by the class of its first word.
 //!
-//! Below stand the readers of shapes and operands (`ir_operands`), the trees of what is written (`ir_read`), the tokens
-//! of `ir_lex`, the operations of `ir_tree` and the forms of `lto_forms`. An instruction is read from behind its first
+//! Below stand the readers of shapes and operands (`ir_operands`), the forms and the trees of what is written
+//! (`ir_read`), the tokens of `ir_lex` and the operations of `ir_tree`. An instruction is read from behind its first
 //! word, which `ir_bodies` takes, and put behind the lines of its block; a terminator is read whole, into the place of
 //! what stood there. Calls of functions are read in `ir_bodies`. Nothing is resolved here: a type name may have no
 //! definition, and a local may stand for nothing.

@@ -1,10 +1,10 @@
 //! The names of a module that is in the grammar: of types, globals, attribute groups and a function's locals.
 //!
-//! Below stand the tree of what is written (`ir_read`), tokens (`ir_lex`), the laws of forms (`lto_forms`), the tree
-//! that is made (`ir_tree`) and `indexmap`, which keeps names in the order in which they are first seen. [`Types`],
-//! [`Globals`], [`Locals`] and [`Groups`] hold names, borrowed from the written tree. Type names are expanded within the
-//! limits ([`expanded`]), constant addresses folded to a symbol and an offset ([`address_offset`]). Trees are made in
-//! `named_values`. The definitions of stages over a whole module stand here too, for `ir_stages`.
+//! Below stand the tree of what is written (`ir_read`), tokens (`ir_lex`), the tree that is made (`ir_tree`) and
+//! `indexmap`, which keeps names in the order in which they are first seen. [`Types`], [`Globals`], [`Locals`] and
+//! [`Groups`] hold names, borrowed from the written tree. Type names are expanded within the limits ([`expanded`]),
+//! constant addresses folded to a symbol and an offset ([`address_offset`]). Trees are made in `named_values`. The
+//! definitions of stages over a whole module stand here too, for `ir_stages`.
 //!
 //! **Promise.** A call gives what its definition says, the fault with its kind and line among it, unless memory runs
 //! out (`specs/Settled`): [`expanded`] by `specs/Types`, [`Globals`] by `specs/Globals`, [`Locals`] by `specs/Locals`.

@@ -1,10 +1,10 @@
 //! Reads shapes and operands, by the class of the first word.
 //!
-//! Below stand the trees of what is written, with the readers of names, types, numbers and operands of one token
-//! (`ir_read`), the tokens of `ir_lex`, the types of `ir_tree` and the forms of `lto_forms`. `shapes` reads arrays,
-//! structures and type names, and measures them as it goes ([`Extent`]); `values` reads operands with constant
-//! addresses, which are kept level by level. [`Listing`] is the list of a block's lines to which the readers above add.
-//! Nothing is resolved here: a type name may have no definition, and a local may stand for nothing.
+//! Below stand the trees of what is written, with the readers of names, types, numbers and operands of one token and
+//! the laws of forms (`ir_read`), the tokens of `ir_lex` and the types of `ir_tree`. `shapes` reads arrays, structures
+//! and type names, and measures them as it goes ([`Extent`]); `values` reads operands with constant addresses, which
+//! are kept level by level. [`Listing`] is the list of a block's lines to which the readers above add. Nothing is
+//! resolved here: a type name may have no definition, and a local may stand for nothing.
 //!
 //! **Promise.** Each reader gives what the reader on lists of its name gives, value or fault: [`memory_shape_at`]
 //! (`specs/ShapeFormsAt`), with the shape's extent, and [`operand_at`] (`specs/ValuesAt`). Lemmas in `proofs/` tie

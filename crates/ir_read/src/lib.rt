@@ -1,22 +1,24 @@
-//! Reads the parts of a module's items as trees with their names as they are written.
+//! Grammars as relations between lists of tokens and values, and readers of the parts of a module's items as trees with
+//! their names as they are written.
 //!
-//! Below stand the tokens of `ir_lex`, the operations and types of `ir_tree` and the forms of `lto_forms`. Here are the
-//! written tree of a whole module ([`Item`]), and readers of what the grammar is put together from: single tokens
-//! ([`expect`]), names, types, operands of one token, numbers and literals, groups in brackets however deep, and
-//! metadata, which is dropped. Attributes and heads of functions are read in `ir_heads`, shapes and longer operands in
-//! `ir_operands`. A name is its token with a copy of the bytes, so it knows its line and the tree borrows nothing. Nothing is resolved: a type
-//! name may have no definition, and a local may stand for nothing.
+//! A form says which tokens spell which values; no reader and no order of trial occurs in it (`specs/Forms`), and any
+//! type serves as tokens (`specs/Alphabet`). Below stand the tokens of `ir_lex` and the operations and types of
+//! `ir_tree`. Here are the written tree of a whole module ([`Item`]), and readers of what the grammar is put together
+//! from: single tokens ([`expect`]), names, types, operands of one token, numbers and literals, groups in brackets
+//! however deep, and metadata, which is dropped. A name is its token with a copy of the bytes, so the tree borrows
+//! nothing. Nothing is resolved: a type name may have no definition, and a local may stand for nothing.
 //!
-//! **Promise.** A reader gives what the reader on lists of its name gives, as [`simple_at`] (`specs/OperandsAt`) and
-//! [`attachments_at`] (`specs/MetadataAt`): the value with the tokens that are left, or the fault and how many tokens
-//! are left at it. Lemmas in `proofs/` tie those to their forms (`specs/Operands`, `specs/Metadata`). [`literal`] gives
-//! the bits of a literal of a width, or none exactly where it is out of range (`specs/Literals`).
+//! **Promise.** A reader gives what the reader on lists of its name gives (`Gives`, `specs/Readers`), as [`simple_at`]
+//! (`specs/OperandsAt`) and [`attachments_at`] (`specs/MetadataAt`): the value with the tokens that are left, or the
+//! fault and how many tokens are left at it. A reader on lists that is `Lawful` (`specs/Lawful`) reads its form, and
+//! stops at the first token at which no reading goes on; each way of putting forms together keeps this. [`literal`]
+//! gives the bits of a literal of a width, or none exactly where it is out of range (`specs/Literals`).
 //!
 //! **Cost.** A token costs its own length at most, a group or a line of metadata is linear in its tokens. Memory is
 //! taken for brackets that are open, and for the nodes of trees.
 //!
-//! **Not shown.** That memory is found: of a reading that ran out of it nothing is said, not even how many tokens it
-//! took.
+//! **Not shown.** Laws over all grammars are lemmas: a clause here speaks of one, as [`listing_faults`] does. That
+//! memory is found: of a reading that ran out of it nothing is said.
 #![tactic(auto)]
 
 mod address;

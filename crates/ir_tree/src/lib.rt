@@ -5,7 +5,8 @@
 //! types and every list as a list, so `≡` between two trees is equality of what they say. [`Parsed`] is a module that
 //! is formed, with lines beside it, and [`Verified`] one that is sound; both keep that in their types. What formed and
 //! sound are (`specs/Formed`, `specs/Rules`, `specs/Wholes`), and what edges, paths and dominance (`specs/Flow`), is
-//! defined here for the crates above.
+//! defined here for the crates above. [`FaultKind`] and [`Rule`] say why a text is no sound module, [`Failure`] why a
+//! call that may find a fault has no answer.
 //!
 //! **Promise.** [`size_of`], [`align_of`] and [`offset_of`] give what LangRef, "Data Layout", says of x86-64
 //! (`specs/Layout`); a copy ([`Duplicate`]) is equal to what it was made of, and a name that is printed is read as

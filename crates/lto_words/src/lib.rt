@@ -1,19 +1,24 @@
-//! The words of the command line as a command.
+//! The words of the command line as a command, and the files that it names: what is fetched, in order, and what is put.
 //!
-//! Below stand `clap`, which parses, `indexmap`, which keeps the names of a list in their order, and `ir_tree`, for
-//! texts and lists. The table of commands is data in `specs/Table`, and `clap`'s statement for simple commands says
-//! which words fit it; what their values mean is said in `specs/Given`, and `specs/Commands` puts both together as
-//! `IsCommand`. [`Command`] is what comes out, with the names of files ([`FileName`]) and what is chosen for a link
-//! ([`LinkOptions`]).
+//! Below stand `clap`, which parses, `indexmap`, which keeps the names of a list in their order, `memchr`,
+//! `lto_outside` for files, and `ir_tree`. The table of commands is data in `specs/Table`, and `clap`'s statement for
+//! simple commands says which words fit it; what their values mean is said in `specs/Given`, and `specs/Commands` puts
+//! both together as `IsCommand`. [`Command`] is what comes out, with the names of files ([`FileName`]) and what is
+//! chosen for a link ([`LinkOptions`]). [`fetch_all`] fetches files one after another, up to one that can't be; a file
+//! of more than 16 MiB is fetched as none. A batch has a list file: [`links`] reads it as the links that its lines are,
+//! or tells the first line that is none (`specs/Listing`, [`one_list`]). [`fetch_links`] fetches what all links read,
+//! [`put_all`] puts their texts.
 //!
 //! **Promise.** [`command`] gives a command that the words are, or Usage exactly where they are none, unless memory
-//! runs out (`specs/Commands`, `specs/Reads`); words are one command at most ([`one_command`]).
+//! runs out (`specs/Reads`); words are one command at most ([`one_command`]). The calls of the files that were made are
+//! just the fetches or puts that are asked for, up to the first that failed ([`fetch_all`], `specs/Fetching`;
+//! [`put_all`], `specs/Links`).
 //!
-//! **Cost.** Time and memory are linear in the words, but for look-ups in the table, which has at most seven options.
-//! Want of memory is answered as such, and never as Usage.
+//! **Cost.** Time and memory are linear in the words and in what is read and put, but for look-ups in the table, which
+//! has at most seven options. Want of memory is answered as such.
 //!
-//! **Not shown.** That the table is what README.md says: `outside_tests` tries words that are a command and words that
-//! are none. That memory is found.
+//! **Not shown.** That the table and list files are what README.md says: tests try words and lists. That memory is
+//! found.
 #![tactic(auto)]
 
 mod argument;

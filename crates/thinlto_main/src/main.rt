@@ -2,7 +2,7 @@
 //!
 //! [`top`] is the program's one call: it takes the words of the command line and the outside as five objects; `main`
 //! makes the real objects, calls it, and ends with the status's number. Words are told by `lto_words`; a command
-//! fetches its files in order, once per occurrence (`command_files`), and reads each (`link_one`), and by the modules'
+//! fetches its files in order, once per occurrence (`lto_words`), and reads each (`link_one`), and by the modules'
 //! summaries it is decided what is kept and imported (`thin_link`). `link` puts the linked module, `batch` those of the
 //! links that its list file lists, once all are made, `index` prints what was decided, and `run` runs the modules
 //! together (`run_program`). Links are compiled over one cache of the command (`cache_slot`), in memory or in a
