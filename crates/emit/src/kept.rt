@@ -46,13 +46,12 @@ fn marked<'a>(
 /// The names that are reached from these by the references of a graph.
 fn reached_from<'a>(
     alloc: Global,
-    graph: Graph<'a>,
+    graph: &mut Graph<'a>,
     starts: &'a [Text],
 ) -> Result<IndexSet<&'a [u8]>, AllocError>
-    requires linked { IsGraph graph.names.keys graph.rows.items }
-    ensures { IfOk result (λ kept. (pieces : List Piece) → Linked (edges pieces) graph.entry.names.keys graph.entry.rows.items → (name : List ℕ) → (is_key kept.keys name ≡ true) ↔ IsUsed starts.entry.now pieces name) }
+    requires linked { IsGraph graph.now.names.keys graph.now.rows.items }
+    ensures { IfOk result (λ kept. (pieces : List Piece) → Linked (edges pieces) graph.old.names.keys graph.old.rows.items → (name : List ℕ) → (is_key kept.keys name ≡ true) ↔ IsUsed starts.entry.now pieces name) }
 {
-    let mut graph = graph;
     let starts = graph.numbers_of(alloc, starts)?;
     let marks = reached(alloc, &graph.rows, &starts)?;
     marked(alloc, graph.names.as_slice(), &marks)
@@ -66,8 +65,8 @@ pub(crate) fn kept<'a>(
 ) -> Result<IndexSet<&'a [u8]>, AllocError>
     ensures { IfOk result (λ kept. (name : List ℕ) → (is_key kept.keys name ≡ true) ↔ IsUsed exports.entry.now (flat_map (λ u. u) units.entry.now) name) }
 {
-    let graph = graph_of(alloc, units)?;
-    reached_from(alloc, graph, exports)
+    let mut graph = graph_of(alloc, units)?;
+    reached_from(alloc, &mut graph, exports)
 }
 
 /// The names that are reached from these by what the pieces of one unit refer to.
@@ -80,5 +79,5 @@ pub(crate) fn kept_of<'a>(
 {
     let mut graph = Graph::new(alloc);
     graph.link_pieces(alloc, pieces)?;
-    reached_from(alloc, graph, offers)
+    reached_from(alloc, &mut graph, offers)
 }

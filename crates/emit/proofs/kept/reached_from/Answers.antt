@@ -43,7 +43,7 @@ given names keys marks Is starts (Err e) is all h = tt
 
 pub returns : goal.returns
 returns c =
-    given c.as_slice.result.now c.numbers_of.new.self.names.keys c.in_ok-marks.marks (λ hs. Linked (edges hs) c.args.graph.names.keys c.args.graph.rows.items) c.args.starts.now c.marked.result c.as_slice.ensures.keys
+    given c.as_slice.result.now c.numbers_of.new.self.names.keys c.in_ok-marks.marks (λ hs. Linked (edges hs) c.args.graph.now.names.keys c.args.graph.now.rows.items) c.args.starts.now c.marked.result c.as_slice.ensures.keys
     (λ hs linked.
     kept_so c.args.starts.now hs c.numbers_of.new.self.names.keys c.numbers_of.new.self.rows.items c.in_ok-starts.starts.items (c.in_ok-starts.ensures.linked (edges hs) linked)
     c.in_ok-starts.ensures.starts c.in_ok-marks.marks
