@@ -16,7 +16,7 @@ pub struct Case {
 }
 
 /// How a block ends.
-#[derive(Drop, PartialEq, Eq)]
+#[derive(Drop)]
 pub enum Terminator {
     Return(Option<Argument>),
     Jump(u32),
@@ -37,7 +37,6 @@ pub enum Terminator {
 /// A basic block under its number, which it shares one counter with the function's locals for.
 ///
 /// `phis` are the phis that stand first; all other instructions are `lines`.
-#[derive(PartialEq, Eq)]
 pub struct Block {
     pub number: u32,
     pub phis: Rows<Phi>,

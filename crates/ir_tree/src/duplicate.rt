@@ -1,13 +1,14 @@
 //! Copies of trees, each equal to what it was made of.
 ghost use Rattle.std.specs.Prelude.{◌≡◌, IfOk};
 ghost use Rattle.ir_tree.specs.Forms.{forms_of};
+ghost use Rattle.ir_tree.specs.declared.instr.Instr.TheVariants.{Select, Address, Call};
 
 use crate::block::{Block, Case, Terminator};
 use crate::function::{Function, Param, Variable};
 use crate::init_node::{InitHead, InitPart};
 use crate::instr::{Incoming, Instr, Line, Phi};
 use crate::module::{GlobalValue, Module};
-use crate::operand::{Argument, Operand, Symbol};
+use crate::operand::{Argument, Operand, Reg, Symbol};
 use crate::rows::Rows;
 use crate::shape::{Shape, ShapeNode};
 use crate::text::Text;
@@ -163,17 +164,59 @@ fn copy_both(
     Ok((first, second))
 }
 
-fn copy_applied(
+fn copy_select(
     alloc: Global,
-    operand: &Operand,
-    arguments: &Rows<Argument>,
-) -> Result<(Operand, Rows<Argument>), AllocError>
-    ensures operand { IfOk result (λ both. both.0 ≡ operand.now) }
-    ensures arguments { IfOk result (λ both. both.1 ≡ arguments.now) }
+    condition: &Operand,
+    if_true: &Argument,
+    if_false: &Argument,
+) -> Result<Instr, AllocError>
+    ensures { IfOk result (λ new. new ≡ Select condition.now if_true.now if_false.now) }
 {
-    let first = operand.duplicate(alloc)?;
-    let second = arguments.duplicate(alloc)?;
-    Ok((first, second))
+    let condition = condition.duplicate(alloc)?;
+    let if_true = if_true.duplicate(alloc)?;
+    let if_false = if_false.duplicate(alloc)?;
+    Ok(Instr::Select {
+        condition,
+        if_true,
+        if_false,
+    })
+}
+
+fn copy_address(
+    alloc: Global,
+    inbounds: bool,
+    shape: &Shape,
+    base: &Operand,
+    indices: &Rows<Argument>,
+) -> Result<Instr, AllocError>
+    ensures { IfOk result (λ new. new ≡ Address inbounds shape.now base.now indices.now) }
+{
+    let shape = shape.duplicate(alloc)?;
+    let base = base.duplicate(alloc)?;
+    let indices = indices.duplicate(alloc)?;
+    Ok(Instr::Address {
+        inbounds,
+        shape,
+        base,
+        indices,
+    })
+}
+
+fn copy_call(
+    alloc: Global,
+    given: Option<Reg>,
+    callee: &Operand,
+    arguments: &Rows<Argument>,
+) -> Result<Instr, AllocError>
+    ensures { IfOk result (λ new. new ≡ Call given callee.now arguments.now) }
+{
+    let callee = callee.duplicate(alloc)?;
+    let arguments = arguments.duplicate(alloc)?;
+    Ok(Instr::Call {
+        result: given,
+        callee,
+        arguments,
+    })
 }
 
 impl Duplicate for Instr {
@@ -227,16 +270,7 @@ impl Duplicate for Instr {
                 condition,
                 if_true,
                 if_false,
-            } => {
-                let condition = condition.duplicate(alloc)?;
-                let if_true = if_true.duplicate(alloc)?;
-                let if_false = if_false.duplicate(alloc)?;
-                Ok(Instr::Select {
-                    condition,
-                    if_true,
-                    if_false,
-                })
-            }
+            } => copy_select(alloc, condition, if_true, if_false),
             Instr::Freeze { reg, value } => {
                 let value = value.duplicate(alloc)?;
                 Ok(Instr::Freeze { reg: *reg, value })
@@ -279,28 +313,12 @@ impl Duplicate for Instr {
                 shape,
                 base,
                 indices,
-            } => {
-                let shape = shape.duplicate(alloc)?;
-                let (base, indices) = copy_applied(alloc, base, indices)?;
-                Ok(Instr::Address {
-                    inbounds: *inbounds,
-                    shape,
-                    base,
-                    indices,
-                })
-            }
+            } => copy_address(alloc, *inbounds, shape, base, indices),
             Instr::Call {
                 result,
                 callee,
                 arguments,
-            } => {
-                let (callee, arguments) = copy_applied(alloc, callee, arguments)?;
-                Ok(Instr::Call {
-                    result: *result,
-                    callee,
-                    arguments,
-                })
-            }
+            } => copy_call(alloc, *result, callee, arguments),
             Instr::Phi { reg, incoming } => {
                 let incoming = incoming.duplicate(alloc)?;
                 Ok(Instr::Phi {

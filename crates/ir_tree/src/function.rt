@@ -81,7 +81,7 @@ pub struct Param {
 ///
 /// Locals and blocks are numbered by one counter in the order of the text: parameters, then each
 /// block followed by its results. `result` is `None` for `void`.
-#[derive(Drop, PartialEq, Eq)]
+#[derive(Drop)]
 pub struct Function {
     pub symbol: Symbol,
     pub linkage: Linkage,
@@ -93,7 +93,7 @@ pub struct Function {
 }
 
 /// A global variable of a shape, at a multiple of `align` bytes. One without `init` is a declaration.
-#[derive(Drop, PartialEq, Eq)]
+#[derive(Drop)]
 pub struct Variable {
     pub symbol: Symbol,
     pub linkage: Linkage,

@@ -58,7 +58,7 @@ pub struct Flags {
 /// Widths are in bits, alignments in bytes. The arms of a `select` keep a type each, as they are
 /// written. A phi that stands where phis may stand is in its block's `phis`; `Phi` is one that stands
 /// behind another instruction, which reads and is never sound.
-#[derive(Drop, PartialEq, Eq)]
+#[derive(Drop)]
 pub enum Instr {
     Binary {
         op: BinaryOp,
@@ -121,7 +121,6 @@ pub enum Instr {
 }
 
 /// One line of a block: an instruction, and the local that takes its result.
-#[derive(PartialEq, Eq)]
 pub struct Line {
     pub local: Option<u32>,
     pub instr: Instr,
@@ -136,14 +135,13 @@ impl Drop for Line {
 }
 
 /// What a phi takes on an edge from the block `from`.
-#[derive(Drop, PartialEq, Eq)]
+#[derive(Drop)]
 pub struct Incoming {
     pub from: u32,
     pub value: Operand,
 }
 
 /// A phi node: the local `local` gets the value of the edge by which its block is entered.
-#[derive(PartialEq, Eq)]
 pub struct Phi {
     pub local: u32,
     pub reg: Reg,

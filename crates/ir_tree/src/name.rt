@@ -60,16 +60,10 @@ fn hex_digit(digit: u8) -> u8
     }
 }
 
-fn is_plain(byte: u8) -> bool
-    ensures { result ≡ is_plain byte }
-{
-    32 <= byte && byte <= 126 && byte != QUOTE && byte != BACKSLASH
-}
-
 fn push_escaped(byte: u8, out: &mut Vec<u8>) -> Result<(), AllocError>
     ensures { IfOk result (λ _. out.new.items ≡ out.old.items ++ escaped (byte ∷ [])) }
 {
-    if is_plain(byte) {
+    if 32 <= byte && byte <= 126 && byte != QUOTE && byte != BACKSLASH {
         out.push(byte)?;
     } else {
         out.push(BACKSLASH)?;

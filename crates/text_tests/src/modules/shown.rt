@@ -57,22 +57,20 @@ pub fn are_shown<R: Abort>(rt: &R, alloc: Global, rows: &[Row]) -> Result<(), Al
     Ok(())
 }
 
-/// Whether bytes are read as this module.
-fn is_read_as(alloc: Global, bytes: &[u8], module: &Module) -> Result<bool, AllocError> {
-    match parse(alloc, bytes) {
-        Ok(parsed) => Ok(*parsed.module() == *module),
+/// Whether what is printed of a module is read, and printed as that text again.
+fn is_read_again(alloc: Global, module: &Module) -> Result<bool, AllocError> {
+    let printed = print(alloc, module)?;
+    match parse(alloc, printed.as_slice()) {
+        Ok(parsed) => {
+            let again = print(alloc, parsed.module())?;
+            Ok(again.as_slice() == printed.as_slice())
+        }
         Err(ReadError::NoMemory) => Err(AllocError),
         Err(ReadError::Fault(_)) => Ok(false),
     }
 }
 
-/// Whether what is printed of a module is read as the very same one.
-fn is_read_again(alloc: Global, module: &Module) -> Result<bool, AllocError> {
-    let printed = print(alloc, module)?;
-    is_read_as(alloc, printed.as_slice(), module)
-}
-
-/// Whether a text is read as a module, and what is printed of that as the very same one.
+/// Whether a text is read as a module, and what is printed of that as one with the same text.
 fn stays(alloc: Global, text: &str) -> Result<bool, AllocError> {
     match parse(alloc, text.as_bytes()) {
         Ok(parsed) => is_read_again(alloc, parsed.module()),

@@ -2,7 +2,7 @@
 use crate::parts::read;
 use ir_edit::{renumber, shift_numbers, substitute};
 use ir_print::print_function;
-use ir_tree::{Function, Operand};
+use ir_tree::{Function, GlobalValue, Operand};
 use std::alloc::{AllocError, Global};
 
 const COUNTING: &[u8] = b"define i32 @count(i32 %0) {
@@ -89,10 +89,14 @@ fn edits_show_in(alloc: Global, text: &[u8]) -> Result<bool, AllocError> {
     let Some(parsed) = read(alloc, text) else {
         return Ok(false);
     };
-    match parsed.module().function(b"count") {
-        Some(f) => edits_show(alloc, f),
-        None => Ok(false),
+    for global in parsed.module().globals.as_slice() {
+        if let GlobalValue::Function(f) = global {
+            if f.symbol.name.equals(b"count") {
+                return edits_show(alloc, f);
+            }
+        }
     }
+    Ok(false)
 }
 
 #[test]
