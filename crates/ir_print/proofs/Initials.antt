@@ -2,7 +2,6 @@
 use Rattle.std.proofs.Common.{◌≡◌, Bool, true, false, List, [], ◌∷◌, ◌++◌, refl, sym, ap, ◌∙◌, append_assoc}
 use Rattle.std.proofs.lemmas.List.{append-nil}
 use Rattle.ir_lex.specs.Pieces.{Piece}
-use Rattle.ir_tree.specs.Forms.{Form}
 use Rattle.ir_tree.specs.Initials.{Initial, Initials, plain, zeros, bytes, elements, members, no_initials, initial, head_of, parts_of, all_parts, flat_of}
 use Rattle.ir_tree.specs.declared.init_node.InitHead.{InitHead}
 use Rattle.ir_tree.specs.declared.init_node.InitPart.{InitPart}

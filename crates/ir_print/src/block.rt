@@ -6,45 +6,24 @@ ghost use Rattle.ir_print.specs.Wrote.{Wrote};
 
 use crate::instruction::{phi, put_lines};
 use crate::operand::{operand, typed};
-use crate::token::{INDENT, SPACE, comma, label_line, local, mark, number, width, word};
+use crate::token::{INDENT, SPACE, label_line, local, mark, number, width, word};
 use crate::types::register;
 use ir_tree::{Argument, Block, Case, Operand, Phi, Terminator};
 use std::alloc::AllocError;
 
-/// `label %b`.
-fn target(b: u32, out: &mut Vec<u8>) -> Result<(), AllocError>
-    ensures { IfOk result (λ _. Wrote (blocks.target b) out.old.items out.new.items) }
-{
-    word(SPACE, b"label", out)?;
-    local(SPACE, b, out)
-}
+/// What leads a target that isn't first.
+const TO_LABEL: &[u8] = b", label ";
 
-/// `T n, label %b`.
-fn switch_case(c: &Case, out: &mut Vec<u8>) -> Result<(), AllocError>
-    ensures { IfOk result (λ _. Wrote (blocks.switch_case c.now) out.old.items out.new.items) }
-{
-    register(SPACE, c.reg, out)?;
-    number(SPACE, c.width, c.bits, out)?;
-    comma(out)?;
-    target(c.target, out)
-}
-
+/// `T n, label %b`, for each case.
 fn put_cases(list: &[Case], out: &mut Vec<u8>) -> Result<(), AllocError>
     ensures { IfOk result (λ _. Wrote (blocks.cases list.now) out.old.items out.new.items) }
 {
     'each: for c in list {
-        switch_case(c, out)?;
+        register(SPACE, c.reg, out)?;
+        number(SPACE, c.width, c.bits, out)?;
+        local(TO_LABEL, c.target, out)?;
     }
     Ok(())
-}
-
-fn answer(a: &Option<Argument>, out: &mut Vec<u8>) -> Result<(), AllocError>
-    ensures { IfOk result (λ _. Wrote (blocks.answer a.now) out.old.items out.new.items) }
-{
-    match a {
-        None => word(SPACE, b"void", out),
-        Some(a) => typed(SPACE, a.reg, &a.operand, out),
-    }
 }
 
 /// `x, label %b`.
@@ -52,22 +31,16 @@ fn decided(x: &Operand, b: u32, out: &mut Vec<u8>) -> Result<(), AllocError>
     ensures { IfOk result (λ _. Wrote (blocks.decided x.now b) out.old.items out.new.items) }
 {
     operand(SPACE, x, out)?;
-    comma(out)?;
-    target(b, out)
+    local(TO_LABEL, b, out)
 }
 
 fn put_return(a: &Option<Argument>, out: &mut Vec<u8>) -> Result<(), AllocError>
     ensures { IfOk result (λ _. Wrote (blocks.terminator (terminators.Return a.now)) out.old.items out.new.items) }
 {
-    word(INDENT, b"ret", out)?;
-    answer(a, out)
-}
-
-fn jump(b: u32, out: &mut Vec<u8>) -> Result<(), AllocError>
-    ensures { IfOk result (λ _. Wrote (blocks.terminator (terminators.Jump b)) out.old.items out.new.items) }
-{
-    word(INDENT, b"br", out)?;
-    target(b, out)
+    match a {
+        None => word(INDENT, b"ret void", out),
+        Some(a) => typed(b"\n  ret ", a.reg, &a.operand, out),
+    }
 }
 
 fn branch(
@@ -78,11 +51,9 @@ fn branch(
 ) -> Result<(), AllocError>
     ensures { IfOk result (λ _. Wrote (blocks.terminator (terminators.Branch condition.now if_true if_false)) out.old.items out.new.items) }
 {
-    word(INDENT, b"br", out)?;
-    width(SPACE, 1, out)?;
+    word(INDENT, b"br i1", out)?;
     decided(condition, if_true, out)?;
-    comma(out)?;
-    target(if_false, out)
+    local(TO_LABEL, if_false, out)
 }
 
 fn switch(
@@ -94,8 +65,7 @@ fn switch(
 ) -> Result<(), AllocError>
     ensures { IfOk result (λ _. Wrote (blocks.terminator (terminators.Switch w x.now default cases.now)) out.old.items out.new.items) }
 {
-    word(INDENT, b"switch", out)?;
-    width(SPACE, w, out)?;
+    width(b"\n  switch ", w, out)?;
     decided(x, default, out)?;
     mark(SPACE, b'[', out)?;
     put_cases(cases, out)?;
@@ -107,7 +77,7 @@ fn put_terminator(end: &Terminator, out: &mut Vec<u8>) -> Result<(), AllocError>
 {
     match end {
         Terminator::Return(a) => put_return(a, out),
-        Terminator::Jump(b) => jump(*b, out),
+        Terminator::Jump(b) => local(b"\n  br label ", *b, out),
         Terminator::Branch {
             condition,
             if_true,
@@ -123,19 +93,13 @@ fn put_terminator(end: &Terminator, out: &mut Vec<u8>) -> Result<(), AllocError>
     }
 }
 
-fn phi_line(p: &Phi, out: &mut Vec<u8>) -> Result<(), AllocError>
-    ensures { IfOk result (λ _. Wrote (blocks.phi_line p.now) out.old.items out.new.items) }
-{
-    local(INDENT, p.local, out)?;
-    mark(SPACE, b'=', out)?;
-    phi(SPACE, p.reg, p.incoming.as_slice(), out)
-}
-
+/// `%n = phi T [ x, %b ], [ y, %c ]`, for each phi.
 fn put_phis(list: &[Phi], out: &mut Vec<u8>) -> Result<(), AllocError>
     ensures { IfOk result (λ _. Wrote (blocks.phis list.now) out.old.items out.new.items) }
 {
     'each: for p in list {
-        phi_line(p, out)?;
+        local(INDENT, p.local, out)?;
+        phi(b" = ", p.reg, p.incoming.as_slice(), out)?;
     }
     Ok(())
 }
@@ -149,22 +113,6 @@ fn content(b: &Block, out: &mut Vec<u8>) -> Result<(), AllocError>
     put_terminator(&b.end, out)
 }
 
-fn labelled(b: &Block, out: &mut Vec<u8>) -> Result<(), AllocError>
-    ensures { IfOk result (λ _. Wrote (blocks.labelled b.now) out.old.items out.new.items) }
-{
-    label_line(b.number, out)?;
-    content(b, out)
-}
-
-fn further_blocks(list: &[Block], out: &mut Vec<u8>) -> Result<(), AllocError>
-    ensures { IfOk result (λ _. Wrote (blocks.further_blocks list.now) out.old.items out.new.items) }
-{
-    'each: for b in list {
-        labelled(b, out)?;
-    }
-    Ok(())
-}
-
 /// The blocks of a function, of which the entry has no label.
 pub(crate) fn put_blocks(list: &[Block], out: &mut Vec<u8>) -> Result<(), AllocError>
     ensures { IfOk result (λ _. Wrote (blocks.blocks list.now) out.old.items out.new.items) }
@@ -173,7 +121,11 @@ pub(crate) fn put_blocks(list: &[Block], out: &mut Vec<u8>) -> Result<(), AllocE
         [] => Ok(()),
         [entry, rest @ ..] => {
             content(entry, out)?;
-            further_blocks(rest, out)
+            'each: for b in rest {
+                label_line(b.number, out)?;
+                content(b, out)?;
+            }
+            Ok(())
         }
     }
 }

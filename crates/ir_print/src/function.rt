@@ -1,12 +1,10 @@
 //! Writes functions.
 ghost use Rattle.std.specs.Prelude.{◌≡◌, ◌++◌, IfOk};
-ghost use Rattle.ir_print.specs.Tokens as tokens;
-ghost use Rattle.ir_print.specs.Types as types;
 ghost use Rattle.ir_print.specs.Functions as functions;
 ghost use Rattle.ir_print.specs.Wrote.{Wrote};
 
 use crate::block::put_blocks;
-use crate::token::{NEXT_LINE, SPACE, TIGHT, comma, global, local, mark, optional, word};
+use crate::token::{COMMA, NEXT_LINE, SPACE, TIGHT, global, local, mark, optional, word};
 use crate::types::{register, result_type};
 use ir_tree::{Block, Function, Linkage, Param};
 use std::alloc::AllocError;
@@ -28,27 +26,11 @@ pub(crate) fn put_linkage(linkage: Linkage, out: &mut Vec<u8>) -> Result<(), All
 }
 
 /// `T %n`.
-fn param(blank: &[u8], p: &Param, out: &mut Vec<u8>) -> Result<(), AllocError>
-    ensures { IfOk result (λ _. Wrote (functions.param blank.now p.now) out.old.items out.new.items) }
+fn param(lead: &[u8], p: &Param, out: &mut Vec<u8>) -> Result<(), AllocError>
+    ensures { IfOk result (λ _. Wrote (functions.param lead.now p.now) out.old.items out.new.items) }
 {
-    register(blank, p.reg, out)?;
+    register(lead, p.reg, out)?;
     local(SPACE, p.local, out)
-}
-
-fn further_param(p: &Param, out: &mut Vec<u8>) -> Result<(), AllocError>
-    ensures { IfOk result (λ _. Wrote (tokens.comma ++ functions.param tokens.space p.now) out.old.items out.new.items) }
-{
-    comma(out)?;
-    param(SPACE, p, out)
-}
-
-fn further_params(list: &[Param], out: &mut Vec<u8>) -> Result<(), AllocError>
-    ensures { IfOk result (λ _. Wrote (functions.further_params list.now) out.old.items out.new.items) }
-{
-    'each: for p in list {
-        further_param(p, out)?;
-    }
-    Ok(())
 }
 
 /// The parameters of a definition.
@@ -59,25 +41,12 @@ fn put_params(list: &[Param], out: &mut Vec<u8>) -> Result<(), AllocError>
         [] => Ok(()),
         [first, rest @ ..] => {
             param(TIGHT, first, out)?;
-            further_params(rest, out)
+            'each: for p in rest {
+                param(COMMA, p, out)?;
+            }
+            Ok(())
         }
     }
-}
-
-fn further_type(p: &Param, out: &mut Vec<u8>) -> Result<(), AllocError>
-    ensures { IfOk result (λ _. Wrote (tokens.comma ++ types.register tokens.space p.now.reg) out.old.items out.new.items) }
-{
-    comma(out)?;
-    register(SPACE, p.reg, out)
-}
-
-fn further_types(list: &[Param], out: &mut Vec<u8>) -> Result<(), AllocError>
-    ensures { IfOk result (λ _. Wrote (functions.further_types list.now) out.old.items out.new.items) }
-{
-    'each: for p in list {
-        further_type(p, out)?;
-    }
-    Ok(())
 }
 
 /// The parameters of a declaration, which have no names.
@@ -88,7 +57,10 @@ fn put_types(list: &[Param], out: &mut Vec<u8>) -> Result<(), AllocError>
         [] => Ok(()),
         [first, rest @ ..] => {
             register(TIGHT, first.reg, out)?;
-            further_types(rest, out)
+            'each: for p in rest {
+                register(COMMA, p.reg, out)?;
+            }
+            Ok(())
         }
     }
 }

@@ -7,7 +7,7 @@ ghost use Rattle.ir_print.specs.Wrote.{Wrote};
 
 use crate::operand::{all_typed, further_typed, operand, typed};
 use crate::operators::{condition, conversion, opcode};
-use crate::token::{INDENT, SPACE, TIGHT, comma, local, mark, natural, optional, width, word};
+use crate::token::{COMMA, INDENT, SPACE, TIGHT, local, mark, natural, optional, width, word};
 use crate::types::{register, result_type, shape};
 use ir_tree::{
     Argument, BinaryOp, CastOp, Flags, Incoming, Instr, Line, Operand, Predicate, Reg, Shape,
@@ -23,11 +23,11 @@ fn put_flags(flags: Flags, out: &mut Vec<u8>) -> Result<(), AllocError>
     optional(b"exact", flags.exact, out)
 }
 
-/// `ptr x`.
+/// `, ptr x`.
 fn pointer_to(x: &Operand, out: &mut Vec<u8>) -> Result<(), AllocError>
-    ensures { IfOk result (λ _. Wrote (instructions.pointer_to x.now) out.old.items out.new.items) }
+    ensures { IfOk result (λ _. Wrote (tokens.comma ++ instructions.pointer_to x.now) out.old.items out.new.items) }
 {
-    word(SPACE, b"ptr", out)?;
+    word(COMMA, b"ptr", out)?;
     operand(SPACE, x, out)
 }
 
@@ -35,9 +35,7 @@ fn pointer_to(x: &Operand, out: &mut Vec<u8>) -> Result<(), AllocError>
 pub(crate) fn aligned(n: u64, out: &mut Vec<u8>) -> Result<(), AllocError>
     ensures { IfOk result (λ _. Wrote (instructions.aligned n) out.old.items out.new.items) }
 {
-    comma(out)?;
-    word(SPACE, b"align", out)?;
-    natural(SPACE, n, out)
+    natural(b", align ", n, out)
 }
 
 /// `x, y`.
@@ -45,12 +43,12 @@ fn both(x: &Operand, y: &Operand, out: &mut Vec<u8>) -> Result<(), AllocError>
     ensures { IfOk result (λ _. Wrote (instructions.both x.now y.now) out.old.items out.new.items) }
 {
     operand(SPACE, x, out)?;
-    comma(out)?;
+    mark(TIGHT, b',', out)?;
     operand(SPACE, y, out)
 }
 
 fn binary(
-    blank: &[u8],
+    lead: &[u8],
     op: BinaryOp,
     flags: Flags,
     w: u8,
@@ -58,146 +56,133 @@ fn binary(
     y: &Operand,
     out: &mut Vec<u8>,
 ) -> Result<(), AllocError>
-    ensures { IfOk result (λ _. Wrote (instructions.instruction blank.now (instrs.Binary op flags w x.now y.now)) out.old.items out.new.items) }
+    ensures { IfOk result (λ _. Wrote (instructions.instruction lead.now (instrs.Binary op flags w x.now y.now)) out.old.items out.new.items) }
 {
-    word(blank, opcode(op), out)?;
+    word(lead, opcode(op), out)?;
     put_flags(flags, out)?;
     width(SPACE, w, out)?;
     both(x, y, out)
 }
 
 fn icmp(
-    blank: &[u8],
+    lead: &[u8],
     predicate: Predicate,
     reg: Reg,
     x: &Operand,
     y: &Operand,
     out: &mut Vec<u8>,
 ) -> Result<(), AllocError>
-    ensures { IfOk result (λ _. Wrote (instructions.instruction blank.now (instrs.Icmp predicate reg x.now y.now)) out.old.items out.new.items) }
+    ensures { IfOk result (λ _. Wrote (instructions.instruction lead.now (instrs.Icmp predicate reg x.now y.now)) out.old.items out.new.items) }
 {
-    word(blank, b"icmp", out)?;
+    word(lead, b"icmp", out)?;
     word(SPACE, condition(predicate), out)?;
     register(SPACE, reg, out)?;
     both(x, y, out)
 }
 
 fn cast(
-    blank: &[u8],
+    lead: &[u8],
     op: CastOp,
     from: Reg,
     x: &Operand,
     to: Reg,
     out: &mut Vec<u8>,
 ) -> Result<(), AllocError>
-    ensures { IfOk result (λ _. Wrote (instructions.instruction blank.now (instrs.Cast op from x.now to)) out.old.items out.new.items) }
+    ensures { IfOk result (λ _. Wrote (instructions.instruction lead.now (instrs.Cast op from x.now to)) out.old.items out.new.items) }
 {
-    word(blank, conversion(op), out)?;
+    word(lead, conversion(op), out)?;
     typed(SPACE, from, x, out)?;
-    word(SPACE, b"to", out)?;
-    register(SPACE, to, out)
-}
-
-/// One more operand with its type, behind a comma.
-fn arm(a: &Argument, out: &mut Vec<u8>) -> Result<(), AllocError>
-    ensures { IfOk result (λ _. Wrote (instructions.arm a.now) out.old.items out.new.items) }
-{
-    comma(out)?;
-    typed(SPACE, a.reg, &a.operand, out)
+    register(b" to ", to, out)
 }
 
 fn select(
-    blank: &[u8],
+    lead: &[u8],
     condition: &Operand,
     a: &Argument,
     b: &Argument,
     out: &mut Vec<u8>,
 ) -> Result<(), AllocError>
-    ensures { IfOk result (λ _. Wrote (instructions.instruction blank.now (instrs.Select condition.now a.now b.now)) out.old.items out.new.items) }
+    ensures { IfOk result (λ _. Wrote (instructions.instruction lead.now (instrs.Select condition.now a.now b.now)) out.old.items out.new.items) }
 {
-    word(blank, b"select", out)?;
-    width(SPACE, 1, out)?;
+    word(lead, b"select i1", out)?;
     operand(SPACE, condition, out)?;
-    arm(a, out)?;
-    arm(b, out)
+    typed(COMMA, a.reg, &a.operand, out)?;
+    typed(COMMA, b.reg, &b.operand, out)
 }
 
-fn freeze(blank: &[u8], reg: Reg, x: &Operand, out: &mut Vec<u8>) -> Result<(), AllocError>
-    ensures { IfOk result (λ _. Wrote (instructions.instruction blank.now (instrs.Freeze reg x.now)) out.old.items out.new.items) }
+fn freeze(lead: &[u8], reg: Reg, x: &Operand, out: &mut Vec<u8>) -> Result<(), AllocError>
+    ensures { IfOk result (λ _. Wrote (instructions.instruction lead.now (instrs.Freeze reg x.now)) out.old.items out.new.items) }
 {
-    word(blank, b"freeze", out)?;
+    word(lead, b"freeze", out)?;
     typed(SPACE, reg, x, out)
 }
 
-fn alloca(blank: &[u8], of: &Shape, align: u64, out: &mut Vec<u8>) -> Result<(), AllocError>
-    ensures { IfOk result (λ _. Wrote (instructions.instruction blank.now (instrs.Alloca of.now align)) out.old.items out.new.items) }
+fn alloca(lead: &[u8], of: &Shape, align: u64, out: &mut Vec<u8>) -> Result<(), AllocError>
+    ensures { IfOk result (λ _. Wrote (instructions.instruction lead.now (instrs.Alloca of.now align)) out.old.items out.new.items) }
 {
-    word(blank, b"alloca", out)?;
+    word(lead, b"alloca", out)?;
     shape(SPACE, of, out)?;
     aligned(align, out)
 }
 
 fn load(
-    blank: &[u8],
+    lead: &[u8],
     reg: Reg,
     address: &Operand,
     align: u64,
     out: &mut Vec<u8>,
 ) -> Result<(), AllocError>
-    ensures { IfOk result (λ _. Wrote (instructions.instruction blank.now (instrs.Load reg address.now align)) out.old.items out.new.items) }
+    ensures { IfOk result (λ _. Wrote (instructions.instruction lead.now (instrs.Load reg address.now align)) out.old.items out.new.items) }
 {
-    word(blank, b"load", out)?;
+    word(lead, b"load", out)?;
     register(SPACE, reg, out)?;
-    comma(out)?;
     pointer_to(address, out)?;
     aligned(align, out)
 }
 
 fn store(
-    blank: &[u8],
+    lead: &[u8],
     reg: Reg,
     x: &Operand,
     address: &Operand,
     align: u64,
     out: &mut Vec<u8>,
 ) -> Result<(), AllocError>
-    ensures { IfOk result (λ _. Wrote (instructions.instruction blank.now (instrs.Store reg x.now address.now align)) out.old.items out.new.items) }
+    ensures { IfOk result (λ _. Wrote (instructions.instruction lead.now (instrs.Store reg x.now address.now align)) out.old.items out.new.items) }
 {
-    word(blank, b"store", out)?;
+    word(lead, b"store", out)?;
     typed(SPACE, reg, x, out)?;
-    comma(out)?;
     pointer_to(address, out)?;
     aligned(align, out)
 }
 
 fn address(
-    blank: &[u8],
+    lead: &[u8],
     inbounds: bool,
     of: &Shape,
     base: &Operand,
     indices: &[Argument],
     out: &mut Vec<u8>,
 ) -> Result<(), AllocError>
-    ensures { IfOk result (λ _. Wrote (instructions.instruction blank.now (instrs.Address inbounds of.now base.now indices.now)) out.old.items out.new.items) }
+    ensures { IfOk result (λ _. Wrote (instructions.instruction lead.now (instrs.Address inbounds of.now base.now indices.now)) out.old.items out.new.items) }
 {
-    word(blank, b"getelementptr", out)?;
+    word(lead, b"getelementptr", out)?;
     optional(b"inbounds", inbounds, out)?;
     shape(SPACE, of, out)?;
-    comma(out)?;
     pointer_to(base, out)?;
     further_typed(indices, out)
 }
 
 fn call(
-    blank: &[u8],
+    lead: &[u8],
     answer: Option<Reg>,
     callee: &Operand,
     arguments: &[Argument],
     out: &mut Vec<u8>,
 ) -> Result<(), AllocError>
-    ensures { IfOk result (λ _. Wrote (instructions.instruction blank.now (instrs.Call answer callee.now arguments.now)) out.old.items out.new.items) }
+    ensures { IfOk result (λ _. Wrote (instructions.instruction lead.now (instrs.Call answer callee.now arguments.now)) out.old.items out.new.items) }
 {
-    word(blank, b"call", out)?;
+    word(lead, b"call", out)?;
     result_type(answer, out)?;
     operand(SPACE, callee, out)?;
     mark(TIGHT, b'(', out)?;
@@ -211,25 +196,8 @@ fn put_incoming(i: &Incoming, out: &mut Vec<u8>) -> Result<(), AllocError>
 {
     mark(SPACE, b'[', out)?;
     operand(SPACE, &i.value, out)?;
-    comma(out)?;
-    local(SPACE, i.from, out)?;
+    local(COMMA, i.from, out)?;
     mark(SPACE, b']', out)
-}
-
-fn further(i: &Incoming, out: &mut Vec<u8>) -> Result<(), AllocError>
-    ensures { IfOk result (λ _. Wrote (tokens.comma ++ instructions.incoming i.now) out.old.items out.new.items) }
-{
-    comma(out)?;
-    put_incoming(i, out)
-}
-
-fn further_incoming(list: &[Incoming], out: &mut Vec<u8>) -> Result<(), AllocError>
-    ensures { IfOk result (λ _. Wrote (instructions.further_incoming list.now) out.old.items out.new.items) }
-{
-    'each: for i in list {
-        further(i, out)?;
-    }
-    Ok(())
 }
 
 fn all_incoming(list: &[Incoming], out: &mut Vec<u8>) -> Result<(), AllocError>
@@ -239,28 +207,32 @@ fn all_incoming(list: &[Incoming], out: &mut Vec<u8>) -> Result<(), AllocError>
         [] => Ok(()),
         [first, rest @ ..] => {
             put_incoming(first, out)?;
-            further_incoming(rest, out)
+            'each: for i in rest {
+                mark(TIGHT, b',', out)?;
+                put_incoming(i, out)?;
+            }
+            Ok(())
         }
     }
 }
 
 /// A phi, without the local that takes its result.
 pub(crate) fn phi(
-    blank: &[u8],
+    lead: &[u8],
     reg: Reg,
     edges: &[Incoming],
     out: &mut Vec<u8>,
 ) -> Result<(), AllocError>
-    ensures { IfOk result (λ _. Wrote (instructions.phi blank.now reg edges.now) out.old.items out.new.items) }
+    ensures { IfOk result (λ _. Wrote (instructions.phi lead.now reg edges.now) out.old.items out.new.items) }
 {
-    word(blank, b"phi", out)?;
+    word(lead, b"phi", out)?;
     register(SPACE, reg, out)?;
     all_incoming(edges, out)
 }
 
 /// An instruction, without the local that takes its result.
-fn put_instruction(blank: &[u8], instr: &Instr, out: &mut Vec<u8>) -> Result<(), AllocError>
-    ensures { IfOk result (λ _. Wrote (instructions.instruction blank.now instr.now) out.old.items out.new.items) }
+fn put_instruction(lead: &[u8], instr: &Instr, out: &mut Vec<u8>) -> Result<(), AllocError>
+    ensures { IfOk result (λ _. Wrote (instructions.instruction lead.now instr.now) out.old.items out.new.items) }
 {
     match instr {
         Instr::Binary {
@@ -269,49 +241,49 @@ fn put_instruction(blank: &[u8], instr: &Instr, out: &mut Vec<u8>) -> Result<(),
             width,
             left,
             right,
-        } => binary(blank, *op, *flags, *width, left, right, out),
+        } => binary(lead, *op, *flags, *width, left, right, out),
         Instr::Icmp {
             predicate,
             reg,
             left,
             right,
-        } => icmp(blank, *predicate, *reg, left, right, out),
+        } => icmp(lead, *predicate, *reg, left, right, out),
         Instr::Cast {
             op,
             from,
             value,
             to,
-        } => cast(blank, *op, *from, value, *to, out),
+        } => cast(lead, *op, *from, value, *to, out),
         Instr::Select {
             condition,
             if_true,
             if_false,
-        } => select(blank, condition, if_true, if_false, out),
-        Instr::Freeze { reg, value } => freeze(blank, *reg, value, out),
-        Instr::Alloca { shape, align } => alloca(blank, shape, *align, out),
+        } => select(lead, condition, if_true, if_false, out),
+        Instr::Freeze { reg, value } => freeze(lead, *reg, value, out),
+        Instr::Alloca { shape, align } => alloca(lead, shape, *align, out),
         Instr::Load {
             reg,
             address,
             align,
-        } => load(blank, *reg, address, *align, out),
+        } => load(lead, *reg, address, *align, out),
         Instr::Store {
             reg,
             value,
             address,
             align,
-        } => store(blank, *reg, value, address, *align, out),
+        } => store(lead, *reg, value, address, *align, out),
         Instr::Address {
             inbounds,
             shape,
             base,
             indices,
-        } => address(blank, *inbounds, shape, base, indices.as_slice(), out),
+        } => address(lead, *inbounds, shape, base, indices.as_slice(), out),
         Instr::Call {
             result,
             callee,
             arguments,
-        } => call(blank, *result, callee, arguments.as_slice(), out),
-        Instr::Phi { reg, incoming } => phi(blank, *reg, incoming.as_slice(), out),
+        } => call(lead, *result, callee, arguments.as_slice(), out),
+        Instr::Phi { reg, incoming } => phi(lead, *reg, incoming.as_slice(), out),
     }
 }
 

@@ -6,23 +6,12 @@ ghost use Rattle.ir_print.specs.Variables.{variable};
 ghost use Rattle.ir_print.specs.Wrote.{Wrote};
 
 use crate::function::put_function;
-use crate::token::{SPACE, TIGHT, mark, string, word};
+use crate::token::{string, word};
 use crate::variable::put_variable;
 use ir_tree::{Function, GlobalValue, Module, Text, Variable};
 use std::alloc::{AllocError, Global};
 
-/// `target NAME = "TEXT"`.
-fn target_line(name: &[u8], text: &[u8], out: &mut Vec<u8>) -> Result<(), AllocError>
-    requires { 0 < length name.now }
-    ensures { IfOk result (λ _. Wrote (modules.target_line name.now text.now) out.old.items out.new.items) }
-{
-    word(TIGHT, b"target", out)?;
-    word(SPACE, name, out)?;
-    mark(SPACE, b'=', out)?;
-    string(SPACE, text, out)
-}
-
-/// A target line, where its text isn't empty.
+/// `target NAME = "TEXT"`, where the text isn't empty.
 fn target_lines(name: &[u8], text: &[u8], out: &mut Vec<u8>) -> Result<(), AllocError>
     requires { 0 < length name.now }
     ensures { IfOk result (λ _. out.new.items ≡ out.old.items ++ modules.text_of (modules.target_lines name.now text.now)) }
@@ -30,7 +19,8 @@ fn target_lines(name: &[u8], text: &[u8], out: &mut Vec<u8>) -> Result<(), Alloc
     match text {
         [] => Ok(()),
         [_, ..] => {
-            target_line(name, text, out)?;
+            word(b"target ", name, out)?;
+            string(b" = ", text, out)?;
             out.push(b'\n')?;
             Ok(())
         }

@@ -1,4 +1,4 @@
-//! Writes tokens, each behind its blank.
+//! Writes tokens, each behind its lead: its blank, and the tokens before it where they are always the same.
 ghost use Rattle.std.specs.Prelude.{◌≡◌, ◌<◌, ◌∷◌, [], length, ◌++◌, IfOk, decimal};
 ghost use Rattle.ir_print.specs.Tokens as tokens;
 ghost use Rattle.ir_print.specs.Wrote.{Wrote};
@@ -11,6 +11,8 @@ pub(crate) const TIGHT: &[u8] = b"";
 
 pub(crate) const SPACE: &[u8] = b" ";
 
+pub(crate) const COMMA: &[u8] = b", ";
+
 pub(crate) const NEXT_LINE: &[u8] = b"\n";
 
 pub(crate) const INDENT: &[u8] = b"\n  ";
@@ -22,12 +24,12 @@ fn push_decimal(n: u64, out: &mut Vec<u8>) -> Result<(), AllocError>
     out.extend_from_slice(buffer.format(n).as_bytes())
 }
 
-/// A keyword.
-pub(crate) fn word(blank: &[u8], text: &[u8], out: &mut Vec<u8>) -> Result<(), AllocError>
+/// A keyword, or several tokens that always stand in a row.
+pub(crate) fn word(lead: &[u8], text: &[u8], out: &mut Vec<u8>) -> Result<(), AllocError>
     requires { 0 < length text.now }
-    ensures { IfOk result (λ _. Wrote (tokens.word blank.now text.now) out.old.items out.new.items) }
+    ensures { IfOk result (λ _. Wrote (tokens.word lead.now text.now) out.old.items out.new.items) }
 {
-    out.extend_from_slice(blank)?;
+    out.extend_from_slice(lead)?;
     out.extend_from_slice(text)
 }
 
@@ -45,53 +47,46 @@ pub(crate) fn optional(text: &[u8], is_due: bool, out: &mut Vec<u8>) -> Result<(
 }
 
 /// A mark, as `(`.
-pub(crate) fn mark(blank: &[u8], c: u8, out: &mut Vec<u8>) -> Result<(), AllocError>
-    ensures { IfOk result (λ _. Wrote (tokens.mark blank.now c) out.old.items out.new.items) }
+pub(crate) fn mark(lead: &[u8], c: u8, out: &mut Vec<u8>) -> Result<(), AllocError>
+    ensures { IfOk result (λ _. Wrote (tokens.mark lead.now c) out.old.items out.new.items) }
 {
-    out.extend_from_slice(blank)?;
+    out.extend_from_slice(lead)?;
     out.push(c)?;
     Ok(())
 }
 
-pub(crate) fn comma(out: &mut Vec<u8>) -> Result<(), AllocError>
-    ensures { IfOk result (λ _. Wrote tokens.comma out.old.items out.new.items) }
-{
-    out.push(b',')?;
-    Ok(())
-}
-
 /// `%n`.
-pub(crate) fn local(blank: &[u8], n: u32, out: &mut Vec<u8>) -> Result<(), AllocError>
-    ensures { IfOk result (λ _. Wrote (tokens.local blank.now n) out.old.items out.new.items) }
+pub(crate) fn local(lead: &[u8], n: u32, out: &mut Vec<u8>) -> Result<(), AllocError>
+    ensures { IfOk result (λ _. Wrote (tokens.local lead.now n) out.old.items out.new.items) }
 {
-    out.extend_from_slice(blank)?;
+    out.extend_from_slice(lead)?;
     out.push(b'%')?;
     push_decimal(u64::from(n), out)
 }
 
 /// `@name`, quoted where it isn't bare.
-pub(crate) fn global(blank: &[u8], name: &[u8], out: &mut Vec<u8>) -> Result<(), AllocError>
-    ensures { IfOk result (λ _. Wrote (tokens.global blank.now name.now) out.old.items out.new.items) }
+pub(crate) fn global(lead: &[u8], name: &[u8], out: &mut Vec<u8>) -> Result<(), AllocError>
+    ensures { IfOk result (λ _. Wrote (tokens.global lead.now name.now) out.old.items out.new.items) }
 {
-    out.extend_from_slice(blank)?;
+    out.extend_from_slice(lead)?;
     out.push(b'@')?;
     quote_into(name, out)
 }
 
 /// `iN`.
-pub(crate) fn width(blank: &[u8], w: u8, out: &mut Vec<u8>) -> Result<(), AllocError>
-    ensures { IfOk result (λ _. Wrote (tokens.width blank.now w) out.old.items out.new.items) }
+pub(crate) fn width(lead: &[u8], w: u8, out: &mut Vec<u8>) -> Result<(), AllocError>
+    ensures { IfOk result (λ _. Wrote (tokens.width lead.now w) out.old.items out.new.items) }
 {
-    out.extend_from_slice(blank)?;
+    out.extend_from_slice(lead)?;
     out.push(b'i')?;
     push_decimal(u64::from(w), out)
 }
 
 /// A decimal without a sign.
-pub(crate) fn natural(blank: &[u8], n: u64, out: &mut Vec<u8>) -> Result<(), AllocError>
-    ensures { IfOk result (λ _. Wrote (tokens.natural blank.now n) out.old.items out.new.items) }
+pub(crate) fn natural(lead: &[u8], n: u64, out: &mut Vec<u8>) -> Result<(), AllocError>
+    ensures { IfOk result (λ _. Wrote (tokens.natural lead.now n) out.old.items out.new.items) }
 {
-    out.extend_from_slice(blank)?;
+    out.extend_from_slice(lead)?;
     push_decimal(n, out)
 }
 
@@ -106,22 +101,11 @@ pub(crate) fn label_line(n: u32, out: &mut Vec<u8>) -> Result<(), AllocError>
 }
 
 /// Bytes between quotes.
-pub(crate) fn string(blank: &[u8], text: &[u8], out: &mut Vec<u8>) -> Result<(), AllocError>
-    ensures { IfOk result (λ _. Wrote (tokens.string blank.now text.now) out.old.items out.new.items) }
+pub(crate) fn string(lead: &[u8], text: &[u8], out: &mut Vec<u8>) -> Result<(), AllocError>
+    ensures { IfOk result (λ _. Wrote (tokens.string lead.now text.now) out.old.items out.new.items) }
 {
-    out.extend_from_slice(blank)?;
+    out.extend_from_slice(lead)?;
     out.push(b'"')?;
-    escape_into(text, out)?;
-    out.push(b'"')?;
-    Ok(())
-}
-
-/// The bytes of an array: `c".."`.
-pub(crate) fn byte_string(blank: &[u8], text: &[u8], out: &mut Vec<u8>) -> Result<(), AllocError>
-    ensures { IfOk result (λ _. Wrote (tokens.byte_string blank.now text.now) out.old.items out.new.items) }
-{
-    out.extend_from_slice(blank)?;
-    out.extend_from_slice(b"c\"")?;
     escape_into(text, out)?;
     out.push(b'"')?;
     Ok(())
@@ -144,30 +128,23 @@ fn push_signed(w: u8, bits: u64, out: &mut Vec<u8>) -> Result<(), AllocError>
 }
 
 /// The bits of a width as a signed decimal.
-pub(crate) fn signed(blank: &[u8], w: u8, bits: u64, out: &mut Vec<u8>) -> Result<(), AllocError>
-    ensures { IfOk result (λ _. Wrote (tokens.signed_piece blank.now w bits) out.old.items out.new.items) }
+pub(crate) fn signed(lead: &[u8], w: u8, bits: u64, out: &mut Vec<u8>) -> Result<(), AllocError>
+    ensures { IfOk result (λ _. Wrote (tokens.signed_piece lead.now w bits) out.old.items out.new.items) }
 {
-    out.extend_from_slice(blank)?;
+    out.extend_from_slice(lead)?;
     push_signed(w, bits, out)
 }
 
-fn truth(blank: &[u8], bits: u64, out: &mut Vec<u8>) -> Result<(), AllocError>
-    ensures { IfOk result (λ _. Wrote (tokens.word blank.now (tokens.truth bits)) out.old.items out.new.items) }
-{
-    if bits == 0 {
-        word(blank, b"false", out)
-    } else {
-        word(blank, b"true", out)
-    }
-}
-
 /// An integer: `true` or `false` at width 1, else a signed decimal.
-pub(crate) fn number(blank: &[u8], w: u8, bits: u64, out: &mut Vec<u8>) -> Result<(), AllocError>
-    ensures { IfOk result (λ _. Wrote (tokens.number blank.now w bits) out.old.items out.new.items) }
+pub(crate) fn number(lead: &[u8], w: u8, bits: u64, out: &mut Vec<u8>) -> Result<(), AllocError>
+    ensures { IfOk result (λ _. Wrote (tokens.number lead.now w bits) out.old.items out.new.items) }
 {
-    if w == 1 {
-        truth(blank, bits, out)
+    if w != 1 {
+        return signed(lead, w, bits, out);
+    }
+    if bits == 0 {
+        word(lead, b"false", out)
     } else {
-        signed(blank, w, bits, out)
+        word(lead, b"true", out)
     }
 }

@@ -1,23 +1,22 @@
 //! Writes types.
 ghost use Rattle.std.specs.Prelude.{◌≡◌, ◌++◌, IfOk};
-ghost use Rattle.std.specs.Prelude.{true, false};
+ghost use Rattle.std.specs.Prelude.{true};
 ghost use Rattle.ir_tree.specs.Forms as forms;
 ghost use Rattle.ir_tree.specs.Forms.{forms_of};
-ghost use Rattle.ir_print.specs.Tokens as tokens;
 ghost use Rattle.ir_print.specs.Types as types;
 ghost use Rattle.ir_print.specs.Wrote.{Wrote};
 
-use crate::token::{SPACE, TIGHT, comma, mark, natural, width, word};
+use crate::token::{COMMA, SPACE, TIGHT, mark, natural, width, word};
 use ir_tree::{Reg, Shape, ShapeNode};
 use std::alloc::AllocError;
 
 /// A register's type.
-pub(crate) fn register(blank: &[u8], reg: Reg, out: &mut Vec<u8>) -> Result<(), AllocError>
-    ensures { IfOk result (λ _. Wrote (types.register blank.now reg) out.old.items out.new.items) }
+pub(crate) fn register(lead: &[u8], reg: Reg, out: &mut Vec<u8>) -> Result<(), AllocError>
+    ensures { IfOk result (λ _. Wrote (types.register lead.now reg) out.old.items out.new.items) }
 {
     match reg {
-        Reg::Int(w) => width(blank, w, out),
-        Reg::Ptr => word(blank, b"ptr", out),
+        Reg::Int(w) => width(lead, w, out),
+        Reg::Ptr => word(lead, b"ptr", out),
     }
 }
 
@@ -33,18 +32,19 @@ pub(crate) fn result_type(reg: Option<Reg>, out: &mut Vec<u8>) -> Result<(), All
 
 /// A shape. Shapes nest at most 32 deep, and so does this call.
 #[cycle(shapes)]
-pub(crate) fn shape(blank: &[u8], of: &Shape, out: &mut Vec<u8>) -> Result<(), AllocError>
-    ensures { IfOk result (λ _. Wrote (types.shape blank.now of.now) out.old.items out.new.items) }
+pub(crate) fn shape(lead: &[u8], of: &Shape, out: &mut Vec<u8>) -> Result<(), AllocError>
+    ensures { IfOk result (λ _. Wrote (types.shape lead.now of.now) out.old.items out.new.items) }
 {
     match of.node() {
-        ShapeNode::Int(w) => width(blank, *w, out),
-        ShapeNode::Ptr => word(blank, b"ptr", out),
-        ShapeNode::Array(count, element) => array(blank, *count, element, out),
+        ShapeNode::Int(w) => width(lead, *w, out),
+        ShapeNode::Ptr => word(lead, b"ptr", out),
+        ShapeNode::Array(count, element) => array(lead, *count, element, out),
         ShapeNode::Struct(packed, parts) => {
             if *packed {
-                packed_structure(blank, parts, out)
+                packed_structure(lead, parts, out)
             } else {
-                structure(blank, parts, out)
+                mark(lead, b'{', out)?;
+                members(parts, out)
             }
         }
     }
@@ -52,32 +52,21 @@ pub(crate) fn shape(blank: &[u8], of: &Shape, out: &mut Vec<u8>) -> Result<(), A
 
 /// `[count x of]`.
 #[cycle(shapes)]
-fn array(blank: &[u8], count: u64, of: &Shape, out: &mut Vec<u8>) -> Result<(), AllocError>
-    ensures { IfOk result (λ _. Wrote (types.shape blank.now (forms.array count of.now)) out.old.items out.new.items) }
+fn array(lead: &[u8], count: u64, of: &Shape, out: &mut Vec<u8>) -> Result<(), AllocError>
+    ensures { IfOk result (λ _. Wrote (types.shape lead.now (forms.array count of.now)) out.old.items out.new.items) }
 {
-    mark(blank, b'[', out)?;
+    mark(lead, b'[', out)?;
     natural(TIGHT, count, out)?;
-    word(SPACE, b"x", out)?;
-    shape(SPACE, of, out)?;
+    shape(b" x ", of, out)?;
     mark(TIGHT, b']', out)
-}
-
-/// `{ parts }`.
-#[cycle(shapes)]
-fn structure(blank: &[u8], parts: &[Shape], out: &mut Vec<u8>) -> Result<(), AllocError>
-    ensures { IfOk result (λ _. Wrote (types.shape blank.now (forms.structure false (forms_of parts.now))) out.old.items out.new.items) }
-{
-    mark(blank, b'{', out)?;
-    members(parts, out)
 }
 
 /// `<{ parts }>`.
 #[cycle(shapes)]
-fn packed_structure(blank: &[u8], parts: &[Shape], out: &mut Vec<u8>) -> Result<(), AllocError>
-    ensures { IfOk result (λ _. Wrote (types.shape blank.now (forms.structure true (forms_of parts.now))) out.old.items out.new.items) }
+fn packed_structure(lead: &[u8], parts: &[Shape], out: &mut Vec<u8>) -> Result<(), AllocError>
+    ensures { IfOk result (λ _. Wrote (types.shape lead.now (forms.structure true (forms_of parts.now))) out.old.items out.new.items) }
 {
-    mark(blank, b'<', out)?;
-    mark(TIGHT, b'{', out)?;
+    word(lead, b"<{", out)?;
     members(parts, out)?;
     mark(TIGHT, b'>', out)
 }
@@ -102,15 +91,7 @@ fn further_members(parts: &[Shape], out: &mut Vec<u8>) -> Result<(), AllocError>
     ensures { IfOk result (λ _. Wrote (types.further_members (forms_of parts.now)) out.old.items out.new.items) }
 {
     'each: for part in parts {
-        further_member(part, out)?;
+        shape(COMMA, part, out)?;
     }
     Ok(())
-}
-
-#[cycle(shapes)]
-fn further_member(part: &Shape, out: &mut Vec<u8>) -> Result<(), AllocError>
-    ensures { IfOk result (λ _. Wrote (tokens.comma ++ types.shape tokens.space part.now) out.old.items out.new.items) }
-{
-    comma(out)?;
-    shape(SPACE, part, out)
 }

@@ -10,7 +10,7 @@ use crate::function::put_linkage;
 use crate::instruction::aligned;
 use crate::level::Level;
 use crate::operand::operand;
-use crate::token::{SPACE, TIGHT, byte_string, comma, global, mark, word};
+use crate::token::{COMMA, SPACE, TIGHT, global, mark, string, word};
 use crate::types::shape;
 use ir_tree::{Init, InitHead, InitPart, Linkage, Shape, Variable};
 use std::alloc::{AllocError, Global};
@@ -31,10 +31,7 @@ fn put_opening(level: Level, out: &mut Vec<u8>) -> Result<(), AllocError>
     match level {
         Level::Array => mark(SPACE, b'[', out),
         Level::Struct => mark(SPACE, b'{', out),
-        Level::PackedStruct => {
-            mark(SPACE, b'<', out)?;
-            mark(TIGHT, b'{', out)
-        }
+        Level::PackedStruct => mark(b" <", b'{', out),
     }
 }
 
@@ -62,18 +59,11 @@ fn put_closing(level: Level, is_empty: bool, out: &mut Vec<u8>) -> Result<(), Al
     }
 }
 
-fn further_shape(of: &Shape, out: &mut Vec<u8>) -> Result<(), AllocError>
-    ensures { IfOk result (λ _. Wrote (variables.further_shape of.now) out.old.items out.new.items) }
-{
-    comma(out)?;
-    shape(SPACE, of, out)
-}
-
 fn part_shape(level: Level, is_first: bool, of: &Shape, out: &mut Vec<u8>) -> Result<(), AllocError>
     ensures { IfOk result (λ _. Wrote (variables.part_shape level is_first of.now) out.old.items out.new.items) }
 {
     if !is_first {
-        return further_shape(of, out);
+        return shape(COMMA, of, out);
     }
     match level {
         Level::Array => shape(TIGHT, of, out),
@@ -102,7 +92,7 @@ fn put_head(head: &InitHead, levels: &mut Vec<Level>, out: &mut Vec<u8>) -> Resu
     match head {
         InitHead::Plain(x) => operand(SPACE, x, out)?,
         InitHead::Zeros => word(SPACE, b"zeroinitializer", out)?,
-        InitHead::Bytes(text) => byte_string(SPACE, text.as_slice(), out)?,
+        InitHead::Bytes(text) => string(b" c", text.as_slice(), out)?,
         InitHead::Array => return begin(Level::Array, levels, out),
         InitHead::Struct { packed } => return begin(level_of(*packed), levels, out),
     }

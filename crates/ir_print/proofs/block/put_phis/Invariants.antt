@@ -1,4 +1,4 @@
-use Rattle.std.proofs.Common.{◌≡◌, ◌++◌, List, ℕ, drop}
+use Rattle.std.proofs.Common.{◌≡◌, ◌++◌, drop}
 use Rattle.ir_lex.specs.Pieces.{bytes_of}
 use Rattle.ir_print.specs.Blocks as blocks
 use Rattle.ir_print.proofs.block.put_phis.Given as goal

@@ -2,4 +2,4 @@ use Rattle.ir_print.proofs.Written.{finish}
 use Rattle.ir_print.proofs.instruction.address.Goals as goal
 
 pub returns : goal.returns
-returns c = finish _ _ _ _ _ _ c.in_ok-word.ensures (finish _ _ _ _ _ _ c.in_ok-optional.ensures (finish _ _ _ _ _ _ c.in_ok-shape.ensures (finish _ _ _ _ _ _ c.in_ok-comma.ensures (finish _ _ _ _ _ _ c.in_ok-pointer_to.ensures c.further_typed.ensures))))
+returns c = finish _ _ _ _ _ _ c.in_ok-word.ensures (finish _ _ _ _ _ _ c.in_ok-optional.ensures (finish _ _ _ _ _ _ c.in_ok-shape.ensures (finish _ _ _ _ _ _ c.in_ok-pointer_to.ensures c.further_typed.ensures)))

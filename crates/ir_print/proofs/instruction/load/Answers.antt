@@ -2,4 +2,4 @@ use Rattle.ir_print.proofs.Written.{finish}
 use Rattle.ir_print.proofs.instruction.load.Goals as goal
 
 pub returns : goal.returns
-returns c = finish _ _ _ _ _ _ c.in_ok-word.ensures (finish _ _ _ _ _ _ c.in_ok-register.ensures (finish _ _ _ _ _ _ c.in_ok-comma.ensures (finish _ _ _ _ _ _ c.in_ok-pointer_to.ensures c.aligned.ensures)))
+returns c = finish _ _ _ _ _ _ c.in_ok-word.ensures (finish _ _ _ _ _ _ c.in_ok-register.ensures (finish _ _ _ _ _ _ c.in_ok-pointer_to.ensures c.aligned.ensures))

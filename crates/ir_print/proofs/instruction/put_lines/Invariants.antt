@@ -1,4 +1,4 @@
-use Rattle.std.proofs.Common.{◌≡◌, ◌++◌, List, ℕ, drop}
+use Rattle.std.proofs.Common.{◌≡◌, ◌++◌, drop}
 use Rattle.ir_lex.specs.Pieces.{bytes_of}
 use Rattle.ir_print.specs.Instructions as instructions
 use Rattle.ir_print.proofs.instruction.put_lines.Given as goal

@@ -1,4 +1,4 @@
-use Rattle.std.proofs.Common.{◌≡◌, ◌++◌, List, ℕ, drop}
+use Rattle.std.proofs.Common.{◌≡◌, ◌++◌, drop}
 use Rattle.ir_print.specs.Modules as modules
 use Rattle.ir_print.proofs.module.global_values.Given as goal
 

@@ -1,4 +1,4 @@
-use Rattle.std.proofs.Common.{◌≡◌, ◌++◌, List, ℕ, drop}
+use Rattle.std.proofs.Common.{◌≡◌, ◌++◌, drop}
 use Rattle.ir_lex.specs.Pieces.{bytes_of}
 use Rattle.ir_print.specs.Operands as operands
 use Rattle.ir_print.proofs.operand.further_typed.Given as goal

@@ -1,4 +1,4 @@
-use Rattle.std.proofs.Common.{◌≡◌, ◌≤◌, ◌+◌, ◌*◌, ◌++◌, List, ℕ, drop}
+use Rattle.std.proofs.Common.{◌≡◌, ◌≤◌, ◌+◌, ◌*◌, ◌++◌, drop}
 use Rattle.ir_lex.specs.Pieces.{bytes_of}
 use Rattle.ir_tree.specs.Forms.{forms_of}
 use Rattle.ir_tree.specs.Sizes.{nodes, all_nodes}
@@ -11,9 +11,6 @@ decreases-shape a = 4 * nodes a.of.now
 abbrev pub decreases-array : goal.decreases-array
 decreases-array a = 4 * nodes a.of.now + 3
 
-abbrev pub decreases-structure : goal.decreases-structure
-decreases-structure a = 4 * all_nodes (forms_of a.parts.now) + 3
-
 abbrev pub decreases-packed_structure : goal.decreases-packed_structure
 decreases-packed_structure a = 4 * all_nodes (forms_of a.parts.now) + 3
 
@@ -22,9 +19,6 @@ decreases-members a = 4 * all_nodes (forms_of a.parts.now) + 2
 
 abbrev pub decreases-further_members : goal.decreases-further_members
 decreases-further_members a = 4 * all_nodes (forms_of a.parts.now) + 1
-
-abbrev pub decreases-further_member : goal.decreases-further_member
-decreases-further_member a = 4 * nodes a.part.now + 1
 
 abbrev pub invariant-further_members-each : goal.invariant-further_members-each
 invariant-further_members-each l = record {

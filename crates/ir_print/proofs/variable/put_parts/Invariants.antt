@@ -1,4 +1,4 @@
-use Rattle.std.proofs.Common.{◌≡◌, ◌++◌, List, ℕ, drop}
+use Rattle.std.proofs.Common.{◌≡◌, ◌++◌, drop}
 use Rattle.std.specs.Prelude.{reverse}
 use Rattle.ir_lex.specs.Pieces.{bytes_of}
 use Rattle.ir_print.specs.Initials as initials

@@ -1,4 +1,4 @@
-use Rattle.std.proofs.Common.{◌≡◌, List, ℕ, ap, subst, ◌∙◌}
+use Rattle.std.proofs.Common.{List, ap, subst, ◌∙◌}
 use Rattle.std.specs.Prelude.{IfOk, reverse}
 use Rattle.ir_lex.specs.Pieces.{Piece}
 use Rattle.ir_print.specs.declared.level.Level.{Level}

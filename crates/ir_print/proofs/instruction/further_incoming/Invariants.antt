@@ -1,7 +1,0 @@
-use Rattle.std.proofs.Common.{◌≡◌, ◌++◌, List, ℕ, drop}
-use Rattle.ir_lex.specs.Pieces.{bytes_of}
-use Rattle.ir_print.specs.Instructions as instructions
-use Rattle.ir_print.proofs.instruction.further_incoming.Given as goal
-
-abbrev pub invariant-each : goal.invariant-each
-invariant-each l = l.out.items ++ bytes_of (instructions.further_incoming (drop l.i-index l.list)) ≡ l.fn.out.items ++ bytes_of (instructions.further_incoming l.fn.list)
