@@ -56,8 +56,9 @@ impl Drop for Incoming {
     }
 }
 
-/// An instruction that is no terminator. Widths are in bits, alignments in bytes; an alignment that
-/// isn't written is `None`, and the count of an `alloca` that isn't is 1.
+/// An instruction that is no terminator, in the order of LangRef, "Instruction Reference". Widths are in
+/// bits, alignments in bytes; an alignment that isn't written is `None`, and the count of an `alloca` that
+/// isn't is 1.
 pub enum Instr {
     Binary {
         op: BinaryOp,
@@ -65,31 +66,6 @@ pub enum Instr {
         width: u8,
         left: Operand,
         right: Operand,
-    },
-    Icmp {
-        predicate: Predicate,
-        reg: Reg,
-        left: Operand,
-        right: Operand,
-    },
-    Cast {
-        op: CastOp,
-        from: Reg,
-        value: Operand,
-        to: Reg,
-    },
-    Select {
-        condition: Operand,
-        if_true: Argument,
-        if_false: Argument,
-    },
-    Freeze {
-        reg: Reg,
-        value: Operand,
-    },
-    Phi {
-        reg: Reg,
-        incoming: Rows<Incoming>,
     },
     Alloca {
         typed: Typed,
@@ -112,6 +88,31 @@ pub enum Instr {
         typed: Typed,
         base: Operand,
         indices: Rows<Argument>,
+    },
+    Cast {
+        op: CastOp,
+        from: Reg,
+        value: Operand,
+        to: Reg,
+    },
+    Icmp {
+        predicate: Predicate,
+        reg: Reg,
+        left: Operand,
+        right: Operand,
+    },
+    Phi {
+        reg: Reg,
+        incoming: Rows<Incoming>,
+    },
+    Select {
+        condition: Operand,
+        if_true: Argument,
+        if_false: Argument,
+    },
+    Freeze {
+        reg: Reg,
+        value: Operand,
     },
     Call {
         result: Option<Reg>,

@@ -53,20 +53,20 @@ pub enum Predicate {
     Eq,
     /// Not equal.
     Ne,
-    /// Unsigned greater.
-    Ugt,
-    /// Unsigned greater or equal.
-    Uge,
     /// Unsigned less.
     Ult,
     /// Unsigned less or equal.
     Ule,
-    /// Signed greater.
-    Sgt,
-    /// Signed greater or equal.
-    Sge,
+    /// Unsigned greater.
+    Ugt,
+    /// Unsigned greater or equal.
+    Uge,
     /// Signed less.
     Slt,
     /// Signed less or equal.
     Sle,
+    /// Signed greater.
+    Sgt,
+    /// Signed greater or equal.
+    Sge,
 }
