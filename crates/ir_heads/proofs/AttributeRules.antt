@@ -30,7 +30,7 @@ use Rattle.ir_read.specs.MetadataAt.{PAREN}
 use Rattle.ir_heads.specs.declared.attributes.Attribute.TheVariants.{Dropped, Group}
 use Rattle.ir_read.specs.declared.brackets.Bracket.TheVariants.{Paren}
 use Rattle.ir_read.proofs.Alignments.{alignment_rule}
-use Rattle.ir_read.proofs.Groups.{group_rule}
+use Rattle.ir_read.proofs.GroupRules.{group_rule}
 use Rattle.ir_read.proofs.Nodes.{attached_rule, attached_opens}
 use Rattle.ir_read.proofs.Singles.{sample, word, not_number, not_limit, the_opens, one_rule, one_opens, number_real, number_rule, equals_rule, open_brace_rule, close_brace_rule, attributes_rule, string_rule, align_rule, parameter_word_rule, parameter_group_rule, group_name_real}
 

@@ -20,7 +20,7 @@ use Rattle.ir_read.specs.Brackets.{brackets, opening, move_of, group, group_at}
 use Rattle.ir_read.specs.Classes.{tokens, the, the_at}
 use Rattle.ir_read.specs.declared.brackets.Bracket.TheVariants.{Paren, Square, Curly}
 use Rattle.ir_read.specs.declared.brackets.Bracket.{Bracket}
-use Rattle.ir_read.proofs.Groups.{EVERY, closer, closer_real, every_class, number_stays}
+use Rattle.ir_read.proofs.GroupRules.{EVERY, closer, closer_real, every_class, number_stays}
 use Rattle.ir_operands.specs.ShapeForms.{OPEN_ANGLE}
 use Rattle.ir_parse.proofs.Exchanged.{Exchanges, STEADY, TELLING, anywhere, differ, is_angled, seq}
 use Rattle.ir_parse.proofs.ExchangedWords.{open_brace_exchanged, open_bracket_exchanged, open_paren_exchanged}

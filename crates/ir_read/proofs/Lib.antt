@@ -4,7 +4,7 @@ pub mod Composed
 pub mod Grouped
 pub mod Listed
 pub mod Loops
-pub mod Places
+pub mod FaultPlaces
 pub mod Rules
 pub mod Runs
 pub mod Stars
@@ -14,7 +14,7 @@ pub mod Bounds
 pub mod ChainLoops
 pub mod Alignments
 pub mod Digits
-pub mod Groups
+pub mod GroupRules
 pub mod Heads
 pub mod LineStarts
 pub mod Lines

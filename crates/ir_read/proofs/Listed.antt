@@ -11,7 +11,7 @@ use Rattle.ir_read.specs.Listing.{Sign, class_of, opening, closing, comma, numer
 use Rattle.ir_read.specs.Readers.{token_at}
 use Rattle.ir_read.specs.Rules.{Rule, Opens, is_class}
 use Rattle.ir_read.proofs.Composed.{token_lawful}
-use Rattle.ir_read.proofs.Places.{one_place}
+use Rattle.ir_read.proofs.FaultPlaces.{one_place}
 use Rattle.ir_read.proofs.Rules as rules
 use Rattle.ir_read.proofs.Bounds.{whole_bound}
 use Rattle.ir_read.proofs.Whole as whole

@@ -26,7 +26,7 @@ use Rattle.ir_read.specs.Metadata.{META, ends_line, open_behind, ended_by, line_
 use Rattle.ir_read.specs.MetadataAt.{PAREN, CURLY, NAMED}
 use Rattle.ir_read.specs.MetadataBehind.{BANG, BRACES, fitting, line_goes_on, line_rest, goes_on_but, named_node, line_end_or, behind_mark, marked, node_yet, node_or_line, behind_name, metadata_behind}
 use Rattle.ir_read.specs.MetadataBehindAt.{line_rest_at, goes_on_but_at, named_node_at, line_end_or_at, behind_mark_at, marked_at, node_yet_at, node_or_line_at, behind_name_at, metadata_behind_at}
-use Rattle.ir_read.proofs.Groups.{EVERY, every_class, number_stays, group_rule}
+use Rattle.ir_read.proofs.GroupRules.{EVERY, every_class, number_stays, group_rule}
 use Rattle.ir_read.proofs.Nodes.{line_rule}
 use Rattle.ir_read.proofs.Singles.{sample, one_rule, number_real, meta_real, bang_real, meta_rule}
 

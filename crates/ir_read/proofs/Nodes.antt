@@ -21,7 +21,7 @@ use Rattle.ir_read.specs.declared.brackets.Bracket.{Bracket}
 use Rattle.ir_read.specs.declared.brackets.Bracket.TheVariants.{Paren, Square, Curly}
 use Rattle.ir_read.specs.Metadata.{META, node, attached, attachment, attachments, ends_line, open_behind, ended_by, line_step, rest_of_line, metadata_line}
 use Rattle.ir_read.specs.MetadataAt.{PAREN, CURLY, NAMED, COMMA, node_at, attached_at, attachment_at, attachments_at, rest_of_line_at, metadata_line_at}
-use Rattle.ir_read.proofs.Groups.{EVERY, every_class, closer, closer_real, number_stays, group_rule}
+use Rattle.ir_read.proofs.GroupRules.{EVERY, every_class, closer, closer_real, number_stays, group_rule}
 use Rattle.ir_read.proofs.Singles.{sample, the_opens, one_rule, one_opens, meta_real, meta_rule, bang_rule, comma_rule}
 
 meta_sample : Rule tokens (one_of META ends_line) (one_of META ends_line) (one_of_at META ends_line) META [] false
