@@ -1,5 +1,6 @@
 -- How files are read one after another.
-use Rattle.std.proofs.Common.{◌≡◌, ◌<◌, ◌∙◌, ℕ, zero, suc, List, [], ◌∷◌, length, take, get_or, Option, Some, None, All, refl, sym, subst, inl, inr, arith}
+use Rattle.std.proofs.Common.{◌≡◌, ◌<◌, ◌∙◌, ◌+◌, ℕ, zero, suc, List, [], ◌∷◌, ◌++◌, length, map, take, get_or, Option, Some, None, All, refl, sym, ap, subst, inl, inr, arith}
+use Rattle.std.proofs.lemmas.List.{map-append, take_more}
 use Rattle.std.specs.List.{AllZip}
 use Rattle.std.proofs.lemmas.Slice.Zip.{AllZip-long}
 use Rattle.ir_tree.specs.declared.module.Module.{Module}
@@ -34,6 +35,19 @@ as_many names did ms r = sym r.fetched.each ∙ sym (AllZip-long IsRead r.given 
 -- what is given at a place is short
 pub at_place : {X : Type 0} (P : X → Type 0) (xs : List X) (i : ℕ) (x : X) → All P xs → i < length xs → x ≡ get_or xs i x → P x
 at_place P xs i x all lt is = subst P (sym is) (all i x lt)
+
+-- one more is copied
+pub copied_next : {X : Type 0} (xs : List X) (i : ℕ) (x y : X) (out after : List X) → i < length xs → x ≡ get_or xs i x → y ≡ x → out ≡ take i xs → after ≡ out ++ y ∷ [] → after ≡ take (i + 1) xs
+copied_next {X} xs i x y out after lt is same before pushed =
+    pushed ∙ ap (λ (l : List X). l ++ y ∷ []) before ∙ ap (λ (z : X). take i xs ++ z ∷ []) (same ∙ is) ∙ sym (take_more xs i x lt)
+
+-- and of what is made of what is mapped
+pub mapped_next : {X Y Z : Type 0} (f : X → Y) (g : Y → Z) (xs : List X) (i : ℕ) (x : X) (z : Z) (out after : List Z) → i < length xs → x ≡ get_or xs i x → z ≡ g (f x) → out ≡ map g (map f (take i xs))
+    → after ≡ out ++ z ∷ [] → after ≡ map g (map f (take (i + 1) xs))
+mapped_next {X} {Y} {Z} f g xs i x z out after lt is same before pushed =
+    let here : X = get_or xs i x in
+    pushed ∙ ap (λ (l : List Z). l ++ z ∷ []) before ∙ ap (λ (w : Z). map g (map f (take i xs)) ++ w ∷ []) (same ∙ ap (λ (w : X). g (f w)) is)
+    ∙ sym (map-append g (map f (take i xs)) (f here ∷ [])) ∙ ap (λ (l : List Y). map g l) (sym (map-append f (take i xs) (here ∷ []))) ∙ ap (λ (l : List X). map g (map f l)) (sym (take_more xs i x lt))
 
 -- a file that isn't read, behind others that are
 pub first_bad : (names : List (List ℕ)) (given : List (Option (List ℕ))) (ms : List Module) (i : ℕ) (name : List ℕ) (bytes : Option (List ℕ)) (file : List ℕ) (line : ℕ) (kind : Kind)

@@ -1,6 +1,6 @@
 //! The link: all files are fetched and read, their modules are linked over a cache, and the text is put.
 ghost use Rattle.std.specs.List.{AllZip};
-ghost use Rattle.std.specs.Prelude.{◌≡◌, ◌≤◌, ◌<◌, ◌^◌, ◌↔◌, ◌∷◌, ℕ, [], true, false, All, IfErr, IfOk, List, OnOk, length, map};
+ghost use Rattle.std.specs.Prelude.{◌≡◌, ◌≢◌, ◌≤◌, ◌<◌, ◌^◌, ◌↔◌, ◌∷◌, ℕ, [], true, false, All, IfErr, IfOk, List, OnOk, length, map};
 ghost use Rattle.back_pool.specs.Making.{FitsAsMade, IsTrusted};
 ghost use Rattle.cache_slot.specs.Decoded.{decoded};
 ghost use Rattle.cache_slot.specs.Directory.{dir_of};
@@ -11,7 +11,7 @@ ghost use Rattle.link_one.specs.Linking.{IsLinkOf, IsOnlyLinkOf};
 ghost use Rattle.link_one.specs.ModuleUnits.{IsTaskInLink};
 ghost use Rattle.link_one.specs.Refusing.{CanBeLinked, IsUnlinked};
 ghost use Rattle.link_one.specs.TaskUnits.{IsTaskUnit};
-ghost use Rattle.lto_fault.specs.declared.refusal.Refusal.TheVariants.{WriteFault};
+ghost use Rattle.lto_fault.specs.declared.refusal.Refusal.TheVariants.{NoMemory, WriteFault};
 ghost use Rattle.lto_outside.specs.Calls.{Put};
 ghost use Rattle.lto_outside.specs.Cause.{Rose};
 ghost use Rattle.lto_outside.specs.Honest.{IsHonest};
@@ -48,6 +48,22 @@ use std::sync::Wait;
 use std::thread::Threads;
 use thin_link::thin_link;
 
+/// That the modules have a thin link, or why they have none, in which files have these names.
+fn thinly_linked(
+    alloc: Global,
+    files: &[Text],
+    modules: &[Verified],
+    exports: &[Text],
+    import_limit: u32,
+) -> Result<(), Refusal>
+    requires { length files.now ≡ length modules.now }
+    ensures done { OnOk result (HasThinLink modules.now exports.now import_limit) }
+    ensures refused { IfErr result (λ why. why ≢ NoMemory → IsRefused files.now modules.now exports.now why) }
+{
+    thin_link(alloc, files, modules, exports, import_limit)?;
+    Ok(())
+}
+
 /// That the modules have a thin link, or why they have none.
 pub(crate) fn decided(
     alloc: Global,
@@ -63,11 +79,7 @@ pub(crate) fn decided(
     let Ok(files) = texts(alloc, names) else {
         return Err(Refusal::NoMemory);
     };
-    match thin_link(alloc, files.as_slice(), modules, exports, import_limit) {
-        Ok(_link) => {}
-        Err(why) => return Err(why),
-    }
-    Ok(())
+    thinly_linked(alloc, files.as_slice(), modules, exports, import_limit)
 }
 
 /// The text of the linked module of these, compiled over this cache, or why they aren't linked.

@@ -22,6 +22,8 @@
 //! what was put (`outside_real`). That the definition of meaning is LLVM's, which `checks/` compares.
 #![tactic(auto)]
 
+ghost use Rattle.std.specs.Prelude.{◌≡◌, ◌∷◌, [], MatchOption};
+
 mod batch;
 mod cache;
 #[cfg(test)]
@@ -44,32 +46,36 @@ pub use status::{Status, status_of};
 use std::alloc::Global;
 use std::process::ExitCode;
 use std::rt::Env;
+use std::slice::from_ref;
 use std::{env, io};
 pub use tasks::{tasks_are_spelled, tasks_are_told};
 
 /// The words behind the program's own name, unless they can't be had.
 fn all_words<R: Env + AllocGlobal>(rt: &R, alloc: Global) -> Option<Vec<String>> {
-    let mut words = Vec::new(alloc);
-    for word in env::args(rt).ok()?.skip(1) {
-        words.push(word).ok()?;
+    env::args(rt).ok()?.skip(1).collect(alloc).ok()
+}
+
+/// The words that the program does: those that were had, or else this one alone.
+fn given_words<'a>(words: &'a Option<Vec<String>>, no_word: &'a String) -> &'a [String]
+    ensures { MatchOption words.now (result.now ≡ no_word.now ∷ []) (λ had. result.now ≡ had.items) }
+{
+    match words {
+        Some(words) => words.as_slice(),
+        None => from_ref(no_word),
     }
-    Some(words)
 }
 
 fn main(rt: HostRuntime) -> ExitCode {
     let alloc = rt.alloc();
     // Words that can't be had are no command, as one empty word is none.
-    let no_command = [String::new(alloc)];
+    let no_word = String::new(alloc);
     let words = all_words(&rt, alloc);
-    let given = match &words {
-        Some(words) => words.as_slice(),
-        None => no_command.as_slice(),
-    };
     let mut files = RealFiles::new(&rt);
     let disk: RealDisk<'_, _, LinkMakes> = RealDisk::new(&rt);
     let mut input = RealIn::new(rt.reader());
     let mut out = RealOut::new(io::writer(&rt));
     let mut notes = RealOut::new(rt.stderr());
+    let given = given_words(&words, &no_word);
     let ended = top(
         &rt, alloc, given, &mut files, disk, &RealGate, &mut input, &mut out, &mut notes,
     );

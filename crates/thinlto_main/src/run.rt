@@ -11,25 +11,16 @@ ghost use Rattle.run_program.specs.Streams.{notes_seen, streams_seen};
 
 use crate::link::decided;
 use crate::modules::modules;
-use ir_tree::{Rows, Text, Verified};
+use ir_tree::{Text, Verified};
 use lto_fault::{Refusal, say_returned};
 use lto_outside::{ByteIn, ByteOut, Files};
 use lto_words::FileName;
 use run_program::{RunOptions, run_merged};
-use std::alloc::{AllocError, Global};
+use std::alloc::Global;
+use std::slice::from_ref;
 
 /// The import limit where none is given; no run is changed by it.
 const IMPORT_LIMIT: u32 = 100;
-
-/// The exports of a run: its root alone.
-fn exports(alloc: Global, root: &Text) -> Result<Rows<Text>, AllocError>
-    ensures { IfOk result (λ exports. exports ≡ root.now ∷ []) }
-{
-    let mut exports = Rows::new(alloc);
-    let name = Text::copied(alloc, root.as_slice())?;
-    exports.push(name)?;
-    Ok(exports)
-}
 
 /// Why these modules aren't linked with the root as their export, if they aren't.
 fn linkable(
@@ -42,11 +33,7 @@ fn linkable(
     ensures linked { OnOk result ((why : Refusal) → IsRefused names.now modules.now (root.now ∷ []) why → ⊥) }
     ensures because { IfErr result (Because (record never { unlinked = IsRefused names.now modules.now (root.now ∷ []); memory = Unit {0} })) }
 {
-    let Ok(exports) = exports(alloc, root) else {
-        return Err(Refusal::NoMemory);
-    };
-    let roots = exports.as_slice();
-    decided(alloc, names, modules, roots, IMPORT_LIMIT)
+    decided(alloc, names, modules, from_ref(root), IMPORT_LIMIT)
 }
 
 /// Does a run. Where it returned, the notes get the line of what it returned, or a front of it.

@@ -70,3 +70,33 @@ returns-clause-linkable g c =
     let same : length c.args.given.now ≡ length c.args.links.now = zip_length GivenFor c.args.links.now c.args.given.now c.requires.each in
     subst (λ (links : List ListedLink). AreLinkable c.args.options.now links c.args.given.now) (take_all c.loop-at.at c.args.links.now (omega (arith, c.loop-at-test.false)))
     (subst (λ (given : List (List (Option (List ℕ)))). AreLinkable c.args.options.now (take c.loop-at.at c.args.links.now) given) (take_all c.loop-at.at c.args.given.now (omega (arith, same, c.loop-at-test.false))) c.loop-at.invariant.linkable)
+
+pub made-requires-clause-pass : goal.made-requires-clause-pass
+made-requires-clause-pass g c κs within = c.loop-at.invariant.pass
+
+pub made-requires-clause-meaning : goal.made-requires-clause-meaning
+made-requires-clause-meaning g c κs within = c.requires.meaning
+
+pub returns-in_default-clause-pass : goal.returns-in_default-clause-pass
+returns-in_default-clause-pass g c = c.made.ensures.pass
+
+pub returns-in-Err-clause-pass : goal.returns-in-Err-clause-pass
+returns-in-Err-clause-pass g c = c.made.ensures.pass
+
+pub returns-clause-pass : goal.returns-clause-pass
+returns-clause-pass g c = c.loop-at.invariant.pass
+
+pub returns-in_default-clause-because : goal.returns-in_default-clause-because
+returns-in_default-clause-because g c = tt
+
+pub returns-in_default-clause-made : goal.returns-in_default-clause-made
+returns-in_default-clause-made g c = tt
+
+pub returns-in_default-clause-linkable : goal.returns-in_default-clause-linkable
+returns-in_default-clause-linkable g c = tt
+
+pub returns-in-Err-clause-made : goal.returns-in-Err-clause-made
+returns-in-Err-clause-made g c = tt
+
+pub returns-in-Err-clause-linkable : goal.returns-in-Err-clause-linkable
+returns-in-Err-clause-linkable g c = tt

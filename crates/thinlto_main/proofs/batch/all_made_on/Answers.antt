@@ -18,3 +18,18 @@ returns-in-Ok-clause-disk g c =
 
 pub returns-in-Err-clause-disk : goal.returns-in-Err-clause-disk
 returns-in-Err-clause-disk g c = ∣ same_kept g.D.CacheDisk.fits (IsKeyAmong c.args.options.now c.args.given.now) c.args.options.now.cache (g.D.CacheDisk.held c.args.disk) ∣₁
+
+pub returns-in-Ok-clause-linkable : goal.returns-in-Ok-clause-linkable
+returns-in-Ok-clause-linkable g c = c.all_made_in.ensures.linkable
+
+pub returns-in-Ok-clause-because : goal.returns-in-Ok-clause-because
+returns-in-Ok-clause-because g c = c.all_made_in.ensures.because
+
+pub returns-in-Err-clause-linkable : goal.returns-in-Err-clause-linkable
+returns-in-Err-clause-linkable g c = tt
+
+pub returns-in-Err-clause-made : goal.returns-in-Err-clause-made
+returns-in-Err-clause-made g c = tt
+
+pub returns-in-Err-clause-because : goal.returns-in-Err-clause-because
+returns-in-Err-clause-because g c = tt

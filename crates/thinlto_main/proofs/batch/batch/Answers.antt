@@ -94,3 +94,12 @@ returns-in-Err-answer-clause-disk g c =
     wider_kept g.D.CacheDisk.fits (IsKeyAmong o c.in-Ok.given.given) o.cache (IsKeyOfList o c.args.list.now (λ (calls : List Call). g.F.Files.did c.args.files.now calls c.given_of.new.files))
     (key_of_list g.F.Files.did g.met.F.Files.did_more c.args.files.now c.given_of.new.files c.given_of.new.files c.args.list.now c.in-Ok.given.links o c.in-Ok.given.given c.in-Ok.ensures.given ([], g.met.F.Files.did_none c.given_of.new.files))
     (g.D.CacheDisk.held c.args.disk) (g.D.CacheDisk.held c.all_made_on-answer.result.disk) kept
+
+pub returns-in-Err-clause-later : goal.returns-in-Err-clause-later
+returns-in-Err-clause-later g c = c.given_of.ensures.later
+
+pub returns-in-Err-answer-clause-later : goal.returns-in-Err-answer-clause-later
+returns-in-Err-answer-clause-later g c = c.given_of.ensures.later
+
+pub returns-in-Ok-answer-clause-later : goal.returns-in-Ok-answer-clause-later
+returns-in-Ok-answer-clause-later g c = omega (arith, c.given_of.ensures.later, c.put.ensures.later)

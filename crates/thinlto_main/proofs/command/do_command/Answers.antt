@@ -30,3 +30,21 @@ returns-in-Err-Usage-clause-disk g c = inl refl
 
 pub returns-in-Err-NoMemory-clause-disk : goal.returns-in-Err-NoMemory-clause-disk
 returns-in-Err-NoMemory-clause-disk g c = inl refl
+
+pub returns-in-Ok-clause-later : goal.returns-in-Ok-clause-later
+returns-in-Ok-clause-later g c = c.obey.ensures.later
+
+pub returns-in-Ok-clause-silent : goal.returns-in-Ok-clause-silent
+returns-in-Ok-clause-silent g c = c.obey.ensures.silent
+
+pub returns-in-Err-Usage-clause-silent : goal.returns-in-Err-Usage-clause-silent
+returns-in-Err-Usage-clause-silent g c = refl
+
+pub returns-in-Err-NoMemory-clause-silent : goal.returns-in-Err-NoMemory-clause-silent
+returns-in-Err-NoMemory-clause-silent g c = refl
+
+pub returns-in-Err-Usage-clause-says : goal.returns-in-Err-Usage-clause-says
+returns-in-Err-Usage-clause-says g c = tt
+
+pub returns-in-Err-NoMemory-clause-says : goal.returns-in-Err-NoMemory-clause-says
+returns-in-Err-NoMemory-clause-says g c = tt

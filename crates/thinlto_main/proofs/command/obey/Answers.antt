@@ -104,3 +104,6 @@ returns-in-Run-clause-later g c = c.obey_run-status.ensures.later
 
 pub returns-in-Gen-clause-silent : goal.returns-in-Gen-clause-silent
 returns-in-Gen-clause-silent g c = refl
+
+pub returns-in-Gen-clause-says : goal.returns-in-Gen-clause-says
+returns-in-Gen-clause-says g c = tt

@@ -41,3 +41,18 @@ returns-clause-answer g c = record {
       c.accepted_is_not_refused.ensures.one c.one_answer.ensures.report c.in-Ok-report.text c.in-Ok-report.ensures.done false
       (subst (λ (t : List ℕ). Pushes (stream_seen g.O.ByteOut.sent g.O.ByteOut.faults c.args.out.now c.push_all.new.out) t false) c.as_slice.ensures c.if-push_all.ensures.pushed);
 }
+
+pub returns-in-Err-clause-later : goal.returns-in-Err-clause-later
+returns-in-Err-clause-later g c = c.modules.ensures.later
+
+pub returns-in-Err-report-clause-later : goal.returns-in-Err-report-clause-later
+returns-in-Err-report-clause-later g c = c.modules.ensures.later
+
+pub returns-in_default-clause-later : goal.returns-in_default-clause-later
+returns-in_default-clause-later g c = c.modules.ensures.later
+
+pub returns-then-push_all-clause-later : goal.returns-then-push_all-clause-later
+returns-then-push_all-clause-later g c = c.modules.ensures.later
+
+pub returns-clause-later : goal.returns-clause-later
+returns-clause-later g c = c.modules.ensures.later

@@ -66,3 +66,12 @@ returns-in-Err-answer-clause-disk g c =
     wider_kept g.D.CacheDisk.fits (IsKeyOf o c.as_slice.result.now) o.cache (IsKeyOfFiles o c.args.names.now (λ (calls : List Call). g.F.Files.did c.args.files.now calls c.fetch_all.new.files))
     (key_of_files g.F.Files.did g.met.F.Files.did_more c.args.files.now c.fetch_all.new.files c.fetch_all.new.files o c.args.names.now c.as_slice.result.now fetched ([], g.met.F.Files.did_none c.fetch_all.new.files))
     (g.D.CacheDisk.held c.args.disk) (g.D.CacheDisk.held c.made_on-answer.result.disk) c.made_on-answer.ensures.disk
+
+pub returns-in-Err-clause-later : goal.returns-in-Err-clause-later
+returns-in-Err-clause-later g c = c.fetch_all.ensures.later
+
+pub returns-in-Err-answer-clause-later : goal.returns-in-Err-answer-clause-later
+returns-in-Err-answer-clause-later g c = c.fetch_all.ensures.later
+
+pub returns-in-Ok-answer-clause-later : goal.returns-in-Ok-answer-clause-later
+returns-in-Ok-answer-clause-later g c = omega (arith, c.fetch_all.ensures.later, c.put.ensures.later)

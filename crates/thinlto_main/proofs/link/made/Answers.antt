@@ -47,3 +47,33 @@ returns-clause-because g c =
     IfErr-weaker c.text.result _ _
     (λ why h. because_map (unlinked_unmade c.args.options.now c.args.names.now c.args.given.now c.into_vec.result.items (subst (λ (l : List Module). AllZip IsRead c.args.given.now l) (sym c.into_vec.ensures) c.in-Ok.ensures.read)) why h)
     c.text.ensures.because
+
+pub text-requires-clause-pass : goal.text-requires-clause-pass
+text-requires-clause-pass g c κs within = c.requires.pass
+
+pub text-requires-clause-keys : goal.text-requires-clause-keys
+text-requires-clause-keys g c κs within = c.requires.keys
+
+pub returns-clause-pass : goal.returns-clause-pass
+returns-clause-pass g c = c.text.ensures.pass
+
+pub returns-in-Err-clause-pass : goal.returns-in-Err-clause-pass
+returns-in-Err-clause-pass g c = c.requires.pass
+
+pub returns-then-names-clause-pass : goal.returns-then-names-clause-pass
+returns-then-names-clause-pass g c = c.requires.pass
+
+pub returns-then-names-clause-linkable : goal.returns-then-names-clause-linkable
+returns-then-names-clause-linkable g c = tt
+
+pub returns-then-names-clause-made : goal.returns-then-names-clause-made
+returns-then-names-clause-made g c = tt
+
+pub returns-then-names-clause-because : goal.returns-then-names-clause-because
+returns-then-names-clause-because g c = tt
+
+pub returns-in-Err-clause-linkable : goal.returns-in-Err-clause-linkable
+returns-in-Err-clause-linkable g c = tt
+
+pub returns-in-Err-clause-made : goal.returns-in-Err-clause-made
+returns-in-Err-clause-made g c = tt

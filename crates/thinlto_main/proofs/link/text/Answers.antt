@@ -73,3 +73,42 @@ returns-clause-because g c =
     (subst (λ (fs : List (List ℕ)). IfErr c.link.result (λ why. why ≢ NoMemory → IsUnlinked fs c.args.options.now.exports c.args.options.now.import_limit (suffixes_of c.args.given.now) c.args.modules.items why)) (c.as_slice.ensures ∙ c.in-Ok.ensures)
     (subst (λ (ss : List (List ℕ)). IfErr c.link.result (λ why. why ≢ NoMemory → IsUnlinked c.as_slice.result.now c.args.options.now.exports c.args.options.now.import_limit ss c.args.modules.items why)) (c.as_slice-2.ensures ∙ c.in-Ok-suffixes.ensures)
     (subst (λ (es : List (List ℕ)). IfErr c.link.result (λ why. why ≢ NoMemory → IsUnlinked c.as_slice.result.now es c.args.options.now.import_limit c.as_slice-2.result.now c.args.modules.items why)) c.as_slice-3.ensures c.link.ensures.refused))) tt
+
+pub link-requires-clause-pass : goal.link-requires-clause-pass
+link-requires-clause-pass g c κs within = c.requires.pass
+
+pub link-requires-clause-count : goal.link-requires-clause-count
+link-requires-clause-count g c κs within = c.requires.count
+
+pub returns-clause-pass : goal.returns-clause-pass
+returns-clause-pass g c = c.link.ensures.pass
+
+pub returns-in_default-clause-pass : goal.returns-in_default-clause-pass
+returns-in_default-clause-pass g c = c.requires.pass
+
+pub returns-in_default-suffixes-clause-pass : goal.returns-in_default-suffixes-clause-pass
+returns-in_default-suffixes-clause-pass g c = c.requires.pass
+
+pub returns-in_default-clause-linkable : goal.returns-in_default-clause-linkable
+returns-in_default-clause-linkable g c = tt
+
+pub returns-in_default-clause-done : goal.returns-in_default-clause-done
+returns-in_default-clause-done g c = tt
+
+pub returns-in_default-clause-only : goal.returns-in_default-clause-only
+returns-in_default-clause-only g c = tt
+
+pub returns-in_default-clause-because : goal.returns-in_default-clause-because
+returns-in_default-clause-because g c = tt
+
+pub returns-in_default-suffixes-clause-linkable : goal.returns-in_default-suffixes-clause-linkable
+returns-in_default-suffixes-clause-linkable g c = tt
+
+pub returns-in_default-suffixes-clause-done : goal.returns-in_default-suffixes-clause-done
+returns-in_default-suffixes-clause-done g c = tt
+
+pub returns-in_default-suffixes-clause-only : goal.returns-in_default-suffixes-clause-only
+returns-in_default-suffixes-clause-only g c = tt
+
+pub returns-in_default-suffixes-clause-because : goal.returns-in_default-suffixes-clause-because
+returns-in_default-suffixes-clause-because g c = tt

@@ -19,3 +19,12 @@ pub loop-at-preserved : goal.loop-at-preserved
 loop-at-preserved c =
     let within : c.loop-at.at < length c.args.given.now = omega (arith, c.loop-at-test.true, c.requires.each) in
     zip_next IsRead c.args.given.now c.loop-at.at c.index-given-at.result within c.index-given-at.is c.loop-at.modules c.push.new.self c.in-Ok.module c.loop-at.invariant c.in-Ok.ensures.read c.in-Ok-push.ensures.ok
+
+pub returns-in_default-clause-because : goal.returns-in_default-clause-because
+returns-in_default-clause-because c = tt
+
+pub returns-in_default-clause-read : goal.returns-in_default-clause-read
+returns-in_default-clause-read c = tt
+
+pub returns-in-Err-clause-read : goal.returns-in-Err-clause-read
+returns-in-Err-clause-read c = tt
