@@ -18,6 +18,20 @@ fn file(alloc: Global, files: &[Text], number: u32) -> Result<Text, AllocError>
     }
 }
 
+/// The names of two modules' files.
+fn file_pair(
+    alloc: Global,
+    files: &[Text],
+    first: u32,
+    second: u32,
+) -> Result<(Text, Text), AllocError>
+    ensures { IfOk result (λ pair. (pair.0 ≡ file files.now first) × (pair.1 ≡ file files.now second)) }
+{
+    let first = file(alloc, files, first)?;
+    let second = file(alloc, files, second)?;
+    Ok((first, second))
+}
+
 fn target(line: symbol_resolve::TargetLine) -> TargetLine
     ensures { result ≡ target line }
 {
@@ -40,29 +54,39 @@ pub(crate) fn clash_refusal(
             line,
             first,
             second,
-        } => Ok(Refusal::TargetClash {
-            target: target(line),
-            first: file(alloc, files, first)?,
-            second: file(alloc, files, second)?,
-        }),
+        } => {
+            let (first, second) = file_pair(alloc, files, first, second)?;
+            let target = target(line);
+            Ok(Refusal::TargetClash {
+                target,
+                first,
+                second,
+            })
+        }
         Clash::DuplicateSymbol {
             name,
             first,
             second,
-        } => Ok(Refusal::DuplicateSymbol {
-            name,
-            first: file(alloc, files, first)?,
-            second: file(alloc, files, second)?,
-        }),
+        } => {
+            let (first, second) = file_pair(alloc, files, first, second)?;
+            Ok(Refusal::DuplicateSymbol {
+                name,
+                first,
+                second,
+            })
+        }
         Clash::KindClash {
             name,
             function,
             variable,
-        } => Ok(Refusal::KindClash {
-            name,
-            function: file(alloc, files, function)?,
-            variable: file(alloc, files, variable)?,
-        }),
+        } => {
+            let (function, variable) = file_pair(alloc, files, function, variable)?;
+            Ok(Refusal::KindClash {
+                name,
+                function,
+                variable,
+            })
+        }
     }
 }
 

@@ -1,8 +1,8 @@
-use Rattle.std.proofs.Common.{[], ℕ, List, arith, get_or, subst, take, take_all}
+use Rattle.std.proofs.Common.{[], ℕ, List, arith, get_or, subst, sym, take, take_all}
 use Rattle.std.proofs.lemmas.List.{get_or_default}
 use Rattle.thin_link.specs.Chains.{callees, is_importable}
 use Rattle.thin_link.specs.Walking.{Grown, called_by}
-use Rattle.thin_link.proofs.Growing.{grown-more}
+use Rattle.thin_link.proofs.Growing.{grown-more, grown-none}
 use Rattle.thin_link.proofs.Lists.{joined_more}
 use Rattle.thin_link.proofs.levels.next_level.Goals as goal
 
@@ -19,3 +19,7 @@ pub returns : goal.returns
 returns c =
     subst (λ (ns : List ℕ). Grown (is_importable c.args.index.now c.args.most) c.args.seen.now [] (called_by c.args.index.now ns) c.loop-function.seen c.loop-function.next.items)
     (take_all c.loop-function.function-index c.args.level.now (omega (arith, c.loop-function-test.false))) c.loop-function.invariant
+
+pub loop-function-init : goal.loop-function-init
+loop-function-init c =
+    subst (λ (ns : List ℕ). Grown (is_importable c.args.index.now c.args.most) c.args.seen.now [] [] c.args.seen.now ns) (sym c.new-next.ensures.items) (grown-none (is_importable c.args.index.now c.args.most) c.args.seen.now [])

@@ -1,4 +1,4 @@
-use Rattle.std.proofs.Common.{◌≡◌, ◌∙◌, ◌+◌, ◌<◌, ◌++◌, [], List, Option, length, take, get_or, ap, ap₂, arith, subst, sym}
+use Rattle.std.proofs.Common.{◌≡◌, ◌∙◌, ◌+◌, ◌<◌, ◌++◌, [], List, Option, length, take, take_all, get_or, ap, ap₂, arith, subst, sym}
 use Rattle.std.proofs.lemmas.List.{get_or_read, with_items_is}
 use Rattle.ir_tree.specs.declared.operand.Symbol.{Symbol}
 use Rattle.combined_index.specs.declared.definition.Definition.{Definition}
@@ -31,3 +31,12 @@ loop-number-preserved c =
           (subst (λ (t : List (Option Entry)). IsTable t (listed_from c.args.index.now.symbols 0 (take c.loop-number.number c.args.index.now.modules))) (sym c.deref_mut.ensures.value)
           c.loop-number.invariant.table)));
     }
+
+pub put_all-requires-clause-size : goal.put_all-requires-clause-size
+put_all-requires-clause-size c = ap (λ (t : List (Option Entry)). length t) c.deref_mut.ensures.value ∙ c.loop-number.invariant.len ∙ ap (λ (ss : List Symbol). length ss) (sym c.symbols-symbols.ensures.symbols)
+
+pub returns : goal.returns
+returns c =
+    let whole : length c.modules-definitions-items.result.now ≡ length c.args.index.now.modules = ap (λ (ms : List (List Definition)). length ms) c.modules-definitions-items.ensures.modules in
+    subst (λ (ms : List (List Definition)). IsTable c.loop-number.table.items (listed_from c.args.index.now.symbols 0 ms)) (take_all c.loop-number.number c.args.index.now.modules (omega (arith, whole, c.loop-number-test.false)))
+    c.loop-number.invariant.table

@@ -1,7 +1,7 @@
-use Rattle.std.proofs.Common.{◌≡◌, ◌∙◌, ◌<◌, ◌++◌, length, ap, arith, get_or, take}
+use Rattle.std.proofs.Common.{◌≡◌, ◌∙◌, ◌<◌, ◌++◌, List, length, ap, arith, get_or, subst, take, take_all}
 use Rattle.combined_index.specs.declared.definition.Definition.{Definition}
 use Rattle.thin_link.specs.Listed.{Listed, all_listed}
-use Rattle.thin_link.specs.Rows.{shown}
+use Rattle.thin_link.specs.Rows.{IsTable, shown}
 use Rattle.thin_link.proofs.Tables.{one_further}
 use Rattle.thin_link.proofs.table.put_all.Goals as goal
 
@@ -22,3 +22,8 @@ loop-definition-preserved c = record {
       (c.put.ensures.table (before ++ all_listed c.args.symbols.now c.args.number (take c.loop-definition.definition-index c.args.definitions.now))
       (c.loop-definition.invariant.table before held));
 }
+
+pub returns-clause-table : goal.returns-clause-table
+returns-clause-table c = λ before held.
+    subst (λ (ds : List Definition). IsTable c.loop-definition.table (before ++ all_listed c.args.symbols.now c.args.number ds)) (take_all c.loop-definition.definition-index c.args.definitions.now (omega (arith, c.loop-definition-test.false)))
+    (c.loop-definition.invariant.table before held)
