@@ -16,3 +16,10 @@ two_written gs hs a b c none first second =
     second
     ∙ ap (λ (t : List ℕ). t ++ text_of (global_values hs)) (first ∙ ap (λ (t : List ℕ). t ++ text_of (global_values gs)) none)
     ∙ sym (values_append gs hs)
+
+-- six texts behind one another
+pub six_written : (none one two three four five all a b c d e f : List ℕ) → none ≡ [] → one ≡ none ++ a → two ≡ one ++ b → three ≡ two ++ c → four ≡ three ++ d → five ≡ four ++ e → all ≡ five ++ f
+    → all ≡ a ++ (b ++ (c ++ (d ++ (e ++ f))))
+six_written none one two three four five all a b c d e f at_0 at_1 at_2 at_3 at_4 at_5 at_6 =
+    at_6 ∙ ap (λ (l : List ℕ). l ++ f) (at_5 ∙ ap (λ (l : List ℕ). l ++ e) (at_4 ∙ ap (λ (l : List ℕ). l ++ d) (at_3 ∙ ap (λ (l : List ℕ). l ++ c) (at_2 ∙ ap (λ (l : List ℕ). l ++ b) (at_1 ∙ ap (λ (l : List ℕ). l ++ a) at_0)))))
+    ∙ append_assoc (((a ++ b) ++ c) ++ d) e f ∙ append_assoc ((a ++ b) ++ c) d (e ++ f) ∙ append_assoc (a ++ b) c (d ++ (e ++ f)) ∙ append_assoc a b (c ++ (d ++ (e ++ f)))
