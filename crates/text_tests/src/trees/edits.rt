@@ -1,8 +1,8 @@
 //! Edits of a loop that counts to its parameter.
-use crate::parts::read;
+use crate::parts::{function, read};
 use ir_edit::{renumber, shift_numbers, substitute};
 use ir_print::print_function;
-use ir_tree::{Function, GlobalValue, Operand};
+use ir_tree::{Function, Operand};
 use std::alloc::{AllocError, Global};
 
 const COUNTING: &[u8] = b"define i32 @count(i32 %0) {
@@ -89,14 +89,10 @@ fn edits_show_in(alloc: Global, text: &[u8]) -> Result<bool, AllocError> {
     let Some(parsed) = read(alloc, text) else {
         return Ok(false);
     };
-    for global in parsed.module().globals.as_slice() {
-        if let GlobalValue::Function(f) = global {
-            if f.symbol.name.equals(b"count") {
-                return edits_show(alloc, f);
-            }
-        }
+    match function(parsed.module(), b"count") {
+        Some(f) => edits_show(alloc, f),
+        None => Ok(false),
     }
-    Ok(false)
 }
 
 #[test]

@@ -1,5 +1,5 @@
 //! What is learned of a function.
-use crate::parts::read;
+use crate::parts::{function, read};
 use ir_tree::Function;
 use ir_verify::learned;
 use std::alloc::{AllocError, Global};
@@ -24,7 +24,7 @@ fn are_known_in(alloc: Global, text: &[u8]) -> Result<bool, AllocError> {
     let Some(parsed) = read(alloc, text) else {
         return Ok(false);
     };
-    match parsed.module().function(b"f") {
+    match function(parsed.module(), b"f") {
         Some(f) => are_known(alloc, f),
         None => Ok(false),
     }
