@@ -36,8 +36,6 @@ mod options;
 mod putting;
 mod request;
 mod table;
-#[cfg(test)]
-mod tests;
 mod words;
 
 pub use fault::WordsError;

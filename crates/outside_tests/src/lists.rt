@@ -1,5 +1,5 @@
 //! List files, by a table: how many links each lists, or its first line that is none.
-use crate::{BadLine, ListError, links};
+use lto_words::{BadLine, ListError, links};
 use std::alloc::Global;
 
 /// A list file, how many links it lists, and its first line that is none, or 0.
