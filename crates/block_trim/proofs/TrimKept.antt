@@ -15,8 +15,9 @@ use Rattle.ir_meaning.specs.Counted.{times}
 use Rattle.ir_meaning.proofs.Counting.{edges_from, here, later, numbers_in, out_to, place_is}
 use Rattle.ir_meaning.proofs.Entries.{apart, distinct_back}
 use Rattle.block_trim.specs.Trimmed.{AreReached, IsReached, block_in, blocks_in, trimmed}
-use Rattle.block_trim.proofs.Members.{holds_back, holds_either, holds_front, results_taken}
+use Rattle.block_trim.proofs.Members.{results_taken}
 use Rattle.block_trim.proofs.TrimPlaces.{Stood, defined_less, definitions_stay, numbers_less, phi_locals_stay, stays, stood}
+use Rattle.ir_edit.proofs.Holding.{holds_back, holds_either, holds_front}
 
 has_room : (x : ℕ) (xs : List ℕ) → holds xs x ≡ true → x < room xs
 has_room x [] h = absurd cc

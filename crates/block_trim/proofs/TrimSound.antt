@@ -7,14 +7,13 @@ use Rattle.std.proofs.lemmas.List.Recursion.{is_count_by}
 use Rattle.std.proofs.lemmas.Option.{slice_get-map}
 use Rattle.ir_tree.specs.Flow.{definitions, edges, holds, locals, parameters, targets}
 use Rattle.ir_tree.specs.Formed.{ArgumentFormed, IsBlock, ItemFormed, OperandFormed, numbers}
-use Rattle.ir_tree.specs.Items.{Item, phi_item, line_item, end_item, block_items, end_reads, items, items_from, lines_from, phi_reads, reads, taken, typed}
-use Rattle.ir_tree.specs.Rules.{EndTypes, HasType, IsNoPhi, IsThere, IsThereAtEnd, Keeps as KeepsRule, LineOnEdges, OnEdges, Sound, Typing, block_typings, place, type_of}
+use Rattle.ir_tree.specs.Items.{Item, phi_item, line_item, end_item, block_items, end_reads, items, items_from, lines_from, phi_reads, reads, typed}
+use Rattle.ir_tree.specs.Rules.{EndTypes, HasType, IsNoPhi, IsThere, IsThereAtEnd, Keeps as KeepsRule, OnEdges, Sound, Typing, block_typings, place, type_of}
 use Rattle.ir_tree.specs.declared.block.Block.{Block}
 use Rattle.ir_tree.specs.declared.block.Terminator.{Terminator}
 use Rattle.ir_tree.specs.declared.block.Terminator.TheVariants.{Branch, Jump, Return, Switch, Unreachable}
 use Rattle.ir_tree.specs.declared.function.Function.{Function}
 use Rattle.ir_tree.specs.declared.instr.Incoming.{Incoming}
-use Rattle.ir_tree.specs.declared.instr.Instr.{Instr}
 use Rattle.ir_tree.specs.declared.instr.Instr.TheVariants as kind
 use Rattle.ir_tree.specs.declared.instr.Line.{Line}
 use Rattle.ir_tree.specs.declared.instr.Phi.{Phi}
@@ -34,46 +33,7 @@ use Rattle.block_trim.specs.Trimmed.{AreReached, IsReached, block_in, blocks_in,
 use Rattle.block_trim.proofs.Members.{counted_of, holds_at, place_of}
 use Rattle.block_trim.proofs.TrimKept.{Keeps, available_at_end_stays, available_at_stays, differ, differ_still, kept_at, kept_from, local_at_end, local_there, new_place, old_place, once_stays, same_entry}
 use Rattle.block_trim.proofs.TrimPlaces.{defined_less, reached_entries, types_stay, typing_front, was_there}
-
--- what an instruction that is no phi takes and asks for as one
-no_phi_reads : (i : Instr) → IsNoPhi i → phi_reads i ≡ []
-no_phi_reads (kind.Binary op flags width left right) n = refl
-no_phi_reads (kind.Icmp predicate reg left right) n = refl
-no_phi_reads (kind.Cast op from value to) n = refl
-no_phi_reads (kind.Select condition if_true if_false) n = refl
-no_phi_reads (kind.Freeze reg value) n = refl
-no_phi_reads (kind.Alloca shape align) n = refl
-no_phi_reads (kind.Load reg address align) n = refl
-no_phi_reads (kind.Store reg value address align) n = refl
-no_phi_reads (kind.Address inbounds shape base indices) n = refl
-no_phi_reads (kind.Call result callee arguments) n = refl
-no_phi_reads (kind.Phi reg incoming) n = absurd n
-
-no_taken : (i : Instr) → IsNoPhi i → taken i ≡ []
-no_taken (kind.Binary op flags width left right) n = refl
-no_taken (kind.Icmp predicate reg left right) n = refl
-no_taken (kind.Cast op from value to) n = refl
-no_taken (kind.Select condition if_true if_false) n = refl
-no_taken (kind.Freeze reg value) n = refl
-no_taken (kind.Alloca shape align) n = refl
-no_taken (kind.Load reg address align) n = refl
-no_taken (kind.Store reg value address align) n = refl
-no_taken (kind.Address inbounds shape base indices) n = refl
-no_taken (kind.Call result callee arguments) n = refl
-no_taken (kind.Phi reg incoming) n = absurd n
-
-no_edges : (f : Function) (b : ℕ) (i : Instr) → IsNoPhi i → LineOnEdges f b i
-no_edges f b (kind.Binary op flags width left right) n = tt
-no_edges f b (kind.Icmp predicate reg left right) n = tt
-no_edges f b (kind.Cast op from value to) n = tt
-no_edges f b (kind.Select condition if_true if_false) n = tt
-no_edges f b (kind.Freeze reg value) n = tt
-no_edges f b (kind.Alloca shape align) n = tt
-no_edges f b (kind.Load reg address align) n = tt
-no_edges f b (kind.Store reg value address align) n = tt
-no_edges f b (kind.Address inbounds shape base indices) n = tt
-no_edges f b (kind.Call result callee arguments) n = tt
-no_edges f b (kind.Phi reg incoming) n = absurd n
+use Rattle.ir_meaning.proofs.NoPhis.{no_edges, no_phi_reads, no_taken}
 
 module _ (f : Function) (reached : ℕ → Bool) (are : AreReached f reached) (sound : Sound f) where
   abbrev g : Function

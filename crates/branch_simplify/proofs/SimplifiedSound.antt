@@ -5,7 +5,7 @@ use Rattle.std.proofs.lemmas.List.Elements.{All-append, All-cons, All-head, All-
 use Rattle.ir_tree.specs.Flow.{edges, holds, locals, targets}
 use Rattle.ir_tree.specs.Formed.{ArgumentFormed, CasesFormed, Distinct, Formed, IsBlock, ItemFormed, OperandFormed, numbers}
 use Rattle.ir_tree.specs.Items.{Item, phi_item, line_item, end_item, block_items, end_reads, entries, items, items_from, lines_from, phi_reads, reads, taken_as, typed}
-use Rattle.ir_tree.specs.Rules.{EndDiffers, EndTypes, EntriesThere, HasType, IsNoPhi, IsThere, IsThereAtEnd, Keeps, LineOnEdges, OnEdges, Sound, StandsRight, place}
+use Rattle.ir_tree.specs.Rules.{EndDiffers, EndTypes, EntriesThere, HasType, IsNoPhi, IsThere, IsThereAtEnd, Keeps, OnEdges, Sound, StandsRight, place}
 use Rattle.ir_tree.specs.declared.block.Block.{Block}
 use Rattle.ir_tree.specs.declared.block.Terminator.{Terminator}
 use Rattle.ir_tree.specs.declared.block.Terminator.TheVariants.{Branch, Jump, Return, Switch, Unreachable}
@@ -30,6 +30,7 @@ use Rattle.branch_simplify.specs.Simplified.{entries_left, lost_into, phi_left, 
 use Rattle.branch_simplify.proofs.Counting.{decided_among, edges_stay, lost_from}
 use Rattle.branch_simplify.proofs.Kept.{available_at_end_stays, available_at_stays, block_at, locals_stay, numbers_stay, place_stays, step, type_stays}
 use Rattle.branch_simplify.proofs.Left.{all_left, count_left, each_left, fewer, was_there}
+use Rattle.ir_meaning.proofs.NoPhis.{no_edges}
 
 -- a terminator stays, or jumps to the block that is decided
 either : (P : Terminator → Type 0) (t : Terminator) → P t → ((d : ℕ) → decided t ≡ Some d → P (Jump d)) → P (straight t)
@@ -226,19 +227,6 @@ module _ (f : Function) where
       by (kind.Call result callee arguments) n = All-nil EntryThere
       by (kind.Phi reg incoming) n = absurd n
 
-  no_edges : (b : ℕ) (i : Instr) → IsNoPhi i → LineOnEdges (simplified f) b i
-  no_edges b (kind.Binary op flags width left right) n = tt
-  no_edges b (kind.Icmp predicate reg left right) n = tt
-  no_edges b (kind.Cast op from value to) n = tt
-  no_edges b (kind.Select condition if_true if_false) n = tt
-  no_edges b (kind.Freeze reg value) n = tt
-  no_edges b (kind.Alloca shape align) n = tt
-  no_edges b (kind.Load reg address align) n = tt
-  no_edges b (kind.Store reg value address align) n = tt
-  no_edges b (kind.Address inbounds shape base indices) n = tt
-  no_edges b (kind.Call result callee arguments) n = tt
-  no_edges b (kind.Phi reg incoming) n = absurd n
-
   abbrev WasKept : Rule → Item → Type 0
   WasKept rule item = StandsRight item × Keeps f rule item
 
@@ -259,7 +247,7 @@ module _ (f : Function) where
       All-weaker (λ a. IsThere f b k a.operand) (λ a. IsThere (simplified f) b k a.operand) (λ a. there_stays b k a.operand) (reads l.instr) h.1.0,
       no_entries b k l h.0,
     )
-    line_keeps PhiEdges b k l h = no_edges b l.instr h.0
+    line_keeps PhiEdges b k l h = no_edges (simplified f) b l.instr h.0
     line_keeps PhiPlace b k l h = h.1
     line_keeps EntryBranch b k l h = tt
     line_keeps Index b k l h = h.1

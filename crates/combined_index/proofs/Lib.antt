@@ -6,3 +6,4 @@ pub mod Placings
 pub mod Plains
 pub mod Readings
 pub mod Wholes
+pub mod StableSorts

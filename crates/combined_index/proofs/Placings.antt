@@ -10,7 +10,7 @@ use Rattle.combined_index.specs.declared.places.Place.{Place}
 
 -- ---- the first that passes
 
-find_kept : {X : Type 0} (p : X → Bool) (xs : List X) (x y : X) → find p xs ≡ Some y → find p (xs ++ x ∷ []) ≡ Some y
+pub find_kept : {X : Type 0} (p : X → Bool) (xs : List X) (x y : X) → find p xs ≡ Some y → find p (xs ++ x ∷ []) ≡ Some y
 find_kept p [] x y h = absurd (none h)
   where
     none : None ≡ Some y → ⊥
@@ -21,7 +21,7 @@ find_kept p (a ∷ xs) x y h = by (p a) refl (find_kept p xs x y)
     by true e rest = ap (λ (b : Bool). cond b (Some a) (find p (xs ++ x ∷ []))) e ∙ sym (ap (λ (b : Bool). cond b (Some a) (find p xs)) e) ∙ h
     by false e rest = ap (λ (b : Bool). cond b (Some a) (find p (xs ++ x ∷ []))) e ∙ rest (sym (ap (λ (b : Bool). cond b (Some a) (find p xs)) e) ∙ h)
 
-find_last : {X : Type 0} (p : X → Bool) (xs : List X) (x : X) → find p xs ≡ None → find p (xs ++ x ∷ []) ≡ cond (p x) (Some x) None
+pub find_last : {X : Type 0} (p : X → Bool) (xs : List X) (x : X) → find p xs ≡ None → find p (xs ++ x ∷ []) ≡ cond (p x) (Some x) None
 find_last p [] x h = refl
 find_last p (a ∷ xs) x h = by (p a) refl (find_last p xs x)
   where
@@ -32,7 +32,7 @@ find_last p (a ∷ xs) x h = by (p a) refl (find_last p xs x)
     by true e rest = absurd (no (sym (ap (λ (b : Bool). cond b (Some a) (find p xs)) e) ∙ h))
     by false e rest = ap (λ (b : Bool). cond b (Some a) (find p (xs ++ x ∷ []))) e ∙ rest (sym (ap (λ (b : Bool). cond b (Some a) (find p xs)) e) ∙ h)
 
-find_passed : {X : Type 0} (p : X → Bool) (xs : List X) (x : X) → p x ≡ false → find p (xs ++ x ∷ []) ≡ find p xs
+pub find_passed : {X : Type 0} (p : X → Bool) (xs : List X) (x : X) → p x ≡ false → find p (xs ++ x ∷ []) ≡ find p xs
 find_passed p [] x h = ap (λ (b : Bool). cond b (Some x) None) h
 find_passed {X = X} p (a ∷ xs) x h = ap (λ (z : Option X). cond (p a) (Some a) z) (find_passed p xs x h)
 

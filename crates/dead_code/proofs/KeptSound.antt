@@ -6,7 +6,7 @@ use Rattle.std.proofs.lemmas.List.Elements.{All-append, All-cons}
 use Rattle.ir_tree.specs.Flow.{defined_before, holds, phi_locals, results, targets}
 use Rattle.ir_tree.specs.Formed.{ArgumentFormed, Formed, IsBlock, ItemFormed, OperandFormed}
 use Rattle.ir_tree.specs.Items.{Item, phi_item, line_item, end_item, block_items, end_reads, entries, items, items_from, lines_from, phi_reads, reads, taken_as, typed}
-use Rattle.ir_tree.specs.Rules.{HasType, IsNoPhi, IsThere, IsThereAtEnd, Keeps, LineOnEdges, OnEdges, Sound, StandsRight, EntriesThere, EndTypes, place}
+use Rattle.ir_tree.specs.Rules.{HasType, IsNoPhi, IsThere, IsThereAtEnd, Keeps, OnEdges, Sound, StandsRight, EntriesThere, EndTypes, place}
 use Rattle.ir_tree.specs.declared.block.Block.{Block}
 use Rattle.ir_tree.specs.declared.block.Terminator.{Terminator}
 use Rattle.ir_tree.specs.declared.block.Terminator.TheVariants.{Branch, Jump, Return, Switch, Unreachable}
@@ -28,6 +28,7 @@ use Rattle.dead_code.specs.Laws.{NeededIsSound}
 use Rattle.dead_code.specs.Least.{AreBlocksClosed, IsBlockClosed}
 use Rattle.dead_code.proofs.Kept.{block_at, edges_stay, local_stays, more_of_both, numbers_stay, once_stays, phi_locals_stay, place_stays, results_stay, type_stays}
 use Rattle.dead_code.proofs.KeptPaths.{IsPlaced, available_at_end_stays, available_at_stays}
+use Rattle.ir_meaning.proofs.NoPhis.{no_edges}
 
 -- ---- of each element
 
@@ -312,19 +313,6 @@ module _ (keeps : ℕ → Bool) (f : Function) where
     equal = h.equal;
   }
 
-  no_edges : (b : ℕ) (i : Instr) → IsNoPhi i → LineOnEdges (needed keeps f) b i
-  no_edges b (kind.Binary op flags width left right) n = tt
-  no_edges b (kind.Icmp predicate reg left right) n = tt
-  no_edges b (kind.Cast op from value to) n = tt
-  no_edges b (kind.Select condition if_true if_false) n = tt
-  no_edges b (kind.Freeze reg value) n = tt
-  no_edges b (kind.Alloca shape align) n = tt
-  no_edges b (kind.Load reg address align) n = tt
-  no_edges b (kind.Store reg value address align) n = tt
-  no_edges b (kind.Address inbounds shape base indices) n = tt
-  no_edges b (kind.Call result callee arguments) n = tt
-  no_edges b (kind.Phi reg incoming) n = absurd n
-
   abbrev WasKept : Rule → Item → Type 0
   WasKept rule item = WasFormed item × Keeps f rule item
 
@@ -345,7 +333,7 @@ module _ (keeps : ℕ → Bool) (f : Function) where
         (all_front KeptFormed (reads l.instr) (phi_reads l.instr) (with_formed (reads l.instr ++ phi_reads l.instr) (kept_line keeps l.instr h.0.1 kept) h.0.0.operands)) h.1.0,
     no_entries b k j l h.0.1,
   )
-  line_keeps PhiEdges b k j l placed kept h = no_edges b l.instr h.0.1
+  line_keeps PhiEdges b k j l placed kept h = no_edges (needed keeps f) b l.instr h.0.1
   line_keeps PhiPlace b k j l placed kept h = h.1
   line_keeps EntryBranch b k j l placed kept h = tt
   line_keeps Index b k j l placed kept h = h.1

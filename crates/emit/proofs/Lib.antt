@@ -2,7 +2,6 @@ mod Listing
 mod Linking
 mod Keeping
 mod Sorting
-mod Ordered
 mod One
 pub mod Members
 mod Distinctions

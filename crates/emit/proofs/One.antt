@@ -10,7 +10,7 @@ use Rattle.merge_meaning.specs.ByName.{IsInOrder, is_named, name_cmp}
 use Rattle.merge_meaning.specs.Hosts.{getchar, putchar}
 use Rattle.emit.specs.Emissions.{IsEmission, in_use, is_variable, outside_in_use, settled}
 use Rattle.emit.specs.Laws.{EmissionIsOne}
-use Rattle.emit.proofs.Ordered.{same_sorted}
+use Rattle.combined_index.proofs.StableSorts.{same_sorted}
 
 one_order : (before after other : List GlobalValue) → IsInOrder before after → IsInOrder before other → after ≡ other
 one_order before after other h g =

@@ -2,4 +2,3 @@ mod Casts
 mod Indices
 mod Ones
 mod Parts
-mod Wraps

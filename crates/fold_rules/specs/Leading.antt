@@ -2,7 +2,7 @@
 use Rattle.std.specs.Prelude.{◌≡◌, ℤ, List, ◌∷◌, [], Option, Some, None}
 use Rattle.ir_tree.specs.Forms.{Form}
 use Rattle.ir_meaning.specs.Address.{displacements_into}
-use Rattle.ir_meaning.specs.Wrapping.{wrapped}
+use Rattle.lto_bits.specs.Word.{wrapped}
 use Rattle.fold_rules.specs.declared.address.Step.{Step}
 
 -- an index of the shape leads nowhere, or into a part and by so many bytes on, modulo 2 ^ 64, whatever indices follow

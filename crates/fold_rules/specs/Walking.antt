@@ -1,7 +1,7 @@
 -- Where indices lead from a place.
 use Rattle.std.specs.Prelude.{ℕ, ℤ, pos, List, [], Option, Some, None, option_map}
 use Rattle.ir_meaning.specs.Address.{displacements, displacements_into, sum_from}
-use Rattle.ir_meaning.specs.Wrapping.{wrapped}
+use Rattle.lto_bits.specs.Word.{wrapped}
 use Rattle.ir_tree.specs.Forms.{Form}
 use Rattle.fold_rules.specs.declared.address.Walk.{Walk}
 

@@ -2,7 +2,7 @@
 ghost use Rattle.std.specs.Prelude.{◌≡◌, ◌≤◌, ◌^◌, ◌*ℤ◌, ◌∷◌, All, IfSome, List, ℤ, option_map, pos};
 ghost use Rattle.ir_tree.specs.Formed.{IsReg};
 ghost use Rattle.ir_tree.specs.Layout.{IsLaidOut};
-ghost use Rattle.ir_meaning.specs.Wrapping.{wrapped};
+ghost use Rattle.lto_bits.specs.Word.{wrapped};
 ghost use Rattle.ir_meaning.specs.Table.{address_rule, all_zero, any_poison, constant_index, constant_indices, symbol_at};
 ghost use Rattle.fold_rules.specs.Folding.{row_of};
 ghost use Rattle.fold_rules.specs.Leading.{IsStep};

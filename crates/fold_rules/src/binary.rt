@@ -1,7 +1,7 @@
 //! Rows of binary operations (LLVM Language Reference, "Binary Operations", "Bitwise Binary Operations").
 ghost use Rattle.std.specs.Prelude.{◌≡◌, ◌≤◌, ◌<◌, ◌^◌, Some};
 ghost use Rattle.ir_meaning.specs.Operate.{binary_bits};
-ghost use Rattle.ir_meaning.specs.Wrapping.{is_division};
+ghost use Rattle.ir_meaning.specs.Arithmetic.{is_division};
 ghost use Rattle.ir_meaning.specs.Table.{binary_rule, constant_answer, poisoned, unchanged, zeroed};
 ghost use Rattle.fold_rules.specs.Folding.{row_of};
 

@@ -2,7 +2,7 @@
 //! Instruction", "freeze Instruction").
 ghost use Rattle.std.specs.Prelude.{◌≡◌, ◌≤◌, ◌<◌, ◌^◌};
 ghost use Rattle.ir_tree.specs.Formed.{IsReg};
-ghost use Rattle.ir_meaning.specs.Wrapping.{cast_number};
+ghost use Rattle.ir_meaning.specs.Arithmetic.{cast_number};
 ghost use Rattle.ir_meaning.specs.Table.{cast_constant, cast_rule, freeze_rule, select_rule};
 ghost use Rattle.fold_rules.specs.Folding.{row_of};
 

@@ -6,7 +6,6 @@ mod Tabled
 mod SymbolNames
 mod NameSets
 mod SortedValues
-mod Rising
 mod Declared
 pub mod Declaring
 pub mod Hosts

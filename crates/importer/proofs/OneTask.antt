@@ -19,10 +19,11 @@ use Rattle.lto_task.specs.Tasks.{TaskView}
 use Rattle.merge_meaning.specs.ByName.{IsInOrder, name_cmp}
 use Rattle.merge_meaning.proofs.Looked.{some_is}
 use Rattle.merge_meaning.proofs.Standing.{first, first_or_later, later, nothing}
-use Rattle.thin_link.proofs.Determined.{same_from_map, same_sorted}
+use Rattle.thin_link.proofs.Determined.{same_from_map}
 use Rattle.importer.specs.Brought.{brought}
 use Rattle.importer.specs.TaskLaws.{TaskIsOne}
 use Rattle.importer.specs.Tasks.{IsClosedUp, IsModuleOf, IsTaskOf, declared_as, name_of}
+use Rattle.combined_index.proofs.StableSorts.{same_sorted}
 
 -- ---- what rises and has the same elements
 

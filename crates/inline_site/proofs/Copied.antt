@@ -18,8 +18,9 @@ use Rattle.ir_edit.proofs.Apart.{is_one_to_one}
 use Rattle.ir_edit.proofs.Tally.{tally, tally_both, tally_same}
 use Rattle.inline_site.specs.Copies.{added, behind_call, bound, copied, copied_number, copied_operand, first_free}
 use Rattle.inline_site.specs.Copying.{empty, opened, shifted_by}
-use Rattle.inline_site.proofs.Once.{below_room, blocks_tally, last_placed, not_placed, once_each}
+use Rattle.inline_site.proofs.Once.{below_room, last_placed, not_placed, once_each}
 use Rattle.inline_site.proofs.Twice.{blocks_twice}
+use Rattle.ir_edit.proofs.Counting.{blocks_tally}
 
 -- ---- numbers
 

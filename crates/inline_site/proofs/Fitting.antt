@@ -28,7 +28,8 @@ use Rattle.ir_edit.proofs.Tally.{tally, tally_both, tally_same}
 use Rattle.ir_meaning.specs.Inline.{BlocksBelow, EdgesBelow, LinesBelow, PhisBelow, below}
 use Rattle.ir_meaning.specs.Needed.{AllKept, EndReads, IsKept, Reads}
 use Rattle.inline_site.specs.Copies.{first_free}
-use Rattle.inline_site.proofs.Once.{below_room, blocks_tally, params_are}
+use Rattle.inline_site.proofs.Once.{below_room}
+use Rattle.ir_edit.proofs.Counting.{blocks_tally, params_are}
 
 -- ---- of each element
 

@@ -20,8 +20,9 @@ use Rattle.inline_site.specs.Inlined.{result_phis, return_entries}
 use Rattle.inline_site.proofs.Copied.{copied_apart}
 use Rattle.inline_site.proofs.Elements.{In}
 use Rattle.inline_site.proofs.Numbered.{distinct_by, in_tally, is_new, once_under}
-use Rattle.inline_site.proofs.Once.{below_room, blocks_tally, once_each, params_are}
+use Rattle.inline_site.proofs.Once.{below_room, once_each}
 use Rattle.inline_site.proofs.Places.{Inlining, behind, copied_with, first, inner, inner_op, made, new, outer, outer_phi, second}
+use Rattle.ir_edit.proofs.Counting.{blocks_tally, params_are}
 
 -- ---- the numbers of a function
 

@@ -33,10 +33,11 @@ use Rattle.inline_site.specs.Sites.{IsCallOf, Site, StandsAt}
 use Rattle.inline_site.proofs.Copied.{copied_apart}
 use Rattle.inline_site.proofs.Fitting.{AreBelow, BlocksFit, LocalBelow, all_back, all_front, fit_back, fit_front, fits}
 use Rattle.inline_site.proofs.Moved.{differs}
-use Rattle.inline_site.proofs.Once.{blocks_tally, once_each}
+use Rattle.inline_site.proofs.Once.{once_each}
 use Rattle.inline_site.proofs.Sparing.{end_of}
 use Rattle.inline_site.proofs.Spliced.{all_fit, better_if, call_fits, phi_is, phi_of, with_phi_better, with_phis}
 use Rattle.inline_site.proofs.Unset.{BeginsToo, BlockSpares, FoundToo, IsLost, LinesSpare, ParamsSpare, PhisSpare, lost, lost_better}
+use Rattle.ir_edit.proofs.Counting.{blocks_tally}
 
 -- ---- two lists of blocks that differ in one block alone
 

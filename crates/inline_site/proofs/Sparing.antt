@@ -17,7 +17,8 @@ use Rattle.ir_meaning.specs.Inline.{BlockSparing, BlocksSparing, IsNoParameter, 
 use Rattle.inline_site.specs.Copies.{first_free}
 use Rattle.inline_site.proofs.Fitting.{all_back, all_front}
 use Rattle.inline_site.proofs.Moved.{no_argument}
-use Rattle.inline_site.proofs.Once.{below_room, blocks_tally, once_each}
+use Rattle.inline_site.proofs.Once.{below_room, once_each}
+use Rattle.ir_edit.proofs.Counting.{blocks_tally}
 
 -- ---- items of a block and of a line
 

@@ -85,7 +85,7 @@ numbers_of_under new f = (λ i. params_under new f.params i ++ blocks_under new 
 
 -- ---- they are the locals and the numbers of the blocks
 
-params_are : (ps : List Param) → param_numbers ps ≡ map (λ p. p.local) ps
+pub params_are : (ps : List Param) → param_numbers ps ≡ map (λ p. p.local) ps
 params_are [] = refl
 params_are (p ∷ ps) = ap (λ (l : List ℕ). p.local ∷ l) (params_are ps)
 
@@ -105,7 +105,7 @@ block_tally : (x : ℕ) (b : Block) → tally x (block_numbers b) ≡ (if nat_eq
 unfolding block_numbers
 block_tally x b = ap (λ (l : List ℕ). (if nat_eq x b.number then 1 else 0) + tally x l) (λ i. phis_are b.phis i ++ lines_are b.lines i)
 
-blocks_tally : (x : ℕ) (bs : List Block) → tally x (blocks_numbers bs) ≡ tally x (flat_map definitions bs) + tally x (map (λ b. b.number) bs)
+pub blocks_tally : (x : ℕ) (bs : List Block) → tally x (blocks_numbers bs) ≡ tally x (flat_map definitions bs) + tally x (map (λ b. b.number) bs)
 blocks_tally x [] = omega arith
 blocks_tally x (b ∷ bs) =
     let here : tally x (block_numbers b) ≡ (if nat_eq x b.number then 1 else 0) + tally x (definitions b) = block_tally x b in

@@ -1,6 +1,6 @@
 pub mod Apart
 mod Comparing
-mod Counting
+pub mod Counting
 mod Later
 mod Placing
 mod RenamedParts
@@ -10,3 +10,4 @@ mod Replacing
 mod Squares
 pub mod Stepping
 pub mod Tally
+pub mod Holding

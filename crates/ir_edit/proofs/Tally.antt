@@ -25,7 +25,7 @@ tally_same x y e = by (nat_eq x y) (is x y e)
     by true h = omega arith
     by false h = absurd cc
 
-counted_at : (x : ℕ) (xs : List ℕ) (i : ℕ) → slice_get xs i ≡ Some x → 1 ≤ tally x xs
+pub counted_at : (x : ℕ) (xs : List ℕ) (i : ℕ) → slice_get xs i ≡ Some x → 1 ≤ tally x xs
 counted_at x [] i e = absurd cc
 counted_at x (y ∷ ys) zero e = let same : x ≡ y = sym cc in let one : 1 ≤ (if nat_eq x y then 1 else 0) = tally_same x y same in omega (arith, one)
 counted_at x (y ∷ ys) (suc i) e = let more : 1 ≤ tally x ys = counted_at x ys i e in omega (arith, more)
@@ -59,7 +59,7 @@ tally_once x (y ∷ ys) d = at (nat_eq x y) refl (tally_once x ys (λ i j z e g.
     at true e more = let none : tally x ys ≡ 0 = second (tally x ys) refl (same_number x y e) in omega (arith, none)
     at false e more = omega (arith, more)
 
-distinct_by : (xs : List ℕ) → ((x : ℕ) → tally x xs ≤ 1) → Distinct xs
+pub distinct_by : (xs : List ℕ) → ((x : ℕ) → tally x xs ≤ 1) → Distinct xs
 distinct_by [] h i j x e g = absurd cc
 distinct_by (y ∷ ys) h zero zero x e g = refl
 distinct_by (y ∷ ys) h zero (suc j) x e g =

@@ -17,7 +17,7 @@ use Rattle.ir_tree.specs.declared.operand.Reg.{Reg}
 use Rattle.ir_tree.specs.declared.operand.Reg.TheVariants.{Int, Ptr}
 use Rattle.ir_meaning.specs.Operate.{Answer, Is, Never, Unwritten, binary_bits}
 use Rattle.ir_tree.specs.Symbols.{symbol_eq}
-use Rattle.ir_meaning.specs.Wrapping.{compare, is_division}
+use Rattle.ir_meaning.specs.Arithmetic.{compare, is_division}
 use Rattle.ir_meaning.specs.declared.value.Value.TheVariants.{Number, Pointer, Poison}
 use Rattle.ir_meaning.specs.Table.{address_rule, all_zero, any_poison, binary_rule, cast_constant, cast_numbers, cast_rule, compared_addresses, compared_constants, compared_numbers, comparison_rule, constant_answer, constant_indices, equality, first, folded_or, freeze_rule, frozen_number, is_number, is_poison, is_reflexive, number_of, poisoned, rule, same, select_rule, selected_number, symbol_at, truth, unchanged, when, zeroed}
 use Rattle.ir_meaning.specs.Needed.{IsKept, Reads}

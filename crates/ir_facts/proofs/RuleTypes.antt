@@ -22,7 +22,7 @@ use Rattle.ir_tree.specs.declared.operand.Operand.TheVariants.{Local, Null, Numb
 use Rattle.ir_tree.specs.declared.operand.Reg.{Reg}
 use Rattle.ir_tree.specs.declared.operand.Reg.TheVariants.{Int, Ptr}
 use Rattle.ir_meaning.specs.Operate.{Is, Never, binary_bits, number_or_poison}
-use Rattle.ir_meaning.specs.Wrapping.{arithmetic, breaks, cast_number, division_cause, is_division}
+use Rattle.ir_meaning.specs.Arithmetic.{arithmetic, breaks, cast_number, division_cause, is_division}
 use Rattle.ir_meaning.specs.Table.{cast_constant, cast_numbers, constant_answer, folded_or, frozen_number, number_of, rule, symbol_at, truth}
 use Rattle.ir_facts.proofs.RuleReads.{Of, address_of, binary_of, cast_of, comparison_of, freeze_of, of_some, select_of}
 use Rattle.ir_facts.proofs.Words.{Small, arithmetic_small, extended_small, sign_extended_small, truncated_small}

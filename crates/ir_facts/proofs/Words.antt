@@ -7,7 +7,9 @@ use Rattle.ir_tree.specs.declared.instr.BinaryOp.{BinaryOp}
 use Rattle.ir_tree.specs.declared.instr.BinaryOp.TheVariants.{Add, And, Ashr, Lshr, Mul, Or, Sdiv, Shl, Srem, Sub, Udiv, Urem, Xor}
 use Rattle.ir_tree.specs.declared.instr.CastOp.TheVariants.{Sext, Trunc, Zext}
 use Rattle.ir_tree.specs.declared.instr.Flags.{Flags}
-use Rattle.ir_meaning.specs.Wrapping.{allowed, arithmetic, cast_number, signed, wrapped}
+use Rattle.lto_bits.specs.Operation.{allowed, arithmetic as word_arithmetic}
+use Rattle.lto_bits.specs.Word.{signed, wrapped}
+use Rattle.ir_meaning.specs.Arithmetic.{arithmetic, cast_number}
 
 abbrev pub Small : ℕ → Option ℕ → Type 0
 Small w None = Unit {0}
@@ -35,7 +37,7 @@ choice_small m true x y p q = p
 choice_small m false x y p q = q
 
 pub arithmetic_small : (op : BinaryOp) (f : Flags) (w a b : ℕ) → a < 2 ^ w → b < 2 ^ w → Small w (arithmetic op f w a b)
-unfolding arithmetic
+unfolding word_arithmetic
 arithmetic_small Add f w a b p q = small_allowed w _ _ (modulo_small w (a + b))
 arithmetic_small Sub f w a b p q = small_allowed w _ _ (modulo_small w (a + 2 ^ w - b))
 arithmetic_small Mul f w a b p q = small_allowed w _ _ (modulo_small w (a * b))
@@ -52,13 +54,10 @@ arithmetic_small Or f w a b p q = or_lt w a b p q
 arithmetic_small Xor f w a b p q = xor_lt w a b p q
 
 pub extended_small : (from to a : ℕ) → a < 2 ^ from → 2 ^ from < 2 ^ to → cast_number Zext from to a < 2 ^ to
-unfolding cast_number
 extended_small from to a p q = omega (arith, p, q)
 
 pub sign_extended_small : (from to a : ℕ) → cast_number Sext from to a < 2 ^ to
-unfolding cast_number
 sign_extended_small from to a = wrapped_small to (signed from a)
 
 pub truncated_small : (from to a : ℕ) → cast_number Trunc from to a < 2 ^ to
-unfolding cast_number
 truncated_small from to a = modulo_small to a

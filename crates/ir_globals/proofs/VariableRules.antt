@@ -41,7 +41,7 @@ abbrev good : Tok → Result Tok TokenFault
 good x = Ok x
 
 -- a name that has a number in range is a name
-any_name : (ts : List Tok) (a : Tok) → variable_name ts a → any_variable_name ts a
+pub any_name : (ts : List Tok) (a : Tok) → variable_name ts a → any_variable_name ts a
 unfolding is_valued is_among
 any_name [] a s = absurd s
 any_name (t ∷ []) a s = by_test (among tokens NAMES t) s
@@ -76,7 +76,7 @@ linked_rule : Rule tokens linked linked linked_at LINKED LINKED true
 unfolding linked linked_at
 linked_rule = rules.wider tokens LINKED LINKED (rules.seq tokens (rules.maybe tokens LINKAGES linkage_word_rule refl) (λ l. rules.seq tokens qualifiers_rule (λ _. rules.nothing tokens l) refl) refl) refl refl
 
-constant_real : IsReal (word heads.GlobalVariable (codes "global"))
+pub constant_real : IsReal (word heads.GlobalVariable (codes "global"))
 unfolding best_fit rest_fit label_len number_len word_len name_len meta_len dots_len other_len string_len has is_bad is_zero_name head_of word_head listed_head words_6
 constant_real = record { behind = []; some = refl; fits = refl; good = refl; class = refl }
 
@@ -89,7 +89,7 @@ value_rule : (declared : Bool) (scalar : Option Reg) → Rule tokens (value memo
 value_rule true scalar = rules.wider tokens INITIALISER [] (rules.nothing tokens None) refl refl
 value_rule false scalar = rules.wider tokens INITIALISER [] (rules.seq tokens (initialiser_rule scalar) (λ _. rules.nothing tokens _) refl) refl refl
 
-comdat_real : IsReal (word heads.Comdat (codes "comdat"))
+pub comdat_real : IsReal (word heads.Comdat (codes "comdat"))
 unfolding best_fit rest_fit label_len number_len word_len name_len meta_len dots_len other_len string_len has is_bad is_zero_name head_of word_head listed_head words_6
 comdat_real = record { behind = []; some = refl; fits = refl; good = refl; class = refl }
 
@@ -97,7 +97,7 @@ comdat_rule : Rule tokens (the heads.Comdat) (the heads.Comdat) (the_at heads.Co
 unfolding is_class
 comdat_rule = the_rule heads.Comdat (word heads.Comdat (codes "comdat")) refl comdat_real
 
-named_comdat_real : IsReal (sample kinds.Comdat heads.ComdatName (codes "$a"))
+pub named_comdat_real : IsReal (sample kinds.Comdat heads.ComdatName (codes "$a"))
 unfolding best_fit rest_fit label_len number_len word_len name_len meta_len dots_len other_len string_len has is_bad is_zero_name head_of
 named_comdat_real = record { behind = []; some = refl; fits = refl; good = refl; class = refl }
 

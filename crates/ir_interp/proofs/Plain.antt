@@ -8,7 +8,7 @@ use Rattle.ir_tree.specs.declared.operand.Symbol.{Symbol}
 use Rattle.ir_meaning.specs.Memory.{Memory as MeantMemory}
 use Rattle.ir_meaning.specs.Operate.{Answer, Is, Never, Unwritten, binary_bits, cast_bits, compared_bits, division_bits, frozen_bits, number_or_poison, plain_bits}
 use Rattle.ir_meaning.specs.Pointers.{chosen, compared_pointers, settled}
-use Rattle.ir_meaning.specs.Wrapping.{arithmetic, breaks, division_cause, is_division, may_break}
+use Rattle.ir_meaning.specs.Arithmetic.{arithmetic, breaks, division_cause, is_division, may_break}
 use Rattle.ir_meaning.specs.declared.value.Value.{Value as MeantValue}
 use Rattle.ir_meaning.specs.declared.value.Value.TheVariants as value
 use Rattle.ir_machine.specs.Meant.{answered, meant}

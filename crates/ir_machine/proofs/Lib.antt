@@ -11,4 +11,3 @@ pub mod Comparing
 pub mod Origins
 mod Parts
 mod Walks
-mod Wraps

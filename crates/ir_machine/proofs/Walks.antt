@@ -3,10 +3,10 @@ use Rattle.std.proofs.Common.{◌≡◌, ℕ, zero, suc, ◌+◌, ◌-◌, ◌*�
 use Rattle.std.proofs.lemmas.Bool.Decides.{nat_tests}
 use Rattle.ir_tree.specs.Forms.{Form}
 use Rattle.ir_meaning.specs.Address.{are_all_zero, displacements, is_within, new_offset, stays_within, sum_from}
-use Rattle.ir_meaning.specs.Wrapping.{wrapped}
+use Rattle.lto_bits.specs.Word.{wrapped}
 use Rattle.ir_machine.specs.Walking.{displacements_at, ends_at, ends_by}
 use Rattle.ir_machine.specs.declared.walk.Walk.{Walk}
-use Rattle.ir_machine.proofs.Wraps.{sum_wraps, wrapped_below}
+use Rattle.ir_meaning.proofs.Wraps.{sum_wraps, wrapped_below}
 
 -- ---- tests
 

@@ -2,7 +2,7 @@
 use Rattle.std.specs.Prelude.{ℕ, Bool, not, ◌&&◌, ◌||◌, if◌then◌else◌, ℤ, pos, List, [], Option, Some, None}
 use Rattle.ir_tree.specs.Layout.{IsLaidOut}
 use Rattle.ir_meaning.specs.Address.{are_all_zero, displacements, displacements_into, stays_within, sum_from}
-use Rattle.ir_meaning.specs.Wrapping.{wrapped}
+use Rattle.lto_bits.specs.Word.{wrapped}
 use Rattle.ir_machine.specs.declared.walk.Next.{Next}
 use Rattle.ir_machine.specs.declared.walk.Next.TheVariants.{Along, Into, Nowhere}
 use Rattle.ir_machine.specs.declared.walk.Walk.{Walk}

@@ -2,7 +2,7 @@
 ghost use Rattle.std.specs.Prelude.{◌≡◌, ◌≤◌, ◌^◌, ◌+◌, ◌-◌, ◌&&◌, nat_le, ◌+ℤ◌, ◌*ℤ◌, IfSome, pos};
 ghost use Rattle.ir_tree.specs.Layout.{IsLaidOut};
 ghost use Rattle.ir_meaning.specs.Address.{is_within};
-ghost use Rattle.ir_meaning.specs.Wrapping.{wrapped};
+ghost use Rattle.lto_bits.specs.Word.{wrapped};
 ghost use Rattle.ir_machine.specs.Leading.{IsStep};
 
 use ir_tree::{Shape, ShapeNode, offset_of, size_of};

@@ -20,3 +20,6 @@ pub mod Inside
 pub mod Sized
 mod Parts
 pub mod Verified
+pub mod Wraps
+pub mod ShapeParts
+pub mod NoPhis

@@ -5,15 +5,11 @@ use Rattle.ir_tree.specs.declared.instr.BinaryOp.{BinaryOp}
 use Rattle.ir_tree.specs.declared.instr.BinaryOp.TheVariants.{Add, And, Ashr, Lshr, Mul, Or, Sdiv, Shl, Srem, Sub, Udiv, Urem, Xor}
 use Rattle.ir_tree.specs.declared.instr.CastOp.TheVariants.{Sext, Trunc, Zext}
 use Rattle.ir_tree.specs.declared.instr.Flags.{Flags}
-use Rattle.ir_tree.specs.declared.instr.Predicate.{Predicate}
-use Rattle.ir_tree.specs.declared.instr.Predicate.TheVariants.{Eq, Ne, Sge, Sgt, Sle, Slt, Uge, Ugt, Ule, Ult}
-use Rattle.ir_meaning.specs.Operate.{Is, Never, binary_bits, bit, bits_of, cast_bits, compared_bits, number_or_poison}
-use Rattle.ir_meaning.specs.Wrapping.{arithmetic, breaks, compare, cast_number, division_cause, is_division, may_break}
+use Rattle.ir_meaning.specs.Operate.{Is, Never, binary_bits, bits_of, cast_bits, compared_bits, number_or_poison}
+use Rattle.ir_meaning.specs.Arithmetic.{arithmetic, breaks, division_cause, is_division, may_break}
 use Rattle.ir_meaning.specs.declared.fault.Cause.TheVariants as cause
 use Rattle.ir_meaning.specs.declared.value.Value.TheVariants.{Number}
 use Rattle.ir_meaning.specs.declared.value.Value.TheVariants as value
-use Rattle.lto_bits.specs.Cast.{narrowed, widened}
-use Rattle.lto_bits.specs.Comparison.{compared as word_compared}
 use Rattle.lto_bits.specs.Operation.{arithmetic as word_arithmetic, binary_of, cause_of, value_or_poison}
 use Rattle.lto_bits.specs.declared.answer.Answer.{Answer as WordAnswer}
 use Rattle.lto_bits.specs.declared.answer.Answer.TheVariants.{Undefined}
@@ -21,31 +17,12 @@ use Rattle.lto_bits.specs.declared.answer.Cause.{Cause as WordCause}
 use Rattle.lto_bits.specs.declared.operator.Flags.{Flags as WordFlags}
 use Rattle.lto_bits.specs.declared.answer.Cause.TheVariants.{DivisionByZero, DivisionOverflow}
 use Rattle.ir_meaning.specs.WordsAgree.{OperationsAgree, poison_quotient}
-use Rattle.ir_meaning.specs.Words.{meant, meant_cause, word_flags, word_op, word_predicate}
-
-pub same_arithmetic : (op : BinaryOp) (f : Flags) (w a b : ℕ) → arithmetic op f w a b ≡ word_arithmetic (word_op op) (word_flags f) w a b
-unfolding arithmetic word_arithmetic
-same_arithmetic Add f w a b = refl
-same_arithmetic Sub f w a b = refl
-same_arithmetic Mul f w a b = refl
-same_arithmetic Shl f w a b = refl
-same_arithmetic Udiv f w a b = refl
-same_arithmetic Sdiv f w a b = refl
-same_arithmetic Lshr f w a b = refl
-same_arithmetic Ashr f w a b = refl
-same_arithmetic Urem f w a b = refl
-same_arithmetic Srem f w a b = refl
-same_arithmetic And f w a b = refl
-same_arithmetic Or f w a b = refl
-same_arithmetic Xor f w a b = refl
+use Rattle.ir_meaning.specs.Operators.{word_flags, word_op}
+use Rattle.ir_meaning.specs.Words.{meant, meant_cause}
 
 same_value : (r : Option ℕ) → Is (number_or_poison r) ≡ meant (value_or_poison r)
 same_value None = refl
 same_value (Some n) = refl
-
-same_plain : (op : BinaryOp) (f : Flags) (w a b : ℕ) →
-    Is (number_or_poison (arithmetic op f w a b)) ≡ meant (value_or_poison (word_arithmetic (word_op op) (word_flags f) w a b))
-same_plain op f w a b = same_value (arithmetic op f w a b) ∙ ap (λ (r : Option ℕ). meant (value_or_poison r)) (same_arithmetic op f w a b)
 
 same_cause : (b : Bool) → (if b then cause.DivisionByZero else cause.DivisionOverflow) ≡ meant_cause (if b then DivisionByZero else DivisionOverflow)
 same_cause true = refl
@@ -56,53 +33,21 @@ same_division : (breaks : Bool) (r : Option ℕ) (b : ℕ) →
 same_division true r b = ap Never (same_cause (b == 0))
 same_division false r b = same_value r
 
-divided : (op : BinaryOp) (f : Flags) (w a b : ℕ) →
-    (if breaks op w a b then Never (division_cause b) else Is (number_or_poison (arithmetic op f w a b)))
-    ≡ meant (if breaks op w a b then Undefined (cause_of b) else value_or_poison (word_arithmetic (word_op op) (word_flags f) w a b))
-divided op f w a b =
-    same_division (breaks op w a b) (arithmetic op f w a b) b
-    ∙ ap (λ (r : Option ℕ). meant (if breaks op w a b then Undefined (cause_of b) else value_or_poison r)) (same_arithmetic op f w a b)
-
 pub same_binary : (op : BinaryOp) (f : Flags) (w a b : ℕ) →
     binary_bits op f w (Some a) (Some b) ≡ meant (binary_of (word_op op) (word_flags f) w a b)
-same_binary Add f w a b = same_plain Add f w a b
-same_binary Sub f w a b = same_plain Sub f w a b
-same_binary Mul f w a b = same_plain Mul f w a b
-same_binary Shl f w a b = same_plain Shl f w a b
-same_binary Udiv f w a b = divided Udiv f w a b
-same_binary Sdiv f w a b = divided Sdiv f w a b
-same_binary Lshr f w a b = same_plain Lshr f w a b
-same_binary Ashr f w a b = same_plain Ashr f w a b
-same_binary Urem f w a b = divided Urem f w a b
-same_binary Srem f w a b = divided Srem f w a b
-same_binary And f w a b = same_plain And f w a b
-same_binary Or f w a b = same_plain Or f w a b
-same_binary Xor f w a b = same_plain Xor f w a b
-
-pub same_compare : (p : Predicate) (w a b : ℕ) → compare p w a b ≡ word_compared (word_predicate p) w a b
-unfolding compare word_compared
-same_compare Eq w a b = refl
-same_compare Ne w a b = refl
-same_compare Ugt w a b = refl
-same_compare Uge w a b = refl
-same_compare Ult w a b = refl
-same_compare Ule w a b = refl
-same_compare Sgt w a b = refl
-same_compare Sge w a b = refl
-same_compare Slt w a b = refl
-same_compare Sle w a b = refl
-
-pub zext_is : (from to a : ℕ) → cast_number Zext from to a ≡ widened false from to a
-unfolding cast_number
-zext_is from to a = refl
-
-pub sext_is : (from to a : ℕ) → cast_number Sext from to a ≡ widened true from to a
-unfolding cast_number
-sext_is from to a = refl
-
-pub trunc_is : (from to a : ℕ) → cast_number Trunc from to a ≡ narrowed to a
-unfolding cast_number
-trunc_is from to a = refl
+same_binary Add f w a b = same_value (arithmetic Add f w a b)
+same_binary Sub f w a b = same_value (arithmetic Sub f w a b)
+same_binary Mul f w a b = same_value (arithmetic Mul f w a b)
+same_binary Shl f w a b = same_value (arithmetic Shl f w a b)
+same_binary Udiv f w a b = same_division (breaks Udiv w a b) (arithmetic Udiv f w a b) b
+same_binary Sdiv f w a b = same_division (breaks Sdiv w a b) (arithmetic Sdiv f w a b) b
+same_binary Lshr f w a b = same_value (arithmetic Lshr f w a b)
+same_binary Ashr f w a b = same_value (arithmetic Ashr f w a b)
+same_binary Urem f w a b = same_division (breaks Urem w a b) (arithmetic Urem f w a b) b
+same_binary Srem f w a b = same_division (breaks Srem w a b) (arithmetic Srem f w a b) b
+same_binary And f w a b = same_value (arithmetic And f w a b)
+same_binary Or f w a b = same_value (arithmetic Or f w a b)
+same_binary Xor f w a b = same_value (arithmetic Xor f w a b)
 
 -- ---- poison as a dividend
 
@@ -175,9 +120,8 @@ agreeing = record {
       ∙ same_binary op f w a b;
   compared = λ p w a b h k.
       ap (λ (x : Option ℕ). compared_bits p w x (bits_of w (Number b))) (in_width w a h)
-      ∙ ap (λ (y : Option ℕ). compared_bits p w (Some a) y) (in_width w b k)
-      ∙ ap bit (same_compare p w a b);
-  zext = λ from to a h. ap (cast_bits Zext from to) (in_width from a h) ∙ ap Number (zext_is from to a);
-  sext = λ from to a h. ap (cast_bits Sext from to) (in_width from a h) ∙ ap Number (sext_is from to a);
-  trunc = λ from to a h. ap (cast_bits Trunc from to) (in_width from a h) ∙ ap Number (trunc_is from to a);
+      ∙ ap (λ (y : Option ℕ). compared_bits p w (Some a) y) (in_width w b k);
+  zext = λ from to a h. ap (cast_bits Zext from to) (in_width from a h);
+  sext = λ from to a h. ap (cast_bits Sext from to) (in_width from a h);
+  trunc = λ from to a h. ap (cast_bits Trunc from to) (in_width from a h);
 }

@@ -3,7 +3,7 @@ use Rattle.std.specs.Prelude.{ℕ, zero, suc, ◌+◌, ◌^◌, nat_lt, Bool, tr
 use Rattle.ir_tree.specs.Forms.{Form, Forms}
 use Rattle.ir_tree.specs.Layout.{size as size_of}
 use Rattle.ir_meaning.specs.Memory.{Memory, object_size}
-use Rattle.ir_meaning.specs.Wrapping.{wrapped}
+use Rattle.lto_bits.specs.Word.{wrapped}
 use Rattle.ir_meaning.specs.declared.value.Base.{Base}
 use Rattle.ir_meaning.specs.declared.value.Value.{Value}
 use Rattle.ir_meaning.specs.declared.value.Value.TheVariants.{Pointer, Poison}

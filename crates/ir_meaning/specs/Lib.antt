@@ -1,5 +1,6 @@
 pub mod Fault
-pub mod Wrapping
+pub mod Operators
+pub mod Arithmetic
 pub mod Operate
 pub mod Symbols
 pub mod Memory

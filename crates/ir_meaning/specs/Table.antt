@@ -22,7 +22,8 @@ use Rattle.ir_meaning.specs.Execute.{reg_eq}
 use Rattle.ir_meaning.specs.Frame.{cons_index}
 use Rattle.ir_meaning.specs.Operate.{Answer, Is, binary_bits}
 use Rattle.ir_tree.specs.Symbols.{symbol_eq}
-use Rattle.ir_meaning.specs.Wrapping.{cast_number, compare, is_division, signed, wrapped}
+use Rattle.lto_bits.specs.Word.{signed, wrapped}
+use Rattle.ir_meaning.specs.Arithmetic.{cast_number, compare, is_division}
 use Rattle.ir_meaning.specs.declared.value.Value.TheVariants.{Number, Poison}
 
 -- ---- choices among rows

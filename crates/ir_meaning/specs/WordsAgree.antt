@@ -7,12 +7,13 @@ use Rattle.ir_tree.specs.declared.instr.Flags.{Flags}
 use Rattle.ir_tree.specs.declared.instr.Predicate.{Predicate}
 use Rattle.ir_tree.specs.declared.operand.Reg.TheVariants.{Int}
 use Rattle.ir_meaning.specs.Operate.{Answer, Is, Never, binary, bit, cast, compared}
-use Rattle.ir_meaning.specs.Wrapping.{division_cause, may_break}
+use Rattle.ir_meaning.specs.Arithmetic.{division_cause, may_break}
 use Rattle.ir_meaning.specs.declared.value.Value.TheVariants.{Number, Poison}
 use Rattle.lto_bits.specs.Cast.{narrowed, widened}
 use Rattle.lto_bits.specs.Comparison.{compared as word_compared}
 use Rattle.lto_bits.specs.Operation.{binary_of}
-use Rattle.ir_meaning.specs.Words.{meant, word_flags, word_op, word_predicate}
+use Rattle.ir_meaning.specs.Operators.{word_flags, word_op, word_predicate}
+use Rattle.ir_meaning.specs.Words.{meant}
 
 -- on numbers of their width
 pub record OperationsAgree : Type 0 where

@@ -1,13 +1,14 @@
 //! What modules mean: a restatement of the parts of the LLVM Language Reference that this project's
 //! profile has, as definitions on which all theorems about programs stand, and the laws of better functions.
 //!
-//! **What.** `specs/Act` says what one frame does next by itself; below it stand values, operations and memory.
-//! `Program` makes states and steps of whole programs out of that, and `Run` makes runs. `Programs` says which
-//! program a list of global values means, of a module as of what a link makes of many: what each symbol is, which body
-//! it has, and which bytes memory begins with. `Refine` says when the runs of one program are matched by those of
-//! another, and `Near` when one function is better than another in a program. Values, bytes, events, causes and
-//! places are Rust types, which code uses too; what runs are the integer operations on machine words and the looks
-//! at one global value ([`defined_blocks`], [`defined_init`], [`symbol_of`]). Below stand `ir_tree` and `lto_bits`.
+//! **What.** `specs/Act` says what one frame does next by itself; below it stand values, memory and the operations,
+//! which on numbers are those of `lto_bits`. `Program` makes states and steps of whole programs out of that, and `Run`
+//! makes runs. `Programs` says which program a list of global values means, of a module as of what a link makes of
+//! many: what each symbol is, which body it has, and which bytes memory begins with. `Refine` says when the runs of one
+//! program are matched by those of another, and `Near` when one function is better than another in a program. Values,
+//! bytes, events, causes and places are Rust types, which code uses too; what runs are the integer operations on
+//! machine words and the looks at one global value ([`defined_blocks`], [`defined_init`], [`symbol_of`]). Below stand
+//! `ir_tree` and `lto_bits`.
 //!
 //! **Promise.** The definitions are total, they compute, and the programs in `specs/Examples` and `specs/NativeRuns`
 //! run to the ends that the Reference gives and native builds show; the operations on words are those of the

@@ -4,7 +4,7 @@
 //! poison, as [`bits_of`] gives it. Widths are 1 to 64.
 ghost use Rattle.std.specs.Prelude.{IfSome, true, ◌≡◌, ◌<◌, ◌≤◌, ◌^◌};
 ghost use Rattle.ir_meaning.specs.Operate.{binary_bits, bits_of as bits_in, cast_bits, compared_bits, number_or_poison};
-ghost use Rattle.ir_meaning.specs.Wrapping.{is_division};
+ghost use Rattle.ir_meaning.specs.Arithmetic.{is_division};
 ghost use Rattle.ir_meaning.specs.WordsAgree.{IsCast, poison_quotient};
 ghost use Rattle.ir_meaning.specs.Words.{bit_or_poison, meant};
 

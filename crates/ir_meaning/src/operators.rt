@@ -1,6 +1,6 @@
 //! Operators and flags of instructions under the names of the operations on words.
 ghost use Rattle.std.specs.Prelude.{◌≡◌};
-ghost use Rattle.ir_meaning.specs.Words.{word_flags, word_op, word_predicate};
+ghost use Rattle.ir_meaning.specs.Operators.{word_flags, word_op, word_predicate};
 
 use ir_tree::{BinaryOp, Flags, Predicate};
 

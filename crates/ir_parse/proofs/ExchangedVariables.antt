@@ -1,11 +1,6 @@
 -- The readers of variables tell a token that is left out in some places where one that it stands for goes on.
-use Rattle.std.proofs.Common.{◌≡◌, Bool, true, false, cond, Option, Some, None, List, [], ◌∷◌, Result, Ok, Err, refl, ap, ◌∙◌}
+use Rattle.std.proofs.Common.{◌≡◌, Bool, true, false, Option, None, [], ◌∷◌, refl, ◌∙◌}
 use Rattle.std.specs.Prelude.{codes}
-use Rattle.ir_lex.specs.Bytes.{has}
-use Rattle.ir_lex.specs.Heads.{number, head_of, word_head, listed_head, words_6}
-use Rattle.ir_lex.specs.Lexing.{is_bad}
-use Rattle.ir_lex.specs.Quotes.{is_zero_name}
-use Rattle.ir_lex.specs.Rows.{best_fit, rest_fit, label_len, number_len, word_len, name_len, meta_len, dots_len, other_len, string_len}
 use Rattle.ir_lex.specs.Tok.{Tok}
 use Rattle.ir_lex.specs.declared.head.Head.TheVariants as heads
 use Rattle.ir_lex.specs.declared.token.Kind.TheVariants as kinds
@@ -15,21 +10,19 @@ use Rattle.ir_read.specs.Alphabet.{among}
 use Rattle.ir_read.specs.Forms as form
 use Rattle.ir_read.specs.Readers as reader
 use Rattle.ir_read.specs.Readers.{pick}
-use Rattle.ir_read.specs.Rules.{in_range, is_among, is_class, is_valued}
-use Rattle.ir_read.specs.declared.fault.TokenFault.{TokenFault}
-use Rattle.ir_read.specs.Classes.{tokens, IsReal, the, the_at, one_of, one_of_at}
-use Rattle.ir_heads.specs.FunctionHeads.{LINKAGES, linkage_word, QUALIFIERS, nothing_of, name_refusal}
+use Rattle.ir_read.specs.Rules.{is_class}
+use Rattle.ir_read.specs.Classes.{tokens, the, the_at, one_of, one_of_at}
+use Rattle.ir_heads.specs.FunctionHeads.{LINKAGES, linkage_word, QUALIFIERS, nothing_of}
 use Rattle.ir_instructions.specs.InstructionsAt.{ALIGN}
 use Rattle.ir_read.specs.MetadataAt.{COMMA, PAREN}
 use Rattle.ir_read.specs.Operands.{global_named}
 use Rattle.ir_operands.specs.ShapeForms.{any_shape}
 use Rattle.ir_heads.proofs.FunctionHeadRules.{external_real, named_rule, global_real}
-use Rattle.ir_read.proofs.OperandRules.{global_is}
 use Rattle.ir_read.proofs.Singles.{sample, word, the_rule}
 use Rattle.ir_globals.specs.Initialisers.{scalar_of}
-use Rattle.ir_globals.specs.Variables.{NAMES, any_variable_name, qualifiers, linked, KINDS, is_constant, is_declared, value, comdat_name, in_comdat, aligned, marked, further, tail, behind_kind, variable_line, variable_name}
+use Rattle.ir_globals.specs.Variables.{NAMES, any_variable_name, qualifiers, linked, KINDS, is_constant, is_declared, value, comdat_name, in_comdat, aligned, marked, further, tail, behind_kind, variable_line}
 use Rattle.ir_globals.specs.VariablesAt.{variable_name_at, qualifiers_at, linked_at, value_at, comdat_name_at, in_comdat_at, aligned_at, marked_at, COMDAT, further_at, tail_at, behind_kind_at, variable_line_at}
-use Rattle.ir_globals.proofs.VariableRules.{further_rule, qualifier_word_rule}
+use Rattle.ir_globals.proofs.VariableRules.{any_name, comdat_real, constant_real, further_rule, named_comdat_real, qualifier_word_rule}
 use Rattle.ir_parse.proofs.Exchanged.{Exchanges, alt, maybe, nothing, recast, seq, star, taken}
 use Rattle.ir_parse.proofs.ExchangedAttributes.{alignment_exchanged}
 use Rattle.ir_parse.proofs.ExchangedInitialisers.{initialiser_exchanged}
@@ -37,35 +30,6 @@ use Rattle.ir_parse.proofs.ExchangedNodes.{attached_exchanged}
 use Rattle.ir_parse.proofs.ExchangedShapes.{memory_shape_exchanged}
 use Rattle.ir_parse.proofs.ExchangedTokens.{name_valued, one_sample, plain_class, plain_one}
 use Rattle.ir_parse.proofs.ExchangedWords.{align_exchanged, close_paren_exchanged, comma_exchanged, equals_exchanged, open_paren_exchanged}
-
-comdat_real : IsReal (word heads.Comdat (codes "comdat"))
-unfolding best_fit rest_fit label_len number_len word_len name_len meta_len dots_len other_len string_len has is_bad is_zero_name head_of word_head listed_head words_6
-comdat_real = record { behind = []; some = refl; fits = refl; good = refl; class = refl }
-
-constant_real : IsReal (word heads.GlobalVariable (codes "global"))
-unfolding best_fit rest_fit label_len number_len word_len name_len meta_len dots_len other_len string_len has is_bad is_zero_name head_of word_head listed_head words_6
-constant_real = record { behind = []; some = refl; fits = refl; good = refl; class = refl }
-
-named_comdat_real : IsReal (sample kinds.Comdat heads.ComdatName (codes "$a"))
-unfolding best_fit rest_fit label_len number_len word_len name_len meta_len dots_len other_len string_len has is_bad is_zero_name head_of
-named_comdat_real = record { behind = []; some = refl; fits = refl; good = refl; class = refl }
-
-abbrev good : Tok → Result Tok TokenFault
-good x = Ok x
-
-any_name : (ts : List Tok) (a : Tok) → variable_name ts a → any_variable_name ts a
-unfolding is_valued is_among
-any_name [] a s = absurd s
-any_name (t ∷ []) a s = by_test (among tokens NAMES t) s
-  where
-    by_name : (o : Option Tok) → global_named t ≡ o → in_range o ≡ good a → good t ≡ good a
-    by_name None q e = absurd cc
-    by_name (Some u) q e = ap good (global_is t.head t u q) ∙ e
-
-    by_test : (b : Bool) → cond b (in_range (global_named t)) (Err (name_refusal (number t.head))) ≡ good a → cond b (good t) (Err (name_refusal (number t.head))) ≡ good a
-    by_test true e = by_name (global_named t) refl e
-    by_test false e = absurd cc
-any_name (t ∷ u ∷ ts) a s = absurd s
 
 abbrev a_global : Tok
 a_global = sample kinds.Global heads.Global (codes "@a")

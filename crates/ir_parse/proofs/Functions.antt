@@ -17,7 +17,7 @@ use Rattle.ir_names.specs.Symbols.{symbol_of}
 use Rattle.ir_names.specs.Types.{Types}
 use Rattle.ir_parse.specs.Resolved.{DefinitionsDiffer, FunctionsAreFormed}
 use Rattle.ir_parse.specs.Written.{BlockWritten, IsWritten, TypesWritten}
-use Rattle.ir_parse.proofs.ResolvedGives.{Gives, gives, bind}
+use Rattle.ir_parse.proofs.Gives.{Gives, gives, bind}
 use Rattle.ir_parse.proofs.ResolvedItems.{blocks_formed, items_formed}
 use Rattle.ir_parse.proofs.Numbering.{ArePlaced, HasSorts, blocks_placed, known_sorts, numbers_placed, text_sorts, values_placed}
 use Rattle.ir_parse.proofs.Positions.{among, places_differ, positions}

@@ -20,7 +20,7 @@ mod Initialisers
 mod Instructions
 mod ItemLists
 mod Lines
-mod Means
+pub mod Means
 mod Operands
 mod Phis
 mod Shapes
@@ -33,7 +33,6 @@ mod Written
 pub mod ResolvedAlignments
 mod Examples
 mod Functions
-mod ResolvedGives
 mod ResolvedItems
 mod Numbering
 mod Positions

@@ -20,7 +20,7 @@ use Rattle.ir_names.specs.Locals.{Known, none_known, is_below, stands, twice, wi
 use Rattle.ir_names.specs.Numbering.{is_defined, with_params, with_line, with_lines, with_block, with_blocks, locals_of}
 use Rattle.ir_names.specs.Settled.{◌>>=◌}
 use Rattle.ir_names.specs.Types.{Types}
-use Rattle.ir_parse.proofs.ResolvedGives.{Gives, gives, fails, bind}
+use Rattle.ir_parse.proofs.Gives.{Gives, gives, fails, bind}
 use Rattle.ir_parse.proofs.Positions.{positions, positions_both}
 
 -- ---- the sorts of what a text defines, in its order

@@ -44,7 +44,7 @@ use Rattle.ir_names.specs.Symbols.{symbol_of}
 use Rattle.ir_names.specs.Types.{Types}
 use Rattle.ir_parse.specs.Written.{ArgumentWritten, BlockWritten, CaseWritten, EndWritten, InstrWritten, LineWritten, NameWritten, OperandWritten, TypesWritten}
 use Rattle.ir_parse.proofs.ResolvedAlignments.{aligned, scalar_align, scalar_reg, shape_align}
-use Rattle.ir_parse.proofs.ResolvedGives.{Gives, gives, bind, bind_each, whatever}
+use Rattle.ir_parse.proofs.Gives.{Gives, gives, bind, bind_each, whatever}
 use Rattle.ir_parse.proofs.ResolvedShapes.{allocates, expands}
 use Rattle.ir_parse.proofs.Uses.{IsPlace, used}
 

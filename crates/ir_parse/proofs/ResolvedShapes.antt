@@ -19,7 +19,7 @@ use Rattle.ir_names.specs.Types.{Types, limit, or_unknown, entry_of, entry_in, s
 use Rattle.ir_parse.specs.Resolved.{ShapesAreWithin}
 use Rattle.ir_parse.specs.Written.{ShapeWritten, PartsWritten, TypeWritten, TypesWritten}
 use Rattle.ir_names.specs.Variables.{constant_type}
-use Rattle.ir_parse.proofs.ResolvedGives.{Gives, gives, fails, bind, bind_each, whatever}
+use Rattle.ir_parse.proofs.Gives.{Gives, gives, fails, bind, bind_each, whatever}
 
 -- ---- what a name stands for is written so too
 

@@ -36,7 +36,7 @@ use Rattle.ir_names.specs.Variables.{constant_for, constant_type, head_in, init_
 use Rattle.ir_parse.specs.Resolved.{VariablesAreFormed}
 use Rattle.ir_parse.specs.Written.{HeadWritten, InitWritten, OperandWritten, PartWritten}
 use Rattle.ir_parse.proofs.ResolvedAlignments.{aligned, shape_align}
-use Rattle.ir_parse.proofs.ResolvedGives.{Gives, gives, bind, bind_each, whatever}
+use Rattle.ir_parse.proofs.Gives.{Gives, gives, bind, bind_each, whatever}
 use Rattle.ir_parse.proofs.ResolvedShapes.{constant_typed, expands}
 use Rattle.ir_parse.proofs.Uses.{IsPlace, used}
 

@@ -7,7 +7,7 @@ use Rattle.ir_names.specs.declared.locals.Sort.{Sort}
 use Rattle.ir_names.specs.declared.locals.Sort.TheVariants.{Value, Block}
 use Rattle.ir_names.specs.Keys.{Key, key_of, same_key}
 use Rattle.ir_names.specs.Locals.{Known, is_used_as, number_in, same_sort, sort_of, unknown}
-use Rattle.ir_parse.proofs.ResolvedGives.{Gives, gives, fails}
+use Rattle.ir_parse.proofs.Gives.{Gives, gives, fails}
 use Rattle.ir_parse.proofs.Numbering.{sorts_of}
 
 one_sort : (s t : Sort) → same_sort s t ≡ true → Some t ≡ Some s

@@ -1,4 +1,4 @@
-mod Rising
+pub mod Rising
 mod Splitting
 mod Numbers
 mod Headings

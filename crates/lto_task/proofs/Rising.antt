@@ -1,4 +1,4 @@
--- Names that are sorted, each once, rise, and are the same names.
+-- Names that are sorted, each once, rise, and are the same names; so are those of copies.
 use Rattle.std.proofs.Common.{◌≡◌, ◌∙◌, ◌↔◌, ◌<◌, ℕ, Bool, List, [], ◌∷◌, length, get_or, Bor, sym, ap, subst, arith}
 use Rattle.std.specs.List.{AllByRecursion, Contains, dedup}
 use Rattle.std.specs.List.Sorted.{IsPermutation, IsSorted, IsStrictlySortedBy}

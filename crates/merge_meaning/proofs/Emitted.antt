@@ -181,28 +181,31 @@ module _ (live : Symbol → Bool) (final : Symbol → Symbol) (hs ls : List Glob
   twin_final : (s : Symbol) (n l : ℕ) → Twin live final hs ls s n l → fin.variable n ≡ l
   twin_final s n l w = ap (λ (u : Symbol). number_of ls (final u)) (symbol_of_number hs n s (old_place s n l w).0) ∙ ap number_in w.here
 
+  -- two variables, of which one is the other under the final names, are twins
+  twins : (s : Symbol) → live s ≡ true → (n : ℕ) (v : Variable) (init : Initial) → definition_of hs s ≡ Some (Storage n v init)
+      → (l : ℕ) (w : Variable) (other : Initial) → definition_of ls (final s) ≡ Some (Storage l w other)
+      → IsUnder (named_by final) (Some (Storage n v init)) (Some (Storage l w other)) → Twin live final hs ls s n l
+  twins s k n v init d l w other e h = record {
+    lives = k;
+    old = v;
+    init = init;
+    new = w;
+    other = other;
+    there = d;
+    here = e;
+    shape = h.0;
+    align = h.1;
+    constant = h.2;
+    same = h.3;
+  }
+
   twin_of : (s : Symbol) → live s ≡ true → (n : ℕ) (v : Variable) (init : Initial) → definition_of hs s ≡ Some (Storage n v init) → (l : ℕ) × Twin live final hs ls s n l
   twin_of s k n v init d =
       by (definition_of ls (final s)) refl
       (subst (λ (o : Option Definition). IsUnder (named_by final) o (definition_of ls (final s))) d (r.defines s k))
     where
       by : (o : Option Definition) → definition_of ls (final s) ≡ o → IsUnder (named_by final) (Some (Storage n v init)) o → (l : ℕ) × Twin live final hs ls s n l
-      by (Some (Storage l w other)) e h = (
-        l,
-        record {
-          lives = k;
-          old = v;
-          init = init;
-          new = w;
-          other = other;
-          there = d;
-          here = e;
-          shape = h.0;
-          align = h.1;
-          constant = h.2;
-          same = h.3;
-        },
-      )
+      by (Some (Storage l w other)) e h = (l, twins s k n v init d l w other e h)
       by None e h = absurd h
       by (Some (Body g)) e h = absurd h
 
@@ -214,22 +217,7 @@ module _ (live : Symbol → Bool) (final : Symbol → Symbol) (hs ls : List Glob
       (subst (λ (o : Option Definition). IsUnder (named_by final) (definition_of hs s) o) e (r.defines s k))
     where
       by : (o : Option Definition) → definition_of hs s ≡ o → IsUnder (named_by final) o (Some (Storage l w other)) → (n : ℕ) × Twin live final hs ls s n l
-      by (Some (Storage n v init)) d h = (
-        n,
-        record {
-          lives = k;
-          old = v;
-          init = init;
-          new = w;
-          other = other;
-          there = d;
-          here = e;
-          shape = h.0;
-          align = h.1;
-          constant = h.2;
-          same = h.3;
-        },
-      )
+      by (Some (Storage n v init)) d h = (n, twins s k n v init d l w other e h)
       by None d h = absurd h
       by (Some (Body f)) d h = absurd h
 

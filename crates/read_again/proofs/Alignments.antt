@@ -78,7 +78,7 @@ alignment_again n a =
     by_tests true true p q = absurd cc
     by_tests false b p q = absurd cc
 
-alignment_read : (n : ℕ) → IsAlignment n → Reads (token is_alignment) (λ m. m ≡ n) (natural space n)
+pub alignment_read : (n : ℕ) → IsAlignment n → Reads (token is_alignment) (λ m. m ≡ n) (natural space n)
 unfolding is_alignment head_of
 alignment_read n a = piece_read space kinds.Number (decimal n) (decimal_nonempty n) (λ t i. (n, ap (λ (h : Head). cond (nat_eq (number h) (number heads.Number)) (alignment_of t.text) (Err (refusal (number h)))) i.head ∙ ap alignment_of i.text ∙ alignment_again n a, refl))
 

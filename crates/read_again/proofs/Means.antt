@@ -1,5 +1,5 @@
 -- What holds of each value that a form spells over the tokens of a text of bytes, put together as forms are.
-use Rattle.std.proofs.Common.{◌≡◌, ℕ, zero, suc, Bool, true, false, cond, ◌⊎◌, inl, inr, List, [], ◌∷◌, ◌++◌, Option, Some, None, Result, Ok, Err, refl, sym, ap, subst}
+use Rattle.std.proofs.Common.{◌≡◌, ℕ, zero, suc, Bool, true, ◌⊎◌, inl, inr, List, [], ◌∷◌, ◌++◌, Option, Some, None, Result, Ok, sym, subst}
 use Rattle.std.specs.List.{AllByRecursion as Each, fold}
 use Rattle.std.specs.Prelude.{IfSome}
 use Rattle.ir_lex.specs.Heads.{number}
@@ -15,6 +15,7 @@ use Rattle.ir_read.specs.Operands.{global_named}
 use Rattle.ir_read.proofs.OperandRules.{global_is}
 use Rattle.read_again.proofs.CutInstructions.{each_left, each_right}
 use Rattle.read_again.specs.Tokens.{IsCut}
+use Rattle.ir_parse.proofs.Means.{accepted, valued}
 
 pub record Means {A : Type 0} (g : Form Tok A) (P : A → Type 0) : Type 0 where
   pub of : (ts : List Tok) (a : A) → Each IsCut ts → g ts a → P a
@@ -53,14 +54,6 @@ token_means {A} {E} {meaning} {P} f = record { of = of }
     of [] a s h = absurd h
     of (t ∷ []) a s h = f t a s.0 h
     of (t ∷ u ∷ ts) a s h = absurd h
-
-pub accepted : {A : Type 0} (b : Bool) (r : Result A TokenFault) (k : TokenFault) (a : A) → cond b r (Err k) ≡ Ok a → (b ≡ true) × (r ≡ Ok a)
-accepted true r k a e = (refl, e)
-accepted false r k a e = absurd cc
-
-pub valued : {A : Type 0} (o : Option A) (a : A) → in_range o ≡ Ok a → o ≡ Some a
-valued None a e = absurd cc
-valued (Some b) a e = let same : b ≡ a = cc in ap (λ x. Some x) same
 
 pub among_means : {A : Type 0} (refuse : ℕ → TokenFault) (classes : List ℕ) (value : Tok → A) {P : A → Type 0}
     → ((t : Tok) → IsCut t → contains classes (number t.head) ≡ true → P (value t)) → Means (form.token (is_among tokens refuse classes value)) P

@@ -1,10 +1,9 @@
 -- What stands behind the word of an instruction is read (LangRef, "Binary Operations", "icmp Instruction", "Conversion
 -- Operations", "select Instruction", "freeze Instruction", "load Instruction", "store Instruction").
-use Rattle.std.proofs.Common.{◌≡◌, ℕ, zero, suc, ◌^◌, ◌<◌, ◌≤◌, Bool, true, false, cond, not, ◌&&◌, nat_eq, Some, Result, Ok, Err, List, [], ◌∷◌, ◌++◌, codes, decimal, refl, sym, ap, subst, ◌∙◌, arith, pow_mono}
+use Rattle.std.proofs.Common.{◌≡◌, ℕ, ◌^◌, ◌<◌, ◌≤◌, Bool, true, false, not, ◌&&◌, nat_eq, Some, List, [], ◌∷◌, ◌++◌, codes, refl, sym, ap, subst, ◌∙◌}
 use Rattle.std.specs.List.{fold}
 use Rattle.ir_lex.specs.Heads.{number, head_of, word_head, listed_head, words_3}
 use Rattle.ir_lex.specs.Pieces.{Piece}
-use Rattle.ir_lex.specs.Rows.{begins}
 use Rattle.ir_lex.specs.Tok.{Tok}
 use Rattle.ir_lex.specs.declared.head.Head.{Head}
 use Rattle.ir_lex.specs.declared.head.Head.TheVariants as heads
@@ -17,7 +16,6 @@ use Rattle.ir_print.specs.Types.{register}
 use Rattle.ir_read.specs.Ahead.{WRAPS}
 use Rattle.ir_read.specs.Classes.{refusal, the, one_of}
 use Rattle.ir_read.specs.Decimals as read_decimal
-use Rattle.ir_read.specs.Decimals.{ALIGNMENTS, alignment_of, is_alignment}
 use Rattle.ir_instructions.specs.Instructions as read
 use Rattle.ir_instructions.specs.Instructions.{is_nuw, with_wrap, no_flags, on_two, wrapping, dividing, joining, PREDICATES, predicate_by, predicate_of, comparing, casting, extending, narrowing, selecting, freezing, align, aligned, loading, storing, wraps}
 use Rattle.ir_read.specs.Metadata.{attachments}
@@ -38,9 +36,8 @@ use Rattle.ir_tree.specs.declared.operand.Operand.{Operand}
 use Rattle.ir_tree.specs.declared.operand.Reg.{Reg}
 use Rattle.ir_tree.specs.declared.operand.Reg.TheVariants.{Int, Ptr}
 use Rattle.ir_read.specs.Alphabet.{contains}
-use Rattle.ir_read.specs.declared.fault.TokenFault.{TokenFault}
 use Rattle.ir_read.specs.declared.fault.TokenFault.TheVariants as faults
-use Rattle.ir_read.specs.Forms.{Form, Star, token}
+use Rattle.ir_read.specs.Forms.{Form, Star}
 use Rattle.read_again.specs.Classes.{binary_class, predicate_class, cast_class}
 use Rattle.read_again.proofs.Classes.{opcode_class, condition_class, conversion_class}
 use Rattle.read_again.specs.Behind.{behind_opcode, behind_conversion}
@@ -48,11 +45,11 @@ use Rattle.read_again.specs.PartsPrinted.{IsInstr}
 use Rattle.read_again.specs.PartsReadable.{OperandReadable, ArgumentReadable}
 use Rattle.read_again.specs.Reads.{Reads, Any}
 use Rattle.read_again.proofs.Composed.{then, next, last, nothing, regroup, left, right, no_more, one_more}
-use Rattle.read_again.proofs.Numerals.{decimal_again, decimal_nonempty, no_minus}
 use Rattle.read_again.proofs.PartsOperands.{operand_read, argument_read}
 use Rattle.read_again.proofs.Tokens.{NonEmpty, single, piece_read, by_class, by_classes}
 use Rattle.read_again.proofs.Types.{integer_read, bit_read, register_read, scalar_read, pointer_read}
 use Rattle.read_again.proofs.Words.{comma_read, to_read, align_read, exact_read}
+use Rattle.read_again.proofs.Alignments.{alignment_read}
 
 -- ---- words of operations
 
@@ -237,62 +234,6 @@ unfolding freezing
 freeze_read reg x r p = next _ (register_read space reg r) (last (operand_read space reg x p) (λ v h. nothing (refl, h)))
 
 -- ---- alignments
-
--- powers of two up to this one are alignments
-abbrev is_power : ℕ → Bool
-is_power k = contains ALIGNMENTS (2 ^ k)
-
-abbrev are_powers : ℕ → Bool
-are_powers zero = is_power zero
-are_powers (suc k) = is_power (suc k) && are_powers k
-
-both_true : (a b : Bool) → a && b ≡ true → (a ≡ true) × (b ≡ true)
-both_true true b h = (refl, h)
-both_true false b h = absurd cc
-
-up_to : (n k : ℕ) → are_powers n ≡ true → k ≤ n → is_power k ≡ true
-up_to zero k h le = subst (λ (x : ℕ). is_power x ≡ true) (zero_is k le) h
-  where
-    zero_is : (k : ℕ) → k ≤ 0 → 0 ≡ k
-    zero_is k le = omega (arith, le)
-up_to (suc n) k h le = by_test (nat_eq k (suc n)) refl (λ lt. up_to n k (both_true (is_power (suc n)) (are_powers n) h).1 lt)
-  where
-    same : nat_eq k (suc n) ≡ true → suc n ≡ k
-    same e = grind arith
-
-    below : nat_eq k (suc n) ≡ false → k ≤ n
-    below e = grind (arith, le)
-
-    by_test : (b : Bool) → nat_eq k (suc n) ≡ b → (k ≤ n → is_power k ≡ true) → is_power k ≡ true
-    by_test true e rec = subst (λ (x : ℕ). is_power x ≡ true) (same e) (both_true (is_power (suc n)) (are_powers n) h).0
-    by_test false e rec = rec (below e)
-
-all_powers : are_powers 30 ≡ true
-all_powers = refl
-
-is_one : (n : ℕ) → IsAlignment n → contains ALIGNMENTS n ≡ true
-is_one n a = ap (contains ALIGNMENTS) a.2 ∙ up_to 30 a.0 all_powers a.1
-
-small : (k : ℕ) → k ≤ 30 → 2 ^ k < 2 ^ 64
-small k le = omega (arith, pow_mono {i = k} {j = 30} le)
-
-alignment_again : (n : ℕ) → IsAlignment n → alignment_of (decimal n) ≡ Ok n
-unfolding alignment_of
-alignment_again n a =
-    let e : read_decimal.decimal (decimal n) ≡ n = decimal_again n (subst (λ (x : ℕ). x < 2 ^ 64) (sym a.2) (small a.0 a.1)) in
-    by_tests (contains ALIGNMENTS (read_decimal.decimal (decimal n))) (begins 45 (decimal n)) (ap (contains ALIGNMENTS) e ∙ is_one n a) (no_minus n) ∙ ap ok e
-  where
-    ok : ℕ → Result ℕ TokenFault
-    ok m = Ok m
-
-    by_tests : (a b : Bool) → a ≡ true → b ≡ false → cond (a && not b) (ok (read_decimal.decimal (decimal n))) (Err faults.Number) ≡ ok (read_decimal.decimal (decimal n))
-    by_tests true false p q = refl
-    by_tests true true p q = absurd cc
-    by_tests false b p q = absurd cc
-
-alignment_read : (n : ℕ) → IsAlignment n → Reads (token is_alignment) (λ m. m ≡ n) (natural space n)
-unfolding is_alignment head_of
-alignment_read n a = piece_read space kinds.Number (decimal n) (decimal_nonempty n) (λ t i. (n, ap (λ (h : Head). cond (nat_eq (number h) (number heads.Number)) (alignment_of t.text) (Err (refusal (number h)))) i.head ∙ ap alignment_of i.text ∙ alignment_again n a, refl))
 
 -- align N
 pub aligned_read : (n : ℕ) → IsAlignment n → Reads aligned (λ a. a ≡ Some n) (word space (codes "align") ++ natural space n)

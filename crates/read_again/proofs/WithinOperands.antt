@@ -17,7 +17,8 @@ use Rattle.ir_read.specs.declared.raw.Operand.TheVariants as operands
 use Rattle.ir_tree.specs.declared.operand.Reg.{Reg}
 use Rattle.ir_tree.specs.declared.operand.Reg.TheVariants.{Int, Ptr}
 use Rattle.read_again.specs.Spelled.{ArgumentSpelled, OperandSpelled}
-use Rattle.read_again.proofs.Means.{Means, accepted, either_means, follow, nothing, skip, token_means, valued_means}
+use Rattle.read_again.proofs.Means.{Means, either_means, follow, nothing, skip, token_means, valued_means}
+use Rattle.ir_parse.proofs.Means.{accepted}
 
 -- ---- i1
 

@@ -22,7 +22,8 @@ use Rattle.ir_read.specs.Alphabet.{contains}
 use Rattle.ir_read.specs.Forms.{Form}
 use Rattle.ir_read.specs.Rules.{is_valued, in_range}
 use Rattle.read_again.specs.Spelled.{AllCounted, Counted, IsCount}
-use Rattle.read_again.proofs.Means.{Means, accepted, chain_means, either_means, follow, nothing, skip, token_means, valued, valued_means}
+use Rattle.read_again.proofs.Means.{Means, chain_means, either_means, follow, nothing, skip, token_means, valued_means}
+use Rattle.ir_parse.proofs.Means.{accepted, valued}
 
 -- ---- counts
 

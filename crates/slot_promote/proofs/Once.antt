@@ -1,13 +1,13 @@
 -- In the promoted function each local and block has its own number.
-use Rattle.std.proofs.Common.{◌≡◌, ℕ, zero, suc, ◌+◌, ◌≤◌, ◌<◌, nat_eq, Bool, true, false, List, [], ◌∷◌, ◌++◌, length, map, Some, None, refl, sym, ap, subst, arith, if◌then◌else◌}
-use Rattle.std.specs.Prelude.{slice_get, flat_map}
+use Rattle.std.proofs.Common.{◌≡◌, ℕ, zero, suc, ◌+◌, ◌≤◌, ◌<◌, nat_eq, Bool, true, false, List, [], ◌∷◌, ◌++◌, length, map, Some, None, refl, ap, subst, arith, if◌then◌else◌}
+use Rattle.std.specs.Prelude.{flat_map}
 use Rattle.std.proofs.lemmas.Bool.{eqb-true}
 use Rattle.ir_tree.specs.Flow.{definitions, edges, holds, locals, parameters, phi_locals, results}
 use Rattle.ir_tree.specs.Formed.{Distinct, Formed, numbers}
 use Rattle.ir_tree.specs.declared.block.Block.{Block}
 use Rattle.ir_tree.specs.declared.function.Function.{Function}
 use Rattle.ir_tree.specs.declared.instr.Phi.{Phi}
-use Rattle.ir_edit.proofs.Tally.{tally, tally_both, tally_once, tally_same}
+use Rattle.ir_edit.proofs.Tally.{distinct_by, tally, tally_both, tally_once}
 use Rattle.slot_promote.specs.Promoted.{End, end_at, first_at, free, new_phis, next_number, phis_from, promoted_with, takes}
 use Rattle.slot_promote.specs.Values.{at_start, placed}
 use Rattle.slot_promote.specs.declared.slots.Slot.{Slot}
@@ -15,30 +15,6 @@ use Rattle.slot_promote.proofs.Edges.{has_room}
 use Rattle.slot_promote.proofs.Lines.{phis_tally, results_less}
 use Rattle.slot_promote.proofs.Shapes.{numbers_stay, promoted_at, promoted_from}
 use Rattle.slot_promote.proofs.Slotted.{tally_holds}
-
--- ---- lists in which no number stands twice
-
-counted_at : (x : ℕ) (xs : List ℕ) (i : ℕ) → slice_get xs i ≡ Some x → 1 ≤ tally x xs
-counted_at x [] i e = absurd cc
-counted_at x (y ∷ ys) zero e = let same : x ≡ y = sym cc in let one : 1 ≤ (if nat_eq x y then 1 else 0) = tally_same x y same in omega (arith, one)
-counted_at x (y ∷ ys) (suc i) e = let more : 1 ≤ tally x ys = counted_at x ys i e in omega (arith, more)
-
-distinct_by : (xs : List ℕ) → ((x : ℕ) → tally x xs ≤ 1) → Distinct xs
-distinct_by [] h i j x e g = absurd cc
-distinct_by (y ∷ ys) h zero zero x e g = refl
-distinct_by (y ∷ ys) h zero (suc j) x e g =
-    let same : x ≡ y = sym cc in
-    let one : 1 ≤ (if nat_eq x y then 1 else 0) = tally_same x y same in
-    let two : 1 ≤ tally x ys = counted_at x ys j g in
-    let all : (if nat_eq x y then 1 else 0) + tally x ys ≤ 1 = h x in
-    absurd (omega (arith, one, two, all))
-distinct_by (y ∷ ys) h (suc i) zero x e g =
-    let same : x ≡ y = sym cc in
-    let one : 1 ≤ (if nat_eq x y then 1 else 0) = tally_same x y same in
-    let two : 1 ≤ tally x ys = counted_at x ys i e in
-    let all : (if nat_eq x y then 1 else 0) + tally x ys ≤ 1 = h x in
-    absurd (omega (arith, one, two, all))
-distinct_by (y ∷ ys) h (suc i) (suc j) x e g = ap suc (distinct_by ys (λ z. let all : (if nat_eq z y then 1 else 0) + tally z ys ≤ 1 = h z in omega (arith, all)) i j x e g)
 
 -- ---- the numbers of new phis
 

@@ -15,7 +15,8 @@ use Rattle.slot_promote.proofs.Lines.{AllTidy, both, phis_before, phis_behind, r
 use Rattle.slot_promote.proofs.Once.{news}
 use Rattle.slot_promote.proofs.Plans.{results_grow}
 use Rattle.slot_promote.proofs.Shapes.{block_at, edges_stay, promoted_at, promoted_from}
-use Rattle.slot_promote.proofs.Tests.{and_left, and_right, holds_back, holds_either, holds_front, not_true}
+use Rattle.slot_promote.proofs.Tests.{and_left, and_right, not_true}
+use Rattle.ir_edit.proofs.Holding.{holds_back, holds_either, holds_front}
 
 in_blocks : (v : ℕ) (bs : List Block) (b : ℕ) (block : Block) → slice_get bs b ≡ Some block → holds (definitions block) v ≡ true → holds (flat_map definitions bs) v ≡ true
 in_blocks v [] b block found h = absurd cc

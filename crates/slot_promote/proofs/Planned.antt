@@ -45,7 +45,7 @@ use Rattle.slot_promote.proofs.Plans.{ValueOk, behind_same, kept_end, kept_phis,
 use Rattle.slot_promote.proofs.Reached.{entry_reached, path_to, reached}
 use Rattle.slot_promote.proofs.Shapes.{block_at, place_stays, put_is}
 use Rattle.slot_promote.proofs.Slotted.{AreRight, Made, Stands, are_right, no_parameter, no_phi, stands}
-use Rattle.slot_promote.proofs.Tests.{holds_front}
+use Rattle.ir_edit.proofs.Holding.{holds_front}
 
 -- ---- a function where only reached blocks do anything
 

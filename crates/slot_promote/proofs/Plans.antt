@@ -44,7 +44,8 @@ use Rattle.slot_promote.proofs.Before.{not_before, tally_held}
 use Rattle.slot_promote.proofs.Facts.{accessed, at_line, in_block, not_used, used_at_line, used_back, used_front, used_in_block, used_in_lines}
 use Rattle.slot_promote.proofs.Reached.{reached}
 use Rattle.slot_promote.proofs.Slotted.{AreRight, Gives, Made, Stands, at_most, given_here, local_of, one_line, scalar_size, scalar_storable, stands}
-use Rattle.slot_promote.proofs.Tests.{clash, holds_back, holds_either, holds_front}
+use Rattle.slot_promote.proofs.Tests.{clash}
+use Rattle.ir_edit.proofs.Holding.{holds_back, holds_either, holds_front}
 
 abbrev is_alloca : Instr → Bool
 is_alloca (kind.Alloca shape align) = true

@@ -7,7 +7,7 @@ use Rattle.ir_tree.specs.Flow.{Among, AvailableAt, edges, holds, line_count, tar
 use Rattle.ir_tree.specs.Forms.{Form}
 use Rattle.ir_tree.specs.Formed.{ArgumentFormed, Distinct, InstrFormed, IsBlock, IsReg, ItemFormed, ResultFormed}
 use Rattle.ir_tree.specs.Items.{Item, phi_item, line_item, end_item, block_items, end_reads, items, items_from, lines_from, phi_reads, reads, taken, taken_as, typed}
-use Rattle.ir_tree.specs.Rules.{EndTypes, HasType, IsNoPhi, IsThere, IsThereAtEnd, Keeps, LineCasts, LineFollows, LineOnEdges, LineTypes, OnEdges, Sound, place}
+use Rattle.ir_tree.specs.Rules.{EndTypes, HasType, IsNoPhi, IsThere, IsThereAtEnd, Keeps, LineCasts, LineFollows, LineTypes, OnEdges, Sound, place}
 use Rattle.ir_tree.specs.declared.block.Block.{Block}
 use Rattle.ir_tree.specs.declared.block.Terminator.{Terminator}
 use Rattle.ir_tree.specs.declared.block.Terminator.TheVariants.{Branch, Jump, Return, Switch, Unreachable}
@@ -46,6 +46,7 @@ use Rattle.ir_meaning.specs.Counted.{times}
 use Rattle.std.proofs.lemmas.List.Recursion.{is_count_by}
 use Rattle.ir_meaning.proofs.Entries.{apart}
 use Rattle.ir_flow.proofs.Reaching.{edge-from}
+use Rattle.ir_meaning.proofs.NoPhis.{no_edges, no_phi_reads, no_taken}
 
 abbrev Kept : (ℕ → Bool) → List Argument → Type 0
 Kept keeps as' = All (λ a. IsKept keeps a.operand) as'
@@ -81,45 +82,6 @@ kept_last keeps (Jump target) h = All-nil (λ a. IsKept keeps a.operand)
 kept_last keeps (Branch condition if_true if_false) h = one_kept keeps (typed (Int 1) condition) h
 kept_last keeps (Switch width value default cases) h = one_kept keeps (typed (Int width) value) h
 kept_last keeps Unreachable h = All-nil (λ a. IsKept keeps a.operand)
-
-no_reads : (i : Instr) → IsNoPhi i → phi_reads i ≡ []
-no_reads (kind.Binary op flags width left right) n = refl
-no_reads (kind.Icmp predicate reg left right) n = refl
-no_reads (kind.Cast op from value to) n = refl
-no_reads (kind.Select condition if_true if_false) n = refl
-no_reads (kind.Freeze reg value) n = refl
-no_reads (kind.Alloca shape align) n = refl
-no_reads (kind.Load reg address align) n = refl
-no_reads (kind.Store reg value address align) n = refl
-no_reads (kind.Address inbounds shape base indices) n = refl
-no_reads (kind.Call result callee arguments) n = refl
-no_reads (kind.Phi reg incoming) n = absurd n
-
-no_taken : (i : Instr) → IsNoPhi i → taken i ≡ []
-no_taken (kind.Binary op flags width left right) n = refl
-no_taken (kind.Icmp predicate reg left right) n = refl
-no_taken (kind.Cast op from value to) n = refl
-no_taken (kind.Select condition if_true if_false) n = refl
-no_taken (kind.Freeze reg value) n = refl
-no_taken (kind.Alloca shape align) n = refl
-no_taken (kind.Load reg address align) n = refl
-no_taken (kind.Store reg value address align) n = refl
-no_taken (kind.Address inbounds shape base indices) n = refl
-no_taken (kind.Call result callee arguments) n = refl
-no_taken (kind.Phi reg incoming) n = absurd n
-
-no_edges : (f : Function) (b : ℕ) (i : Instr) → IsNoPhi i → LineOnEdges f b i
-no_edges f b (kind.Binary op flags width left right) n = tt
-no_edges f b (kind.Icmp predicate reg left right) n = tt
-no_edges f b (kind.Cast op from value to) n = tt
-no_edges f b (kind.Select condition if_true if_false) n = tt
-no_edges f b (kind.Freeze reg value) n = tt
-no_edges f b (kind.Alloca shape align) n = tt
-no_edges f b (kind.Load reg address align) n = tt
-no_edges f b (kind.Store reg value address align) n = tt
-no_edges f b (kind.Address inbounds shape base indices) n = tt
-no_edges f b (kind.Call result callee arguments) n = tt
-no_edges f b (kind.Phi reg incoming) n = absurd n
 
 -- ---- blocks by their numbers and places
 
@@ -244,7 +206,7 @@ module _ (f : Function) (ss : List Slot) (n : ℕ) (sound : Sound f) (right : Ar
   )
     where
       plain : reads l.instr ++ phi_reads l.instr ≡ reads l.instr
-      plain = ap (λ (more : List Argument). reads l.instr ++ more) (no_reads l.instr plain_kind) ∙ append-nil (reads l.instr)
+      plain = ap (λ (more : List Argument). reads l.instr ++ more) (no_phi_reads l.instr plain_kind) ∙ append-nil (reads l.instr)
 
       keeps_rule : (rule : Rule) → Keeps g rule (line_item b j l)
       keeps_rule TypeMismatch = (subst (All (HasType g)) (sym plain) (λ k d lt. (new k d lt).typed_as), types)

@@ -11,7 +11,8 @@ use Rattle.thin_link.specs.Plans.{IsPlan}
 use Rattle.thin_link.specs.Lines.{definition_line, import_line, module_line, text_of}
 use Rattle.thin_link.specs.Listed.{IsInOrder, Listed, listed_cmp}
 use Rattle.thin_link.specs.Reports.{AreLines, IsReport}
-use Rattle.thin_link.proofs.Determined.{same_marks, same_rising, same_sorted}
+use Rattle.thin_link.proofs.Determined.{same_marks, same_rising}
+use Rattle.combined_index.proofs.StableSorts.{same_sorted}
 
 pub one_live : (c : Combined) (exports : List (List ℕ)) (marks others : List Bool) → AreLive c exports marks → AreLive c exports others → marks ≡ others
 one_live c exports marks others h g =

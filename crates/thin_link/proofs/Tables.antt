@@ -8,34 +8,7 @@ use Rattle.combined_index.specs.declared.definition.Definition.{Definition}
 use Rattle.thin_link.specs.Listed.{Listed, all_listed, is_of, listed}
 use Rattle.thin_link.specs.Rows.{IsTable, shown}
 use Rattle.thin_link.specs.declared.entry.Entry.{Entry}
-
--- ---- the first that passes
-
-find_kept : {X : Type 0} (p : X → Bool) (xs : List X) (x y : X) → find p xs ≡ Some y → find p (xs ++ x ∷ []) ≡ Some y
-find_kept p [] x y h = absurd (none h)
-  where
-    none : None ≡ Some y → ⊥
-    none h = cc
-find_kept p (a ∷ xs) x y h = by (p a) refl (find_kept p xs x y)
-  where
-    by : (b : Bool) → p a ≡ b → (find p xs ≡ Some y → find p (xs ++ x ∷ []) ≡ Some y) → find p ((a ∷ xs) ++ x ∷ []) ≡ Some y
-    by true e rest = ap (λ (b : Bool). cond b (Some a) (find p (xs ++ x ∷ []))) e ∙ sym (ap (λ (b : Bool). cond b (Some a) (find p xs)) e) ∙ h
-    by false e rest = ap (λ (b : Bool). cond b (Some a) (find p (xs ++ x ∷ []))) e ∙ rest (sym (ap (λ (b : Bool). cond b (Some a) (find p xs)) e) ∙ h)
-
-find_last : {X : Type 0} (p : X → Bool) (xs : List X) (x : X) → find p xs ≡ None → find p (xs ++ x ∷ []) ≡ cond (p x) (Some x) None
-find_last p [] x h = refl
-find_last p (a ∷ xs) x h = by (p a) refl (find_last p xs x)
-  where
-    no : Some a ≡ None → ⊥
-    no h = cc
-
-    by : (b : Bool) → p a ≡ b → (find p xs ≡ None → find p (xs ++ x ∷ []) ≡ cond (p x) (Some x) None) → find p ((a ∷ xs) ++ x ∷ []) ≡ cond (p x) (Some x) None
-    by true e rest = absurd (no (sym (ap (λ (b : Bool). cond b (Some a) (find p xs)) e) ∙ h))
-    by false e rest = ap (λ (b : Bool). cond b (Some a) (find p (xs ++ x ∷ []))) e ∙ rest (sym (ap (λ (b : Bool). cond b (Some a) (find p xs)) e) ∙ h)
-
-find_passed : {X : Type 0} (p : X → Bool) (xs : List X) (x : X) → p x ≡ false → find p (xs ++ x ∷ []) ≡ find p xs
-find_passed p [] x h = ap (λ (b : Bool). cond b (Some x) None) h
-find_passed {X = X} p (a ∷ xs) x h = ap (λ (z : Option X). cond (p a) (Some a) z) (find_passed p xs x h)
+use Rattle.combined_index.proofs.Placings.{find_kept, find_last, find_passed}
 
 -- ---- one more definition
 

@@ -15,7 +15,7 @@ use Rattle.ir_meaning.specs.Frame.{Locals, Kind, AFunction, AVariable, AHost, Mi
 use Rattle.ir_meaning.specs.Operate.{Answer, Is, Never, Unwritten, number_or_poison, bits_of, plain_bits, division_bits, binary, bit, compared_bits, compared, cast_bits, cast, selected_bits, selected, frozen_bits, frozen}
 use Rattle.ir_meaning.specs.Pointers.{chosen}
 use Rattle.ir_meaning.specs.Relate.{Pairing, Agrees, AllAgree}
-use Rattle.ir_meaning.specs.Wrapping.{arithmetic, is_division, may_break, breaks, division_cause}
+use Rattle.ir_meaning.specs.Arithmetic.{arithmetic, is_division, may_break, breaks, division_cause}
 use Rattle.ir_meaning.specs.declared.fault.Cause.{Cause}
 use Rattle.ir_meaning.specs.declared.value.Value.{Value}
 use Rattle.ir_meaning.specs.declared.value.Value.TheVariants.{Number, Pointer, Poison}

@@ -15,7 +15,7 @@ use Rattle.ir_meaning.specs.Address.{address_of, pointer_or_poison, new_offset, 
 use Rattle.ir_meaning.specs.Frame.{Locals, Signature, Kind, AFunction, AVariable, AHost, Missing, named, value_of, indices_of, index_of, cons_index, signed_of}
 use Rattle.ir_meaning.specs.Memory.{Memory, object_size}
 use Rattle.ir_meaning.specs.Operate.{bits_of}
-use Rattle.ir_meaning.specs.Wrapping.{wrapped}
+use Rattle.lto_bits.specs.Word.{wrapped}
 use Rattle.ir_meaning.specs.declared.value.Base.{Base}
 use Rattle.ir_meaning.specs.declared.value.Base.TheVariants.{Cell, Code}
 use Rattle.ir_meaning.specs.declared.value.Value.{Value}

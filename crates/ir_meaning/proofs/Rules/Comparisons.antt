@@ -15,7 +15,7 @@ use Rattle.ir_meaning.specs.Memory.{Lives, Memory}
 use Rattle.ir_meaning.specs.Operate.{bits_of, bit, compared_bits}
 use Rattle.ir_meaning.specs.Pointers.{chosen, settled, settled_equal, settled_order, apart_equal, unequal_if, is_at, lives_with, negated, compared_pointers}
 use Rattle.ir_tree.specs.Symbols.{symbol_eq}
-use Rattle.ir_meaning.specs.Wrapping.{compare}
+use Rattle.ir_meaning.specs.Arithmetic.{compare}
 use Rattle.ir_meaning.specs.declared.value.Base.{Base}
 use Rattle.ir_meaning.specs.declared.value.Base.TheVariants.{Cell, Code, Nowhere}
 use Rattle.ir_meaning.specs.declared.value.Value.{Value}

@@ -14,7 +14,8 @@ use Rattle.ir_meaning.specs.Frame.{Locals, Signature, look_up, value_of}
 use Rattle.ir_meaning.specs.Memory.{Memory}
 use Rattle.ir_meaning.specs.Operate.{Answer, Is, Never, Unwritten, number_or_poison, bits_of, plain_bits, division_bits, binary_bits, binary}
 use Rattle.ir_tree.specs.Symbols.{symbol_eq}
-use Rattle.ir_meaning.specs.Wrapping.{arithmetic, breaks, may_break, division_cause, is_division}
+use Rattle.ir_meaning.specs.Arithmetic.{arithmetic, breaks, may_break, division_cause, is_division}
+use Rattle.lto_bits.specs.Operation.{arithmetic as word_arithmetic}
 use Rattle.ir_meaning.specs.declared.fault.Cause.{Cause}
 use Rattle.ir_meaning.specs.declared.value.Value.{Value}
 use Rattle.ir_meaning.specs.declared.value.Value.TheVariants.{Number, Pointer, Poison}
@@ -211,7 +212,7 @@ wide k =
     omega (arith, p, pow_pos k)
 
 quotient_by_one : (f : Flags) (w a : ℕ) → a < 2 ^ w → (breaks Sdiv w a 1 ≡ true) ⊎ Stands (Number a) (number_or_poison (arithmetic Sdiv f w a 1))
-unfolding arithmetic
+unfolding word_arithmetic
 quotient_by_one f zero zero lt = inr (allowed_stands _ 0 0 refl)
 quotient_by_one f zero (suc a) lt = absurd (omega (arith, lt))
 quotient_by_one f (suc zero) zero lt = inr (allowed_stands _ 0 0 refl)
@@ -220,7 +221,7 @@ quotient_by_one f (suc zero) (suc (suc a)) lt = absurd (omega (arith, lt))
 quotient_by_one f (suc (suc k)) a lt = inr (sdiv_one f (suc (suc k)) (wide k) a lt)
 
 remainder_by_one : (f : Flags) (w a : ℕ) → a < 2 ^ w → (breaks Srem w a 1 ≡ true) ⊎ Stands (Number 0) (number_or_poison (arithmetic Srem f w a 1))
-unfolding arithmetic
+unfolding word_arithmetic
 remainder_by_one f zero zero lt = inr (inr refl)
 remainder_by_one f zero (suc a) lt = absurd (omega (arith, lt))
 remainder_by_one f (suc zero) zero lt = inr (inr refl)

@@ -14,7 +14,9 @@ use Rattle.ir_meaning.specs.Operate.{Answer, Is, Unwritten, number_or_poison, bi
 use Rattle.ir_meaning.specs.Pointers.{apart_equal, chosen, compared_pointers}
 use Rattle.ir_tree.proofs.Symbols.{symbol_self}
 use Rattle.ir_meaning.specs.Symbols.{base_eq}
-use Rattle.ir_meaning.specs.Wrapping.{arithmetic, allowed, compare}
+use Rattle.lto_bits.specs.Operation.{allowed, arithmetic as word_arithmetic}
+use Rattle.ir_meaning.specs.Arithmetic.{arithmetic}
+use Rattle.lto_bits.specs.Comparison.{compared as word_compared}
 use Rattle.ir_meaning.specs.declared.value.Base.{Base}
 use Rattle.ir_meaning.specs.declared.value.Base.TheVariants.{Nowhere, Code, Cell}
 use Rattle.ir_meaning.specs.declared.value.Byte.{Byte}
@@ -34,7 +36,7 @@ allowed_stands false r n e = inl refl
 allowed_stands true r n e = inr (ap Number (sym e))
 
 add_number : (f : Flags) (w n : ℕ) → n < 2 ^ w → Stands (Number n) (number_or_poison (arithmetic Add f w n 0))
-unfolding arithmetic
+unfolding word_arithmetic
 add_number f w n lt = allowed_stands _ ((n + 0) % 2 ^ w) n (ap (λ x. x % 2 ^ w) (add-zero n) ∙ mod-eq_of_lt lt)
 
 zero_fits : (w : ℕ) → nat_lt 0 (2 ^ w) ≡ true
@@ -61,7 +63,7 @@ one_if : (b : Bool) → b ≡ true → Stands (Number 1) (bit b)
 one_if b e = inr (ap bit (sym e))
 
 equal_bits : (w : ℕ) (a : Option ℕ) → Stands (Number 1) (compared_bits Eq w a a)
-unfolding compare
+unfolding word_compared
 equal_bits w None = inl refl
 equal_bits w (Some n) = one_if (n == n) (eq-eqb n n refl)
 

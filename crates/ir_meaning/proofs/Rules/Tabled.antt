@@ -10,7 +10,7 @@ use Rattle.ir_tree.specs.declared.operand.Reg.{Reg}
 use Rattle.ir_tree.specs.declared.operand.Reg.TheVariants.{Int, Ptr}
 use Rattle.ir_meaning.specs.Frame.{Locals, Signature, value_of}
 use Rattle.ir_meaning.specs.Operate.{bits_of, binary, cast, cast_bits, selected, selected_bits, frozen, frozen_bits}
-use Rattle.ir_meaning.specs.Wrapping.{cast_number}
+use Rattle.ir_meaning.specs.Arithmetic.{cast_number}
 use Rattle.ir_meaning.specs.declared.value.Value.{Value}
 use Rattle.ir_meaning.specs.declared.value.Value.TheVariants.{Number, Poison}
 use Rattle.ir_meaning.specs.Facts.{Stands, RuleAlways, RuleSometimes}

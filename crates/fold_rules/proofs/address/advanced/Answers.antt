@@ -1,10 +1,10 @@
 use Rattle.std.proofs.Common.{List, ℤ, ◌∷◌, Option, option_map, ap, sym, ◌∙◌, w64, FitsSigned, rules, Bor}
 use Rattle.std.proofs.lemmas.Int.{to_z-of_z}
 use Rattle.ir_meaning.specs.Address.{displacements_into, sum_from}
-use Rattle.ir_meaning.specs.Wrapping.{wrapped}
+use Rattle.lto_bits.specs.Word.{wrapped}
 use Rattle.ir_tree.specs.Forms.{Form}
 use Rattle.fold_rules.specs.Walking.{displacements_in}
-use Rattle.fold_rules.proofs.Wraps.{stepped}
+use Rattle.ir_meaning.proofs.Wraps.{stepped}
 use Rattle.fold_rules.proofs.address.advanced.Goals as goal
 
 pub returns-in-Some-step_into-clause-sum : goal.returns-in-Some-step_into-clause-sum

@@ -2,10 +2,10 @@ use Rattle.std.proofs.Common.{ℕ, ℤ, pos, ◌*ℤ◌, ap, ◌∙◌, subst, a
 use Rattle.std.specs.Int.{int_wrapping_add}
 use Rattle.std.proofs.lemmas.Int.{to_z-of_z}
 use Rattle.ir_meaning.specs.Address.{displacements_into, sum_from}
-use Rattle.ir_meaning.specs.Wrapping.{wrapped}
-use Rattle.fold_rules.proofs.Parts.{size_most}
-use Rattle.fold_rules.proofs.Wraps.{first_step}
+use Rattle.lto_bits.specs.Word.{wrapped}
+use Rattle.ir_meaning.proofs.Wraps.{first_step}
 use Rattle.fold_rules.proofs.address.begun.Goals as goal
+use Rattle.ir_meaning.proofs.ShapeParts.{size_most}
 
 pub times-by-requires : goal.times-by-requires
 times-by-requires c =

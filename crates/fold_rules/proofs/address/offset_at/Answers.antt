@@ -1,6 +1,6 @@
 use Rattle.std.proofs.Common.{◌∙◌, ap, w64, of_z, FitsSigned, rules}
 use Rattle.std.proofs.lemmas.Int.{to_z-of_z}
-use Rattle.fold_rules.proofs.Wraps.{bits_are}
+use Rattle.ir_meaning.proofs.Wraps.{bits_are}
 use Rattle.fold_rules.proofs.address.offset_at.Goals as goal
 
 pub returns : goal.returns

@@ -2,10 +2,11 @@ use Rattle.std.proofs.Common.{ℕ, ℤ, pos, arith, rules, ◌∙◌, ap, sym, w
 use Rattle.std.specs.Prelude.{nat_abs}
 use Rattle.std.proofs.lemmas.Int.{of_z-to_z, to_z-of_z}
 use Rattle.ir_tree.specs.Layout.{IsLaidOut}
-use Rattle.ir_meaning.specs.Wrapping.{wrapped}
-use Rattle.fold_rules.proofs.Parts.{has_part, laid_part, laid_parts, leads_nowhere, leads_to_part, size_most}
-use Rattle.fold_rules.proofs.Wraps.{signed_wraps}
+use Rattle.lto_bits.specs.Word.{wrapped}
+use Rattle.fold_rules.proofs.Parts.{leads_to_part}
+use Rattle.ir_meaning.proofs.Wraps.{signed_wraps}
 use Rattle.fold_rules.proofs.address.step_into.Goals as goal
+use Rattle.ir_meaning.proofs.ShapeParts.{has_part, laid_part, laid_parts, leads_nowhere, size_most}
 
 pub times-bytes-requires : goal.times-bytes-requires
 times-bytes-requires c =

@@ -1,6 +1,6 @@
 use Rattle.std.proofs.Common.{ℤ, ap, ◌∙◌, sym, subst, ◌*ℤ◌, w64, FitsSigned}
-use Rattle.ir_meaning.specs.Wrapping.{wrapped}
-use Rattle.fold_rules.proofs.Wraps.{product_is, small_fits, small_is}
+use Rattle.lto_bits.specs.Word.{wrapped}
+use Rattle.ir_meaning.proofs.Wraps.{product_is, small_fits, small_is}
 use Rattle.fold_rules.proofs.address.times.Goals as goal
 
 pub returns : goal.returns

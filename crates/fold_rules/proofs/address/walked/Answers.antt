@@ -2,7 +2,7 @@ use Rattle.std.proofs.Common.{List, ℤ, Some, option_map, ap, sym, ◌∙◌}
 use Rattle.std.proofs.Math.ListN.{drop_of_length-le}
 use Rattle.ir_tree.specs.declared.operand.Argument.{Argument}
 use Rattle.ir_meaning.specs.Address.{sum_from}
-use Rattle.ir_meaning.specs.Wrapping.{wrapped}
+use Rattle.lto_bits.specs.Word.{wrapped}
 use Rattle.ir_meaning.specs.Table.{constant_indices}
 use Rattle.fold_rules.specs.Walking.{offset_behind}
 use Rattle.fold_rules.proofs.Indices.{none_behind}

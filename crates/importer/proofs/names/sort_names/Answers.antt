@@ -1,5 +1,5 @@
 use Rattle.std.proofs.lemmas.List.Filters.{dedup_is}
-use Rattle.importer.proofs.Rising.{same_names, sorted_rise}
+use Rattle.lto_task.proofs.Rising.{same_names, sorted_rise}
 use Rattle.importer.proofs.names.sort_names.Goals as goal
 
 pub returns : goal.returns

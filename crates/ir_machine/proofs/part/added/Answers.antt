@@ -1,7 +1,7 @@
 use Rattle.std.proofs.Common.{ℤ, pos, ◌^◌, ◌<◌, ap, sym, ◌∙◌, subst, w64, to_z, FitsSigned, mod-eq_of_lt, rules}
 use Rattle.std.specs.Int.{int_wrapping_add}
-use Rattle.ir_meaning.specs.Wrapping.{wrapped}
-use Rattle.ir_machine.proofs.Wraps.{signed_wraps, sum_is, sum_left}
+use Rattle.lto_bits.specs.Word.{wrapped}
+use Rattle.ir_meaning.proofs.Wraps.{signed_wraps, sum_is, sum_left}
 use Rattle.ir_machine.proofs.part.added.Goals as goal
 
 pub returns : goal.returns

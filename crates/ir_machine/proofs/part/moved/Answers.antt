@@ -1,7 +1,7 @@
 use Rattle.std.proofs.Common.{ℤ, pos, ◌+ℤ◌, ◌*ℤ◌, ap, ◌∙◌, w64, FitsSigned}
 use Rattle.std.proofs.lemmas.Int.{to_z-of_z}
-use Rattle.ir_meaning.specs.Wrapping.{wrapped}
-use Rattle.ir_machine.proofs.Wraps.{sum_right}
+use Rattle.lto_bits.specs.Word.{wrapped}
+use Rattle.ir_meaning.proofs.Wraps.{sum_right}
 use Rattle.ir_machine.proofs.part.moved.Goals as goal
 
 pub returns : goal.returns

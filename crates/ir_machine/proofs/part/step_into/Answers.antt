@@ -2,8 +2,9 @@ use Rattle.std.proofs.Common.{arith, rules, ◌∙◌, ap, w64}
 use Rattle.std.specs.Prelude.{nat_abs}
 use Rattle.std.proofs.lemmas.Int.{to_z-of_z}
 use Rattle.ir_tree.specs.Layout.{IsLaidOut}
-use Rattle.ir_machine.proofs.Parts.{has_part, laid_part, laid_parts, leads_nowhere, leads_to_part, offset_most, size_most}
+use Rattle.ir_machine.proofs.Parts.{leads_to_part, offset_most}
 use Rattle.ir_machine.proofs.part.step_into.Goals as goal
+use Rattle.ir_meaning.proofs.ShapeParts.{has_part, laid_part, laid_parts, leads_nowhere, size_most}
 
 pub offset_of-bytes-requires-clause-has : goal.offset_of-bytes-requires-clause-has
 offset_of-bytes-requires-clause-has c =

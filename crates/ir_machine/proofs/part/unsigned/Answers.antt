@@ -1,6 +1,6 @@
 use Rattle.std.proofs.Common.{◌∙◌, ap, w64, of_z}
 use Rattle.std.proofs.lemmas.Int.{to_z-of_z}
-use Rattle.ir_machine.proofs.Wraps.{bits_are}
+use Rattle.ir_meaning.proofs.Wraps.{bits_are}
 use Rattle.ir_machine.proofs.part.unsigned.Goals as goal
 
 pub returns : goal.returns

@@ -1,11 +1,12 @@
 use Rattle.std.proofs.Common.{refl}
-use Rattle.ir_meaning.specs.Wrapping.{arithmetic, compare, cast_number}
+use Rattle.lto_bits.specs.Operation.{arithmetic}
+use Rattle.lto_bits.specs.Comparison.{compared}
 use Rattle.ir_meaning.specs.Address.{new_offset}
 use Rattle.ir_meaning.specs.Examples.{Arithmetic, Comparisons, Conversions, Addresses, PointerComparisons, Loads}
 use Rattle.ir_meaning.proofs.examples.example_operations.Goals as goal
 
 of_arithmetic : Arithmetic
-unfolding arithmetic compare cast_number new_offset
+unfolding arithmetic compared new_offset
 of_arithmetic = record {
   add_wraps = refl;
   add_nuw = refl;
@@ -62,7 +63,7 @@ of_arithmetic = record {
 }
 
 of_comparisons : Comparisons
-unfolding arithmetic compare cast_number new_offset
+unfolding arithmetic compared new_offset
 of_comparisons = record {
   eq = refl;
   ult = refl;
@@ -86,7 +87,7 @@ of_comparisons = record {
 }
 
 of_conversions : Conversions
-unfolding arithmetic compare cast_number new_offset
+unfolding arithmetic compared new_offset
 of_conversions = record {
   trunc_byte = refl;
   trunc_odd = refl;
@@ -102,7 +103,7 @@ of_conversions = record {
 }
 
 of_addresses : Addresses
-unfolding arithmetic compare cast_number new_offset
+unfolding arithmetic compared new_offset
 of_addresses = record {
   element = refl;
   along_an_array = refl;
@@ -119,7 +120,7 @@ of_addresses = record {
 }
 
 of_pointer_comparisons : PointerComparisons
-unfolding arithmetic compare cast_number new_offset
+unfolding arithmetic compared new_offset
 of_pointer_comparisons = record {
   one_block = λ choice. refl;
   one_dead_block = λ choice. refl;
@@ -132,7 +133,7 @@ of_pointer_comparisons = record {
 }
 
 of_loads : Loads
-unfolding arithmetic compare cast_number new_offset
+unfolding arithmetic compared new_offset
 of_loads = record {
   little_endian = refl;
   unset_before_poison = refl;

@@ -1,11 +1,12 @@
 use Rattle.std.proofs.Common.{refl}
-use Rattle.ir_meaning.specs.Wrapping.{arithmetic, compare}
+use Rattle.lto_bits.specs.Operation.{arithmetic}
+use Rattle.lto_bits.specs.Comparison.{compared}
 use Rattle.ir_meaning.specs.Act.{act, enter, resume}
 use Rattle.ir_meaning.specs.ExampleRuns.{ExampleRuns}
 use Rattle.ir_meaning.proofs.examples.example_runs.Goals as goal
 
 run_so : ExampleRuns
-unfolding act enter resume arithmetic compare
+unfolding act enter resume arithmetic compared
 run_so = record {
   call_slot_and_output = refl;
   three_steps_of_it = refl;

@@ -1,12 +1,13 @@
 use Rattle.std.proofs.Common.{refl}
-use Rattle.ir_meaning.specs.Wrapping.{arithmetic, compare, cast_number}
+use Rattle.lto_bits.specs.Operation.{arithmetic}
+use Rattle.lto_bits.specs.Comparison.{compared}
 use Rattle.ir_meaning.specs.Address.{new_offset}
 use Rattle.ir_meaning.specs.Act.{act, enter, resume}
 use Rattle.ir_meaning.specs.NativeRuns.{IntegerRuns, BranchRuns, MemoryRuns, CallRuns}
 use Rattle.ir_meaning.proofs.examples.native_runs.Goals as goal
 
 of_branches : BranchRuns
-unfolding act enter resume arithmetic compare cast_number new_offset
+unfolding act enter resume arithmetic compared new_offset
 of_branches = record {
   bits_counted = record { output = refl; answer = refl };
   fibonacci_numbers = record { output = refl; answer = refl };
@@ -19,7 +20,7 @@ of_branches = record {
 }
 
 of_calls : CallRuns
-unfolding act enter resume arithmetic compare cast_number new_offset
+unfolding act enter resume arithmetic compared new_offset
 of_calls = record {
   answers_through_a_pointer = record { output = refl; answer = refl };
   even_and_odd = record { output = refl; answer = refl };
@@ -35,7 +36,7 @@ of_calls = record {
 }
 
 of_integers : IntegerRuns
-unfolding act enter resume arithmetic compare cast_number new_offset
+unfolding act enter resume arithmetic compared new_offset
 of_integers = record {
   bitwise = record { output = refl; answer = refl };
   casts = record { output = refl; answer = refl };
@@ -60,7 +61,7 @@ of_integers = record {
 }
 
 of_memory : MemoryRuns
-unfolding act enter resume arithmetic compare cast_number new_offset
+unfolding act enter resume arithmetic compared new_offset
 of_memory = record {
   array_of_squares = record { output = refl; answer = refl };
   constant_table = record { output = refl; answer = refl };

@@ -3,7 +3,8 @@ use Rattle.ir_meaning.specs.Operate.{binary_bits}
 use Rattle.lto_bits.specs.Operation.{binary_of}
 use Rattle.lto_bits.specs.declared.operator.BinaryOp.{BinaryOp as WordOp}
 use Rattle.lto_bits.specs.declared.operator.Flags.{Flags as WordFlags}
-use Rattle.ir_meaning.specs.Words.{meant, word_op}
+use Rattle.ir_meaning.specs.Operators.{word_op}
+use Rattle.ir_meaning.specs.Words.{meant}
 use Rattle.ir_meaning.proofs.WordsAgreeing.{same_binary}
 use Rattle.ir_meaning.proofs.operate.binary.Goals as goal
 

@@ -2,9 +2,8 @@ use Rattle.std.proofs.Common.{◌≡◌, ℕ, Option, Some, sym, ap, ◌∙◌}
 use Rattle.ir_tree.specs.declared.instr.CastOp.{CastOp}
 use Rattle.ir_tree.specs.declared.instr.CastOp.TheVariants.{Sext, Trunc, Zext}
 use Rattle.ir_meaning.specs.Operate.{cast_bits}
-use Rattle.ir_meaning.specs.Wrapping.{cast_number}
+use Rattle.ir_meaning.specs.Arithmetic.{cast_number}
 use Rattle.ir_meaning.specs.declared.value.Value.TheVariants.{Number}
-use Rattle.ir_meaning.proofs.WordsAgreeing.{sext_is, trunc_is, zext_is}
 use Rattle.ir_meaning.proofs.operate.cast.Goals as goal
 
 -- a number that the operator makes of the operand
@@ -18,14 +17,14 @@ made op own from to value a n e is has =
 pub returns-in-Zext : goal.returns-in-Zext
 returns-in-Zext c =
     made c.args.op Zext c.args.from c.args.to c.args.value c.in_ok-number.number c.widen.result
-    (c.widen.ensures ∙ sym (zext_is c.args.from c.args.to c.in_ok-number.number)) c.in-Zext.is c.in_ok-number.was
+    c.widen.ensures c.in-Zext.is c.in_ok-number.was
 
 pub returns-in-Sext : goal.returns-in-Sext
 returns-in-Sext c =
     made c.args.op Sext c.args.from c.args.to c.args.value c.in_ok-number.number c.widen-in-Sext.result
-    (c.widen-in-Sext.ensures ∙ sym (sext_is c.args.from c.args.to c.in_ok-number.number)) c.in-Sext.is c.in_ok-number.was
+    c.widen-in-Sext.ensures c.in-Sext.is c.in_ok-number.was
 
 pub returns-in-Trunc : goal.returns-in-Trunc
 returns-in-Trunc c =
     made c.args.op Trunc c.args.from c.args.to c.args.value c.in_ok-number.number c.narrow.result
-    (c.narrow.ensures ∙ sym (trunc_is c.args.from c.args.to c.in_ok-number.number)) c.in-Trunc.is c.in_ok-number.was
+    c.narrow.ensures c.in-Trunc.is c.in_ok-number.was

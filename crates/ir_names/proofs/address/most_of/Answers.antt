@@ -1,4 +1,4 @@
-use Rattle.ir_names.proofs.Powers.{all_ones}
+use Rattle.ir_read.proofs.Widths.{all_ones}
 use Rattle.ir_names.proofs.address.most_of.Goals as goal
 
 pub returns : goal.returns

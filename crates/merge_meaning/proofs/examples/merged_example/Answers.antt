@@ -1,6 +1,6 @@
 use Rattle.std.proofs.Common.{refl}
 use Rattle.ir_meaning.specs.Act.{act, enter, resume}
-use Rattle.ir_meaning.specs.Wrapping.{arithmetic}
+use Rattle.lto_bits.specs.Operation.{arithmetic}
 use Rattle.merge_meaning.specs.Examples.{MergedExample}
 use Rattle.merge_meaning.proofs.examples.merged_example.Goals as goal
 

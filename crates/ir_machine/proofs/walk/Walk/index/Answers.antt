@@ -4,9 +4,9 @@ use Rattle.ir_tree.specs.Layout.{IsLaidOut}
 use Rattle.ir_meaning.specs.Address.{are_all_zero, displacements_into}
 use Rattle.ir_machine.specs.Walking.{displacements_at}
 use Rattle.ir_machine.specs.declared.walk.Next.{Next}
-use Rattle.ir_machine.proofs.Parts.{size_most}
 use Rattle.ir_machine.proofs.Walks.{behind}
 use Rattle.ir_machine.proofs.walk.Walk.index.Goals as goal
+use Rattle.ir_meaning.proofs.ShapeParts.{size_most}
 
 pub on-requires : goal.on-requires
 on-requires c =

@@ -1,7 +1,7 @@
 use Rattle.std.proofs.Common.{◌^◌, ◌<◌, ◌&&◌, nat_le, ℤ, pos, ◌+ℤ◌, ◌*ℤ◌, ap, ◌∙◌, w64, rules}
 use Rattle.std.proofs.lemmas.Int.{to_z-of_z}
 use Rattle.ir_meaning.specs.Address.{is_within}
-use Rattle.ir_meaning.specs.Wrapping.{wrapped}
+use Rattle.lto_bits.specs.Word.{wrapped}
 use Rattle.ir_machine.proofs.Walks.{on_ends}
 use Rattle.ir_machine.proofs.walk.Walk.on.Goals as goal
 

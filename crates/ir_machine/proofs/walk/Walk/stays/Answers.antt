@@ -1,6 +1,6 @@
 use Rattle.std.proofs.Common.{◌&&◌, pos, Some}
 use Rattle.ir_meaning.specs.Address.{stays_within, sum_from}
-use Rattle.ir_meaning.specs.Wrapping.{wrapped}
+use Rattle.lto_bits.specs.Word.{wrapped}
 use Rattle.ir_machine.proofs.Walks.{stays_ends}
 use Rattle.ir_machine.proofs.walk.Walk.stays.Goals as goal
 

@@ -5,7 +5,7 @@ use Rattle.std.proofs.lemmas.Int.{ints, int_wrap-add_same, int_wrap-add_right, i
 use Rattle.std.proofs.lemmas.Nat.{mod_below, pow_pos}
 use Rattle.lto_bits.proofs.Words.{wrapped_bits}
 use Rattle.ir_meaning.specs.Address.{sum_from}
-use Rattle.ir_meaning.specs.Wrapping.{wrapped}
+use Rattle.lto_bits.specs.Word.{wrapped}
 
 pub wrapped_below : (z : ℤ) → wrapped 64 z < 2 ^ 64
 wrapped_below (pos n) = mod_below n (2 ^ 64) (pow_pos 64)

@@ -1,10 +1,10 @@
 -- A stable sort has one answer.
 use Rattle.std.proofs.Common.{◌≡◌, ◌∙◌, ℕ, suc, ◌+◌, Bool, true, false, not, ◌&&◌, cond, List, [], ◌∷◌, refl, sym, ap, subst, arith, get_or}
+use Rattle.std.proofs.lemmas.List.Elements.{All-contains, All-contains_itself, All-filter}
 use Rattle.std.proofs.lemmas.List.Sorted.{sorted_far}
 use Rattle.std.specs.Cmp.{IsStrictWeakOrder}
 use Rattle.std.specs.List.{Contains, filter}
 use Rattle.std.specs.List.Sorted.{IsSortedBy, ties}
-use Rattle.merge_meaning.proofs.Standing.{filter_from, first}
 
 module _ {X : Type 0} (lt : X → X → Bool) (order : IsStrictWeakOrder lt) where
   irreflexive : (x : X) → lt x x ≡ false
@@ -30,11 +30,15 @@ module _ {X : Type 0} (lt : X → X → Bool) (order : IsStrictWeakOrder lt) whe
   passes : (p : X → Bool) (y : X) (ys : List X) → p y ≡ true → filter p (y ∷ ys) ≡ y ∷ filter p ys
   passes p y ys h = ap (λ (b : Bool). cond b (y ∷ filter p ys) (filter p ys)) h
 
+  -- what passes stands in the list
+  passed : (p : X → Bool) (xs : List X) (y : X) → Contains (filter p xs) y → Contains xs y
+  passed p xs y h = All-contains (Contains xs) (filter p xs) y (All-filter p (Contains xs) xs (All-contains_itself xs)) h
+
   -- the first of one list stands in the other
   stands : (y : X) (ys zs : List X) → filter (ties lt y) (y ∷ ys) ≡ filter (ties lt y) zs → Contains zs y
   stands y ys zs h =
       let front = passes (ties lt y) y ys (tied y y (irreflexive y) (irreflexive y)) in
-      (filter_from (ties lt y) zs y (subst (λ (ws : List X). Contains ws y) (sym front ∙ h) (first y (filter (ties lt y) ys)))).0
+      passed (ties lt y) zs y (subst (λ (ws : List X). Contains ws y) (sym front ∙ h) (0, omega arith, refl))
 
   fewer : (b : Bool) (x : X) (ys zs : List X) → cond b (x ∷ ys) ys ≡ cond b (x ∷ zs) zs → ys ≡ zs
   fewer true x ys zs h = cc
