@@ -6,6 +6,8 @@ pub mod Outside
 pub mod Kept
 pub mod Standing
 pub mod KeptEdges
+pub mod Parting
 pub mod Placed
 pub mod Staying
+pub mod Stepping
 pub mod Walking

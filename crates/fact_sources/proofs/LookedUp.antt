@@ -1,12 +1,13 @@
 -- A table of what stands for locals: one more pair, and one more row.
-use Rattle.std.proofs.Common.{◌≡◌, ◌≢◌, ℕ, zero, suc, ◌+◌, ◌<◌, ◌==◌, nat_eq, Bool, true, false, List, [], ◌∷◌, ◌++◌, Option, Some, None, length, get_or, drop, refl, sym, ◌∙◌, ap, add-one, drop-cons, if◌then◌else◌, arith}
+use Rattle.std.proofs.Common.{◌≡◌, ◌≢◌, ℕ, zero, suc, ◌+◌, ◌<◌, ◌≤◌, ◌==◌, nat_eq, Bool, true, false, List, [], ◌∷◌, ◌++◌, Option, Some, None, length, option_map, get_or, drop, replicate, refl, sym, ◌∙◌, ap, add-one, drop-cons, if◌then◌else◌, arith}
 use Rattle.std.specs.Borrow.{Bor}
 use Rattle.std.specs.Prelude.{slice_set}
 use Rattle.std.proofs.lemmas.Bool.{eqb-false, eqb-true}
+use Rattle.std.proofs.lemmas.Option.{slice_get_past, slice_get_read}
 use Rattle.ir_tree.specs.declared.operand.Operand.{Operand}
 use Rattle.ir_edit.specs.Numbered.{later_or}
 use Rattle.ir_edit.specs.Substituted.{replacement}
-use Rattle.fact_sources.specs.Tables.{row_of}
+use Rattle.fact_sources.specs.Tables.{row_of, taken}
 
 -- ---- pairs
 
@@ -27,15 +28,29 @@ one_put rs i d x y v old new lt key value is =
 
 -- ---- rows
 
+taken_is : (o : Option (Bor Operand)) → option_map (λ b. b.now) o ≡ taken (Some o)
+taken_is None = refl
+taken_is (Some o) = refl
+
+pub row_at : (rows : List (Option (Bor Operand))) (x : ℕ) (o : Option (Bor Operand)) → x < length rows → o ≡ get_or rows x o → option_map (λ b. b.now) o ≡ row_of rows x
+row_at rows x o lt is = taken_is o ∙ ap taken (sym (slice_get_read rows (length rows) x o refl lt is))
+
+pub no_row : (rows : List (Option (Bor Operand))) (x : ℕ) → length rows ≤ x → None ≡ row_of rows x
+no_row rows x le = ap taken (sym (slice_get_past rows x le))
+
 pub no_rows : (rows : List (Option (Bor Operand))) → length rows ≡ 0 → (x : ℕ) → row_of rows x ≡ None
 no_rows [] h x = refl
 no_rows (r ∷ rows) h x = absurd (omega (arith, h))
 
-pub empty_row : (rows : List (Option (Bor Operand))) (x : ℕ) → row_of (rows ++ None ∷ []) x ≡ row_of rows x
-empty_row [] zero = refl
-empty_row [] (suc x) = refl
-empty_row (r ∷ rows) zero = refl
-empty_row (r ∷ rows) (suc x) = empty_row rows x
+no_more : (k x : ℕ) → row_of (replicate k None) x ≡ None
+no_more zero x = refl
+no_more (suc k) zero = refl
+no_more (suc k) (suc x) = no_more k x
+
+pub rows_filled : (rows : List (Option (Bor Operand))) (k x : ℕ) → row_of (rows ++ replicate k None) x ≡ row_of rows x
+rows_filled [] k x = no_more k x
+rows_filled (r ∷ rows) k zero = refl
+rows_filled (r ∷ rows) k (suc x) = rows_filled rows k x
 
 row_same : (rows : List (Option (Bor Operand))) (place : ℕ) (o : Bor Operand) → place < length rows → row_of (slice_set rows place (Some o)) place ≡ Some o.now
 row_same [] place o lt = absurd (omega (arith, lt))

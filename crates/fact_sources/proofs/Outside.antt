@@ -12,10 +12,10 @@ use Rattle.fact_sources.specs.Apart.{given_apart, given_where, is_listed}
 
 -- ---- one block behind the others
 
-pub block_given : (inside : ℕ → Bool) (i : ℕ) (b : Block) (rest more : List Block) (r : Bool) (old new : List ℕ) → more ≡ b ∷ rest → r ≡ inside i
-    → new ≡ old ++ given_where r b → new ++ given_apart inside (suc i) rest ≡ old ++ given_apart inside i more
-block_given inside i b rest more r old new cut is e =
-    ap (λ (l : List ℕ). l ++ given_apart inside (suc i) rest) e
+pub block_given : (inside : ℕ → Bool) (i next : ℕ) (b : Block) (rest more : List Block) (r : Bool) (old new : List ℕ) → more ≡ b ∷ rest → next ≡ suc i → r ≡ inside i
+    → new ≡ old ++ given_where r b → new ++ given_apart inside next rest ≡ old ++ given_apart inside i more
+block_given inside i next b rest more r old new cut step is e =
+    (λ j. e j ++ given_apart inside (step j) rest)
     ∙ append_assoc old (given_where r b) (given_apart inside (suc i) rest)
     ∙ ap (λ (t : Bool). old ++ (given_where t b ++ given_apart inside (suc i) rest)) is
     ∙ ap (λ (bs : List Block). old ++ given_apart inside i bs) (sym cut)

@@ -23,7 +23,7 @@ by_tests false false h = refl
 less_differs : (x y : ℕ) → nat_lt x y ≡ true → (x == y) ≡ false
 less_differs x y lt = grind (arith, nat_tests)
 
-is_eq-nat_cmp : (x y : ℕ) → is_eq (nat_cmp x y) ≡ (x == y)
+pub is_eq-nat_cmp : (x y : ℕ) → is_eq (nat_cmp x y) ≡ (x == y)
 is_eq-nat_cmp x y = by_tests (nat_lt x y) (x == y) (less_differs x y)
 
 -- ---- one number more

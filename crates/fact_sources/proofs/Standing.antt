@@ -1,9 +1,8 @@
 -- What the candidates of phis and instructions are.
-use Rattle.std.proofs.Common.{◌≡◌, ℕ, Bool, true, false, ◌&&◌, ◌||◌, ◌==◌, if◌then◌else◌, List, [], ◌∷◌, ◌++◌, append_assoc, Option, Some, None, ◌⊎◌, inl, inr, refl, sym, ap, ◌∙◌, subst}
+use Rattle.std.proofs.Common.{◌≡◌, ℕ, Bool, true, false, ◌&&◌, ◌||◌, ◌==◌, if◌then◌else◌, List, [], ◌∷◌, ◌++◌, Option, Some, None, ◌⊎◌, inl, inr, refl, sym, ap, ◌∙◌, subst}
 use Rattle.std.specs.Prelude.{not}
 use Rattle.std.proofs.lemmas.Bool.{and_parts, or_cases, eqb-true}
 use Rattle.ir_tree.specs.declared.instr.Incoming.{Incoming}
-use Rattle.ir_tree.specs.declared.instr.Line.{Line}
 use Rattle.ir_tree.specs.declared.instr.Phi.{Phi}
 use Rattle.ir_tree.specs.declared.operand.Operand.{Operand}
 use Rattle.ir_tree.specs.declared.operand.Operand.TheVariants.{Local, Null, Number as Constant, Poison as PoisonOf, Symbol as Named}
@@ -16,7 +15,7 @@ use Rattle.ir_meaning.specs.Table.{rule, same}
 use Rattle.ir_meaning.specs.Facts.{Facts, is_local, is_phi, is_phi_operand, edge_operand}
 use Rattle.ir_tree.proofs.Symbols.{symbol_true}
 use Rattle.ir_meaning.proofs.Rules.Tabled.{table_right}
-use Rattle.fact_sources.specs.Candidates.{first_other, line_candidates, other_than, paired, phi_candidates, phi_source, result_candidate, sole_beside, sole_source, source_beside, takes_only}
+use Rattle.fact_sources.specs.Candidates.{first_other, other_than, paired, phi_source, sole_beside, sole_source, source_beside, takes_only}
 use Rattle.fact_sources.specs.Membership.{is_member}
 use Rattle.fact_sources.specs.Laws.{IsLineSource, IsPhiSource, LineSourcesRight, PhiSourcesRight}
 
@@ -130,27 +129,14 @@ sole_is : (among : ℕ → Bool) (ps : List Phi) → ((x : ℕ) → among x ≡ 
 sole_is among ps h x es None = refl
 sole_is among ps h x es (Some v) = ap (λ (b : Bool). if takes_only x v es && not b then Some v else None) (member_is among ps h v)
 
-pub source_is : (among : ℕ → Bool) (ps : List Phi) → ((x : ℕ) → among x ≡ is_phi x ps) → (p : Phi) → source_beside among p ≡ phi_source ps p
+source_is : (among : ℕ → Bool) (ps : List Phi) → ((x : ℕ) → among x ≡ is_phi x ps) → (p : Phi) → source_beside among p ≡ phi_source ps p
 source_is among ps h p = sole_is among ps h p.local p.incoming (first_other p.local p.incoming)
 
--- one more phi
-pub pushed : (all rest more : List Phi) (p : Phi) (old new : Facts) (s : Option Operand) → new ≡ old ++ paired p.local s → s ≡ phi_source all p → more ≡ p ∷ rest →
-    new ++ phi_candidates all rest ≡ old ++ phi_candidates all more
-pushed all rest more p old new s e es er =
-    ap (λ (fs : Facts). fs ++ phi_candidates all rest) e
-    ∙ append_assoc old (paired p.local s) (phi_candidates all rest)
-    ∙ ap (λ (t : Option Operand). old ++ (paired p.local t ++ phi_candidates all rest)) es
-    ∙ ap (λ (ps : List Phi). old ++ phi_candidates all ps) (sym er)
+pub of_block : (among : ℕ → Bool) (ps : List Phi) → ((x : ℕ) → among x ≡ is_phi x ps) → (p : Phi) (old new : Facts) → new ≡ old ++ paired p.local (source_beside among p)
+    → new ≡ old ++ paired p.local (phi_source ps p)
+of_block among ps h p old new e = e ∙ ap (λ (o : Option Operand). old ++ paired p.local o) (source_is among ps h p)
 
 -- ---- instructions
-
--- one more line
-pub line_pushed : (rest more : List Line) (l : Line) (old new : Facts) → new ≡ old ++ result_candidate l.local l.instr → more ≡ l ∷ rest →
-    new ++ line_candidates rest ≡ old ++ line_candidates more
-line_pushed rest more l old new e er =
-    ap (λ (fs : Facts). fs ++ line_candidates rest) e
-    ∙ append_assoc old (result_candidate l.local l.instr) (line_candidates rest)
-    ∙ ap (λ (ls : List Line). old ++ line_candidates ls) (sym er)
 
 pub line_sources_right : LineSourcesRight
 line_sources_right x i v e = by (rule i) refl e

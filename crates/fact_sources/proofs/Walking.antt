@@ -1,8 +1,6 @@
 -- A walk by points, one line or block behind the others.
-use Rattle.std.proofs.Common.{◌≡◌, ℕ, suc, ◌+◌, ◌==◌, Bool, true, false, nat_lt, cond, arith, refl, List, [], ◌∷◌, ◌++◌, Option, Some, None, append_assoc, length, sym, ◌∙◌, ap}
+use Rattle.std.proofs.Common.{◌≡◌, ℕ, suc, ◌+◌, ◌==◌, Bool, true, false, cond, add-one, refl, List, [], ◌∷◌, ◌++◌, Option, Some, None, append_assoc, length, sym, ◌∙◌, ap}
 use Rattle.std.specs.Ordering.{is_eq, nat_cmp}
-use Rattle.std.specs.declared.cmp.Ordering.TheVariants.{Equal, Greater, Less}
-use Rattle.std.proofs.lemmas.Bool.Decides.{nat_tests}
 use Rattle.ir_tree.specs.declared.block.Block.{Block}
 use Rattle.ir_tree.specs.declared.block.Case.{Case}
 use Rattle.ir_tree.specs.declared.block.Terminator.{Terminator}
@@ -13,21 +11,10 @@ use Rattle.ir_tree.specs.Edited.{end_edited, instr_edited}
 use Rattle.ir_edit.specs.Numbered.{later_or}
 use Rattle.fact_sources.specs.AtPoints.{block_at, blocks_at, end_at, last_point, lines_at, standing}
 use Rattle.fact_sources.specs.declared.fact.Fact.{Fact}
+use Rattle.fact_sources.proofs.Placed.{is_eq-nat_cmp}
 use Rattle.fact_sources.proofs.Staying.{cases_stay}
 
--- ---- numbers in order, and of two answers the later one
-
-by_tests : (less same : Bool) → (less ≡ true → same ≡ false) → is_eq (cond less Less (cond same Equal Greater)) ≡ same
-by_tests true true h = sym (h refl)
-by_tests true false h = refl
-by_tests false true h = refl
-by_tests false false h = refl
-
-less_differs : (x y : ℕ) → nat_lt x y ≡ true → (x == y) ≡ false
-less_differs x y lt = grind (arith, nat_tests)
-
-is_eq-nat_cmp : (x y : ℕ) → is_eq (nat_cmp x y) ≡ (x == y)
-is_eq-nat_cmp x y = by_tests (nat_lt x y) (x == y) (less_differs x y)
+-- ---- of two answers the later one
 
 later_or-assoc : {A : Type 0} (a b c : Option A) → later_or (later_or a b) c ≡ later_or a (later_or b c)
 later_or-assoc (Some k) b c = refl
@@ -48,28 +35,28 @@ end_is ts k Unreachable = refl
 
 -- ---- one step
 
-pub line_at_pushed : (ts : List Fact) (k next : ℕ) (l : Line) (j : Instr) (rest more old new : List Line) → more ≡ l ∷ rest → next ≡ suc k → j ≡ instr_edited (λ x. x) (standing ts k) l.instr
+pub line_at_pushed : (ts : List Fact) (k next : ℕ) (l : Line) (j : Instr) (rest more old new : List Line) → more ≡ l ∷ rest → next ≡ k + 1 → j ≡ instr_edited (λ x. x) (standing ts k) l.instr
     → new ≡ old ++ record { local = l.local; instr = j } ∷ [] → new ++ lines_at ts next rest ≡ old ++ lines_at ts k more
 line_at_pushed ts k next l j rest more old new cut step made push =
     ap (λ (xs : List Line). xs ++ lines_at ts next rest) push
     ∙ append_assoc old (record { local = l.local; instr = j } ∷ []) (lines_at ts next rest)
-    ∙ (λ i. old ++ record { local = l.local; instr = made i } ∷ lines_at ts (step i) rest)
+    ∙ (λ i. old ++ record { local = l.local; instr = made i } ∷ lines_at ts ((step ∙ add-one k) i) rest)
     ∙ ap (λ (ls : List Line). old ++ lines_at ts k ls) (sym cut)
 
-pub block_at_pushed : (ts : List Fact) (last : ℕ → Option ℕ) (k e next : ℕ) (b made : Block) (rest more old new : List Block) → more ≡ b ∷ rest → e ≡ k + length b.lines → next ≡ suc e → made ≡ block_at ts last k b
+pub block_at_pushed : (ts : List Fact) (last : ℕ → Option ℕ) (k e next : ℕ) (b made : Block) (rest more old new : List Block) → more ≡ b ∷ rest → e ≡ k + length b.lines → next ≡ e + 1 → made ≡ block_at ts last k b
     → new ≡ old ++ made ∷ [] → new ++ blocks_at ts last next rest ≡ old ++ blocks_at ts last k more
 block_at_pushed ts last k e next b made rest more old new cut at step is push =
     ap (λ (xs : List Block). xs ++ blocks_at ts last next rest) push
     ∙ append_assoc old (made ∷ []) (blocks_at ts last next rest)
-    ∙ ap (λ (m : ℕ). old ++ made ∷ blocks_at ts last m rest) (step ∙ ap suc at)
+    ∙ ap (λ (m : ℕ). old ++ made ∷ blocks_at ts last m rest) (step ∙ add-one e ∙ ap suc at)
     ∙ ap (λ (d : Block). old ++ d ∷ blocks_at ts last (suc (k + length b.lines)) rest) is
     ∙ ap (λ (bs : List Block). old ++ blocks_at ts last k bs) (sym cut)
 
-pub point_placed : (k e next n : ℕ) (b : Block) (rest more : List Block) (old new : Option ℕ) → more ≡ b ∷ rest → e ≡ k + length b.lines → next ≡ suc e → new ≡ cond (is_eq (nat_cmp b.number n)) (Some e) old
+pub point_placed : (k e next n : ℕ) (b : Block) (rest more : List Block) (old new : Option ℕ) → more ≡ b ∷ rest → e ≡ k + length b.lines → next ≡ e + 1 → new ≡ cond (is_eq (nat_cmp b.number n)) (Some e) old
     → later_or (last_point next rest n) new ≡ later_or (last_point k more n) old
 point_placed k e next n b rest more old new cut at step is =
     ap (later_or (last_point next rest n)) (is ∙ ap (λ (t : Bool). cond t (Some e) old) (is_eq-nat_cmp b.number n) ∙ sym (later_or-test (b.number == n) e old))
     ∙ sym (later_or-assoc (last_point next rest n) (cond (b.number == n) (Some e) None) old)
-    ∙ ap (λ (m : ℕ). later_or (later_or (last_point m rest n) (cond (b.number == n) (Some e) None)) old) (step ∙ ap suc at)
+    ∙ ap (λ (m : ℕ). later_or (later_or (last_point m rest n) (cond (b.number == n) (Some e) None)) old) (step ∙ add-one e ∙ ap suc at)
     ∙ ap (λ (m : ℕ). later_or (later_or (last_point (suc (k + length b.lines)) rest n) (cond (b.number == n) (Some m) None)) old) at
     ∙ ap (λ (bs : List Block). later_or (last_point k bs n) old) (sym cut)

@@ -1,30 +1,21 @@
 //! One walk over a function that replaces each use of a local where a fact of it holds.
-ghost use Rattle.std.specs.Prelude.{◌≡◌, ◌+◌, ℕ, suc, IfOk, length};
+ghost use Rattle.std.specs.Prelude.{◌≡◌, ◌+◌, ℕ, IfOk};
 ghost use Rattle.std.specs.BTreeMap as tree;
 ghost use Rattle.std.specs.Ordering.{nat_cmp};
 ghost use Rattle.lto_sets.specs.Sets.{contains};
-ghost use Rattle.ir_meaning.specs.Facts.{is_local};
-ghost use Rattle.fact_sources.specs.AtPoints.{block_at, blocks_at, edges_at, end_at, function_at, last_point, lines_at, phis_at, standing, standing_behind};
+ghost use Rattle.fact_sources.specs.AtPoints.{block_at, blocks_at, edges_at, function_at, last_point, lines_at, phis_at, standing, standing_behind};
 
 use crate::fact::Fact;
+use crate::rebuilt::with_blocks;
+use crate::sources::is_local;
 use ir_edit::{Edit, end_edited, instr_edited};
-use ir_tree::{Block, Duplicate, Function, Incoming, Line, Operand, Phi, Rows, Terminator};
+use ir_tree::{Block, Duplicate, Function, Incoming, Line, Operand, Phi, Rows};
 use std::alloc::{AllocError, Global};
 use std::collections::BTreeMap;
 
 // ---- points
 
-/// Beside want of memory, a point past 32 bits is refused as one too many.
-fn next_point(point: u32) -> Result<u32, AllocError>
-    ensures { IfOk result (λ next. next ≡ suc point) }
-{
-    match point.checked_add(1) {
-        Some(next) => Ok(next),
-        None => Err(AllocError),
-    }
-}
-
-/// The point behind so many lines.
+/// The point behind so many lines. Beside want of memory, a point past 32 bits is refused as one too many.
 fn point_behind(first: u32, count: usize) -> Result<u32, AllocError>
     ensures { IfOk result (λ point. point ≡ first + count) }
 {
@@ -46,23 +37,13 @@ fn last_points(alloc: Global, blocks: &[Block]) -> Result<BTreeMap<u32, u32>, Al
     for block in blocks {
         let end = point_behind(point, block.lines.len())?;
         last.insert(block.number, end)?;
-        let next = next_point(end)?;
+        let next = point_behind(end, 1)?;
         point = next;
     }
     Ok(last)
 }
 
 // ---- operands
-
-/// Whether an operand is this local.
-fn is_local(local: u32, operand: &Operand) -> bool
-    ensures { result ≡ is_local local operand.now }
-{
-    match operand {
-        Operand::Local(own) => *own == local,
-        _ => false,
-    }
-}
 
 fn holds(fact: &Fact, point: u32) -> bool
     ensures { result ≡ contains fact.now.at point }
@@ -138,7 +119,7 @@ fn lines_at(
             local: line.local,
             instr,
         })?;
-        let next = next_point(point)?;
+        let next = point_behind(point, 1)?;
         point = next;
     }
     Ok(rows)
@@ -201,18 +182,6 @@ fn phis_at(
 
 // ---- blocks
 
-fn end_at(
-    alloc: Global,
-    facts: &[Fact],
-    point: u32,
-    end: &Terminator,
-) -> Result<Terminator, AllocError>
-    ensures { IfOk result (λ e. e ≡ end_at facts.now point end.now) }
-{
-    let made = end_edited(alloc, &At { facts, point }, end)?;
-    Ok(made)
-}
-
 fn block_at(
     alloc: Global,
     facts: &[Fact],
@@ -225,7 +194,7 @@ fn block_at(
     let phis = phis_at(alloc, facts, last, block.phis.as_slice())?;
     let lines = lines_at(alloc, facts, first, block.lines.as_slice())?;
     let point = point_behind(first, block.lines.len())?;
-    let end = end_at(alloc, facts, point, &block.end)?;
+    let end = end_edited(alloc, &At { facts, point }, &block.end)?;
     Ok(Block {
         number: block.number,
         phis,
@@ -248,17 +217,9 @@ fn blocks_at(
         let made = block_at(alloc, facts, last, point, block)?;
         rows.push(made)?;
         let end = point_behind(point, block.lines.len())?;
-        let next = next_point(end)?;
+        let next = point_behind(end, 1)?;
         point = next;
     }
-    Ok(rows)
-}
-
-fn all_blocks_at(alloc: Global, facts: &[Fact], blocks: &[Block]) -> Result<Rows<Block>, AllocError>
-    ensures { IfOk result (λ rows. rows ≡ blocks_at facts.now (last_point 0 blocks.now) 0 blocks.now) }
-{
-    let last = last_points(alloc, blocks)?;
-    let rows = blocks_at(alloc, facts, &last, blocks)?;
     Ok(rows)
 }
 
@@ -269,16 +230,8 @@ fn all_blocks_at(alloc: Global, facts: &[Fact], blocks: &[Block]) -> Result<Rows
 pub fn function_at(alloc: Global, facts: &[Fact], f: &Function) -> Result<Function, AllocError>
     ensures { IfOk result (λ g. g ≡ function_at facts.now f.now) }
 {
-    let symbol = f.symbol.duplicate(alloc)?;
-    let params = f.params.duplicate(alloc)?;
-    let blocks = all_blocks_at(alloc, facts, f.blocks.as_slice())?;
-    Ok(Function {
-        symbol,
-        linkage: f.linkage,
-        result: f.result,
-        params,
-        noinline: f.noinline,
-        optnone: f.optnone,
-        blocks,
-    })
+    let last = last_points(alloc, f.blocks.as_slice())?;
+    let blocks = blocks_at(alloc, facts, &last, f.blocks.as_slice())?;
+    let g = with_blocks(alloc, f, blocks)?;
+    Ok(g)
 }

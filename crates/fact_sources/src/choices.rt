@@ -7,6 +7,7 @@ ghost use Rattle.fold_rules.specs.Widths.{HasWidths};
 ghost use Rattle.fact_sources.specs.Askable.{BlocksHaveWidths, LinesHaveWidths};
 ghost use Rattle.fact_sources.specs.Settled.{any_choice, any_choice_in, choice_of, number_in, or_same, settled, settled_block, settled_instr, settled_line};
 
+use crate::rebuilt::with_blocks;
 use fold_rules::{Folded, is_same, rule};
 use ir_tree::{Block, Duplicate, Function, Instr, Line, Operand, Predicate, Reg, Rows};
 use std::alloc::{AllocError, Global};
@@ -173,16 +174,7 @@ pub fn settled(alloc: Global, f: &Function) -> Result<Option<Function>, AllocErr
     if !any {
         return Ok(None);
     }
-    let symbol = f.symbol.duplicate(alloc)?;
-    let params = f.params.duplicate(alloc)?;
     let blocks = settled_blocks(alloc, f.blocks.as_slice())?;
-    Ok(Some(Function {
-        symbol,
-        linkage: f.linkage,
-        result: f.result,
-        params,
-        noinline: f.noinline,
-        optnone: f.optnone,
-        blocks,
-    }))
+    let g = with_blocks(alloc, f, blocks)?;
+    Ok(Some(g))
 }

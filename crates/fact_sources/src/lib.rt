@@ -28,6 +28,7 @@ mod entered;
 mod fact;
 mod naming;
 mod placing;
+mod rebuilt;
 mod sources;
 mod substitution;
 mod table;

@@ -53,9 +53,7 @@ impl<'a> Table<'a> {
         if place < count {
             return Ok(());
         }
-        for _ in count..place + 1 {
-            self.rows.push(None)?;
-        }
+        self.rows.resize(place + 1, None)?;
         Ok(())
     }
 

@@ -1,5 +1,5 @@
 //! Facts that rest on locals to which unreached blocks give values.
-ghost use Rattle.std.specs.Prelude.{◌≡◌, ◌++◌, ℕ, length, nat_eq, IfOk, OnOk};
+ghost use Rattle.std.specs.Prelude.{◌≡◌, ◌++◌, ℕ, if◌then◌else◌, length, nat_eq, IfOk, OnOk};
 ghost use Rattle.std.specs.HashSet as hash;
 ghost use Rattle.lto_sets.specs.Sets.{contains};
 ghost use Rattle.ir_edit.specs.Numbered.{line_numbers, phi_numbers};
@@ -86,6 +86,25 @@ pub fn apart(alloc: Global, f: &Function) -> Result<HashSet<u32>, AllocError>
     Ok(set)
 }
 
+/// The facts whose operand is a local of the set, or the others.
+fn parted(
+    alloc: Global,
+    found: &[(u32, Operand)],
+    set: &HashSet<u32>,
+    inside: bool,
+) -> Result<Vec<(u32, Operand)>, AllocError>
+    ensures { IfOk result (λ some. some.items ≡ (if inside then resting (hash.contains nat_eq set.now) found.now else firm (hash.contains nat_eq set.now) found.now)) }
+{
+    let mut some = Vec::new(alloc);
+    for pair in found {
+        if is_among(set, &pair.1) == inside {
+            let value = pair.1.duplicate(alloc)?;
+            some.push((pair.0, value))?;
+        }
+    }
+    Ok(some)
+}
+
 /// The facts whose operand is a local of the set. With none in the set, none is looked at.
 pub fn resting(
     alloc: Global,
@@ -94,18 +113,11 @@ pub fn resting(
 ) -> Result<Vec<(u32, Operand)>, AllocError>
     ensures { IfOk result (λ some. some.items ≡ resting (hash.contains nat_eq set.now) found.now) }
 {
-    let mut some = Vec::new(alloc);
     let none = set.is_empty();
     if none {
-        return Ok(some);
+        return Ok(Vec::new(alloc));
     }
-    for pair in found {
-        if is_among(set, &pair.1) {
-            let value = pair.1.duplicate(alloc)?;
-            some.push((pair.0, value))?;
-        }
-    }
-    Ok(some)
+    parted(alloc, found, set, true)
 }
 
 /// The others.
@@ -116,12 +128,5 @@ pub fn firm(
 ) -> Result<Vec<(u32, Operand)>, AllocError>
     ensures { IfOk result (λ some. some.items ≡ firm (hash.contains nat_eq set.now) found.now) }
 {
-    let mut some = Vec::new(alloc);
-    for pair in found {
-        if !is_among(set, &pair.1) {
-            let value = pair.1.duplicate(alloc)?;
-            some.push((pair.0, value))?;
-        }
-    }
-    Ok(some)
+    parted(alloc, found, set, false)
 }

@@ -1,10 +1,9 @@
-use Rattle.std.proofs.Common.{ℕ, suc, ◌∷◌, drop, sym, ap, ◌∙◌, subst, BTreeMap}
-use Rattle.std.proofs.Math.Seq.{drop-cons}
+use Rattle.std.proofs.Common.{ℕ, ◌+◌, drop, sym, subst, BTreeMap}
 use Rattle.std.specs.BTreeMap.{get}
 use Rattle.std.specs.Ordering.{nat_cmp}
 use Rattle.ir_tree.specs.Flow.{holds, results}
-use Rattle.ir_tree.specs.declared.instr.Line.{Line}
 use Rattle.fact_sources.proofs.Placed.{Places, line_gives, one_more}
+use Rattle.fact_sources.proofs.Stepping.{cut_at}
 use Rattle.fact_sources.proofs.placing.place_lines.Goals as goal
 use Rattle.fact_sources.proofs.placing.place_lines.Goals.{in-Some+in_ok-insert, in_default}
 
@@ -14,11 +13,11 @@ loop-line-preserved c =
     let i = c.loop-line.line-index in
     let line = c.line-item.result in
     let first = get nat_cmp c.args.places.now in
-    let cut = drop-cons lines i line c.loop-line-test.true ∙ ap (λ (l : Line). l ∷ drop (suc i) lines) (sym c.line-item.is) in
+    let cut = cut_at lines i line c.loop-line-test.true c.line-item.is in
     elim c.match-line.branch [
       | in-Some+in_ok-insert w ↦
           subst (λ (m : BTreeMap ℕ ℕ). Places (get nat_cmp m) first c.args.place (λ x. holds (results lines) x)) (sym w.places-is)
           (one_more first (get nat_cmp c.loop-line.places) (get nat_cmp w.insert.new.self) c.args.place w.in-Some.local (λ x. holds (results lines) x)
-          (line_gives lines i w.in-Some.local line (drop (suc i) lines) cut w.in-Some.is) w.in_ok-insert.ensures.updates.0 c.loop-line.invariant)
+          (line_gives lines i w.in-Some.local line (drop (i + 1) lines) cut w.in-Some.is) w.in_ok-insert.ensures.updates.0 c.loop-line.invariant)
       | in_default w ↦ subst (λ (m : BTreeMap ℕ ℕ). Places (get nat_cmp m) first c.args.place (λ x. holds (results lines) x)) (sym w.places-is) c.loop-line.invariant
     ]

@@ -9,4 +9,4 @@ pub returns-then-none : goal.returns-then-none
 returns-then-none c =
     let set = c.args.set.now in
     let none = empty_list set.keys (c.is_empty-none.ensures.0 c.if-none.true) in
-    c.new-some.ensures.items ∙ sym (none_rest (contains nat_eq set) (λ x. ap (λ (ks : List ℕ). list_any (nat_eq x) ks) none) c.args.found.now)
+    c.new.ensures.items ∙ sym (none_rest (contains nat_eq set) (λ x. ap (λ (ks : List ℕ). list_any (nat_eq x) ks) none) c.args.found.now)
