@@ -1,7 +1,7 @@
 //! The program `thinlto`: the link, batches of links, the index and the run of modules.
 //!
 //! [`top`] is the program's one call: it takes the words of the command line and the outside as five objects; `main`
-//! makes the real objects, calls it, and ends with the status's number. Words are told by `lto_words`; a command
+//! makes the real objects, has it called, and ends with the status's number. Words are told by `lto_words`; a command
 //! fetches its files in order, once per occurrence (`lto_words`), and reads each (`link_one`), and by the modules'
 //! summaries it is decided what is kept and imported (`thin_link`). `link` puts the linked module, `batch` those of the
 //! links that its list file lists, once all are made, `index` prints what was decided, and `run` runs the modules
@@ -22,7 +22,8 @@
 //! what was put (`outside_real`). That the definition of meaning is LLVM's, which `checks/` compares.
 #![tactic(auto)]
 
-ghost use Rattle.std.specs.Prelude.{◌≡◌, ◌∷◌, [], MatchOption};
+ghost use Rattle.std.specs.Prelude.{◌≡◌, ◌↔◌, ◌∷◌, ℕ, [], List, MatchOption};
+ghost use Rattle.thinlto_main.specs.Honest.{HonestEntry};
 
 mod batch;
 mod cache;
@@ -41,12 +42,15 @@ mod tests;
 
 pub use cache::LinkMakes;
 pub use entry::{Ended, top};
+use lto_outside::{ByteIn, ByteOut, CacheDisk, Files, Gate};
 use outside_real::{RealDisk, RealFiles, RealGate, RealIn, RealOut};
 pub use status::{Status, status_of};
 use std::alloc::Global;
 use std::process::ExitCode;
 use std::rt::Env;
 use std::slice::from_ref;
+use std::sync::Wait;
+use std::thread::Threads;
 use std::{env, io};
 pub use tasks::{tasks_are_spelled, tasks_are_told};
 
@@ -65,19 +69,44 @@ fn given_words<'a>(words: &'a Option<Vec<String>>, no_word: &'a String) -> &'a [
     }
 }
 
+/// Does the command that these words are, and gives the number that the process ends with.
+fn exit_status<
+    R: Threads + Wait + Sync,
+    F: Files + Drop,
+    D: CacheDisk + Send + Drop,
+    G: Gate + Sync,
+    I: ByteIn + Drop,
+    O: ByteOut + Drop,
+    N: ByteOut + Drop,
+>(
+    rt: &R,
+    alloc: Global,
+    words: &[String],
+    mut files: F,
+    disk: D,
+    gate: &G,
+    mut input: I,
+    mut out: O,
+    mut notes: N,
+) -> u8
+    requires meaning { (key text : List ℕ) → D.fits key text ↔ HonestEntry key text }
+{
+    let ended = top(
+        rt, alloc, words, &mut files, disk, gate, &mut input, &mut out, &mut notes,
+    );
+    status_of(&ended.status)
+}
+
 fn main(rt: HostRuntime) -> ExitCode {
     let alloc = rt.alloc();
     // Words that can't be had are no command, as one empty word is none.
     let no_word = String::new(alloc);
     let words = all_words(&rt, alloc);
-    let mut files = RealFiles::new(&rt);
+    let files = RealFiles::new(&rt);
     let disk: RealDisk<'_, _, LinkMakes> = RealDisk::new(&rt);
-    let mut input = RealIn::new(rt.reader());
-    let mut out = RealOut::new(io::writer(&rt));
-    let mut notes = RealOut::new(rt.stderr());
+    let input = RealIn::new(rt.reader());
+    let out = RealOut::new(io::writer(&rt));
+    let notes = RealOut::new(rt.stderr());
     let given = given_words(&words, &no_word);
-    let ended = top(
-        &rt, alloc, given, &mut files, disk, &RealGate, &mut input, &mut out, &mut notes,
-    );
-    ExitCode::from(status_of(&ended.status))
+    ExitCode::from(exit_status(&rt, alloc, given, files, disk, &RealGate, input, out, notes))
 }
