@@ -3,7 +3,7 @@ use Rattle.std.proofs.Common.{◌≡◌, ◌∙◌, ◌<◌, ◌+◌, ◌||◌, 
 use Rattle.std.proofs.lemmas.List.{map_push, take_more}
 use Rattle.std.proofs.lemmas.List.Sums.{fold-append}
 use Rattle.std.specs.Borrow.{Bor}
-use Rattle.clap.specs.Words.{AddsArg, App, Shape, Text, rule_of, with_rule, with_subcommand}
+use Rattle.clap.specs.Words.{AddsArg, AddsSubcommand, App, Shape, Text, rule_of, with_rule, with_subcommand}
 use Rattle.clap.specs.declared.builder.Arg.{Arg}
 use Rattle.clap.specs.declared.builder.Command.{Command}
 use Rattle.lto_words.specs.declared.argument.Argument.{Argument}
@@ -23,13 +23,20 @@ argument_more name arguments i d old new arg lt built adds is local =
 
 -- ---- the program
 
+-- a program with one command more
+with_one_more : (a b : App) (old sub new : Command) → Builds a old → Builds b sub → AddsSubcommand old sub new → Builds (with_subcommand a b.top) new
+with_one_more a b old sub new program command adds = record {
+  app = adds.shape command.local ∙ ap₂ (λ (p c : App). with_subcommand p c.top) program.app command.app;
+  local = adds.globals ∙ ap₂ (λ a b. a || b) program.local command.local;
+}
+
 -- a program with the command of one more row
-pub command_more : (a : App) (rows : List (Bor Text × Bor (List Argument))) (i : ℕ) (d : Bor Text × Bor (List Argument)) (new : Command) → i < length rows
-    → Builds (with_subcommand (fold with_subcommand a (map shape (take i rows))) (shape (get_or rows i d))) new
+pub command_more : (a : App) (rows : List (Bor Text × Bor (List Argument))) (i : ℕ) (d : Bor Text × Bor (List Argument)) (old sub new : Command) → i < length rows
+    → Builds (fold with_subcommand a (map shape (take i rows))) old → Builds (alone (shape (get_or rows i d))) sub → AddsSubcommand old sub new
     → Builds (fold with_subcommand a (map shape (take (i + 1) rows))) new
-command_more a rows i d new lt =
+command_more a rows i d old sub new lt program command adds =
     let before : List Shape = map shape (take i rows) in
     let shapes : map shape (take (i + 1) rows) ≡ before ++ shape (get_or rows i d) ∷ [] = ap (map shape) (take_more rows i d lt) ∙ map_push shape (take i rows) (get_or rows i d) in
     let whole : fold with_subcommand a (map shape (take (i + 1) rows)) ≡ with_subcommand (fold with_subcommand a before) (shape (get_or rows i d)) =
     ap (λ (ss : List Shape). fold with_subcommand a ss) shapes ∙ fold-append with_subcommand a before (shape (get_or rows i d) ∷ []) in
-    subst (λ (b : App). Builds b new) (sym whole)
+    subst (λ (b : App). Builds b new) (sym whole) (with_one_more (fold with_subcommand a before) (alone (shape (get_or rows i d))) old sub new program command adds)

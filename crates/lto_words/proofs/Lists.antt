@@ -1,37 +1,19 @@
 -- Lists with commas between.
-use Rattle.std.proofs.Common.{◌≡◌, ◌≢◌, ◌∙◌, ◌<◌, ◌≤◌, ◌+◌, ◌||◌, ℕ, suc, sym, ap, ap₂, refl, arith, Bool, true, false, cond, List, [], ◌∷◌, ◌++◌, length, map, drop, fold, Option, Some, None, append_assoc, append-nil, drop-cons, drop_of_length-le, slice_index_or, add-one}
+use Rattle.std.proofs.Common.{◌≡◌, ◌∙◌, ◌<◌, ◌≤◌, ◌+◌, ℕ, sym, ap, refl, Bool, true, false, cond, List, [], ◌∷◌, ◌++◌, length, map, drop, fold, Option, Some, None, append_assoc, append-nil, drop-cons, drop_of_length-le, slice_index_or, add-one}
 use Rattle.std.proofs.lemmas.List.{map-append}
 use Rattle.std.specs.Borrow.{Bor}
 use Rattle.std.specs.List.{list_any}
 use Rattle.std.specs.Str.{bytes_eq}
 use Rattle.clap.specs.Walk.{texts}
 use Rattle.clap.specs.Words.{Text}
-use Rattle.clap.proofs.CutLemmas.{Lacks, slice_split-Lacks, slice_split-at}
 use Rattle.clap.proofs.WalkLemmas.{list_any-map}
 use Rattle.indexmap.specs.IndexSet.{insert_key}
-use Rattle.lto_words.specs.Values.{decimal, once, parts, with_name}
+use Rattle.lto_words.specs.Values.{decimal, once, with_name}
 use Rattle.lto_words.specs.declared.list.Decimal.{Decimal}
 
 -- what is left, as its first item and the rest
 left : {X : Type 0} (xs : List X) (i : ℕ) (d : X) → i < length xs → drop i xs ≡ slice_index_or xs i d ∷ drop (i + 1) xs
 left xs i d lt = drop-cons xs i d lt ∙ ap (λ n. slice_index_or xs i d ∷ drop n xs) (sym (add-one i))
-
--- ---- parts
-
--- one more part
-pub part_more : (items : List (Bor Text)) (part : Bor Text) (rest after : Text) (all : List Text) → texts items ++ parts rest ≡ all
-    → rest ≡ part.now ++ (44 ∷ after) → Lacks 44 part.now → texts (items ++ part ∷ []) ++ parts after ≡ all
-part_more items part rest after all so_far cut lacks =
-    let here : parts rest ≡ part.now ∷ parts after = ap parts cut ∙ slice_split-at 44 part.now after lacks in
-    ap (λ (ts : List Text). ts ++ parts after) (map-append (λ (s : Bor Text). s.now) items (part ∷ []))
-    ∙ append_assoc (texts items) (part.now ∷ []) (parts after)
-    ∙ ap (λ (ts : List Text). texts items ++ ts) (sym here) ∙ so_far
-
--- the last part
-pub part_last : (items : List (Bor Text)) (rest : Bor Text) (all : List Text) → texts items ++ parts rest.now ≡ all → Lacks 44 rest.now
-    → texts (items ++ rest ∷ []) ≡ all
-part_last items rest all so_far lacks =
-    map-append (λ (s : Bor Text). s.now) items (rest ∷ []) ∙ ap (λ (ts : List Text). texts items ++ ts) (sym (slice_split-Lacks 44 rest.now lacks)) ∙ so_far
 
 -- ---- copies
 
@@ -41,6 +23,10 @@ pub text_more : (rows : List Text) (names : List (Bor Text)) (i : ℕ) (d : Bor 
 text_more rows names i d lt so_far =
     append_assoc rows ((slice_index_or names i d).now ∷ []) (texts (drop (i + 1) names))
     ∙ ap (λ (z : List (Bor Text)). rows ++ texts z) (sym (left names i d lt)) ∙ so_far
+
+-- all copies
+pub texts_done : (rows : List Text) (names : List (Bor Text)) (i : ℕ) → length names ≤ i → rows ++ texts (drop i names) ≡ texts names → rows ≡ texts names
+texts_done rows names i past so_far = sym (append-nil rows) ∙ ap (λ (z : List (Bor Text)). rows ++ texts z) (sym (drop_of_length-le names past)) ∙ so_far
 
 -- ---- names
 

@@ -7,7 +7,7 @@ ghost use Rattle.lto_words.specs.Given.{HasArgs, HasCache, HasExports, HasFile, 
 ghost use Rattle.lto_words.specs.Values.{IsName};
 
 use crate::fault::WordsError;
-use crate::list::{Decimal, decimals, has_empty, names};
+use crate::list::{Decimal, decimals, has_empty, names, rows_of};
 use crate::name::FileName;
 use crate::number::number;
 use crate::options::NumberOption;
@@ -75,14 +75,6 @@ pub(crate) fn cache_given(
     }
 }
 
-pub(crate) fn main_alone(alloc: Global) -> Result<Rows<Text>, AllocError>
-    ensures { IfOk result (λ names. names ≡ codes "main" ∷ []) }
-{
-    let mut names = Rows::new(alloc);
-    names.push(Text::copied(alloc, b"main")?)?;
-    Ok(names)
-}
-
 pub(crate) fn exports_given(
     alloc: Global,
     matches: &ArgMatches<'_>,
@@ -91,7 +83,7 @@ pub(crate) fn exports_given(
 {
     match given(matches, "export") {
         Some(list) => names(alloc, list),
-        None => Ok(main_alone(alloc)?),
+        None => Ok(rows_of(alloc, &["main"])?),
     }
 }
 
@@ -136,8 +128,8 @@ fn are_files(names: &[&str]) -> bool
     names.len() <= MOST_FILES && !has_empty(names)
 }
 
-#[tactic(auto, using(crate::proofs::Lists::text_more))]
-fn file_names(alloc: Global, names: &[&str]) -> Result<Rows<FileName>, AllocError>
+/// The names of files that these texts are.
+pub(crate) fn file_names(alloc: Global, names: &[&str]) -> Result<Rows<FileName>, AllocError>
     ensures { IfOk result (λ files. files ≡ texts names.now) }
 {
     let mut files = Rows::new(alloc);

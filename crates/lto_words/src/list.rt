@@ -54,41 +54,18 @@ fn decimal_of(text: &str) -> Option<Decimal>
 fn parts<'a>(alloc: Global, list: &'a str) -> Result<Vec<&'a str>, AllocError>
     ensures { IfOk result (λ v. texts v.items ≡ parts list.entry.now) }
 {
-    let mut parts = Vec::new(alloc);
-    let mut rest = list;
-    while let Some((part, after)) = rest.split_once(',') {
-        parts.push(part)?;
-        rest = after;
-    }
-    parts.push(rest)?;
-    Ok(parts)
-}
-
-fn any_empty(list: &[&str]) -> bool
-    ensures { result ≡ list_any (λ text. is_empty text.now) list.now }
-{
-    list.iter().any(|text| text.is_empty())
+    list.split(',').collect(alloc)
 }
 
 /// Whether one of the texts is empty.
 pub(crate) fn has_empty(list: &[&str]) -> bool
     ensures { result ≡ list_any is_empty (texts list.now) }
 {
-    any_empty(list)
+    list.iter().any(|text| text.is_empty())
 }
 
-fn distinct<'a>(alloc: Global, parts: &[&'a str]) -> Result<IndexSet<&'a str>, AllocError>
-    ensures { IfOk result (λ set. texts set.keys ≡ once (texts parts.entry.now)) }
-{
-    let mut seen = IndexSet::new(alloc);
-    for part in parts {
-        seen.insert(*part)?;
-    }
-    Ok(seen)
-}
-
-#[tactic(auto, using(crate::proofs::Lists::text_more))]
-fn rows_of(alloc: Global, names: &[&str]) -> Result<Rows<Text>, AllocError>
+/// Copies of these texts.
+pub(crate) fn rows_of(alloc: Global, names: &[&str]) -> Result<Rows<Text>, AllocError>
     ensures { IfOk result (λ rows. rows ≡ texts names.now) }
 {
     let mut rows = Rows::new(alloc);
@@ -102,7 +79,10 @@ fn rows_of(alloc: Global, names: &[&str]) -> Result<Rows<Text>, AllocError>
 fn once(alloc: Global, parts: &[&str]) -> Result<Rows<Text>, AllocError>
     ensures { IfOk result (λ names. names ≡ once (texts parts.now)) }
 {
-    let seen = distinct(alloc, parts)?;
+    let mut seen = IndexSet::new(alloc);
+    for part in parts {
+        seen.insert(*part)?;
+    }
     rows_of(alloc, seen.as_slice())
 }
 

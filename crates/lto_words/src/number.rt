@@ -8,12 +8,6 @@ ghost use Rattle.lto_words.specs.Values.{WritesNumber, is_numeral, within_64};
 /// The most digits of an option's number.
 const MOST_DIGITS: usize = 10;
 
-fn all_digits(bytes: &[u8]) -> bool
-    ensures { result ≡ list_all is_ascii_digit bytes.now }
-{
-    bytes.iter().all(|byte| byte.is_ascii_digit())
-}
-
 /// Whether the text is decimal digits, one at least.
 pub(crate) fn is_numeral(text: &str) -> bool
     ensures { result ≡ is_numeral text.now }
@@ -21,7 +15,7 @@ pub(crate) fn is_numeral(text: &str) -> bool
     if text.is_empty() {
         return false;
     }
-    all_digits(text.as_bytes())
+    text.as_bytes().iter().all(|byte| byte.is_ascii_digit())
 }
 
 /// The number that digits write, where 64 bits hold it.

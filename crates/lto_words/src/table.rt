@@ -1,6 +1,6 @@
 //! The table of commands, as `clap` takes it.
 ghost use Rattle.std.specs.Prelude.{map, fold, IfOk};
-ghost use Rattle.clap.specs.Words.{App, with_subcommand};
+ghost use Rattle.clap.specs.Words.{with_subcommand};
 ghost use Rattle.lto_words.specs.Table.{Builds, alone, rule, shape};
 ghost use Rattle.lto_words.specs.Table as table;
 
@@ -27,7 +27,10 @@ fn command<'a>(
 {
     let mut command = Command::new(alloc, name);
     for argument in arguments {
-        command = command.arg(argument.to_arg(alloc))?;
+        command = match command.arg(argument.to_arg(alloc)) {
+            Ok(command) => command,
+            Err(error) => return Err(error),
+        };
     }
     Ok(command)
 }
@@ -43,16 +46,6 @@ fn program<'a>(alloc: Global) -> Command<'a>
         .subcommand_required(true)
 }
 
-/// The program with this command, where that could be built.
-fn with_command<'a>(
-    program: Command<'a>,
-    command: Result<Command<'a>, AllocError>,
-) -> Result<Command<'a>, AllocError>
-    ensures { (a b : App) → Builds a program.entry → IfOk command.entry (Builds b) → IfOk result (Builds (with_subcommand a b.top)) }
-{
-    program.subcommand(command?)
-}
-
 /// The program with these commands.
 fn with_commands<'a>(
     alloc: Global,
@@ -62,7 +55,13 @@ fn with_commands<'a>(
 {
     let mut program = program(alloc);
     for &(name, arguments) in commands {
-        program = with_command(program, command(alloc, name, arguments))?;
+        let Ok(command) = command(alloc, name, arguments) else {
+            return Err(AllocError);
+        };
+        program = match program.subcommand(command) {
+            Ok(program) => program,
+            Err(error) => return Err(error),
+        };
     }
     Ok(program)
 }

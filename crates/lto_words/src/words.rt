@@ -6,14 +6,14 @@ ghost use Rattle.lto_words.specs.Reads.{Reads};
 ghost use Rattle.lto_words.specs.Commands.{IsCommand, IsGiven, MeansEntered, Parses, is_stop, without_words};
 
 use crate::fault::WordsError;
-use crate::given::main_alone;
+use crate::given::file_names;
+use crate::list::rows_of;
 use crate::name::FileName;
 use crate::options::{IMPORT_LIMIT, INLINE_LIMIT, JOBS};
 use crate::request::{Command, LinkOptions, kind_named, requested};
 use crate::table::thinlto;
 use clap::ArgMatches;
 use clap::error::ErrorKind;
-use ir_tree::Rows;
 use std::alloc::{AllocError, Global};
 
 /// Whether the word is `--` or begins `-o=`.
@@ -23,23 +23,19 @@ fn is_stop(word: &str) -> bool
     word == "--" || word.as_bytes().starts_with(b"-o=")
 }
 
-fn any_stop(words: &[String]) -> bool
-    ensures { result ≡ list_any (λ word. is_stop (string_bytes word)) words.now }
-{
-    words.iter().any(|word| is_stop(word.as_str()))
-}
-
 fn has_stop(words: &[String]) -> bool
     ensures { result ≡ list_any is_stop (map string_bytes words.now) }
 {
-    any_stop(words)
+    words.iter().any(|word| is_stop(word.as_str()))
 }
 
 /// What the table's command finds in the words.
 fn parsed<'a>(alloc: Global, words: &'a [String]) -> Result<ArgMatches<'a>, WordsError>
     ensures { Parses (map string_bytes words.entry.now) result }
 {
-    let thinlto = thinlto(alloc)?;
+    let Ok(thinlto) = thinlto(alloc) else {
+        return Err(WordsError::NoMemory);
+    };
     match thinlto.try_get_matches_from(words) {
         Ok(matches) => Ok(matches),
         Err(error) => match error.kind() {
@@ -49,22 +45,13 @@ fn parsed<'a>(alloc: Global, words: &'a [String]) -> Result<ArgMatches<'a>, Word
     }
 }
 
-/// The one file `-`, standard input.
-fn input_alone(alloc: Global) -> Result<Rows<FileName>, AllocError>
-    ensures { IfOk result (λ files. files ≡ codes "-" ∷ []) }
-{
-    let mut files = Rows::new(alloc);
-    files.push(FileName::copied(alloc, "-")?)?;
-    Ok(files)
-}
-
 /// `link -o - -`.
 fn without_words(alloc: Global) -> Result<Command, AllocError>
     ensures { IfOk result (λ c. c ≡ without_words) }
 {
-    let exports = main_alone(alloc)?;
+    let exports = rows_of(alloc, &["main"])?;
     let out = FileName::copied(alloc, "-")?;
-    let files = input_alone(alloc)?;
+    let files = file_names(alloc, &["-"])?;
     Ok(Command::Link {
         options: LinkOptions {
             jobs: 1,

@@ -35,3 +35,51 @@ returns-in-Err-NoMemory-clause-tried g c = record {
   answer = Err NoMemory;
   call = subst (λ (n : List ℕ). g.F.Files.did c.args.files.now (Fetched n (Err NoMemory) ∷ []) c.fetch.new.self) c.as_str.ensures (rw c.in-Err-NoMemory.field-0-is at c.in-Err-NoMemory.ensures.call);
 }
+
+pub returns-in-Ok-clause-fetched : goal.returns-in-Ok-clause-fetched
+returns-in-Ok-clause-fetched g c = subst (λ (n : List ℕ). g.F.Files.did c.args.files.now (Fetched n (Ok c.in-Ok.bytes) ∷ []) c.fetch.new.self) c.as_str.ensures c.in-Ok.ensures.call
+
+pub returns-in-Ok-clause-short : goal.returns-in-Ok-clause-short
+returns-in-Ok-clause-short g c = c.in-Ok.ensures.short
+
+pub returns-in-Ok-clause-failed : goal.returns-in-Ok-clause-failed
+returns-in-Ok-clause-failed g c = tt
+
+pub returns-in-Err-Fault-clause-fetched : goal.returns-in-Err-Fault-clause-fetched
+returns-in-Err-Fault-clause-fetched g c = tt
+
+pub returns-in-Err-Fault-clause-short : goal.returns-in-Err-Fault-clause-short
+returns-in-Err-Fault-clause-short g c = tt
+
+pub returns-in-Err-NoMemory-clause-fetched : goal.returns-in-Err-NoMemory-clause-fetched
+returns-in-Err-NoMemory-clause-fetched g c = tt
+
+pub returns-in-Err-NoMemory-clause-short : goal.returns-in-Err-NoMemory-clause-short
+returns-in-Err-NoMemory-clause-short g c = tt
+
+pub returns-in-Err-NoMemory-clause-failed : goal.returns-in-Err-NoMemory-clause-failed
+returns-in-Err-NoMemory-clause-failed g c = tt
+
+pub returns-in-Ok-clause-no_put : goal.returns-in-Ok-clause-no_put
+returns-in-Ok-clause-no_put g c = record { calls = Fetched c.as_str.result.now c.fetch.result ∷ []; made = c.fetch.ensures.call; no_put = tt }
+
+pub returns-in-Err-TooLong-clause-no_put : goal.returns-in-Err-TooLong-clause-no_put
+returns-in-Err-TooLong-clause-no_put g c = record { calls = Fetched c.as_str.result.now c.fetch.result ∷ []; made = c.fetch.ensures.call; no_put = tt }
+
+pub returns-in-Err-Fault-clause-no_put : goal.returns-in-Err-Fault-clause-no_put
+returns-in-Err-Fault-clause-no_put g c = record { calls = Fetched c.as_str.result.now c.fetch.result ∷ []; made = c.fetch.ensures.call; no_put = tt }
+
+pub returns-in-Err-NoMemory-clause-no_put : goal.returns-in-Err-NoMemory-clause-no_put
+returns-in-Err-NoMemory-clause-no_put g c = record { calls = Fetched c.as_str.result.now c.fetch.result ∷ []; made = c.fetch.ensures.call; no_put = tt }
+
+pub returns-in-Ok-clause-later : goal.returns-in-Ok-clause-later
+returns-in-Ok-clause-later g c = c.fetch.ensures.later
+
+pub returns-in-Err-TooLong-clause-later : goal.returns-in-Err-TooLong-clause-later
+returns-in-Err-TooLong-clause-later g c = c.fetch.ensures.later
+
+pub returns-in-Err-Fault-clause-later : goal.returns-in-Err-Fault-clause-later
+returns-in-Err-Fault-clause-later g c = c.fetch.ensures.later
+
+pub returns-in-Err-NoMemory-clause-later : goal.returns-in-Err-NoMemory-clause-later
+returns-in-Err-NoMemory-clause-later g c = c.fetch.ensures.later

@@ -22,3 +22,30 @@ loop-at-preserved g c =
           (subst (λ (t : List ℕ). g.F.Files.did c.loop-at.files (Put c.as_str.result.now t true ∷ []) c.put.new.self) c.as_slice.ensures c.in-Ok.ensures.call));
       later = omega (arith, c.loop-at.invariant.later, c.in-Ok.ensures.later);
     }
+
+pub loop-at-init : goal.loop-at-init
+loop-at-init g c = record { calls = g.met.F.Files.did_none c.args.files.now; later = omega arith }
+
+pub returns-in-Err-clause-put : goal.returns-in-Err-clause-put
+returns-in-Err-clause-put g c = tt
+
+pub returns-clause-failed : goal.returns-clause-failed
+returns-clause-failed g c = tt
+
+pub returns-clause-within : goal.returns-clause-within
+returns-clause-within g c = tt
+
+pub returns-clause-rose : goal.returns-clause-rose
+returns-clause-rose g c = tt
+
+pub returns-in-Err-clause-within : goal.returns-in-Err-clause-within
+returns-in-Err-clause-within g c = c.loop-at-test.true
+
+pub returns-in-Err-clause-rose : goal.returns-in-Err-clause-rose
+returns-in-Err-clause-rose g c = omega (arith, c.loop-at.invariant.later, c.in-Err.ensures.cause)
+
+pub returns-in-Err-clause-later : goal.returns-in-Err-clause-later
+returns-in-Err-clause-later g c = omega (arith, c.loop-at.invariant.later, c.in-Err.ensures.later)
+
+pub returns-clause-later : goal.returns-clause-later
+returns-clause-later g c = c.loop-at.invariant.later
