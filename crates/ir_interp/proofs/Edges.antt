@@ -38,6 +38,10 @@ phi_known names m memory [] k p h l is = absurd (omega (arith, l))
 phi_known names m memory (q ∷ ps) zero p h l is = subst (λ (x : Phi). AreEdgesKnown names m memory x.edges.items) (sym is) h.0
 phi_known names m memory (q ∷ ps) (suc k) p h l is = phi_known names m memory ps k p h.1 (omega (arith, l)) is
 
+pub none_taken : (names : List Symbol) (m : Memory) (memory : MeantMemory) (locals : Locals) (from : ℕ) (ps : List Phi) → AreTaken names m memory locals from (take 0 ps) []
+none_taken names m memory locals from [] = tt
+none_taken names m memory locals from (p ∷ ps) = tt
+
 pub taken_more : (names : List Symbol) (m : Memory) (memory : MeantMemory) (locals : Locals) (from : ℕ) (ps : List Phi) (k : ℕ) (p : Phi) (vs : List Scalar) (v : Scalar) →
     k < length ps → p ≡ get_or ps k p → AreTaken names m memory locals from (take k ps) vs → meant names v ≡ edge_meant names locals from p.edges.items → IsValid names m memory v →
     AreTaken names m memory locals from (take (suc k) ps) (vs ++ v ∷ [])
@@ -62,6 +66,10 @@ taken_last names m memory locals from (q ∷ ps) p (w ∷ vs) v l is h =
     ((h.0, h.1, rest.0), rest.1, rest.2)
 
 -- ---- room
+
+pub none_room : (n : ℕ) (ps : List Phi) → HaveRoom n (take 0 ps)
+none_room n [] = tt
+none_room n (p ∷ ps) = tt
 
 pub room_more : (n n' : ℕ) (ps : List Phi) (k : ℕ) (p : Phi) → n ≤ n' → k < length ps → p ≡ get_or ps k p → p.local < n' → HaveRoom n (take k ps) → HaveRoom n' (take (suc k) ps)
 room_more n n' [] k p le l is at h = absurd (omega (arith, l))

@@ -1,6 +1,7 @@
 -- How far parts of shapes that are laid out reach.
-use Rattle.std.specs.Prelude.{ℕ, ◌+◌, ◌-◌, ◌≤◌, ◌^◌, Bool, true, false}
-use Rattle.std.proofs.Common.{arith}
+use Rattle.std.specs.Prelude.{◌≡◌, ℕ, ◌+◌, ◌-◌, ◌≤◌, ◌^◌, max, Bool, true, false}
+use Rattle.std.proofs.Common.{arith, nat_cmp}
+use Rattle.std.specs.Ordering.{ord_max}
 use Rattle.std.proofs.Math.Nat.{mod-add-div'}
 use Rattle.ir_tree.specs.Forms.{Form, int, pointer, array, structure}
 use Rattle.ir_tree.specs.Layout.{IsLaidOut, align, begins, rounded, size}
@@ -18,3 +19,6 @@ rounded_most n a h k = omega (arith, mod-add-div' (n + (a - 1)) a)
 pub begins_most : (packed : Bool) (n : ℕ) (f : Form) → IsLaidOut f → begins packed n f ≤ n + 7
 begins_most true n f h = omega arith
 begins_most false n f h = rounded_most n (align f) (align_least f h) (align_most f h)
+
+pub greater_is_max : (a b : ℕ) → ord_max nat_cmp a b ≡ max a b
+greater_is_max a b = grind arith

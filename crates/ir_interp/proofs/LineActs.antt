@@ -14,6 +14,7 @@ use Rattle.ir_interp.specs.declared.ran.Ran.{Ran}
 use Rattle.ir_interp.specs.declared.ran.Ran.TheVariants.{Undefined, Uninit, Went}
 use Rattle.ir_interp.specs.Lines.{HasActed, IsLine}
 use Rattle.ir_interp.specs.declared.line.Line.{Line}
+use Rattle.ir_interp.specs.declared.line.Reached.TheVariants as reached
 
 -- the effect of the line on the frame
 line_effect : (names : List Symbol) (sig : Signature) (input : List ℕ) (place choice : ℕ) (frame : Frame) (l : MeantLine) (rest : List MeantLine) (line : Line) (memory : MeantMemory) (effect : meaning.Effect) →
@@ -43,3 +44,6 @@ acted names sig input place choice frame l rest line m memory m' r' (Undefined c
     line_effect names sig input place choice frame l rest line memory _ e is (g.0 sig input place)
 acted names sig input place choice frame l rest line m memory m' r' Uninit e is g =
     line_effect names sig input place choice frame l rest line memory _ e is (g.0 sig input place)
+
+pub ran_no_call : (ran : Ran) → reached.Ran ran ≡ reached.Call → ⊥
+ran_no_call ran e = cc e

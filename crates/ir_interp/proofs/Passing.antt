@@ -1,5 +1,5 @@
 -- Arguments that are passed one after another, cases that are tried one after another.
-use Rattle.std.proofs.Common.{◌≡◌, ℕ, zero, suc, ◌<◌, ◌≤◌, Bool, true, false, nat_eq, if◌then◌else◌, List, [], ◌∷◌, ◌++◌, take, drop, length, get_or, refl, sym, ap, ◌∙◌, eq-eqb, arith}
+use Rattle.std.proofs.Common.{◌≡◌, ℕ, zero, suc, ◌+◌, ◌<◌, ◌≤◌, Bool, true, false, nat_eq, if◌then◌else◌, List, [], ◌∷◌, ◌++◌, take, drop, length, get_or, refl, sym, ap, ◌∙◌, eq-eqb, ne_eqb, arith}
 use Rattle.std.proofs.Math.Seq.{drop-cons}
 use Rattle.ir_tree.specs.declared.operand.Reg.{Reg}
 use Rattle.ir_tree.specs.declared.operand.Symbol.{Symbol}
@@ -29,7 +29,7 @@ argument_known names m memory [] k d h l = absurd (omega (arith, l))
 argument_known names m memory (t ∷ ts) zero d h l = h.0
 argument_known names m memory (t ∷ ts) (suc k) d h l = argument_known names m memory ts k d h.1 (omega (arith, l))
 
-none_passed : (names : List Symbol) (locals : Locals) (ts : List Typed) → values_meant names locals (take zero ts) ≡ []
+pub none_passed : (names : List Symbol) (locals : Locals) (ts : List Typed) → values_meant names locals (take zero ts) ≡ []
 none_passed names locals [] = refl
 none_passed names locals (t ∷ ts) = refl
 
@@ -75,6 +75,14 @@ case_found cases k d default n h e =
     ap (λ (b : Bool). if b then (get_or cases k d).target else case_target (drop (suc k) cases) default n) (sym here)
     ∙ ap (λ (cs : List Case). case_target cs default n) (sym (drop-cons cases k d h))
 
+pub case_passed : (cases : List Case) (k : ℕ) (d : Case) (default n : ℕ) → k < length cases → ((get_or cases k d).bits ≡ n → ⊥) → case_target (drop (k + 1) cases) default n ≡ case_target (drop k cases) default n
+case_passed cases k d default n h e =
+    let other : nat_eq (get_or cases k d).bits n ≡ false = ne_eqb (get_or cases k d).bits n e in
+    let one : suc k ≡ k + 1 = omega arith in
+    sym (ap (λ (cs : List Case). case_target cs default n) (drop-cons cases k d h)
+    ∙ ap (λ (b : Bool). if b then (get_or cases k d).target else case_target (drop (suc k) cases) default n) other
+    ∙ ap (λ (j : ℕ). case_target (drop j cases) default n) one)
+
 -- ---- types
 
 -- no parameters, and an argument
@@ -82,3 +90,15 @@ pub more_typed : (ps : List Reg) (ts : List Typed) → length ps < 1 → 1 ≤ l
 more_typed [] [] h k = absurd (omega (arith, k))
 more_typed [] (t ∷ ts) h k = refl
 more_typed (p ∷ ps) ts h k = absurd (omega (arith, h))
+
+-- a parameter, and no arguments
+pub fewer_typed : (ps : List Reg) (ts : List Typed) → 1 ≤ length ps → length ts < 1 → false ≡ regs_eq ps (regs_of ts)
+fewer_typed [] ts h k = absurd (omega (arith, h))
+fewer_typed (p ∷ ps) [] h k = refl
+fewer_typed (p ∷ ps) (t ∷ ts) h k = absurd (omega (arith, k))
+
+-- neither
+pub none_typed : (ps : List Reg) (ts : List Typed) → length ps < 1 → length ts < 1 → true ≡ regs_eq ps (regs_of ts)
+none_typed [] [] h k = refl
+none_typed [] (t ∷ ts) h k = absurd (omega (arith, k))
+none_typed (p ∷ ps) ts h k = absurd (omega (arith, h))

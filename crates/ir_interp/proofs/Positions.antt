@@ -1,5 +1,5 @@
 -- Blocks by position against blocks by number, and where they stand in the text.
-use Rattle.std.proofs.Common.{◌≡◌, ℕ, zero, suc, ◌+◌, ◌-◌, ◌<◌, ◌≤◌, Bool, true, false, ◌==◌, if◌then◌else◌, List, [], ◌∷◌, drop, length, get_or, slice_get, Option, Some, None, Bor, refl, sym, ap, subst, ◌∙◌, eqb-true, arith}
+use Rattle.std.proofs.Common.{◌≡◌, ℕ, zero, suc, ◌+◌, ◌-◌, ◌<◌, ◌≤◌, Bool, true, false, ◌==◌, if◌then◌else◌, List, [], ◌∷◌, drop, length, get_or, slice_get, Option, Some, None, option_copied, Bor, refl, sym, ap, subst, ◌∙◌, eqb-true, arith}
 use Rattle.std.specs.List.{HoldsAt}
 use Rattle.std.specs.Option.{IfSome, MatchOption}
 use Rattle.std.proofs.lemmas.Bool.{eqb-false}
@@ -108,6 +108,15 @@ pub got_some : {X : Type 0} (xs : List X) (k : ℕ) (r : Option (Bor X)) (x : Bo
 got_some xs k None x e f m = absurd (cc e)
 got_some {X} xs k (Some y) x e f m = let same : y ≡ x = cc e in at_index xs k x.now m.0 (subst (λ (b : Bor X). b.now ≡ get_or xs k b.now) same f)
 
+pub got_copied : {X : Type 0} (xs : List X) (k : ℕ) (r : Option (Bor X)) → IfSome r (λ y. y.now ≡ get_or xs k y.now) →
+    MatchOption r (length xs ≤ k) (λ y. (k < length xs) × HoldsAt (λ z. y.now ≡ z) xs k) → option_copied r ≡ slice_get xs k
+got_copied xs k None f m = sym (none_past xs k m)
+got_copied xs k (Some y) f m = sym (at_index xs k y.now m.0 f)
+
 pub got_none : {X : Type 0} (xs : List X) (k : ℕ) (r : Option (Bor X)) → r ≡ None → MatchOption r (length xs ≤ k) (λ y. (k < length xs) × HoldsAt (λ z. y.now ≡ z) xs k) → slice_get xs k ≡ None
 got_none xs k None e m = none_past xs k m
 got_none xs k (Some y) e m = absurd (cc e)
+
+pub copied_none : {X : Type 0} (r : Option (Bor X)) → ((x : Bor X) → r ≡ Some x → ⊥) → option_copied r ≡ None
+copied_none None h = refl
+copied_none (Some x) h = absurd (h x refl)

@@ -1,5 +1,5 @@
 -- What a call asks for, by what it was resolved to.
-use Rattle.std.proofs.Common.{◌≡◌, ℕ, List, [], Option, length, slice_get, sym, ap, subst, ◌∙◌}
+use Rattle.std.proofs.Common.{◌≡◌, ℕ, zero, suc, List, [], Option, length, slice_get, Vec, Global, refl, sym, ap, subst, ◌∙◌}
 use Rattle.ir_tree.specs.declared.instr.Line.{Line as MeantLine}
 use Rattle.ir_tree.specs.declared.operand.Reg.{Reg}
 use Rattle.ir_tree.specs.declared.operand.Symbol.{Symbol}
@@ -9,14 +9,26 @@ use Rattle.ir_meaning.specs.Execute.{Asked, Effect, calls_value, gets_char, puts
 use Rattle.ir_meaning.specs.Frame.{Locals, Signature}
 use Rattle.ir_meaning.specs.Memory.{Memory as MeantMemory}
 use Rattle.ir_meaning.specs.declared.value.Value.{Value as MeantValue}
-use Rattle.ir_machine.specs.Meant.{symbol_at}
+use Rattle.ir_machine.specs.Meant.{base_meant, meant, symbol_at}
 use Rattle.ir_machine.specs.declared.memory.Memory.{Memory}
+use Rattle.ir_meaning.specs.Fault as fault
+use Rattle.ir_meaning.specs.declared.fault.Cause.TheVariants.{CallOfNoFunction}
+use Rattle.ir_meaning.specs.declared.value.Base.{Base as MeantBase}
+use Rattle.ir_meaning.specs.declared.value.Base.TheVariants as meant_base
+use Rattle.ir_meaning.specs.declared.value.Value.TheVariants as value
+use Rattle.ir_machine.specs.declared.scalar.Base.{Base}
+use Rattle.ir_machine.specs.declared.scalar.Base.TheVariants as base
+use Rattle.ir_machine.specs.declared.scalar.Pointer.{Pointer}
+use Rattle.ir_machine.specs.declared.scalar.Scalar.{Scalar}
+use Rattle.ir_machine.specs.declared.scalar.Scalar.TheVariants as scalar
 use Rattle.ir_interp.specs.Locals.{AreLocals, IsKnown, source_meant}
 use Rattle.ir_interp.specs.Tasks.{IsTaskKnown, regs_of, task_meant, values_meant}
 use Rattle.ir_interp.specs.declared.registers.Registers.{Registers}
 use Rattle.ir_interp.specs.declared.source.Source.{Source}
 use Rattle.ir_interp.specs.declared.source.Typed.{Typed}
 use Rattle.ir_interp.specs.declared.task.Task.{Task}
+use Rattle.ir_interp.specs.declared.task.Task.TheVariants as task
+use Rattle.ir_interp.specs.Lines.{IsCall}
 use Rattle.ir_interp.specs.Calls.{AreKinds, call_effect}
 use Rattle.ir_interp.specs.declared.callee.Entity.{Entity}
 use Rattle.ir_interp.specs.declared.callee.Resolved.{Resolved}
@@ -75,3 +87,30 @@ takes_so z code m f result callee passed i s known h =
     subst (λ (n : ℕ). TakesSo z.program (symbol_at z.names i) n) (types_meant_long passed)
     (value_takes z.program [] z.memory 0 result (regs_of passed) [] (source_meant z.names z.frame.locals callee) (symbol_at z.names i) []
     (h z.names m z.memory z.frame.locals z.program.signature [] 0 [] s.code.kinds s.frame.reads known))
+
+pub no_call : (t : Task) → ((result : Option Reg) (callee : Source) (passed : Vec Typed Global) → t ≡ task.Call result callee passed → ⊥) → IsCall t → ⊥
+no_call (task.Compute c) h call = call
+no_call (task.Reserve size align) h call = call
+no_call (task.Store reg value address align) h call = call
+no_call (task.Call result callee passed) h call = h result callee passed refl
+
+-- ---- what is called that is no function
+
+pub calls_no_pointer : (names : List Symbol) (sig : Signature) (input : List ℕ) (memory : MeantMemory) (place : ℕ) (result : Option Reg) (regs : List Reg) (values : List MeantValue) (v : Scalar) →
+    ((p : Pointer) → v ≡ scalar.Pointer p → ⊥) → calls_value sig input memory place result regs values (meant names v) ≡ execute.Broke (fault.Undefined CallOfNoFunction)
+calls_no_pointer names sig input memory place result regs values (scalar.Number n) h = refl
+calls_no_pointer names sig input memory place result regs values scalar.Poison h = refl
+calls_no_pointer names sig input memory place result regs values (scalar.Pointer p) h = absurd (h p refl)
+
+pub calls_no_function : (names : List Symbol) (sig : Signature) (input : List ℕ) (memory : MeantMemory) (place : ℕ) (result : Option Reg) (regs : List Reg) (values : List MeantValue) (b : Base) (offset : ℕ) →
+    ((i : ℕ) → b ≡ base.Function i → ⊥) → calls_value sig input memory place result regs values (value.Pointer (base_meant names b) offset) ≡ execute.Broke (fault.Undefined CallOfNoFunction)
+calls_no_function names sig input memory place result regs values base.Null offset h = refl
+calls_no_function names sig input memory place result regs values (base.Block handle) offset h = refl
+calls_no_function names sig input memory place result regs values (base.Function i) offset h = absurd (h i refl)
+
+pub calls_no_start : (sig : Signature) (input : List ℕ) (memory : MeantMemory) (place : ℕ) (result : Option Reg) (regs : List Reg) (values : List MeantValue) (b : MeantBase) (offset : ℕ) →
+    (offset ≡ 0 → ⊥) → calls_value sig input memory place result regs values (value.Pointer b offset) ≡ execute.Broke (fault.Undefined CallOfNoFunction)
+calls_no_start sig input memory place result regs values (meant_base.Code s) zero h = absurd (h refl)
+calls_no_start sig input memory place result regs values (meant_base.Code s) (suc n) h = refl
+calls_no_start sig input memory place result regs values (meant_base.Cell k) offset h = refl
+calls_no_start sig input memory place result regs values meant_base.Nowhere offset h = refl

@@ -1,5 +1,5 @@
 -- Code whose lines can run, list by list and place by place.
-use Rattle.std.proofs.Common.{◌≡◌, ℕ, zero, suc, List, [], ◌∷◌, slice_get, length, Option, Some, None, refl, sym, ap, subst, ◌∙◌}
+use Rattle.std.proofs.Common.{◌≡◌, ◌↔◌, ℕ, zero, suc, ◌+◌, ◌<◌, ◌≤◌, Bool, true, false, true≢false, List, [], ◌∷◌, slice_get, length, Option, Some, None, refl, sym, ap, subst, ◌∙◌}
 use Rattle.std.specs.Prelude.{All}
 use Rattle.std.proofs.lemmas.List.Elements.{All-cons, All-head, All-nil, All-tail}
 use Rattle.ir_interp.specs.Tasks.{CanRun}
@@ -49,3 +49,14 @@ begins_there code root n f is (g, (there, long)) =
 
 pub begins_nowhere : (code : Code) (root n : ℕ) → function_of code root ≡ None → CanBegin code root n → ⊥
 begins_nowhere code root n none (g, (there, long)) = cc (sym none ∙ there)
+
+-- what is equivalent to a claim of a value is so to the claim of an equal one
+pub same_claim : {X A : Type 0} (P : X → Type 0) (x y : X) → x ≡ y → (A ↔ P y) → (A ↔ P x)
+same_claim P x y is both = (λ a. subst P (sym is) (both.0 a), λ h. both.1 (subst P is h))
+
+-- what is false is equivalent to a claim that it follows from
+pub no_claim : {A : Type 0} (b : Bool) → b ≡ false → (A → b ≡ true) → (b ≡ true) ↔ A
+no_claim b is claims = (λ e. absurd (true≢false (sym e ∙ is)), claims)
+
+pub false_claim : {A : Type 0} (b : Bool) → b ≡ false → (A → b ≡ true) → (false ≡ true) ↔ A
+false_claim b is claims = (λ e. absurd (true≢false (sym e)), λ h. sym is ∙ claims h)

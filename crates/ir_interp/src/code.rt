@@ -39,8 +39,8 @@ impl<'a> Code<'a> {
         ensures { option_copied result ≡ function_of self.now index }
     {
         match self.functions.get(index as usize) {
-            Some(Some(function)) => Some(function),
-            _ => None,
+            Some(function) => function.as_ref(),
+            None => None,
         }
     }
 

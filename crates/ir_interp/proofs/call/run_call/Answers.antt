@@ -13,8 +13,8 @@ use Rattle.ir_interp.specs.declared.host.Host.{Host}
 use Rattle.ir_interp.specs.declared.host.Host.TheVariants as host
 use Rattle.ir_interp.specs.Scenes.{TakesSo, Works}
 use Rattle.ir_interp.proofs.Acting.{work_fails}
-use Rattle.ir_interp.proofs.Resolving.{IsAnswer, call_known, call_works, hears_so, takes_so, works_so}
-use Rattle.ir_interp.proofs.Telling.{then_ok}
+use Rattle.ir_interp.proofs.Resolving.{IsAnswer, call_known, call_works, hears_so, takes_so, works_so, no_call}
+use Rattle.ir_interp.proofs.Telling.{then_ok, then_err}
 use Rattle.ir_interp.proofs.call.run_call.Goals as goal
 
 pub returns-in-Function-clause-ok : goal.returns-in-Function-clause-ok
@@ -87,3 +87,12 @@ returns-in-Undefined-clause-ok c = λ z choice l rest s next call.
     let works = works_so z m choice c.args.given line l rest values (resolved.Undefined cause) (λ place. execute.Broke (fault.Undefined cause)) next
     (λ input place. call_works z code m f line l rest _ (resolved.Undefined cause) c.in-Call.result c.in-Call.callee c.in-Call.arguments.items c.in-Call.is (λ locals. refl) s next known.0 answer input place choice) (λ input place. refl) in
     (work_fails z choice c.args.given line.local rest (fault.Undefined cause) works, record { function = refl; block = refl; line = refl; base = refl })
+
+pub returns-in-Host-PutChar-clause-err : goal.returns-in-Host-PutChar-clause-err
+returns-in-Host-PutChar-clause-err c = then_err c.call_putchar.result c.call_putchar.ensures.err (λ done z s. done z c.args.code.now c.args.memory.now s)
+
+pub returns-in-Host-GetChar-clause-err : goal.returns-in-Host-GetChar-clause-err
+returns-in-Host-GetChar-clause-err c = then_err c.call_getchar.result c.call_getchar.ensures.err (λ done z s. done z c.args.code.now c.args.memory.now s)
+
+pub returns-in_default-clause-ok : goal.returns-in_default-clause-ok
+returns-in_default-clause-ok c = λ z choice l rest s next call. absurd (no_call c.args.line.now.task c.in_default.not-Call call)

@@ -1,10 +1,11 @@
-use Rattle.std.proofs.Common.{◌≡◌, ℕ, suc, ◌+◌, List, take, sym, ap, subst, ◌∙◌, arith}
+use Rattle.std.proofs.Common.{◌≡◌, ℕ, suc, ◌+◌, List, take, sym, ap, subst, ◌∙◌, arith, take_all}
 use Rattle.ir_tree.specs.declared.operand.Reg.TheVariants.{Int}
 use Rattle.ir_machine.specs.declared.scalar.Scalar.{Scalar}
 use Rattle.ir_interp.specs.Tasks.{values_meant}
 use Rattle.ir_interp.specs.declared.source.Source.TheVariants.{Register}
 use Rattle.ir_interp.specs.Calls.{AreValid, all_meant}
-use Rattle.ir_interp.proofs.Passing.{argument_known, passed_more, valid_more}
+use Rattle.ir_interp.proofs.Passing.{argument_known, passed_more, valid_more, none_passed}
+use Rattle.ir_interp.specs.declared.source.Typed.{Typed}
 use Rattle.ir_interp.proofs.callee.arguments.Goals as goal
 
 pub loop-argument-preserved : goal.loop-argument-preserved
@@ -19,3 +20,11 @@ loop-argument-preserved c = λ names m memory locals a k.
           ∙ ap (λ (j : ℕ). values_meant names locals (take j ts)) one,
       subst (λ (vs : List Scalar). AreValid names m memory vs) (sym c.in_ok-push.ensures.items) (valid_more names m memory c.loop-argument.values.items c.value.result old.1 read.1),
     )
+
+pub returns : goal.returns
+returns c = λ names m memory locals a k.
+    subst (λ (ts : List Typed). (all_meant names c.loop-argument.values.items ≡ values_meant names locals ts) × AreValid names m memory c.loop-argument.values.items)
+    (take_all c.loop-argument.argument-index c.args.arguments.now (omega (arith, c.loop-argument-test.false))) (c.loop-argument.invariant names m memory locals a k)
+
+pub loop-argument-init : goal.loop-argument-init
+loop-argument-init c = λ names m memory locals a k. subst (λ (vs : List Scalar). (all_meant names vs ≡ values_meant names locals (take 0 c.args.arguments.now)) × AreValid names m memory vs) (sym c.in_ok-values.ensures.items) (sym (none_passed names locals c.args.arguments.now), tt)

@@ -1,10 +1,10 @@
-use Rattle.std.proofs.Common.{◌≡◌, ℕ, suc, ◌<◌, length, take, drop, get_or, nat_eq, if◌then◌else◌, sym, ap, subst, ◌∙◌, arith}
-use Rattle.std.proofs.lemmas.List.{length-append}
+use Rattle.std.proofs.Common.{◌≡◌, ℕ, suc, ◌<◌, List, length, take, drop, get_or, nat_eq, if◌then◌else◌, sym, ap, subst, ◌∙◌, arith, take_all}
+use Rattle.std.proofs.lemmas.List.{length-append, drop_all}
 use Rattle.ir_machine.specs.declared.scalar.Scalar.{Scalar}
 use Rattle.ir_interp.specs.Locals.{AreLocals, register_at}
 use Rattle.ir_interp.specs.Calls.{all_meant}
 use Rattle.ir_interp.specs.Entering.{ParamsFit, params_meant}
-use Rattle.ir_interp.proofs.Entering.{all_written, fit_at, last_left, param_written}
+use Rattle.ir_interp.proofs.Entering.{all_written, fit_at, last_left, param_written, no_locals}
 use Rattle.ir_interp.proofs.entry.pass.Goals as goal
 
 pub write-requires : goal.write-requires
@@ -38,3 +38,14 @@ returns c = λ names m memory h valid.
     let none = rw c.in_default.is at c.pop.ensures.cases in
     let n : length c.loop-value.arguments.items ≡ 0 = omega (arith, none.0, c.loop-value.arguments.ok) in
     all_written names m memory c.loop-value.registers c.args.params.now c.args.arguments.now.items (length c.loop-value.arguments.items) n (c.loop-value.invariant.written names m memory h valid)
+
+pub loop-value-init : goal.loop-value-init
+loop-value-init c =
+    let all = c.args.arguments.now.items in
+    record {
+      count = omega (arith, c.requires.count);
+      room = c.requires.room;
+      left = sym (take_all (length all) all (omega arith));
+      written = λ names m memory h valid.
+          subst (λ (ys : List ℕ). AreLocals names m memory c.args.registers.now (params_meant ys (all_meant names (drop (length all) all)))) (sym (drop_all (length all) c.args.params.now (omega (arith, c.requires.count)))) (no_locals names m memory c.args.registers.now h);
+    }

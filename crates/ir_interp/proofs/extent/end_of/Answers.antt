@@ -1,8 +1,9 @@
-use Rattle.std.proofs.Common.{arith, ◌≡◌}
+use Rattle.std.proofs.Common.{arith, ◌≡◌, sym, ap, ◌∙◌}
 use Rattle.ir_tree.specs.Forms.{forms_of}
 use Rattle.ir_tree.specs.Layout as layout
 use Rattle.ir_tree.proofs.Layouts.{step_least, step_to}
 use Rattle.ir_interp.proofs.Extents.{begins_most, size_most}
+use Rattle.std.proofs.lemmas.List.{drop_all}
 use Rattle.ir_interp.proofs.extent.end_of.Goals as goal
 
 pub overflow_add-end : goal.overflow_add-end
@@ -24,3 +25,8 @@ loop-part-preserved c =
 pub returns-then-end-gt-MOST-clause-none : goal.returns-then-end-gt-MOST-clause-none
 returns-then-end-gt-MOST-clause-none c = λ none.
     omega (arith, c.if-end-gt-MOST.true, c.begin_of.ensures, c.size_of.ensures, c.loop-part.invariant.total, step_least c.args.packed c.loop-part.end c.args.parts.now c.loop-part.part-index c.part-item.result c.loop-part-test.true c.part-item.is c.loop-part.invariant.laid)
+
+pub returns-clause-some : goal.returns-clause-some
+returns-clause-some c =
+    let none = drop_all c.loop-part.part-index c.args.parts.now (omega (arith, c.loop-part-test.false)) in
+    (sym (ap (λ more. layout.ends c.args.packed c.loop-part.end (forms_of more)) none) ∙ c.loop-part.invariant.total, c.loop-part.invariant.near)

@@ -1,4 +1,4 @@
-use Rattle.std.proofs.Common.{option_copied, sym, ap, ◌∙◌, arith}
+use Rattle.std.proofs.Common.{option_copied, sym, ap, ◌∙◌, arith, true≢false, is_some}
 use Rattle.ir_interp.proofs.Blocks.{code_block}
 use Rattle.ir_interp.proofs.Placing.{placed, short_place}
 use Rattle.ir_interp.proofs.machine.place_in.Goals as goal
@@ -13,4 +13,4 @@ pub returns-in-None : goal.returns-in-None
 returns-in-None c = λ names p d is l e s.
     let none = sym c.block.ensures ∙ ap option_copied c.in-None.is in
     let got = code_block names p c.args.code.now c.args.frame.now.function c.args.frame.now.block d.function s.block is l e s.here in
-    absurd (cc (sym none ∙ got.1.0))
+    absurd (true≢false (sym (ap is_some (sym none ∙ got.1.0))))

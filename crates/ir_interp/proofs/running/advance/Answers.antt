@@ -1,4 +1,4 @@
-use Rattle.std.proofs.Common.{None, inl, sym, subst}
+use Rattle.std.proofs.Common.{None, inl, sym, subst, ◌∙◌}
 use Rattle.ir_meaning.specs.Program.{On}
 use Rattle.ir_interp.specs.Code.{IsRunnable}
 use Rattle.ir_interp.specs.Steps.{IsStep}
@@ -26,3 +26,6 @@ returns-in-Wants-clause-left g c = then_err c.feed.result c.feed.ensures.left (�
 pub returns-in_default-end-clause-ok : goal.returns-in_default-end-clause-ok
 returns-in_default-end-clause-ok g c = λ names p s runs.
     advance_quiet names p s (g.I.ByteIn.left c.args.input.now) c.step.new.self c.in-Ok.end c.in_default-end.not-Wants (c.in-Ok.ensures.ok names p (On s) runs)
+
+pub returns-in-Wants-clause-code : goal.returns-in-Wants-clause-code
+returns-in-Wants-clause-code g c = c.feed.ensures.code ∙ c.step.ensures.code

@@ -116,3 +116,6 @@ returns-in_err-end-clause-fed_part g c = on_err c.from_residual.result (λ names
     let i = c.loop-left.invariant in
     part_fed names p s (g.I.ByteIn.left c.args.input.now) (g.O.ByteOut.sent c.args.out.now) c.args.budget (c.args.budget - c.loop-left.left) (g.I.ByteIn.left c.loop-left.input) (g.O.ByteOut.sent c.loop-left.out) (g.O.ByteOut.sent c.turn.new.out) c.loop-left.machine
     (omega (arith, i.within, c.loop-left-test.true)) (i.comes names p s runs) c.in_err-end.ensures.kept)
+
+pub returns-in-Some-clause-code : goal.returns-in-Some-clause-code
+returns-in-Some-clause-code g c = c.turn.ensures.code ∙ c.loop-left.invariant.code

@@ -1,4 +1,4 @@
-use Rattle.std.proofs.Common.{option_copied, sym, ap, ◌∙◌, arith}
+use Rattle.std.proofs.Common.{option_copied, sym, ap, ◌∙◌, arith, true≢false}
 use Rattle.std.proofs.lemmas.Bool.{eq-eqb, eqb-true}
 use Rattle.ir_interp.proofs.Runnable.{begins_nowhere, begins_there}
 use Rattle.ir_interp.proofs.code.Code.can_begin.Goals as goal
@@ -16,4 +16,4 @@ returns-in-Some c =
 pub returns-in-None : goal.returns-in-None
 returns-in-None c =
     let none = sym c.function.ensures ∙ ap option_copied c.in-None.is in
-    (λ e. absurd (cc e), λ h. absurd (begins_nowhere c.args.self.now c.args.root c.args.count none h))
+    (λ e. absurd (true≢false (sym e)), λ h. absurd (begins_nowhere c.args.self.now c.args.root c.args.count none h))

@@ -1,5 +1,6 @@
-use Rattle.std.proofs.Common.{◌≡◌, ◌+◌, ℤ, List, ◌∷◌, Option, None, get_or, drop, sym, ap, ◌∙◌, w64, FitsSigned, rules}
+use Rattle.std.proofs.Common.{◌≡◌, ◌+◌, ℤ, List, ◌∷◌, Option, None, get_or, drop, sym, ap, ◌∙◌, w64, FitsSigned, rules, arith}
 use Rattle.std.proofs.lemmas.Int.{to_z-of_z}
+use Rattle.std.proofs.lemmas.List.{drop_all}
 use Rattle.ir_tree.specs.declared.operand.Reg.TheVariants.{Int}
 use Rattle.ir_meaning.specs.Frame.{index_of}
 use Rattle.ir_meaning.specs.declared.value.Value.{Value as MeantValue}
@@ -44,3 +45,10 @@ loop-index-preserved c = record {
       ∙ ap (λ (js : Option (List ℤ)). walked c.args.inbounds c.loop-index.walk js) (indices_split names locals ts i none c.loop-index-test.true)
       ∙ c.loop-index.invariant.rest names m memory locals a k;
 }
+
+pub returns : goal.returns
+returns c = λ names m memory locals a k.
+    let none = drop_all c.loop-index.index-index c.args.indices.now (omega (arith, c.loop-index-test.false)) in
+    c.end.ensures
+    ∙ sym (ap (λ (ts : List Typed). walked c.args.inbounds c.loop-index.walk (indices_meant names locals ts)) none)
+    ∙ c.loop-index.invariant.rest names m memory locals a k

@@ -7,11 +7,13 @@ use Rattle.ir_meaning.specs.declared.value.Value.TheVariants as value
 use Rattle.ir_machine.specs.declared.outcome.Outcome.TheVariants as outcome
 use Rattle.ir_machine.specs.declared.scalar.Scalar.TheVariants as scalar
 use Rattle.ir_interp.specs.Locals.{AreKnown, source_meant}
-use Rattle.ir_interp.specs.Tasks.{IsComputeKnown, compute_meant, indices_meant}
+use Rattle.ir_interp.specs.Tasks.{IsComputeKnown, compute_meant, indices_meant, CanCompute}
 use Rattle.ir_interp.specs.declared.source.Typed.{Typed}
 use Rattle.ir_interp.specs.declared.task.Compute.{Compute}
 use Rattle.ir_interp.specs.declared.task.Compute.TheVariants as compute
 use Rattle.ir_interp.proofs.Performing.{answer_given, as_this, value_given}
+use Rattle.std.specs.Prelude.{All}
+use Rattle.ir_machine.specs.Marks.{HasWidth}
 use Rattle.ir_interp.proofs.registers.Registers.perform.Goals as goal
 
 pub returns-in-Binary : goal.returns-in-Binary
@@ -85,3 +87,30 @@ returns-in-Poison c = λ names memory locals distinct s a k.
     let m = c.args.memory.now in
     as_this names m memory locals c.args.choice c.args.task.now compute.Poison (outcome.Value scalar.Poison) c.in-Poison.is
     (value_given names m memory c.args.choice (compute_meant names locals compute.Poison) value.Poison scalar.Poison (λ sig input place. refl) refl (tt, tt))
+
+pub address-requires-clause-laid : goal.address-requires-clause-laid
+address-requires-clause-laid c = (subst CanCompute c.in-Address.is c.requires).0
+
+pub load-requires-clause-width : goal.load-requires-clause-width
+load-requires-clause-width c = (subst CanCompute c.in-Load.is c.requires).0
+
+pub load-requires-clause-aligned : goal.load-requires-clause-aligned
+load-requires-clause-aligned c = (subst CanCompute c.in-Load.is c.requires).1
+
+pub cast-requires : goal.cast-requires
+cast-requires c = subst CanCompute c.in-Cast.is c.requires
+
+pub binary-requires-clause-some : goal.binary-requires-clause-some
+binary-requires-clause-some c = (subst CanCompute c.in-Binary.is c.requires).0
+
+pub binary-requires-clause-within : goal.binary-requires-clause-within
+binary-requires-clause-within c = (subst CanCompute c.in-Binary.is c.requires).1
+
+pub compare-requires : goal.compare-requires
+compare-requires c = subst CanCompute c.in-Compare.is c.requires
+
+pub freeze-requires : goal.freeze-requires
+freeze-requires c = subst CanCompute c.in-Freeze.is c.requires
+
+pub address-requires-clause-typed : goal.address-requires-clause-typed
+address-requires-clause-typed c = subst (λ (ts : List Typed). All (λ i. HasWidth i.reg) ts) (sym c.deref.ensures.value) (subst CanCompute c.in-Address.is c.requires).1
